@@ -1,0 +1,32 @@
+ghost use Rattle.std.specs.Prelude.{◌≡◌, ◌<◌, ◌≤◌, ◌+◌, ◌^◌, ◌++◌, Bool, IsTrue, length, take, IfOk, OnErr, []};
+ghost use Rattle.zb_outside.specs.Stream.{SourceView};
+ghost use Rattle.zb_outside.specs.Cause.{HasCause};
+
+use crate::Trouble;
+
+/// Bytes that are read in order.
+pub trait Source {
+    /// The source as plain data: the bytes that are left, how many it has given, its count of faults.
+    ghost view: { Self → SourceView };
+
+    /// Whether the bytes that are left are told.
+    ghost tells: { Bool };
+
+    /// Whether a call may be refused for want of memory.
+    ghost takes_memory: { Bool };
+
+    /// Takes bytes from the front of what is left, fills the front of the piece with them, and answers
+    /// how many. It answers 0 for a piece that isn't empty exactly at the end. After a refusal none
+    /// were taken. A source fails before it has given 2^63 bytes.
+    fn read(&mut self, piece: &mut [u8]) -> Result<usize, Trouble>
+        ensures fits { IfOk result (λ n. n ≤ length piece.new) }
+        ensures given { IfOk result (λ n. (view self.new).given ≡ (view self.old).given + n) }
+        ensures taken { IsTrue tells → IfOk result (λ n. (view self.old).left ≡ take n piece.new ++ (view self.new).left) }
+        ensures end { IsTrue tells → IfOk result (λ n. n ≡ 0 → 0 < length piece.new → (view self.new).left ≡ []) }
+        ensures refused { OnErr result ((view self.new).given ≡ (view self.old).given) }
+        ensures stays { IsTrue tells → OnErr result ((view self.new).left ≡ (view self.old).left) }
+        ensures cause { HasCause takes_memory (view self.old).faults (view self.new).faults result };
+
+    /// A source fails before it has given 2^63 bytes.
+    ghost bounded: { (source : Self) → (view source).given < 2 ^ 63 };
+}

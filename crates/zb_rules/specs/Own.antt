@@ -1,0 +1,24 @@
+-- What each command makes of the events before it.
+use Rattle.std.specs.Prelude.{ℕ, ◌+◌, min, List, [], ◌∷◌}
+use Rattle.zb_model.specs.Moment as moments
+use Rattle.zb_model.specs.declared.record.MessagePublish.{MessagePublish}
+use Rattle.zb_model.specs.declared.record.Command.{Command}
+use Rattle.zb_model.specs.declared.record.Command.TheVariants as commands
+use Rattle.zb_model.specs.declared.record.Event.{Event}
+use Rattle.zb_model.specs.declared.record.Event.TheVariants as events
+use Rattle.zb_rules.specs.View.{next_key}
+
+-- a message under the next key, which waits for its time to live, at most up to the last moment
+abbrev pub published : ℕ → List Event → ℕ → MessagePublish → List Event
+published p before moment c = events.MessagePublished (record {
+  key = next_key p before;
+  name = c.name;
+  correlation_key = c.correlation_key;
+  id = c.id;
+  deadline = min (moment + c.time_to_live) moments.last_moment;
+  variables = c.variables;
+}) ∷ []
+
+-- the events that an accepted command makes of those before it, at a moment of partition p
+abbrev pub own_events : ℕ → List Event → ℕ → Command → List Event
+own_events p before moment (commands.MessagePublish c) = published p before moment c

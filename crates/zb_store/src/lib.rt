@@ -1,0 +1,6 @@
+//! The log of a partition: a file of frames, each behind a gate byte.
+#![tactic(auto)]
+
+mod log;
+
+pub use log::{OpenFault, append, open};
