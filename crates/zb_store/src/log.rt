@@ -2,8 +2,12 @@ ghost use Rattle.std.specs.Prelude.{◌≡◌, ◌<◌, ◌≤◌, ◌+◌, ◌^
 ghost use Rattle.zb_disk.specs.Disk.{Only};
 ghost use Rattle.zb_disk.specs.Cause.{HasCause, Rose};
 ghost use Rattle.zb_store.specs.Log.{framed, front, at_rest, Begins};
+ghost use Rattle.zb_store.specs.Fault.{fault_of};
 
 use zb_disk::{Disk, Trouble};
+
+/// The gate at the end of a log at rest.
+const CLOSED_GATE: u8 = 0;
 
 /// Why a log could not be opened.
 #[derive(Clone, Copy, Debug, PartialEq, Eq)]
@@ -14,6 +18,17 @@ pub enum OpenFault {
     BadLog { frame: u64 },
     /// There was no memory.
     Memory,
+}
+
+impl From<Trouble> for OpenFault {
+    ghost from_gives = { λ trouble fault. fault ≡ fault_of trouble };
+
+    fn from(trouble: Trouble) -> Self {
+        match trouble {
+            Trouble::Failed => OpenFault::DiskFault,
+            Trouble::Memory => OpenFault::Memory,
+        }
+    }
 }
 
 /// Opens a log that has no frames: a file of at most one byte, which becomes one closed gate. A longer
@@ -31,9 +46,13 @@ pub fn open<D: Disk>(disk: &mut D) -> Result<(), OpenFault>
 
     ensures later { (D.view disk.old).faults ≤ (D.view disk.new).faults }
     ensures failed { IsErrOf result OpenFault.DiskFault → Rose (D.view disk.old).faults (D.view disk.new).faults }
+    ensures memory { IsErrOf result OpenFault.Memory → IsTrue D.takes_memory }
 {
-    let _ = &disk;
-    Err(OpenFault::Memory)
+    if disk.len()? > 1 {
+        return Err(OpenFault::BadLog { frame: 0 });
+    }
+    disk.write_at(0, &[CLOSED_GATE])?;
+    Ok(disk.sync()?)
 }
 
 /// Adds a frame to a log at rest, whose length this is: one write over the closed gate at its end, and a
