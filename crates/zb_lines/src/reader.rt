@@ -1,11 +1,16 @@
-ghost use Rattle.std.specs.Prelude.{◌≡◌, ◌++◌, ◌≤◌, ℕ, List, [], IfOk, IsErrOf, IsTrue};
-ghost use Rattle.zb_outside.specs.Cause.{Rose};
+ghost use Rattle.std.specs.Prelude.{◌≡◌, ◌↔◌, ◌++◌, ◌≤◌, ◌<◌, ℕ, List, [], MatchOption, IfOk, OnOk, OnErr, IsErrOf, IsTrue, length};
+ghost use Rattle.zb_outside.specs.Cause.{Rose, HasCause};
 ghost use Rattle.zb_lines.specs.Taken.{Takes};
-ghost use Rattle.zb_lines.specs.Line.{Comes, IsAtEnd};
+ghost use Rattle.zb_lines.specs.Line.{Comes, IsAtEnd, IsOneLine};
+ghost use Rattle.zb_lines.specs.Step.{kept, BreaksAt, HandsOut, Refills};
 
+use memchr::memchr;
 use std::alloc::{AllocError, Global};
 use std::marker::Model;
 use zb_outside::{Source, Trouble};
+
+/// How many bytes are asked of a source at a time.
+const PIECE: usize = 65_536;
 
 /// How a stream went on.
 #[derive(Clone, Copy, Debug, PartialEq, Eq)]
@@ -21,29 +26,37 @@ pub enum Next {
 /// Reads lines from a source. Contracts see the bytes that were taken and not yet handed out.
 #[derive(Drop)]
 pub struct LineReader {
-    held: Vec<u8>,
+    piece: Vec<u8>,
+    at: usize,
+    end: usize,
 }
 
 impl Model for LineReader {
-    ghost use Rattle.std.specs.Prelude.{ℕ, List};
+    ghost use Rattle.std.specs.Prelude.{ℕ, List, ◌≤◌, ◌<◌, length, slice_range};
 
     ghost Value = { List ℕ };
 
-    ghost view = { λ r. r.held.items };
+    ghost view = { λ r. slice_range r.piece.items r.at r.end };
+
+    ghost invariant = { λ r. (r.at ≤ r.end) × (r.end ≤ length r.piece.items) × (0 < length r.piece.items) };
 }
 
 impl LineReader {
-    /// A reader that has taken nothing yet.
+    /// A reader that has taken nothing yet. It takes its memory here, but for the lines'.
     pub fn new(alloc: Global) -> Result<LineReader, AllocError>
         ensures { IfOk result (λ reader. reader ≡ []) }
     {
-        let _ = alloc;
-        Err(AllocError)
+        let piece = vec![in alloc; 0u8; PIECE]?;
+        Ok(LineReader {
+            piece,
+            at: 0,
+            end: 0,
+        })
     }
 
     /// Takes bytes from the source up to the next newline, and puts the line without it into `line`,
-    /// or its first `most` bytes where it is longer. It takes one step for each byte, and no more
-    /// memory than `most` bytes. After an `Err` the reader is only dropped.
+    /// or its first `most` bytes where it is longer. It goes through each byte once, and keeps no more
+    /// than `most` bytes. After an `Err` the reader is only dropped.
     pub fn next<S: Source>(
         &mut self,
         source: &mut S,
@@ -56,9 +69,81 @@ impl LineReader {
         ensures later { (S.view source.old).faults ≤ (S.view source.new).faults }
         ensures failed { IsErrOf result Trouble.Failed → Rose (S.view source.old).faults (S.view source.new).faults }
     {
-        let _ = &source;
-        let _ = most;
-        let _ = &line;
-        Err(Trouble::Memory)
+        line.clear();
+        let mut is_begun = self.holds_some();
+        loop {
+            match self.hand_out(most, line) {
+                Err(AllocError) => return Err(Trouble::Memory),
+                Ok(true) => return Ok(Next::Line),
+                Ok(false) => {}
+            }
+            match self.refill(source) {
+                Err(trouble) => return Err(trouble),
+                Ok(true) => is_begun = true,
+                Ok(false) if is_begun => return Ok(Next::Last),
+                Ok(false) => return Ok(Next::End),
+            }
+        }
+    }
+
+    /// Whether bytes were taken that have not been handed out.
+    fn holds_some(&self) -> bool
+        ensures { IsTrue result ↔ (0 < length self.now) }
+    {
+        self.at < self.end
+    }
+
+    /// Hands out what is held up to the first newline, or all of it, and answers whether there was one.
+    fn hand_out(&mut self, most: usize, line: &mut Vec<u8>) -> Result<bool, AllocError>
+        ensures { HandsOut most result self.old self.new line.old.items line.new.items }
+    {
+        let held = &self.piece[self.at..self.end];
+        match newline_of(held) {
+            Some(place) => {
+                keep(most, &held[..place], line)?;
+                self.at += place + 1;
+                Ok(true)
+            }
+            None => {
+                keep(most, held, line)?;
+                self.at = self.end;
+                Ok(false)
+            }
+        }
+    }
+
+    /// Takes the next piece from the source, and answers whether there was one.
+    fn refill<S: Source>(&mut self, source: &mut S) -> Result<bool, Trouble>
+        requires { self.old ≡ [] }
+        ensures refills { Refills S.tells result (S.view source.old) (S.view source.new) self.new }
+        ensures cause { HasCause S.takes_memory (S.view source.old).faults (S.view source.new).faults result }
+    {
+        match source.read(&mut self.piece) {
+            Err(trouble) => Err(trouble),
+            Ok(count) => {
+                self.at = 0;
+                self.end = count;
+                Ok(count > 0)
+            }
+        }
+    }
+}
+
+/// The place of the first newline.
+fn newline_of(bytes: &[u8]) -> Option<usize>
+    ensures { MatchOption result (IsOneLine bytes.now) (BreaksAt bytes.now) }
+{
+    memchr(b'\n', bytes)
+}
+
+/// Appends a part of a line, of which at most `most` bytes are kept.
+fn keep(most: usize, part: &[u8], line: &mut Vec<u8>) -> Result<(), AllocError>
+    ensures { OnOk result (line.new.items ≡ kept most line.old.items part.now) }
+{
+    let room = most.saturating_sub(line.len());
+    if room < part.len() {
+        line.extend_from_slice(&part[..room])
+    } else {
+        line.extend_from_slice(part)
     }
 }

@@ -10,6 +10,12 @@ pub fn send<K: Sink>(sink: &mut K, bytes: &[u8]) -> Result<(), Trouble>
     ensures part { IsTrue K.tells → OnErr result ((n : ℕ) × ((K.view sink.new).written ≡ (K.view sink.old).written ++ take n bytes.now)) }
     ensures cause { HasCause K.takes_memory (K.view sink.old).faults (K.view sink.new).faults result }
 {
-    let _ = bytes;
+    let mut sent = 0;
+    while sent < bytes.len() {
+        match sink.write(&bytes[sent..]) {
+            Err(trouble) => return Err(trouble),
+            Ok(count) => sent += count,
+        }
+    }
     sink.flush()
 }

@@ -1,0 +1,37 @@
+-- The steps in which a reader goes through a line.
+use Rattle.std.specs.Prelude.{◌≡◌, ◌↔◌, ◌<◌, ◌+◌, ◌-◌, ℕ, Bool, true, false, List, [], ◌∷◌, ◌++◌, length, take, drop, IsTrue, Result, Ok, Err}
+use Rattle.zb_outside.specs.Stream.{SourceView}
+use Rattle.zb_lines.specs.Taken.{Takes}
+use Rattle.zb_lines.specs.Line.{IsOneLine, ended, newline}
+
+-- what is kept of a line of which at most `most` bytes are kept, once more of it has come
+abbrev pub kept : ℕ → List ℕ → List ℕ → List ℕ
+kept most line part = line ++ take (most - length line) part
+
+-- the first newline of the bytes stands at this place
+pub record BreaksAt (bytes : List ℕ) (place : ℕ) : Type 0 where
+  pub within : place < length bytes
+  pub line : IsOneLine (take place bytes)
+  pub split : bytes ≡ take place bytes ++ newline ∷ drop (place + 1) bytes
+
+-- what was held went into the line: up to the first newline and without it (true), or all of it (false)
+abbrev pub HandsOut : {E : Type 0} → ℕ → Result Bool E → List ℕ → List ℕ → List ℕ → List ℕ → Type 0
+HandsOut most (Ok true) held left line shown = (part : List ℕ) × IsOneLine part × (held ≡ ended part ++ left) × (shown ≡ kept most line part)
+HandsOut most (Ok false) held left line shown = IsOneLine held × (left ≡ []) × (shown ≡ kept most line held)
+HandsOut most (Err e) held left line shown = Unit {0}
+
+-- the source gave the next piece (true), had ended (false) or gave nothing
+abbrev pub Refills : {E : Type 0} → Bool → Result Bool E → SourceView → SourceView → List ℕ → Type 0
+Refills tells (Ok true) old new held = Takes tells old new held × (0 < length held)
+Refills tells (Ok false) old new held = Takes tells old new [] × (held ≡ []) × (IsTrue tells → new.left ≡ [])
+Refills tells (Err e) old new held = Takes tells old new []
+
+-- within a line: what the source gave since the call, and what of the line has been gone through
+pub record Reads (tells : Bool) (old new : SourceView) (most : ℕ) (first held shown : List ℕ) (is_begun : Bool) : Type 0 where
+  pub more : List ℕ
+  pub seen : List ℕ
+  pub takes : Takes tells old new more
+  pub bytes : first ++ more ≡ seen ++ held
+  pub one : IsOneLine seen
+  pub shows : shown ≡ take most seen
+  pub begun : IsTrue is_begun ↔ (0 < length (first ++ more))
