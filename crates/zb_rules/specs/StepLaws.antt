@@ -1,6 +1,6 @@
 -- Laws of a log as it grows by a batch.
-use Rattle.std.proofs.Common.{◌≡◌, ◌≤◌, ◌<◌, ◌⊎◌, ℕ, ◌+◌, max, List, [], ◌∷◌, ◌++◌, length, take, slice_get, Some, None, refl, inl, inr, ap, sym, ◌∙◌, arith, get_or, subst, append-nil}
-use Rattle.std.proofs.lemmas.Grind.{flat_map-append, common_steps}
+use Rattle.std.proofs.Common.{◌≡◌, ℕ, max, List, [], ◌∷◌, ◌++◌, length, slice_get, Some, refl, inl, inr, ap, sym, ◌∙◌, arith, get_or, subst, append-nil}
+use Rattle.std.proofs.lemmas.Grind.{flat_map-append}
 use Rattle.std.proofs.lemmas.List.{take-append-le, get_or_append_left, length-append}
 use Rattle.std.proofs.lemmas.Option.{slice_get_within, get_or_from_slice_get, slice_get-get_or}
 use Rattle.std.proofs.lemmas.Bool.{cases_lt}
@@ -42,12 +42,12 @@ are_steps_more p log batch before step k b h =
     let here : get_or (log ++ batch ∷ []) k b ≡ b = get_or_from_slice_get (log ++ batch ∷ []) k b b h in
     let Is : List Batch → Batch → Type 0 = λ l x. IsStep p l x in
     elim (cases_lt k (length log)) [
-      inl lt ↦
-        let at : slice_get log k ≡ Some b = slice_get-get_or log k b lt ∙ ap Some (sym (get_or_append_left log (batch ∷ []) b k lt) ∙ here) in
-        rw (take-append-le k log (batch ∷ []) (omega arith)) (before k b at)
-    | inr ge ↦
-        let end : k ≡ length log = omega (arith, length-append log (batch ∷ []), within) in
-        let last : get_or (log ++ batch ∷ []) (length log) b ≡ batch = get_or-append_seam log batch [] b in
-        let same : batch ≡ b = cc in
-        rw (end, take-append_seam log (batch ∷ [])) (subst (Is log) same step)
+      | inl lt ↦
+          let at : slice_get log k ≡ Some b = slice_get-get_or log k b lt ∙ ap Some (sym (get_or_append_left log (batch ∷ []) b k lt) ∙ here) in
+          rw (take-append-le k log (batch ∷ []) (omega arith)) (before k b at)
+      | inr ge ↦
+          let end : k ≡ length log = omega (arith, length-append log (batch ∷ []), within) in
+          let last : get_or (log ++ batch ∷ []) (length log) b ≡ batch = get_or-append_seam log batch [] b in
+          let same : batch ≡ b = cc in
+          rw (end, take-append_seam log (batch ∷ [])) (subst (Is log) same step)
     ]

@@ -59,3 +59,44 @@ fn published(
         variables: command.variables.copy(alloc)?,
     })
 }
+
+#[cfg(test)]
+mod tests {
+    use super::*;
+    use std::test::Fail;
+    use zb_model::{Text, Vars};
+
+    #[test]
+    fn publishes_under_the_next_key_until_the_deadline(rt: HostRuntime) -> Result<(), Fail> {
+        for (now, deadline) in [(0, 60_000), (249_999_999_999_999, 250_000_000_000_000)] {
+            let step = publish(
+                rt.alloc(),
+                PartitionId::new(1),
+                0,
+                Moment::new(now),
+                0,
+                MessagePublish {
+                    name: Text::of(rt.alloc(), "paid")?,
+                    correlation_key: Text::of(rt.alloc(), "o-1")?,
+                    time_to_live: 60_000,
+                    id: Text::empty(rt.alloc()),
+                    variables: Vars::empty(rt.alloc()),
+                },
+            )?;
+            let (key, until) = told(&step);
+            assert_eq!(rt; key, 2_251_799_813_685_249);
+            assert_eq!(rt; until, deadline);
+        }
+        Ok(())
+    }
+
+    /// The key and the deadline of the last message that the batch tells of.
+    fn told(step: &Batch) -> (u64, u64) {
+        if let Outcome::Accepted(events) = &step.outcome
+            && let [Event::MessagePublished(message)] = events.as_slice()
+        {
+            return (message.key.number(), message.deadline.ms());
+        }
+        (0, 0)
+    }
+}
