@@ -19,4 +19,4 @@ pub use record::{
 };
 pub use text::Text;
 pub use value::{Ints, Value};
-pub use vars::Vars;
+pub use vars::{Variable, Vars};

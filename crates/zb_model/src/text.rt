@@ -37,6 +37,13 @@ impl Text {
         })
     }
 
+    /// A copy of this text.
+    pub fn copy(&self, alloc: Global) -> Result<Text, AllocError>
+        ensures { IfOk result (λ copy. copy ≡ self.now) }
+    {
+        Text::of(alloc, self.as_str())
+    }
+
     /// The text as a `&str`.
     pub fn as_str(&self) -> &str
         ensures { result.now ≡ self.now }

@@ -1,4 +1,4 @@
-ghost use Rattle.std.specs.Prelude.{◌≡◌, [], ◌∷◌, ◌++◌, OnOk, OnErr};
+ghost use Rattle.std.specs.Prelude.{◌≡◌, [], ◌∷◌, ◌++◌, IfOk, OnOk, OnErr};
 
 use crate::Text;
 use std::alloc::{AllocError, Global};
@@ -37,6 +37,15 @@ impl Ints {
         Ok(())
     }
 
+    /// A copy of this list.
+    pub fn copy(&self, alloc: Global) -> Result<Ints, AllocError>
+        ensures { IfOk result (λ copy. copy ≡ self.now) }
+    {
+        Ok(Ints {
+            items: Vec::from_slice(alloc, self.as_slice())?,
+        })
+    }
+
     /// The numbers.
     pub fn as_slice(&self) -> &[i64]
         ensures { result.now ≡ self.now }
@@ -52,4 +61,18 @@ pub enum Value {
     Bool(bool),
     Text(Text),
     List(Ints),
+}
+
+impl Value {
+    /// A copy of this value.
+    pub fn copy(&self, alloc: Global) -> Result<Value, AllocError>
+        ensures { IfOk result (λ copy. copy ≡ self.now) }
+    {
+        match self {
+            Value::Int(number) => Ok(Value::Int(*number)),
+            Value::Bool(flag) => Ok(Value::Bool(*flag)),
+            Value::Text(text) => Ok(Value::Text(text.copy(alloc)?)),
+            Value::List(list) => Ok(Value::List(list.copy(alloc)?)),
+        }
+    }
 }

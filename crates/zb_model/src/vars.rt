@@ -1,7 +1,7 @@
-ghost use Rattle.std.specs.Prelude.{◌≡◌, []};
+ghost use Rattle.std.specs.Prelude.{◌≡◌, [], IfOk};
 
 use crate::{Text, Value};
-use std::alloc::Global;
+use std::alloc::{AllocError, Global};
 use std::marker::Model;
 
 /// A variable: a name and its value.
@@ -9,6 +9,18 @@ use std::marker::Model;
 pub struct Variable {
     pub name: Text,
     pub value: Value,
+}
+
+impl Variable {
+    /// A copy of this variable.
+    pub fn copy(&self, alloc: Global) -> Result<Variable, AllocError>
+        ensures { IfOk result (λ copy. copy ≡ self.now) }
+    {
+        Ok(Variable {
+            name: self.name.copy(alloc)?,
+            value: self.value.copy(alloc)?,
+        })
+    }
 }
 
 /// Variables, their names strictly ascending in byte order.
@@ -34,5 +46,23 @@ impl Vars {
         Vars {
             items: Vec::new(alloc),
         }
+    }
+
+    /// A copy of these variables.
+    pub fn copy(&self, alloc: Global) -> Result<Vars, AllocError>
+        ensures { IfOk result (λ copy. copy ≡ self.now) }
+    {
+        let mut items = Vec::with_capacity(alloc, self.items.len())?;
+        for variable in &self.items {
+            items.push(variable.copy(alloc)?)?;
+        }
+        Ok(Vars { items })
+    }
+
+    /// The variables, their names strictly ascending.
+    pub fn as_slice(&self) -> &[Variable]
+        ensures { result.now ≡ self.now }
+    {
+        self.items.as_slice()
     }
 }

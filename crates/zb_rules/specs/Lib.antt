@@ -1,3 +1,4 @@
 pub mod View
 pub mod Own
 pub mod Step
+pub mod StepLaws

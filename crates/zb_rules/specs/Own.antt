@@ -2,22 +2,27 @@
 use Rattle.std.specs.Prelude.{ℕ, ◌+◌, min, List, [], ◌∷◌}
 use Rattle.zb_model.specs.Moment as moments
 use Rattle.zb_model.specs.declared.record.MessagePublish.{MessagePublish}
+use Rattle.zb_model.specs.declared.record.MessagePublished.{MessagePublished}
 use Rattle.zb_model.specs.declared.record.Command.{Command}
 use Rattle.zb_model.specs.declared.record.Command.TheVariants as commands
 use Rattle.zb_model.specs.declared.record.Event.{Event}
 use Rattle.zb_model.specs.declared.record.Event.TheVariants as events
 use Rattle.zb_rules.specs.View.{next_key}
 
--- a message under the next key, which waits for its time to live, at most up to the last moment
-abbrev pub published : ℕ → List Event → ℕ → MessagePublish → List Event
-published p before moment c = events.MessagePublished (record {
-  key = next_key p before;
+-- a message under a key, which waits from this moment for its time to live, at most up to the last moment
+abbrev pub message_under : ℕ → ℕ → MessagePublish → MessagePublished
+message_under key moment c = record {
+  key = key;
   name = c.name;
   correlation_key = c.correlation_key;
   id = c.id;
   deadline = min (moment + c.time_to_live) moments.last_moment;
   variables = c.variables;
-}) ∷ []
+}
+
+-- the message is published under the next key
+abbrev pub published : ℕ → List Event → ℕ → MessagePublish → List Event
+published p before moment c = events.MessagePublished (message_under (next_key p before) moment c) ∷ []
 
 -- the events that an accepted command makes of those before it, at a moment of partition p
 abbrev pub own_events : ℕ → List Event → ℕ → Command → List Event

@@ -1,0 +1,53 @@
+-- Laws of a log as it grows by a batch.
+use Rattle.std.proofs.Common.{◌≡◌, ℕ, max, List, [], ◌∷◌, ◌++◌, length, slice_get, Some, refl, inl, inr, ap, sym, ◌∙◌, arith, get_or, subst, append-nil}
+use Rattle.std.proofs.lemmas.Grind.{flat_map-append}
+use Rattle.std.proofs.lemmas.List.{take-append-le, get_or_append_left, length-append}
+use Rattle.std.proofs.lemmas.Option.{slice_get_within, get_or_from_slice_get, slice_get-get_or}
+use Rattle.std.proofs.lemmas.Bool.{cases_lt}
+use Rattle.std.proofs.Math.Seq.{take-append_seam, get_or-append_seam}
+use Rattle.zb_model.specs.declared.record.Event.{Event}
+use Rattle.zb_model.specs.declared.record.Batch.{Batch}
+use Rattle.zb_rules.specs.View.{events_in, events_of, keys_in, greatest_among, greatest_counter, last_moment}
+use Rattle.zb_rules.specs.Step.{IsStep, AreSteps}
+
+-- the events of a log that grew are those before, and then the batch's
+pub events_of_more : (log : List Batch) (batch : Batch) → events_of (log ++ batch ∷ []) ≡ events_of log ++ events_in batch.outcome
+events_of_more log batch =
+    let events : Batch → List Event = λ batch. events_in batch.outcome in
+    flat_map-append events log (batch ∷ []) ∙ ap (λ es. events_of log ++ es) (append-nil (events_in batch.outcome))
+
+-- the greatest of two lists of keys
+pub greatest_among_more : (p : ℕ) (a b : List ℕ) → greatest_among p (a ++ b) ≡ max (greatest_among p a) (greatest_among p b)
+greatest_among_more p [] b = omega arith
+greatest_among_more p (k ∷ a) b = omega (arith, greatest_among_more p a b)
+
+-- the greatest counter after more events
+pub greatest_counter_more : (p : ℕ) (before more : List Event) → greatest_counter p (before ++ more) ≡ max (greatest_counter p before) (greatest_counter p more)
+greatest_counter_more p before more = rw (flat_map-append keys_in before more, greatest_among_more)
+
+-- the last moment of a log that grew
+pub last_moment_more : (log : List Batch) (batch : Batch) → last_moment (log ++ batch ∷ []) ≡ batch.moment
+last_moment_more [] batch = refl
+last_moment_more (first ∷ []) batch = refl
+last_moment_more (first ∷ next ∷ log) batch = last_moment_more (next ∷ log) batch
+
+-- no batches are steps
+pub are_steps_none : (p : ℕ) → AreSteps p []
+are_steps_none p k batch h = cc
+
+-- steps, and a step on them
+pub are_steps_more : (p : ℕ) (log : List Batch) (batch : Batch) → AreSteps p log → IsStep p log batch → AreSteps p (log ++ batch ∷ [])
+are_steps_more p log batch before step k b h =
+    let within = slice_get_within (log ++ batch ∷ []) k b h in
+    let here : get_or (log ++ batch ∷ []) k b ≡ b = get_or_from_slice_get (log ++ batch ∷ []) k b b h in
+    let Is : List Batch → Batch → Type 0 = λ l x. IsStep p l x in
+    elim (cases_lt k (length log)) [
+      | inl lt ↦
+          let at : slice_get log k ≡ Some b = slice_get-get_or log k b lt ∙ ap Some (sym (get_or_append_left log (batch ∷ []) b k lt) ∙ here) in
+          rw (take-append-le k log (batch ∷ []) (omega arith)) (before k b at)
+      | inr ge ↦
+          let end : k ≡ length log = omega (arith, length-append log (batch ∷ []), within) in
+          let last : get_or (log ++ batch ∷ []) (length log) b ≡ batch = get_or-append_seam log batch [] b in
+          let same : batch ≡ b = cc in
+          rw (end, take-append_seam log (batch ∷ [])) (subst (Is log) same step)
+    ]
