@@ -1,9 +1,12 @@
-ghost use Rattle.std.specs.Prelude.{◌≡◌, ◌≢◌, ℕ, ◌++◌, IsSome, Some, IfOk, OnOk, OnErr};
-ghost use Rattle.zb_wire.specs.Reply.{answer_of, line_of, IsSpoken};
+ghost use Rattle.std.specs.Prelude.{◌≡◌, ℕ, ◌++◌, Option, string_bytes, IsSome, Some, IfOk, OnOk, OnErr};
+ghost use Rattle.zb_wire.specs.Reply.{answer_of, line_of, fault_name, units_of, IsSpoken};
 
 use crate::{LineFault, Request};
 use std::alloc::{AllocError, Global};
-use zb_model::{Batch, Key};
+use zb_model::{Batch, Event, Events, Key, Outcome};
+
+/// So many bytes are room for the longest line of a reply.
+const LINE_ROOM: usize = 96;
 
 /// What a line is answered.
 #[derive(Debug, Drop)]
@@ -15,13 +18,18 @@ pub enum Reply {
 }
 
 /// The reply to a request whose command became this batch.
+#[tactic(auto, unfolding(crate::specs::Reply::answer_of))]
 pub fn reply_of(request: &Request, batch: &Batch) -> Result<Reply, AllocError>
     requires { IsSome (answer_of request.now batch.now) }
     ensures { IfOk result (λ reply. answer_of request.now batch.now ≡ Some reply) }
 {
-    let _ = request;
-    let _ = batch;
-    Err(AllocError)
+    match (request, &batch.outcome) {
+        (Request::Publish(_), Outcome::Accepted(events)) => match events.as_slice() {
+            [Event::MessagePublished(published), ..] => Ok(Reply::Publish(published.key)),
+            [] => unreachable!(),
+        },
+        (Request::Publish(_), Outcome::Rejected(_)) => unreachable!(),
+    }
 }
 
 /// Appends the line of a reply with its newline, and `units` as its last field where it is given. After a
@@ -36,9 +44,64 @@ pub fn reply_text(
     ensures ok { OnOk result (bytes.new.items ≡ bytes.old.items ++ line_of reply.now units) }
     ensures err { OnErr result (bytes.new.items ≡ bytes.old.items) }
 {
-    let _ = alloc;
-    let _ = reply;
-    let _ = units;
-    let _ = &bytes;
-    Err(AllocError)
+    let line = line(alloc, reply, units)?;
+    bytes.extend_from_slice(line.as_bytes())
+}
+
+/// The line of a reply.
+fn line(alloc: Global, reply: &Reply, units: Option<u64>) -> Result<String, AllocError>
+    ensures { IfOk result (λ line. string_bytes line ≡ line_of reply.now units) }
+{
+    match reply {
+        Reply::Publish(key) => publish_line(alloc, *key, units),
+        Reply::Fault(number, fault) => fault_line(alloc, *number, *fault),
+    }
+}
+
+#[tactic(auto, unfolding(crate::specs::Reply::line_of))]
+fn publish_line(alloc: Global, key: Key, units: Option<u64>) -> Result<String, AllocError>
+    ensures { IfOk result (λ line. string_bytes line ≡ line_of (Reply.Publish key) units) }
+{
+    let mut line = String::with_capacity(alloc, LINE_ROOM)?;
+    line.push_str("{\"ok\":{\"message\":")?;
+    line.write(key.number())?;
+    line.push_str("}")?;
+    push_units(&mut line, units)?;
+    line.push_str("}\n")?;
+    Ok(line)
+}
+
+#[tactic(auto, unfolding(crate::specs::Reply::line_of))]
+fn fault_line(alloc: Global, number: u64, fault: LineFault) -> Result<String, AllocError>
+    ensures { (units : Option ℕ) → IfOk result (λ line. string_bytes line ≡ line_of (Reply.Fault number fault) units) }
+{
+    let mut line = String::with_capacity(alloc, LINE_ROOM)?;
+    line.push_str("{\"fault\":\"")?;
+    line.push_str(name_of(fault))?;
+    line.push_str("\",\"line\":")?;
+    line.write(number)?;
+    line.push_str("}\n")?;
+    Ok(line)
+}
+
+/// Appends the last field of a reply, where it is given.
+fn push_units(line: &mut String, units: Option<u64>) -> Result<(), AllocError>
+    ensures { OnOk result (string_bytes line.new ≡ string_bytes line.old ++ units_of units) }
+{
+    let Some(units) = units else {
+        return Ok(());
+    };
+    line.push_str(",\"units\":")?;
+    line.write(units)
+}
+
+/// The name of a fault in a reply; want of memory has none.
+fn name_of(fault: LineFault) -> &'static str
+    ensures { result.now ≡ fault_name fault }
+{
+    match fault {
+        LineFault::NotJson => "NOT_JSON",
+        LineFault::UnknownOp => "UNKNOWN_OP",
+        LineFault::Memory => "",
+    }
 }

@@ -1,9 +1,24 @@
-use zb_model::MessagePublish;
+ghost use Rattle.std.specs.Prelude.{◌≡◌};
+
+use zb_model::{Command, MessagePublish};
 
 /// What a line asks for.
 #[derive(Debug, Drop)]
 pub enum Request {
     Publish(MessagePublish),
+}
+
+impl Request {
+    ghost use Rattle.zb_wire.specs.Reply.{command_of};
+
+    /// The command that the request asks of a partition.
+    pub fn into_command(self) -> Command
+        ensures { result ≡ command_of self }
+    {
+        match self {
+            Request::Publish(message) => Command::MessagePublish(message),
+        }
+    }
 }
 
 /// Why a line is no request.
