@@ -8,7 +8,7 @@ use Rattle.zb_codec.specs.Front.{Begins, Keeps}
 pub begins_more : (front bytes more : List ℕ) → Begins front bytes → Begins front (bytes ++ more)
 begins_more front bytes more h =
     let short : length front ≤ length bytes = omega (arith, ap length h.front_of, length-take (length front) bytes) in
-    record { front_of = take-append-le (length front) bytes more short ∙ h.front_of; }
+    record { front_of = take-append-le (length front) bytes more short ∙ h.front_of }
 
 -- the low four bytes of a number are those of the whole number
 pub low_bytes : (n : ℕ) → to_be_bytes w32 (n % 4294967296) ≡ to_be_bytes w32 n

@@ -50,10 +50,7 @@ fn write_command(command: &Command, bytes: &mut Vec<u8>) -> Result<(), AllocErro
 }
 
 #[tactic(auto, using(crate::proofs::Pieces::pieces), unfolding(crate::specs::Record::message_publish))]
-fn write_message_publish(
-    publish: &MessagePublish,
-    bytes: &mut Vec<u8>,
-) -> Result<(), AllocError>
+fn write_message_publish(publish: &MessagePublish, bytes: &mut Vec<u8>) -> Result<(), AllocError>
     ensures ok { OnOk result (bytes.new.items ≡ bytes.old.items ++ records.message_publish publish.now) }
     ensures kept { Keeps bytes.old.items bytes.new.items }
 {
