@@ -1,7 +1,6 @@
 -- The sizes of spellings.
 use Rattle.std.proofs.Common.{◌≡◌, ℕ, ℤ, ◌+◌, ◌*◌, ◌^◌, ◌-◌, min, List, [], ◌∷◌, ◌++◌, length, refl, ap, ◌∙◌, arith, length-append, add_assoc}
 use Rattle.std.specs.List.{flat_map}
-use Rattle.std.specs.Int.{w32, w64, to_be_bytes}
 use Rattle.zb_codec.specs.Field.{number, long, signed}
 
 pub length-number : (n : ℕ) → length (number n) ≡ 4

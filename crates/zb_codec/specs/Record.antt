@@ -1,5 +1,5 @@
 -- The spelling of records: a byte for the kind, and then the fields in order.
-use Rattle.std.specs.Prelude.{ℕ, List, [], ◌∷◌, ◌++◌}
+use Rattle.std.specs.Prelude.{ℕ, List, ◌∷◌, ◌++◌}
 use Rattle.zb_model.specs.declared.record.MessagePublish.{MessagePublish}
 use Rattle.zb_model.specs.declared.record.MessagePublished.{MessagePublished}
 use Rattle.zb_model.specs.declared.record.Command.{Command}
