@@ -1,9 +1,8 @@
-ghost use Rattle.std.specs.Prelude.{◌≡◌, ◌≤◌, [], true, false};
-ghost use Rattle.zb_disk.specs.declared.disk.Trouble.TheVariants.{Failed};
-ghost use Rattle.zb_disk.specs.Cause.{Rose};
+ghost use Rattle.std.specs.Prelude.{◌≡◌, [], true, false};
 ghost use Rattle.std.proofs.lemmas.Bool.{false≢true};
 
 use crate::disk::{Disk, Trouble};
+use crate::faults::count_fault;
 use std::fs::File;
 use std::os::unix::fs::FileExt;
 
@@ -24,16 +23,6 @@ impl FileDisk {
     {
         FileDisk { file, faults: 0 }
     }
-}
-
-/// Counts a fault, and gives the trouble to tell.
-fn count_fault(faults: &mut u64) -> Trouble
-    ensures result { result ≡ Failed }
-    ensures later { faults.old ≤ faults.new }
-    ensures rose { Rose faults.old faults.new }
-{
-    *faults = faults.saturating_add(1);
-    Trouble::Failed
 }
 
 impl Disk for FileDisk {

@@ -2,10 +2,14 @@
 #![tactic(auto)]
 
 mod bytes;
+mod calls;
 mod disk;
+mod faults;
 mod file;
+mod memory;
 mod sound;
 
 pub use disk::{Disk, Trouble};
 pub use file::FileDisk;
+pub use memory::MemDisk;
 pub use sound::SoundDisk;
