@@ -9,6 +9,9 @@ mod file;
 mod memory;
 mod sound;
 
+#[cfg(test)]
+mod tests;
+
 pub use disk::{Disk, Trouble};
 pub use file::FileDisk;
 pub use memory::MemDisk;

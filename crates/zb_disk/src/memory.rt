@@ -1,9 +1,10 @@
-ghost use Rattle.std.specs.Prelude.{◌≡◌, ◌<◌, ◌≤◌, ◌^◌, ℕ, List, length, true, vec_len, IsTrue, IsFalse, IfOk, OnOk, OnErr};
+ghost use Rattle.std.specs.Prelude.{◌≡◌, ◌<◌, ◌≤◌, ◌^◌, ℕ, List, [], ◌∷◌, ◌++◌, length, true, vec_len, IsTrue, IsFalse, IfOk, OnOk, OnErr, IsErr, IsErrOf};
+ghost use Rattle.std.specs.List.{Contains};
 ghost use Rattle.zb_disk.specs.Disk.{Only, Torn, Follows, Elapses, overwritten};
 ghost use Rattle.zb_disk.specs.Cause.{HasCause, Rose};
 ghost use Rattle.zb_disk.specs.Kept.{file_after, is_write, IsImage, WasImage};
 ghost use Rattle.zb_disk.specs.Moments as moments;
-ghost use Rattle.zb_disk.specs.declared.calls.Call.TheVariants.{Synced};
+ghost use Rattle.zb_disk.specs.declared.calls.Call.TheVariants.{Wrote, Synced, Other};
 ghost use Rattle.zb_disk.specs.declared.disk.Trouble.TheVariants.{Failed};
 
 use crate::bytes::{copy_out, overwrite};
@@ -64,6 +65,9 @@ impl MemDisk {
 #[tactic(auto, using(crate::proofs::Steps::steps))]
 fn keep(log: &mut CallLog, call: Call) -> Result<(), Trouble>
     requires { IsFalse (is_write call) }
+    ensures listed { Contains log.old.fails.items (length log.old.calls.items) → IsErr result }
+    ensures kept { OnOk result (log.new.calls.items ≡ log.old.calls.items ++ call ∷ []) }
+    ensures failed { IsErrOf result Failed → log.new.calls.items ≡ log.old.calls.items ++ Other ∷ [] }
     ensures file { (first : List ℕ) → file_after first log.new.calls.items ≡ file_after first log.old.calls.items }
     ensures synced { call ≡ Synced → OnOk result ((first c : List ℕ) → IsImage first log.new.calls.items c → c ≡ file_after first log.new.calls.items) }
     ensures crash { (first c : List ℕ) → IsImage first log.new.calls.items c → IsImage first log.old.calls.items c }
@@ -86,6 +90,7 @@ fn write(bytes: &mut Vec<u8>, calls: &mut Vec<Call>, write: Write) -> Result<(),
     requires done { IsTrue write.is_done }
     ensures bytes { OnOk result (bytes.new.items ≡ overwritten bytes.old.items write.at write.bytes.items) }
     ensures same { OnErr result (bytes.new.items ≡ bytes.old.items) }
+    ensures kept { OnOk result (calls.new.items ≡ calls.old.items ++ Wrote write ∷ []) }
     ensures file { (first : List ℕ) → bytes.old.items ≡ file_after first calls.old.items → bytes.new.items ≡ file_after first calls.new.items }
     ensures crash { (first : List ℕ) → Follows (Torn write.at (length write.bytes.items)) (IsImage first calls.old.items) (IsImage first calls.new.items) }
     ensures time { (first : List ℕ) → Elapses (length calls.old.items) (length calls.new.items)
@@ -101,6 +106,7 @@ fn write(bytes: &mut Vec<u8>, calls: &mut Vec<Call>, write: Write) -> Result<(),
 #[tactic(auto, using(crate::proofs::Steps::steps))]
 fn keep_failed(log: &mut CallLog, write: Write) -> Trouble
     requires { IsFalse write.is_done }
+    ensures kept { result ≡ Failed → log.new.calls.items ≡ log.old.calls.items ++ Wrote write ∷ [] }
     ensures file { (first : List ℕ) → file_after first log.new.calls.items ≡ file_after first log.old.calls.items }
     ensures crash { (first : List ℕ) → Follows (Torn write.at (length write.bytes.items)) (IsImage first log.old.calls.items) (IsImage first log.new.calls.items) }
     ensures time { (first : List ℕ) → Elapses (length log.old.calls.items) (length log.new.calls.items)
