@@ -8,7 +8,6 @@ mod faults;
 mod file;
 mod memory;
 mod sound;
-
 #[cfg(test)]
 mod tests;
 

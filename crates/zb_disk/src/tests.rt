@@ -6,25 +6,29 @@ use std::test::Fail;
 #[test]
 fn memory_keeps_what_is_written(rt: HostRuntime) -> Result<(), Fail> {
     let alloc = rt.alloc();
-    let mut disk = MemDisk::new(alloc, b"abc".to_vec(alloc)?, [2, 4, 7].to_vec(alloc)?)?;
+    let mut disk = MemDisk::new(alloc, b"abc".to_vec(alloc)?, Vec::new(alloc))?;
     assert_eq!(rt; disk.bytes(), b"abc".as_slice());
-
     disk.write_at(2, b"xyz")?;
     assert_eq!(rt; disk.bytes(), b"abxyz".as_slice());
-    disk.write_at(0, b"AB")?;
-    assert_eq!(rt; disk.bytes(), b"ABxyz".as_slice());
-
-    // The calls 2, 4 and 7 fail, and change nothing.
-    assert_eq!(rt; disk.write_at(1, b"!!"), Err(Trouble::Failed));
-    assert_eq!(rt; disk.bytes(), b"ABxyz".as_slice());
     let mut piece = [0; 3];
     disk.read_at(1, &mut piece)?;
-    assert_eq!(rt; piece, *b"Bxy");
-    assert_eq!(rt; disk.sync(), Err(Trouble::Failed));
+    assert_eq!(rt; piece, *b"bxy");
     disk.sync()?;
     assert_eq!(rt; disk.len(), Ok(5));
+    assert_eq!(rt; disk.moment(), 4);
+    Ok(())
+}
+
+#[test]
+fn memory_fails_where_it_is_told(rt: HostRuntime) -> Result<(), Fail> {
+    let alloc = rt.alloc();
+    let mut disk = MemDisk::new(alloc, b"abc".to_vec(alloc)?, [0, 2, 3].to_vec(alloc)?)?;
+    assert_eq!(rt; disk.write_at(0, b"xyz"), Err(Trouble::Failed));
+    assert_eq!(rt; disk.sync(), Ok(()));
+    assert_eq!(rt; disk.sync(), Err(Trouble::Failed));
     assert_eq!(rt; disk.len(), Err(Trouble::Failed));
-    assert_eq!(rt; disk.moment(), 8);
+    assert_eq!(rt; disk.bytes(), b"abc".as_slice());
+    assert_eq!(rt; disk.moment(), 4);
     Ok(())
 }
 
