@@ -15,6 +15,7 @@ abbrev pub file_after : List ℕ → List Call → List ℕ
 file_after file [] = file
 file_after file (call ∷ calls) = file_after (after file call) calls
 
+-- whether a call is a write
 abbrev pub is_write : Call → Bool
 is_write (Wrote w) = true
 is_write Synced = false

@@ -1,5 +1,5 @@
 // Reading from a file in memory, and writing over it.
-ghost use Rattle.std.specs.Prelude.{◌≡◌, ◌≤◌, ◌+◌, length, take, drop, ◌++◌, slice_range, OnOk, OnErr};
+ghost use Rattle.std.specs.Prelude.{◌≡◌, ◌≤◌, ◌+◌, length, slice_range, OnOk, OnErr};
 ghost use Rattle.zb_disk.specs.Disk.{overwritten};
 
 use std::alloc::AllocError;

@@ -1,9 +1,7 @@
 // The calls of a disk in memory.
-ghost use Rattle.std.specs.Prelude.{◌≡◌, ◌↔◌, ◌++◌, ◌∷◌, [], length, IsTrue, OnOk, OnErr, IfErr};
+ghost use Rattle.std.specs.Prelude.{◌≡◌, ◌↔◌, [], length, IsTrue};
 ghost use Rattle.std.specs.List.{Contains};
-ghost use Rattle.zb_disk.specs.declared.disk.Trouble.TheVariants.{Memory};
 
-use crate::disk::Trouble;
 use std::alloc::Global;
 
 /// A call, as far as it may change what a crash leaves.
@@ -38,6 +36,7 @@ impl CallLog {
     /// No calls yet. The calls with these numbers, from 0, will fail.
     pub fn new(alloc: Global, fails: Vec<u64>) -> CallLog
         ensures calls { result.calls.items ≡ [] }
+        ensures fails { result.fails.items ≡ fails.items }
         ensures faults { result.faults ≡ 0 }
     {
         CallLog {
