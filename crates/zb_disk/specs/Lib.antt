@@ -1,2 +1,4 @@
 pub mod Disk
 pub mod Cause
+pub mod Kept
+pub mod Moments

@@ -1,6 +1,9 @@
 ghost use Rattle.std.specs.Prelude.{◌≡◌, ◌<◌, ◌≤◌, ◌+◌, ◌^◌, ℕ, List, Bool, IsTrue, length, slice_range, IfOk, OnOk, OnErr};
 ghost use Rattle.zb_disk.specs.Disk.{DiskView, overwritten, Torn, Follows, Only, Elapses};
 ghost use Rattle.zb_disk.specs.Cause.{HasCause};
+ghost use Rattle.zb_disk.specs.declared.disk.Trouble.TheVariants.{Memory};
+
+use std::alloc::{AllocError, AllocFailed};
 
 /// Why a call of a disk was refused.
 #[derive(Clone, Copy, Debug, PartialEq, Eq)]
@@ -9,6 +12,22 @@ pub enum Trouble {
     Failed,
     /// There was no memory.
     Memory,
+}
+
+impl From<AllocError> for Trouble {
+    ghost from_gives = { λ _ trouble. trouble ≡ Memory };
+
+    fn from(_: AllocError) -> Self {
+        Trouble::Memory
+    }
+}
+
+impl<T: Drop> From<AllocFailed<T>> for Trouble {
+    ghost from_gives = { λ _ trouble. trouble ≡ Memory };
+
+    fn from(_: AllocFailed<T>) -> Self {
+        Trouble::Memory
+    }
 }
 
 /// A file on a disk, as a list of bytes. Between two syncs a crash may leave any bytes where a write

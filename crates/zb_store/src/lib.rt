@@ -2,5 +2,7 @@
 #![tactic(auto)]
 
 mod log;
+#[cfg(test)]
+mod tests;
 
 pub use log::{OpenFault, append, open};

@@ -1,0 +1,168 @@
+ghost use Rattle.std.specs.Prelude.{◌≡◌, ◌<◌, ◌≤◌, ◌^◌, ℕ, List, [], ◌∷◌, ◌++◌, length, true, vec_len, IsTrue, IsFalse, IfOk, OnOk, OnErr, IsErr, IsErrOf};
+ghost use Rattle.std.specs.List.{Contains};
+ghost use Rattle.zb_disk.specs.Disk.{Only, Torn, Follows, Elapses, overwritten};
+ghost use Rattle.zb_disk.specs.Cause.{HasCause, Rose};
+ghost use Rattle.zb_disk.specs.Kept.{file_after, is_write, IsImage, WasImage};
+ghost use Rattle.zb_disk.specs.Moments as moments;
+ghost use Rattle.zb_disk.specs.declared.calls.Call.TheVariants.{Wrote, Synced, Other};
+ghost use Rattle.zb_disk.specs.declared.disk.Trouble.TheVariants.{Failed};
+
+use crate::bytes::{copy_out, overwrite};
+use crate::calls::{Call, CallLog, Write};
+use crate::disk::{Disk, Trouble};
+use crate::faults::count_fault;
+use std::alloc::{AllocError, Global};
+
+/// A file in memory that fails where it is told to. It keeps each call, so it knows what a crash at
+/// each moment may have left; its moment is the number of calls so far. A call that wants memory
+/// changes nothing, and isn't counted.
+#[derive(Drop)]
+pub struct MemDisk {
+    alloc: Global,
+    first: Vec<u8>,
+    bytes: Vec<u8>,
+    log: CallLog,
+    ghost is_kept: { bytes.items ≡ file_after first.items log.calls.items },
+    ghost is_small: { length bytes.items < 2 ^ 58 },
+}
+
+impl MemDisk {
+    /// A disk with these bytes, all of them on the disk. The calls with these numbers, from 0, will fail.
+    pub fn new(alloc: Global, bytes: Vec<u8>, fails: Vec<u64>) -> Result<MemDisk, AllocError>
+        requires { vec_len bytes < 2 ^ 58 }
+        ensures contents { IfOk result (λ disk. (⟦<MemDisk as Disk>⟧.view disk).contents ≡ bytes.items) }
+        ensures durable { IfOk result (λ disk. Only bytes.items (⟦<MemDisk as Disk>⟧.images disk)) }
+        ensures faults { IfOk result (λ disk. (⟦<MemDisk as Disk>⟧.view disk).faults ≡ 0) }
+        ensures moment { IfOk result (λ disk. (⟦<MemDisk as Disk>⟧.view disk).moment ≡ 0) }
+    {
+        let first = bytes.to_vec(alloc)?;
+        let log = CallLog::new(alloc, fails);
+        Ok(MemDisk {
+            alloc,
+            first,
+            bytes,
+            log,
+        })
+    }
+
+    /// The number of calls so far, those that failed too.
+    pub fn moment(&self) -> u64
+        ensures { result ≡ (⟦<MemDisk as Disk>⟧.view self.now).moment }
+    {
+        self.log.calls.len() as u64
+    }
+
+    /// The bytes of the file, as a read gives them.
+    pub fn bytes(&self) -> &[u8]
+        ensures { result.now ≡ (⟦<MemDisk as Disk>⟧.view self.now).contents }
+    {
+        &self.bytes
+    }
+}
+
+/// Keeps a call that doesn't write. It fails where it is listed. The clauses hold whatever bytes the
+/// file began with.
+#[tactic(auto, using(crate::proofs::Steps::steps))]
+fn keep(log: &mut CallLog, call: Call) -> Result<(), Trouble>
+    requires { IsFalse (is_write call) }
+    ensures listed { Contains log.old.fails.items (length log.old.calls.items) → IsErr result }
+    ensures kept { OnOk result (log.new.calls.items ≡ log.old.calls.items ++ call ∷ []) }
+    ensures failed { IsErrOf result Failed → log.new.calls.items ≡ log.old.calls.items ++ Other ∷ [] }
+    ensures file { (first : List ℕ) → file_after first log.new.calls.items ≡ file_after first log.old.calls.items }
+    ensures synced { call ≡ Synced → OnOk result ((first c : List ℕ) → IsImage first log.new.calls.items c → c ≡ file_after first log.new.calls.items) }
+    ensures crash { (first c : List ℕ) → IsImage first log.new.calls.items c → IsImage first log.old.calls.items c }
+    ensures time { (first : List ℕ) → Elapses (length log.old.calls.items) (length log.new.calls.items)
+        (WasImage first log.old.calls.items) (WasImage first log.new.calls.items) (IsImage first log.new.calls.items) }
+    ensures cause { HasCause true log.old.faults log.new.faults result }
+{
+    if log.fails_next() {
+        log.calls.push(Call::Other)?;
+        return Err(count_fault(&mut log.faults));
+    }
+    log.calls.push(call)?;
+    Ok(())
+}
+
+/// Keeps a write, and does it. An `Err` changes nothing.
+#[tactic(auto, using(crate::proofs::Steps::steps))]
+fn write(bytes: &mut Vec<u8>, calls: &mut Vec<Call>, write: Write) -> Result<(), AllocError>
+    requires inside { write.at ≤ length bytes.old.items }
+    requires done { IsTrue write.is_done }
+    ensures bytes { OnOk result (bytes.new.items ≡ overwritten bytes.old.items write.at write.bytes.items) }
+    ensures same { OnErr result (bytes.new.items ≡ bytes.old.items) }
+    ensures kept { OnOk result (calls.new.items ≡ calls.old.items ++ Wrote write ∷ []) }
+    ensures file { (first : List ℕ) → bytes.old.items ≡ file_after first calls.old.items → bytes.new.items ≡ file_after first calls.new.items }
+    ensures crash { (first : List ℕ) → Follows (Torn write.at (length write.bytes.items)) (IsImage first calls.old.items) (IsImage first calls.new.items) }
+    ensures time { (first : List ℕ) → Elapses (length calls.old.items) (length calls.new.items)
+        (WasImage first calls.old.items) (WasImage first calls.new.items) (IsImage first calls.new.items) }
+{
+    calls.reserve(1)?;
+    overwrite(bytes, write.at, &write.bytes)?;
+    calls.push_reserved(Call::Wrote(write));
+    Ok(())
+}
+
+/// Keeps a write that failed.
+#[tactic(auto, using(crate::proofs::Steps::steps))]
+fn keep_failed(log: &mut CallLog, write: Write) -> Trouble
+    requires { IsFalse write.is_done }
+    ensures kept { result ≡ Failed → log.new.calls.items ≡ log.old.calls.items ++ Wrote write ∷ [] }
+    ensures file { (first : List ℕ) → file_after first log.new.calls.items ≡ file_after first log.old.calls.items }
+    ensures crash { (first : List ℕ) → Follows (Torn write.at (length write.bytes.items)) (IsImage first log.old.calls.items) (IsImage first log.new.calls.items) }
+    ensures time { (first : List ℕ) → Elapses (length log.old.calls.items) (length log.new.calls.items)
+        (WasImage first log.old.calls.items) (WasImage first log.new.calls.items) (IsImage first log.new.calls.items) }
+    ensures later { log.old.faults ≤ log.new.faults }
+    ensures cause { result ≡ Failed → Rose log.old.faults log.new.faults }
+{
+    match log.calls.push(Call::Wrote(write)) {
+        Ok(()) => count_fault(&mut log.faults),
+        Err(refused) => Trouble::from(refused),
+    }
+}
+
+impl Disk for MemDisk {
+    ghost view = { λ disk. record { contents = disk.bytes.items; faults = disk.log.faults; moment = length disk.log.calls.items } };
+
+    ghost tells = { true };
+
+    ghost tells_images = { true };
+
+    ghost takes_memory = { true };
+
+    ghost images = { λ disk. IsImage disk.first.items disk.log.calls.items };
+
+    ghost since = { λ disk. WasImage disk.first.items disk.log.calls.items };
+
+    fn len(&mut self) -> Result<u64, Trouble> {
+        keep(&mut self.log, Call::Other)?;
+        Ok(self.bytes.len() as u64)
+    }
+
+    fn read_at(&mut self, at: u64, piece: &mut [u8]) -> Result<(), Trouble> {
+        keep(&mut self.log, Call::Other)?;
+        copy_out(&self.bytes, at, piece);
+        Ok(())
+    }
+
+    fn write_at(&mut self, at: u64, piece: &[u8]) -> Result<(), Trouble> {
+        let is_done = !self.log.fails_next();
+        let bytes = piece.to_vec(self.alloc)?;
+        let call = Write { at, bytes, is_done };
+        if is_done {
+            return Ok(write(&mut self.bytes, &mut self.log.calls, call)?);
+        }
+        Err(keep_failed(&mut self.log, call))
+    }
+
+    fn sync(&mut self) -> Result<(), Trouble> {
+        keep(&mut self.log, Call::Synced)
+    }
+
+    ghost images_told = { λ told. told };
+
+    ghost reads_image = { λ disk _. moments.reads disk.first.items disk.log.calls.items disk.bytes.items disk.is_kept };
+
+    ghost counts_now = { λ disk t c _ le image. moments.counts_now disk.first.items disk.log.calls.items t c le image };
+
+    ghost only_now = { λ disk c _ was. moments.only_now disk.first.items disk.log.calls.items c was };
+}
