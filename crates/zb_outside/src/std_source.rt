@@ -1,0 +1,54 @@
+ghost use Rattle.std.specs.Prelude.{◌≡◌, ◌<◌, ◌^◌, [], false};
+ghost use Rattle.zb_outside.specs.Stream.{SourceView};
+
+use crate::{Source, Trouble};
+use std::io::Read;
+
+/// How many bytes a source may not give: 2^63.
+const TOO_MANY: u64 = 1 << 63;
+
+/// A source over a reader of the standard library.
+#[derive(Drop)]
+pub struct StdSource<R> {
+    reader: R,
+    given: u64,
+    faults: u64,
+    ghost bounded: { given < 2 ^ 63 },
+}
+
+impl<R: Read> StdSource<R> {
+    /// A source over this reader. It fails where the reader does, an interrupted read included, and
+    /// where 2^63 bytes or more would have been given in all.
+    pub fn new(reader: R) -> StdSource<R>
+        ensures { ⟦<StdSource<R> as Source>⟧.view result ≡ record { left = []; given = 0; faults = 0 } }
+    {
+        StdSource {
+            reader,
+            given: 0,
+            faults: 0,
+        }
+    }
+}
+
+impl<R: Read> Source for StdSource<R> {
+    ghost view = { λ s. record { left = []; given = s.given; faults = s.faults } };
+
+    ghost tells = { false };
+
+    ghost takes_memory = { false };
+
+    fn read(&mut self, piece: &mut [u8]) -> Result<usize, Trouble> {
+        match self.reader.read(piece) {
+            Ok(count) if (count as u64) < TOO_MANY - self.given => {
+                self.given += count as u64;
+                Ok(count)
+            }
+            _ => {
+                self.faults = self.faults.saturating_add(1);
+                Err(Trouble::Failed)
+            }
+        }
+    }
+
+    ghost bounded = { λ s. s.bounded };
+}
