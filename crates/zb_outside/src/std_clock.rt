@@ -10,6 +10,7 @@ use zb_model::Moment;
 pub struct StdClock<T> {
     clock: T,
     last: u64,
+    ghost within: { last ≤ last_moment },
 }
 
 impl<T: time::Clock> StdClock<T> {
@@ -26,7 +27,9 @@ impl<T: time::Clock> Clock for StdClock<T> {
 
     ghost tells = { false };
 
-    fn now(&mut self) -> Moment {
+    fn now(&mut self) -> Moment
+        ensures { result ≤ last_moment }
+    {
         if let Ok(time) = SystemTime::now(&self.clock)
             && let Ok(since) = time.duration_since(SystemTime::UNIX_EPOCH)
         {
