@@ -1,4 +1,6 @@
-ghost use Rattle.std.specs.Prelude.{◌≡◌, ◌<◌, ◌^◌, [], false};
+ghost use Rattle.std.specs.Prelude.{◌≡◌, ◌<◌, ◌≤◌, ◌+◌, ◌^◌, [], false, length, take, IfOk, OnErr};
+ghost use Rattle.std.specs.Io.KnownBytes.{Consumes};
+ghost use Rattle.zb_outside.specs.Cause.{HasCause};
 ghost use Rattle.zb_outside.specs.Stream.{SourceView};
 
 use crate::{Source, Trouble};
@@ -37,7 +39,14 @@ impl<R: Read> Source for StdSource<R> {
 
     ghost takes_memory = { false };
 
-    fn read(&mut self, piece: &mut [u8]) -> Result<usize, Trouble> {
+    // Where std knows what the reader has left, each byte that is given is the reader's next.
+    fn read(&mut self, piece: &mut [u8]) -> Result<usize, Trouble>
+        ensures bytes { IfOk result (λ n. Consumes (R.remaining self.old.reader) (R.remaining self.new.reader) (take n piece.new)) }
+        ensures fits { IfOk result (λ n. n ≤ length piece.new) }
+        ensures given { IfOk result (λ n. self.new.given ≡ self.old.given + n) }
+        ensures refused { OnErr result (self.new.given ≡ self.old.given) }
+        ensures cause { HasCause false self.old.faults self.new.faults result }
+    {
         match self.reader.read(piece) {
             Ok(count) if (count as u64) < TOO_MANY - self.given => {
                 self.given += count as u64;
