@@ -1,5 +1,5 @@
 ghost use Rattle.std.specs.Prelude.{◌≡◌, ◌<◌, ◌≤◌, ◌+◌, ◌^◌, [], false, length, take, IfOk, OnErr};
-ghost use Rattle.std.specs.Io.KnownBytes.{Consumes};
+ghost use Rattle.std.specs.Io.KnownBytes.{Consumes, IsAtEnd};
 ghost use Rattle.zb_outside.specs.Cause.{HasCause};
 ghost use Rattle.zb_outside.specs.Stream.{SourceView};
 
@@ -39,9 +39,11 @@ impl<R: Read> Source for StdSource<R> {
 
     ghost takes_memory = { false };
 
-    // Where std knows what the reader has left, each byte that is given is the reader's next.
+    // Where std knows what the reader has left, the bytes that are given are the reader's next, and
+    // none are given only at the reader's end.
     fn read(&mut self, piece: &mut [u8]) -> Result<usize, Trouble>
         ensures bytes { IfOk result (λ n. Consumes (R.remaining self.old.reader) (R.remaining self.new.reader) (take n piece.new)) }
+        ensures end { IfOk result (λ n. n ≡ 0 → 0 < length piece.new → IsAtEnd (R.remaining self.new.reader)) }
         ensures fits { IfOk result (λ n. n ≤ length piece.new) }
         ensures given { IfOk result (λ n. self.new.given ≡ self.old.given + n) }
         ensures refused { OnErr result (self.new.given ≡ self.old.given) }
