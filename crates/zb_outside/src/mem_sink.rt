@@ -67,7 +67,11 @@ impl Sink for MemSink {
         }
     }
 
-    fn flush(&mut self) -> Result<(), Trouble> {
+    // A flush wants no memory.
+    fn flush(&mut self) -> Result<(), Trouble>
+        ensures stays { self.new.bytes ≡ self.old.bytes }
+        ensures cause { HasCause false self.old.faults self.new.faults result }
+    {
         self.begin()
     }
 }
