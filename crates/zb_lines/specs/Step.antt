@@ -1,5 +1,5 @@
 -- The steps in which a reader goes through a line.
-use Rattle.std.specs.Prelude.{◌≡◌, ◌↔◌, ◌<◌, ◌+◌, ◌-◌, ℕ, Bool, true, false, List, [], ◌∷◌, ◌++◌, length, take, drop, IsTrue, Result, Ok, Err}
+use Rattle.std.specs.Prelude.{◌≡◌, ◌↔◌, ◌<◌, ◌≤◌, ◌+◌, ◌-◌, ℕ, Bool, true, false, List, [], ◌∷◌, ◌++◌, length, take, drop, IsTrue, IsOk, Result, Ok, Err}
 use Rattle.zb_outside.specs.Stream.{SourceView}
 use Rattle.zb_lines.specs.Taken.{Takes}
 use Rattle.zb_lines.specs.Line.{IsOneLine, ended, newline}
@@ -19,6 +19,12 @@ abbrev pub HandsOut : {E : Type 0} → ℕ → Result Bool E → List ℕ → Li
 HandsOut most (Ok true) held left line shown = (part : List ℕ) × IsOneLine part × (held ≡ ended part ++ left) × (shown ≡ kept most line part)
 HandsOut most (Ok false) held left line shown = IsOneLine held × (left ≡ []) × (shown ≡ kept most line held)
 HandsOut most (Err e) held left line shown = Unit {0}
+
+-- a line grows to at most `most` bytes, and memory is wanted only where it has room for fewer
+pub record KeepsRoom {T E : Type 0} (most len capacity len' capacity' : ℕ) (result : Result T E) : Type 0 where
+  pub grows : capacity ≤ capacity'
+  pub within : len ≤ most → len' ≤ most
+  pub holds : len ≤ most → most ≤ capacity → IsOk result
 
 -- the source gave the next piece (true), had ended (false) or gave nothing
 abbrev pub Refills : {E : Type 0} → Bool → Result Bool E → SourceView → SourceView → List ℕ → Type 0

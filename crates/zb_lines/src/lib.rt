@@ -6,3 +6,6 @@ mod sender;
 
 pub use reader::{LineReader, Next};
 pub use sender::send;
+
+#[cfg(test)]
+mod tests;

@@ -1,8 +1,8 @@
-ghost use Rattle.std.specs.Prelude.{◌≡◌, ◌↔◌, ◌++◌, ◌≤◌, ◌<◌, ℕ, List, [], MatchOption, IfOk, OnOk, OnErr, IsErrOf, IsTrue, length};
+ghost use Rattle.std.specs.Prelude.{◌≡◌, ◌↔◌, ◌++◌, ◌≤◌, ◌<◌, ℕ, List, [], MatchOption, IfOk, OnOk, OnErr, IsErrOf, IsTrue, length, vec_len, vec_capacity};
 ghost use Rattle.zb_outside.specs.Cause.{Rose, HasCause};
 ghost use Rattle.zb_lines.specs.Taken.{Takes};
 ghost use Rattle.zb_lines.specs.Line.{Comes, IsAtEnd, IsOneLine};
-ghost use Rattle.zb_lines.specs.Step.{kept, BreaksAt, HandsOut, Refills};
+ghost use Rattle.zb_lines.specs.Step.{kept, BreaksAt, HandsOut, KeepsRoom, Refills};
 
 use memchr::memchr;
 use std::alloc::{AllocError, Global};
@@ -67,6 +67,9 @@ impl LineReader {
             × Comes most result (self.old ++ more) self.new line.new.items }
         ensures at_end { IsAtEnd result → IsTrue S.tells → (S.view source.new).left ≡ [] }
         ensures later { (S.view source.old).faults ≤ (S.view source.new).faults }
+        // A line that has room for `most` bytes keeps it, and then the reader wants no memory of its own.
+        ensures room { vec_capacity line.old ≤ vec_capacity line.new }
+        ensures memory { most ≤ vec_capacity line.old → IsErrOf result Trouble.Memory → IsTrue S.takes_memory }
         ensures failed { IsErrOf result Trouble.Failed → Rose (S.view source.old).faults (S.view source.new).faults }
     {
         line.clear();
@@ -95,7 +98,8 @@ impl LineReader {
 
     /// Hands out what is held up to the first newline, or all of it, and answers whether there was one.
     fn hand_out(&mut self, most: usize, line: &mut Vec<u8>) -> Result<bool, AllocError>
-        ensures { HandsOut most result self.old self.new line.old.items line.new.items }
+        ensures hands_out { HandsOut most result self.old self.new line.old.items line.new.items }
+        ensures room { KeepsRoom most (vec_len line.old) (vec_capacity line.old) (vec_len line.new) (vec_capacity line.new) result }
     {
         let held = &self.piece[self.at..self.end];
         match newline_of(held) {
@@ -138,7 +142,8 @@ fn newline_of(bytes: &[u8]) -> Option<usize>
 
 /// Appends a part of a line, of which at most `most` bytes are kept.
 fn keep(most: usize, part: &[u8], line: &mut Vec<u8>) -> Result<(), AllocError>
-    ensures { OnOk result (line.new.items ≡ kept most line.old.items part.now) }
+    ensures kept { OnOk result (line.new.items ≡ kept most line.old.items part.now) }
+    ensures room { KeepsRoom most (vec_len line.old) (vec_capacity line.old) (vec_len line.new) (vec_capacity line.new) result }
 {
     let room = most.saturating_sub(line.len());
     if room < part.len() {

@@ -1,2 +1,3 @@
 pub mod Stream
 pub mod Cause
+pub mod Clock
