@@ -265,3 +265,6 @@ fn append(piece: &[u8], bytes: &mut Vec<u8>) -> Result<(), AllocError>
 {
     bytes.extend_from_slice(piece)
 }
+
+#[cfg(test)]
+mod tests;

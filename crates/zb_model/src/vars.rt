@@ -1,7 +1,9 @@
-ghost use Rattle.std.specs.Prelude.{◌≡◌, [], IfOk};
+ghost use Rattle.std.specs.Prelude.{◌≡◌, ◌<◌, [], IfOk, IfErr, IsTrue, OnOk, OnErr, length};
+ghost use Rattle.std.specs.Option.{option_copied};
 
 use crate::{Text, Value};
 use std::alloc::{AllocError, Global};
+use std::cmp::Ordering;
 use std::marker::Model;
 
 /// A variable: a name and its value.
@@ -30,15 +32,21 @@ pub struct Vars {
 }
 
 impl Model for Vars {
-    ghost use Rattle.std.specs.Prelude.{List};
+    ghost use Rattle.std.specs.Prelude.{List, IsTrue};
     ghost use Rattle.zb_model.specs.declared.vars.Variable.{Variable};
 
     ghost Value = { List Variable };
 
+    ghost use Rattle.zb_model.specs.Vars.{is_ascending};
+
     ghost view = { λ l. l.items.items };
+
+    ghost invariant = { λ l. IsTrue (is_ascending l.items.items) };
 }
 
 impl Vars {
+    ghost use Rattle.zb_model.specs.Vars.{is_ascending, value_of, with_value};
+
     /// No variables. It takes no memory.
     pub fn empty(alloc: Global) -> Vars
         ensures { result ≡ [] }
@@ -59,10 +67,91 @@ impl Vars {
         Ok(Vars { items })
     }
 
+    /// The value of a name. It takes a step for each variable.
+    pub fn get(&self, name: &str) -> Option<&Value>
+        ensures { option_copied result ≡ value_of name.now self.now }
+    {
+        match place(self.items.as_slice(), name) {
+            Ok(index) => Some(&self.items[index].value),
+            Err(_) => None,
+        }
+    }
+
+    /// Sets the value of a name. After a refusal nothing has changed, and the value is dropped.
+    /// It takes a step for each variable.
+    pub fn put(&mut self, name: Text, value: Value) -> Result<(), AllocError>
+        ensures ok { OnOk result (self.new ≡ with_value name value self.old) }
+        ensures err { OnErr result (self.new ≡ self.old) }
+    {
+        match place(self.items.as_slice(), name.as_str()) {
+            Ok(index) => {
+                self.items[index] = Variable { name, value };
+                Ok(())
+            }
+            Err(index) => {
+                self.items.insert(index, Variable { name, value })?;
+                Ok(())
+            }
+        }
+    }
+
     /// The variables, their names strictly ascending.
     pub fn as_slice(&self) -> &[Variable]
-        ensures { result.now ≡ self.now }
+        ensures value { result.now ≡ self.now }
+        ensures ascending { IsTrue (is_ascending self.now) }
     {
         self.items.as_slice()
+    }
+}
+
+ghost use Rattle.std.specs.declared.cmp.Ordering.TheVariants.{Less, Equal};
+ghost use Rattle.zb_model.specs.Vars.{Stands};
+
+/// Where the name stands among variables, or else where it would stand.
+fn place(variables: &[Variable], name: &str) -> Result<usize, usize>
+    ensures found { IfOk result (Stands name.now variables.now Equal) }
+    ensures within { IfOk result (λ index. index < length variables.now) }
+    ensures missing { IfErr result (Stands name.now variables.now Less) }
+{
+    for (index, variable) in variables.iter().enumerate() {
+        match name.cmp(variable.name.as_str()) {
+            Ordering::Less => return Err(index),
+            Ordering::Equal => return Ok(index),
+            Ordering::Greater => {}
+        }
+    }
+    Err(variables.len())
+}
+
+#[cfg(test)]
+mod tests {
+    use super::*;
+    use crate::Ints;
+    use std::test::Fail;
+
+    #[test]
+    fn one_value_a_name_in_order(rt: HostRuntime) -> Result<(), Fail> {
+        let mut variables = Vars::empty(rt.alloc());
+        for (name, number) in [("b", 1), ("a", 2), ("b", 3)] {
+            variables.put(Text::of(rt.alloc(), name)?, Value::Int(number))?;
+        }
+        let copy = variables.copy(rt.alloc())?;
+        assert_eq!(rt; copy.as_slice().len(), 2);
+        assert_eq!(rt; copy.as_slice()[0].name.as_str(), "a");
+        assert!(rt; matches!(copy.get("a"), Some(Value::Int(2))));
+        assert!(rt; matches!(copy.get("b"), Some(Value::Int(3))));
+        assert!(rt; copy.get("c").is_none());
+        Ok(())
+    }
+
+    #[test]
+    fn copies_of_a_text_and_a_list(rt: HostRuntime) -> Result<(), Fail> {
+        let text = Value::Text(Text::of(rt.alloc(), "paid")?).copy(rt.alloc())?;
+        assert!(rt; matches!(&text, Value::Text(text) if text.as_str() == "paid"));
+        let mut numbers = Ints::empty(rt.alloc());
+        numbers.push(-2)?;
+        let list = Value::List(numbers).copy(rt.alloc())?;
+        assert!(rt; matches!(&list, Value::List(list) if list.as_slice() == [-2].as_slice()));
+        Ok(())
     }
 }
