@@ -1,6 +1,9 @@
 ghost use Rattle.std.specs.Prelude.{◌≡◌, ◌<◌, ◌≤◌, ◌+◌, ◌^◌, List, [], ◌∷◌, ◌++◌, IfOk, Ok};
 ghost use Rattle.zb_model.specs.declared.record.Batch.{Batch};
 ghost use Rattle.zb_model.specs.declared.record.Command.TheVariants as commands;
+ghost use Rattle.zb_model.specs.declared.record.Event.TheVariants as events;
+ghost use Rattle.zb_model.specs.declared.record.Outcome.TheVariants as outcomes;
+ghost use Rattle.zb_model.specs.Key.{key_of};
 ghost use Rattle.zb_rules.specs.View.{events_of, greatest_counter, last_moment};
 ghost use Rattle.zb_rules.specs.Own.{message_under};
 ghost use Rattle.zb_rules.specs.Step.{IsStep};
@@ -25,6 +28,7 @@ pub fn publish(
     ensures moment { IfOk result (λ batch. batch.moment ≡ moment) }
     ensures begin { IfOk result (λ batch. batch.begin ≡ begin) }
     ensures command { IfOk result (λ batch. batch.command ≡ commands.MessagePublish command) }
+    ensures event { IfOk result (λ batch. batch.outcome ≡ outcomes.Accepted (events.MessagePublished (message_under (key_of place (counter + 1)) moment command) ∷ [])) }
     ensures step { (log : List Batch) → greatest_counter place (events_of log) ≡ counter → last_moment log ≤ moment
         → IfOk result (λ batch. IsStep place log batch) }
     ensures counter { (log : List Batch) → greatest_counter place (events_of log) ≡ counter

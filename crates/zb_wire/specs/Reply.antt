@@ -24,14 +24,14 @@ abbrev pub message_in : List Event → Option ℕ
 message_in [] = None
 message_in (events.MessagePublished e ∷ es) = Some e.key
 
--- the reply to a request whose command had this outcome
-abbrev pub answer_to : Request → Outcome → Option Reply
-answer_to (requests.Publish c) (outcomes.Accepted es) = option_map replies.Publish (message_in es)
-answer_to (requests.Publish c) (outcomes.Rejected r) = None
+-- the reply to a command that had this outcome
+abbrev pub answer_to : Command → Outcome → Option Reply
+answer_to (commands.MessagePublish c) (outcomes.Accepted es) = option_map replies.Publish (message_in es)
+answer_to (commands.MessagePublish c) (outcomes.Rejected r) = None
 
--- the reply to a request whose command became this batch
-unfoldable pub answer_of : Request → Batch → Option Reply
-answer_of request batch = answer_to request batch.outcome
+-- the reply to the request whose command became this batch
+unfoldable pub answer_of : Batch → Option Reply
+answer_of batch = answer_to batch.command batch.outcome
 
 -- the last field of a reply
 abbrev pub units_of : Option ℕ → List ℕ

@@ -1,16 +1,16 @@
 -- Laws of the replies to requests.
 use Rattle.std.specs.Prelude.{◌≡◌, [], ◌∷◌, Some, refl}
 use Rattle.zb_model.specs.declared.record.Batch.{Batch}
+use Rattle.zb_model.specs.declared.record.Command.TheVariants as commands
 use Rattle.zb_model.specs.declared.record.Event.TheVariants as events
 use Rattle.zb_model.specs.declared.record.MessagePublish.{MessagePublish}
 use Rattle.zb_model.specs.declared.record.MessagePublished.{MessagePublished}
 use Rattle.zb_model.specs.declared.record.Outcome.TheVariants as outcomes
 use Rattle.zb_wire.specs.Reply.{answer_of, answer_to}
 use Rattle.zb_wire.specs.declared.reply.Reply.TheVariants as replies
-use Rattle.zb_wire.specs.declared.request.Request.TheVariants as requests
-use Rattle.std.proofs.Common.{ap}
 
--- a publish request that published one message is answered with its key
-pub answer_of-published : (c : MessagePublish) (e : MessagePublished) (batch : Batch) → batch.outcome ≡ outcomes.Accepted (events.MessagePublished e ∷ []) → answer_of (requests.Publish c) batch ≡ Some (replies.Publish e.key)
+-- a publish that made one message is answered with its key
+pub answer_of-published : (c : MessagePublish) (e : MessagePublished) (batch : Batch) → batch.command ≡ commands.MessagePublish c
+    → batch.outcome ≡ outcomes.Accepted (events.MessagePublished e ∷ []) → answer_of batch ≡ Some (replies.Publish e.key)
 unfolding answer_of
-answer_of-published c e batch is = ap (answer_to (requests.Publish c)) is
+answer_of-published c e batch asked became = rw (asked, became) refl

@@ -1,9 +1,9 @@
 ghost use Rattle.std.specs.Prelude.{◌≡◌, ℕ, ◌++◌, Option, string_bytes, IsSome, Some, IfOk, OnOk, OnErr};
 ghost use Rattle.zb_wire.specs.Reply.{answer_of, line_of, fault_name, units_of, IsSpoken};
 
-use crate::{LineFault, Request};
+use crate::LineFault;
 use std::alloc::{AllocError, Global};
-use zb_model::{Batch, Event, Events, Key, Outcome};
+use zb_model::{Batch, Command, Event, Events, Key, Outcome};
 
 /// So many bytes are room for the longest line of a reply.
 const LINE_ROOM: usize = 96;
@@ -17,18 +17,18 @@ pub enum Reply {
     Fault(u64, LineFault),
 }
 
-/// The reply to a request whose command became this batch.
+/// The reply to the request whose command became this batch.
 #[tactic(auto, unfolding(crate::specs::Reply::answer_of))]
-pub fn reply_of(request: &Request, batch: &Batch) -> Result<Reply, AllocError>
-    requires { IsSome (answer_of request.now batch.now) }
-    ensures { IfOk result (λ reply. answer_of request.now batch.now ≡ Some reply) }
+pub fn reply_of(batch: &Batch) -> Result<Reply, AllocError>
+    requires { IsSome (answer_of batch.now) }
+    ensures { IfOk result (λ reply. answer_of batch.now ≡ Some reply) }
 {
-    match (request, &batch.outcome) {
-        (Request::Publish(_), Outcome::Accepted(events)) => match events.as_slice() {
+    match (&batch.command, &batch.outcome) {
+        (Command::MessagePublish(_), Outcome::Accepted(events)) => match events.as_slice() {
             [Event::MessagePublished(published), ..] => Ok(Reply::Publish(published.key)),
             [] => unreachable!(),
         },
-        (Request::Publish(_), Outcome::Rejected(_)) => unreachable!(),
+        (Command::MessagePublish(_), Outcome::Rejected(_)) => unreachable!(),
     }
 }
 
