@@ -1,5 +1,5 @@
 -- Laws of the request that a line is.
-use Rattle.std.specs.Prelude.{◌≡◌, ℕ, ◌<◌, List, length, take, Bool, true, false, nat_le, None, refl}
+use Rattle.std.specs.Prelude.{◌≡◌, ℕ, ◌+◌, ◌<◌, List, length, take, Bool, true, false, nat_le, None, refl}
 use Rattle.std.proofs.Common.{sym, ap, ◌∙◌, arith}
 use Rattle.std.proofs.lemmas.Bool.{leb-true, leb-false, lt-leb}
 use Rattle.std.proofs.lemmas.List.{take_all, length-take-le}
@@ -25,3 +25,7 @@ value_of-take n line above = value_of_take_by _ n line refl above
 pub request_of-take : (n : ℕ) (line : List ℕ) → longest_line < n → request_of (take n line) ≡ request_of line
 unfolding request_of
 request_of-take n line above = rw (value_of-take n line above)
+
+-- the first bytes of a line, one more than the longest line has, ask for what the line asks for
+pub request_of-front : (line : List ℕ) → request_of (take (longest_line + 1) line) ≡ request_of line
+request_of-front line = request_of-take (longest_line + 1) line (omega arith)

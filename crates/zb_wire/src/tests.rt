@@ -83,12 +83,22 @@ fn refuses_what_is_no_json(rt: HostRuntime) -> Result<(), Fail> {
         b"{\"op\":",
     ];
     for line in lines {
-        assert_eq!(rt; read_line(rt.alloc(), line).err(), Some(LineFault::NotJson), "at {line:?}");
+        assert_eq!(rt;
+            read_line(rt.alloc(), line).err(),
+            Some(LineFault::NotJson),
+            "at {line:?}"
+        );
     }
     let deep = nested(rt.alloc(), 128)?;
-    assert_eq!(rt; read_line(rt.alloc(), deep.as_slice()).err(), Some(LineFault::NotJson));
+    assert_eq!(rt;
+        read_line(rt.alloc(), deep.as_slice()).err(),
+        Some(LineFault::NotJson)
+    );
     let long = padded(rt.alloc(), 262_145)?;
-    assert_eq!(rt; read_line(rt.alloc(), long.as_slice()).err(), Some(LineFault::NotJson));
+    assert_eq!(rt;
+        read_line(rt.alloc(), long.as_slice()).err(),
+        Some(LineFault::NotJson)
+    );
     Ok(())
 }
 
@@ -116,48 +126,44 @@ fn refuses_what_asks_for_nothing(rt: HostRuntime) -> Result<(), Fail> {
         assert_eq!(rt; fault, Some(LineFault::UnknownOp), "at {line}");
     }
     let deep = nested(rt.alloc(), 127)?;
-    assert_eq!(rt; read_line(rt.alloc(), deep.as_slice()).err(), Some(LineFault::UnknownOp));
+    assert_eq!(rt;
+        read_line(rt.alloc(), deep.as_slice()).err(),
+        Some(LineFault::UnknownOp)
+    );
     let wide = named(rt.alloc(), 256)?;
-    assert_eq!(rt; read_line(rt.alloc(), wide.as_slice()).err(), Some(LineFault::UnknownOp));
+    assert_eq!(rt;
+        read_line(rt.alloc(), wide.as_slice()).err(),
+        Some(LineFault::UnknownOp)
+    );
     Ok(())
 }
 
 #[test]
 fn writes_replies(rt: HostRuntime) -> Result<(), Fail> {
-    let replies = [
-        (
-            Reply::Publish(Key::new(2_251_799_813_685_249)),
-            Some(0),
-            "{\"ok\":{\"message\":2251799813685249},\"units\":0}\n",
-        ),
-        (
-            Reply::Publish(Key::new(7)),
-            None,
-            "{\"ok\":{\"message\":7}}\n",
-        ),
-        (
-            Reply::Fault(1, LineFault::NotJson),
-            None,
-            "{\"fault\":\"NOT_JSON\",\"line\":1}\n",
-        ),
-        (
-            Reply::Fault(7, LineFault::UnknownOp),
-            None,
-            "{\"fault\":\"UNKNOWN_OP\",\"line\":7}\n",
-        ),
-    ];
-    for (reply, units, line) in replies {
-        let mut bytes = Vec::from_slice(rt.alloc(), b"kept ")?;
-        match &reply {
-            Reply::Fault(_, LineFault::Memory) => {}
-            _ => reply_text(rt.alloc(), &reply, units, &mut bytes)?,
-        }
-        assert_eq!(rt; bytes.as_slice().split_at(5).1, line.as_bytes());
-    }
+    let mut bytes = Vec::from_slice(rt.alloc(), b"> ")?;
+    let key = Key::new(2_251_799_813_685_249);
+    reply_text(rt.alloc(), &Reply::Publish(key), Some(0), &mut bytes)?;
+    reply_text(rt.alloc(), &Reply::Publish(Key::new(7)), None, &mut bytes)?;
+    reply_text(
+        rt.alloc(),
+        &Reply::Fault(1, LineFault::NotJson),
+        None,
+        &mut bytes,
+    )?;
+    reply_text(
+        rt.alloc(),
+        &Reply::Fault(7, LineFault::UnknownOp),
+        None,
+        &mut bytes,
+    )?;
+    let lines =
+        "> {\"ok\":{\"message\":2251799813685249},\"units\":0}\n{\"ok\":{\"message\":7}}\n{\"fault\":\"NOT_JSON\",\"line\":1}\n{\"fault\":\"UNKNOWN_OP\",\"line\":7}\n";
+    assert_eq!(rt; bytes.as_slice(), lines.as_bytes());
     Ok(())
 }
 
 #[test]
+#[tactic(auto, unfolding(crate::specs::Reply::answer_of))]
 fn answers_a_publish_request(rt: HostRuntime) -> Result<(), Fail> {
     let alloc = rt.alloc();
     let mut events = Events::empty(alloc);
