@@ -181,7 +181,7 @@ fn answers_a_publish_request(rt: HostRuntime) -> Result<(), Fail> {
         command: Command::MessagePublish(message(alloc)?),
         outcome: Outcome::Accepted(events),
     };
-    let reply = reply_of(&Request::Publish(message(alloc)?), &batch)?;
+    let reply = reply_of(&batch)?;
     let Reply::Publish(key) = reply else {
         assert!(rt; false, "a publish request has the reply of one");
         return Ok(());
