@@ -1,0 +1,9 @@
+pub mod Asking
+pub mod Lists
+pub mod Logs
+pub mod Opening
+pub mod Over
+pub mod Single
+pub mod Stops
+pub mod Streams
+pub mod Turns

@@ -1,0 +1,112 @@
+-- What a run of the server is.
+use Rattle.std.specs.Prelude.{◌≡◌, ◌⊎◌, ◌<◌, ◌≤◌, ◌-◌, ℕ, List, [], ◌∷◌, ◌++◌, length, slice_get, IsTrue, Option, Some, None, Ok}
+use Rattle.std.specs.List.{flat_map, AllZip, range_with_len}
+use Rattle.std.specs.List.Sorted.{IsPermutation, IsStrictlyIncreasing}
+use Rattle.zb_disk.specs.Cause.{Rose}
+use Rattle.zb_model.specs.declared.record.Batch.{Batch}
+use Rattle.zb_store.specs.Log.{front, at_rest, Begins}
+use Rattle.zb_wire.specs.declared.request.Request.{Request}
+use Rattle.zb_wire.specs.Request.{request_of}
+use Rattle.zb_wire.specs.Reply.{command_of}
+use Rattle.zbd.specs.Ends.{SessionEnds, LogEnds, Told, EachFrom}
+use Rattle.zbd.specs.Session.{SessionRun, IsSession, batches_of}
+use Rattle.zbd.specs.Log.{IsLog, IsDiskHurt, bodies}
+use Rattle.zbd.specs.declared.run.Volume.{Volume}
+use Rattle.zbd.specs.declared.run.Cause.{Cause}
+use Rattle.zbd.specs.declared.run.Cause.TheVariants as causes
+
+-- the exit status of a cause
+abbrev pub status_of : Cause → ℕ
+status_of causes.Done = 0
+status_of causes.Usage = 2
+status_of (causes.SourceFault session) = 3
+status_of (causes.DiskFault partition batch) = 4
+status_of (causes.BadLog partition frame) = 5
+status_of (causes.SinkFault session) = 6
+status_of causes.Memory = 7
+status_of (causes.LogFull partition length_told frame limit) = 8
+status_of (causes.InputFull session) = 9
+
+-- a number from 1 to n
+abbrev pub IsOneOf : ℕ → ℕ → Type 0
+IsOneOf n number = (1 ≤ number) × (number ≤ n)
+
+-- a run with so many sessions and partitions may end so once its logs are open
+abbrev pub MayEnd : ℕ → ℕ → Cause → Type 0
+MayEnd sessions partitions causes.Done = Unit {0}
+MayEnd sessions partitions causes.Usage = ⊥
+MayEnd sessions partitions (causes.SourceFault session) = IsOneOf sessions session
+MayEnd sessions partitions (causes.DiskFault partition batch) = IsOneOf partitions partition
+MayEnd sessions partitions (causes.BadLog partition frame) = ⊥
+MayEnd sessions partitions (causes.SinkFault session) = IsOneOf sessions session
+MayEnd sessions partitions causes.Memory = Unit {0}
+MayEnd sessions partitions (causes.LogFull partition length_told frame limit) = IsOneOf partitions partition
+MayEnd sessions partitions (causes.InputFull session) = ⊥
+
+-- a batch is made of the next line of a session
+pub record IsNext (runs : List SessionRun) (batch : Batch) : Type 0 where
+  pub place : ℕ
+  pub run : SessionRun
+  pub is : slice_get runs place ≡ Some run
+  pub line : List ℕ
+  pub lines : List (List ℕ)
+  pub unserved : run.unserved ≡ line ∷ lines
+  pub request : Request
+  pub asked : request_of line ≡ Ok request
+  pub command : batch.command ≡ command_of request
+
+-- a batch has this number as its begin, and the moment at which the manual clock stands
+abbrev pub IsStamped : ℕ → Batch → Type 0
+IsStamped stamp batch = (batch.begin ≡ stamp) × (batch.moment ≡ 0)
+
+-- a run whose logs were opened: its sessions, its logs, and its cause
+pub record Serves (told : Told) (streams : List SessionEnds) (volumes : List LogEnds) (images : ℕ → List ℕ → Type 0)
+    (cause : Cause) (stamps : List (List ℕ)) : Type 0 where
+  -- each session's part, the batches of each partition, and the batch that was made last and isn't in its log
+  pub runs : List SessionRun
+  pub made : List (List Batch)
+  pub unlogged : Option Batch
+  -- the causes that there are, and when each comes
+  pub status : MayEnd (length streams) (length volumes) cause
+  -- each log has as many batches as stamps; the stamps are 0, 1, 2, .., each once, and ascend in each log
+  pub logs : EachFrom (IsLog told cause unlogged) 1 volumes made
+  pub stamped : AllZip (AllZip IsStamped) stamps made
+  pub ascending : AllZip (λ list log. IsStrictlyIncreasing list) stamps made
+  pub each_once : IsPermutation (range_with_len 0 (length (flat_map (λ log. log) made))) (flat_map (λ list. list) stamps)
+  -- the lines that were served, and what each led to
+  pub sessions : EachFrom (IsSession told cause) 1 streams runs
+  -- the batches are those of the served lines and no others
+  pub batches : flat_map (λ log. log) made ≡ flat_map (λ run. batches_of run.answers) runs
+  pub next : (batch : Batch) → unlogged ≡ Some batch → IsNext runs batch
+  -- what a crash now leaves begins with every batch of the log, and is the log where the disk wasn't hurt
+  pub crash_now : IsTrue told.images → (place : ℕ) (log : List Batch) (ends : LogEnds) (image : List ℕ)
+      → slice_get made place ≡ Some log → slice_get volumes place ≡ Some ends → images place image
+      → Begins image (front (bodies log)) × ((image ≡ at_rest (bodies log)) ⊎ IsDiskHurt told ends cause)
+
+-- the member with this number, from 1, has P
+abbrev pub OfNumber : {A : Type 0} → List A → ℕ → (A → Type 0) → Type 0
+OfNumber {A} members number P = (member : A) × (1 ≤ number) × (slice_get members (number - 1) ≡ Some member) × P member
+
+-- Opening ended the run: a disk failed, a log longer than one byte can't be read and is unchanged, or there
+-- was no memory.
+abbrev pub FailsToOpen : Told → List LogEnds → Cause → Type 0
+FailsToOpen told volumes (causes.DiskFault partition batch) = (batch ≡ None) × OfNumber volumes partition (λ ends. Rose ends.disk.faults ends.disk_after.faults)
+FailsToOpen told volumes (causes.BadLog partition frame) = (frame ≡ 0)
+    × OfNumber volumes partition (λ ends. IsTrue told.disk → (1 < length ends.disk.contents) × (ends.disk_after.contents ≡ ends.disk.contents))
+FailsToOpen told volumes causes.Memory = Unit {0}
+FailsToOpen told volumes causes.Done = ⊥
+FailsToOpen told volumes causes.Usage = ⊥
+FailsToOpen told volumes (causes.SourceFault session) = ⊥
+FailsToOpen told volumes (causes.SinkFault session) = ⊥
+FailsToOpen told volumes (causes.LogFull partition length_told frame limit) = ⊥
+FailsToOpen told volumes (causes.InputFull session) = ⊥
+
+-- a run of planned words: its logs were opened, and then it has stamps for each of them, or they weren't
+abbrev pub IsRun : Told → List SessionEnds → List LogEnds → (ℕ → List ℕ → Type 0) → Cause → List (List ℕ) → Type 0
+IsRun told streams volumes images cause [] = FailsToOpen told volumes cause
+IsRun told streams volumes images cause (first ∷ more) = Serves told streams volumes images cause (first ∷ more)
+
+-- the slots for snapshots of each volume
+abbrev pub slots_of : {D : Type 0} → List (Volume D) → List (D × D)
+slots_of [] = []
+slots_of (volume ∷ volumes) = (volume.snap_a, volume.snap_b) ∷ slots_of volumes

@@ -1,0 +1,76 @@
+use std::fmt;
+use zb_model::Batch;
+
+/// A client: where its lines come from, and where the replies go.
+pub struct Session<S, K> {
+    pub source: S,
+    pub sink: K,
+}
+
+/// The files of a partition: its log, and two slots for snapshots.
+pub struct Volume<D> {
+    pub log: D,
+    pub snap_a: D,
+    pub snap_b: D,
+}
+
+/// Why a run ended. Sessions and partitions are numbered from 1.
+#[derive(Debug, Drop)]
+pub enum Cause {
+    /// Every source was read to its end, and every line has its reply.
+    Done,
+    /// The words, or the number of volumes, can't be served.
+    Usage,
+    /// That session's source failed.
+    SourceFault { session: u32 },
+    /// A disk of that partition failed. The batch is the one that was being written.
+    DiskFault {
+        partition: u32,
+        in_writing: Option<Batch>,
+    },
+    /// That partition's log can't be read from this frame on, counted from 0.
+    BadLog { partition: u32, frame: u64 },
+    /// That session's sink failed.
+    SinkFault { session: u32 },
+    /// There was no memory.
+    Memory,
+    /// The next frame doesn't fit into that partition's log. All numbers are of bytes.
+    LogFull {
+        partition: u32,
+        length: u64,
+        frame: u64,
+        limit: u64,
+    },
+    /// That session took as many bytes as a session may.
+    InputFull { session: u32 },
+}
+
+impl fmt::Display for Cause {
+    fn fmt<W: fmt::Write>(&self, f: &mut fmt::Formatter<W>) -> fmt::Result {
+        f.write_str(match self {
+            Cause::Done => "Done",
+            Cause::Usage => "Usage",
+            Cause::SourceFault { .. } => "SourceFault",
+            Cause::DiskFault { .. } => "DiskFault",
+            Cause::BadLog { .. } => "BadLog",
+            Cause::SinkFault { .. } => "SinkFault",
+            Cause::Memory => "Memory",
+            Cause::LogFull { .. } => "LogFull",
+            Cause::InputFull { .. } => "InputFull",
+        })
+    }
+}
+
+/// A run that ended, with all that was handed to it.
+pub struct Closed<S, K, D> {
+    /// The exit status.
+    pub status: u8,
+    pub cause: Cause,
+    pub sessions: Vec<Session<S, K>>,
+    pub volumes: Vec<Volume<D>>,
+    /// For each partition the places that its batches have in the history. Empty where a log could not
+    /// be opened.
+    pub stamps: Vec<Vec<u64>>,
+    /// The units of work that were done after the last line.
+    pub units: u64,
+}
