@@ -5,3 +5,4 @@ pub mod Log
 pub mod Served
 pub mod Ledger
 pub mod Serving
+pub mod Closing

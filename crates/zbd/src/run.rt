@@ -2,12 +2,14 @@ use std::fmt;
 use zb_model::Batch;
 
 /// A client: where its lines come from, and where the replies go.
+#[derive(Drop)]
 pub struct Session<S, K> {
     pub source: S,
     pub sink: K,
 }
 
 /// The files of a partition: its log, and two slots for snapshots.
+#[derive(Drop)]
 pub struct Volume<D> {
     pub log: D,
     pub snap_a: D,
@@ -62,6 +64,7 @@ impl fmt::Display for Cause {
 }
 
 /// A run that ended, with all that was handed to it.
+#[derive(Drop)]
 pub struct Closed<S, K, D> {
     /// The exit status.
     pub status: u8,

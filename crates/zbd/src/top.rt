@@ -1,7 +1,8 @@
-ghost use Rattle.std.specs.Prelude.{◌≡◌, ◌≢◌, ◌↔◌, List, ℕ, [], ◌∷◌, length, map, IsTrue, string_bytes};
+ghost use Rattle.std.specs.Prelude.{◌≡◌, ◌<◌, ◌^◌, ◌↔◌, List, ℕ, [], ◌∷◌, length, map, IsTrue, string_bytes};
 ghost use Rattle.zbd.specs.Words.{IsPlanned};
-ghost use Rattle.zbd.specs.Ends.{told, sessions_ends, logs_ends, images_at};
-ghost use Rattle.zbd.specs.Served.{IsRun, status_of, slots_of};
+ghost use Rattle.zbd.specs.Ends.{told};
+ghost use Rattle.zbd.specs.Served.{IsRun, status_of};
+ghost use Rattle.zbd.specs.Closing.{Closes};
 ghost use Rattle.zbd.specs.Serving.{now_of, start_of, session_ends, log_ends, open_cause_of};
 
 use crate::ledger::Ledger;
@@ -14,7 +15,9 @@ use zb_disk::Disk;
 use zb_outside::{Clock, Door, Sink, Source};
 use zb_store::{OpenFault, open};
 
-/// Serves sessions over volumes, as `serve_alone` does.
+/// Serves sessions over volumes by the words of a command line, and hands everything back with why it
+/// ended. It takes one step for each byte of the lines, and a write and a sync of a disk for each batch.
+/// So far one session over one volume can be served, and this thread does all of it: see `serve_alone`.
 pub fn serve<R, S, K, D, C, G>(
     rt: &R,
     alloc: Global,
@@ -31,14 +34,17 @@ where
     D: Disk,
     C: Clock,
     G: Door,
-    ensures status { result.status ≡ status_of result.cause }
+    requires { length sessions.items < 2 ^ 32 }
+    ensures closed { Closes (told S.tells K.tells D.tells D.tells_images K.takes_memory D.takes_memory) S.view K.view D.view D.images
+        (map string_bytes words.now) sessions.items volumes.items result }
+    ensures clock { clock.new ≡ clock.old }
 {
     let _ = rt;
     let _ = door;
     serve_alone(alloc, words, sessions, volumes, clock)
 }
 
-/// Serves sessions over volumes in this thread, and hands everything back with why it ended.
+/// Serves sessions over volumes in this thread, as `serve` does, and waits for nobody.
 pub fn serve_alone<S: Source, K: Sink, D: Disk, C: Clock>(
     alloc: Global,
     words: &[String],
@@ -46,31 +52,11 @@ pub fn serve_alone<S: Source, K: Sink, D: Disk, C: Clock>(
     mut volumes: Vec<Volume<D>>,
     clock: &mut C,
 ) -> Closed<S, K, D>
-    ensures status { result.status ≡ status_of result.cause }
-
-    // It is a question of usage exactly where the words or the numbers can't be served, and then nothing
-    // was touched.
-    ensures usage { (result.cause ≡ Cause.Usage) ↔ (IsPlanned (map string_bytes words.now) (length sessions.items) (length volumes.items) → ⊥) }
-    ensures planned { result.cause ≢ Cause.Usage → IsPlanned (map string_bytes words.now) (length sessions.items) (length volumes.items) }
-    ensures unserved { result.cause ≡ Cause.Usage → result.stamps.items ≡ [] }
-    ensures untouched { result.cause ≡ Cause.Usage → result.volumes.items ≡ volumes.items }
-
-    // No session is touched before the logs are open.
-    ensures unread { result.stamps.items ≡ [] → result.sessions.items ≡ sessions.items }
-
-    ensures sessions { length result.sessions.items ≡ length sessions.items }
-    ensures volumes { length result.volumes.items ≡ length volumes.items }
-    ensures slots { slots_of result.volumes.items ≡ slots_of volumes.items }
+    requires { length sessions.items < 2 ^ 32 }
+    ensures closed { Closes (told S.tells K.tells D.tells D.tells_images K.takes_memory D.takes_memory) S.view K.view D.view D.images
+        (map string_bytes words.now) sessions.items volumes.items result }
+    // The manual clock stands at 0, and the one handed in isn't read.
     ensures clock { clock.new ≡ clock.old }
-    ensures units { result.units ≡ 0 }
-
-    // What the run is.
-    ensures run { result.cause ≢ Cause.Usage → IsRun
-        (told S.tells K.tells D.tells D.tells_images K.takes_memory D.takes_memory)
-        (sessions_ends S.view K.view sessions.items result.sessions.items)
-        (logs_ends D.view volumes.items result.volumes.items)
-        (images_at D.images result.volumes.items)
-        result.cause (map (λ list. list.items) result.stamps.items) }
 {
     let _ = clock;
     if !is_planned(words, sessions.len(), volumes.len()) {
@@ -80,8 +66,8 @@ pub fn serve_alone<S: Source, K: Sink, D: Disk, C: Clock>(
     closed(cause, stamps, sessions, volumes)
 }
 
-// Whether these words, and so many sessions and volumes, can be served.
-fn is_planned(words: &[String], sessions: usize, volumes: usize) -> bool
+/// Whether these words, and so many sessions and volumes, can be served.
+pub fn is_planned(words: &[String], sessions: usize, volumes: usize) -> bool
     ensures { IsTrue result ↔ IsPlanned (map string_bytes words.now) sessions volumes }
 {
     if sessions != 1 || volumes != 1 {

@@ -1,17 +1,30 @@
-use Rattle.std.proofs.Common.{◌≡◌, [], ◌∷◌, length, map, sym, ap, ◌∙◌, rules}
+use Rattle.std.proofs.Common.{◌≡◌, [], ◌∷◌, length, map, ap, ◌∙◌, arith, rules}
+use Rattle.std.proofs.lemmas.Grind.{common_steps}
 use Rattle.std.specs.String.{string_bytes}
 use Rattle.zbd.specs.Words.{IsPlanned}
 use Rattle.zbd.specs.Ends.{told}
 use Rattle.zbd.proofs.Single.{one_member, one_set, run_single}
 use Rattle.zbd.proofs.top.serve_alone.Goals as goal
 
-pub returns-clause-run : goal.returns-clause-run
-returns-clause-run g c = λ not_usage.
-    let planned : IsPlanned (map string_bytes c.args.words.now) (length c.args.sessions.items) (length c.args.volumes.items) = search rules in
-    let session = one_member c.args.sessions.items c.index_mut.result.now planned.one_session c.index_mut.ensures.value in
-    let volume = one_member c.args.volumes.items c.index_mut-2.result.now planned.one_volume c.index_mut-2.ensures.value in
-    let sessions = ap (λ v. v.items) c.closed-2.ensures.sessions ∙ one_set c.args.sessions.items _ c.run-cause.new.session session in
-    let volumes = ap (λ v. v.items) c.closed-2.ensures.volumes ∙ one_set c.args.volumes.items _ _ volume in
-    rw (c.closed-2.ensures.cause, c.closed-2.ensures.stamps)
-        (run_single (told g.S.Source.tells g.K.Sink.tells g.D.Disk.tells g.D.Disk.tells_images g.K.Sink.takes_memory g.D.Disk.takes_memory)
-            g.S.Source.view g.K.Sink.view g.D.Disk.view g.D.Disk.images c.index_mut.result.now c.run-cause.new.session _ _ c.index_mut-2.result.now _ _ _ _ _ session sessions volume volumes c.run-cause.ensures.run)
+pub returns-clause-closed : goal.returns-clause-closed
+returns-clause-closed g c = record {
+  status = grind (arith, common_steps);
+  usage = grind (arith, common_steps);
+  planned = grind (arith, common_steps);
+  unopened = grind (arith, common_steps);
+  untouched = grind (arith, common_steps);
+  unread = grind (arith, common_steps);
+  same_sessions = grind (arith, common_steps);
+  same_volumes = grind (arith, common_steps);
+  slots = grind (arith, common_steps);
+  units = grind (arith, common_steps);
+  run = λ not_usage.
+      let planned : IsPlanned (map string_bytes c.args.words.now) (length c.args.sessions.items) (length c.args.volumes.items) = search rules in
+      let session = one_member c.args.sessions.items c.index_mut.result.now planned.one_session c.index_mut.ensures.value in
+      let volume = one_member c.args.volumes.items c.index_mut-2.result.now planned.one_volume c.index_mut-2.ensures.value in
+      let sessions = ap (λ v. v.items) c.closed-2.ensures.sessions ∙ one_set c.args.sessions.items _ c.run-cause.new.session session in
+      let volumes = ap (λ v. v.items) c.closed-2.ensures.volumes ∙ one_set c.args.volumes.items _ _ volume in
+      rw (c.closed-2.ensures.cause, c.closed-2.ensures.stamps)
+          (run_single (told g.S.Source.tells g.K.Sink.tells g.D.Disk.tells g.D.Disk.tells_images g.K.Sink.takes_memory g.D.Disk.takes_memory)
+              g.S.Source.view g.K.Sink.view g.D.Disk.view g.D.Disk.images c.index_mut.result.now c.run-cause.new.session _ _ c.index_mut-2.result.now _ _ _ _ _ session sessions volume volumes c.run-cause.ensures.run);
+}
