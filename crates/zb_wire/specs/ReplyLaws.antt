@@ -6,7 +6,7 @@ use Rattle.zb_model.specs.declared.record.Event.TheVariants as events
 use Rattle.zb_model.specs.declared.record.MessagePublish.{MessagePublish}
 use Rattle.zb_model.specs.declared.record.MessagePublished.{MessagePublished}
 use Rattle.zb_model.specs.declared.record.Outcome.TheVariants as outcomes
-use Rattle.zb_wire.specs.Reply.{answer_of, answer_to}
+use Rattle.zb_wire.specs.Reply.{answer_of}
 use Rattle.zb_wire.specs.declared.reply.Reply.TheVariants as replies
 
 -- a publish that made one message is answered with its key
