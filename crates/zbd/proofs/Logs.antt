@@ -57,10 +57,10 @@ is_ledger_more extent frame places log batch old next size fits = record {
   extent = omega (arith, old.extent, size, length_of_more log batch);
   fits = fits;
   stamps =
-    let count : length (log ++ batch ∷ []) ≡ suc (length log) = omega (arith, length-append log (batch ∷ [])) in
-    let last : 0 + length log ≡ length log = omega arith in
-    let put : places ++ batch.begin ∷ [] ≡ range_with_len 0 (length log) ++ (0 + length log) ∷ [] = rw (old.stamps, next.stamped.0) (ap (λ k. range_with_len 0 (length log) ++ k ∷ []) (sym last)) in
-    put ∙ sym (range_with_len_more 0 (length log)) ∙ ap (range_with_len 0) (sym count);
+      let count : length (log ++ batch ∷ []) ≡ suc (length log) = omega (arith, length-append log (batch ∷ [])) in
+      let last : 0 + length log ≡ length log = omega arith in
+      let put : places ++ batch.begin ∷ [] ≡ range_with_len 0 (length log) ++ (0 + length log) ∷ [] = rw (old.stamps, next.stamped.0) (ap (λ k. range_with_len 0 (length log) ++ k ∷ []) (sym last)) in
+      put ∙ sym (range_with_len_more 0 (length log)) ∙ ap (range_with_len 0) (sym count);
   stamped = AllZip_more IsStamped places log batch.begin batch old.stamped (refl, next.stamped.1);
   steps = are_steps_more 1 log batch old.steps next.step;
   counter = next.counter ∙ omega (arith, length-append log (batch ∷ []));

@@ -71,7 +71,7 @@ crash_at told start now images log cause held tells zero listed ends image is_lo
     let same_log : log ≡ listed = some_same _ _ is_log in
     let same_ends : log_ends start now ≡ ends = some_same _ _ is_ends in
     subst (λ (l : List Batch). Begins image (front (bodies l)) × ((image ≡ at_rest (bodies l)) ⊎ IsDiskHurt told ends cause)) same_log
-        (subst (λ (e : LogEnds). Begins image (front (bodies log)) × ((image ≡ at_rest (bodies log)) ⊎ IsDiskHurt told e cause)) same_ends (crash told start now images log cause held tells image left))
+    (subst (λ (e : LogEnds). Begins image (front (bodies log)) × ((image ≡ at_rest (bodies log)) ⊎ IsDiskHurt told e cause)) same_ends (crash told start now images log cause held tells image left))
 crash_at told start now images log cause held tells (suc place) listed ends image is_log is_ends left = absurd (cc)
 
 contents : (told : Told) (start : Start) (now : Now) (images : List ℕ → Type 0) (log : List Batch) (cause : Cause) → IsHeld told start now images log cause
@@ -94,42 +94,53 @@ pub over : (told : Told) (start : Start) (now : Now) (images : List ℕ → Type
 over told start now images extent places cause served unserved at_end answers unlogged stream are sent ledger held opened named left =
     let log = batches_of answers in
     let run : SessionRun = record {
-      taken = stream.taken; lines = stream.lines; rest = stream.rest; ended = at_end;
-      served = served; answers = answers; unserved = unserved;
+      taken = stream.taken;
+      lines = stream.lines;
+      rest = stream.rest;
+      ended = at_end;
+      served = served;
+      answers = answers;
+      unserved = unserved;
     } in
     record {
       runs = run ∷ [];
       made = log ∷ [];
       unlogged = unlogged;
       status = named.status;
-      logs = (record {
-        steps = ledger.steps;
-        opened = opened;
-        contents = contents told start now images log cause held;
-        disk_fault = named.disk_fault;
-        fits = subst (λ (n : ℕ). n ≤ log_limit) ledger.extent ledger.fits;
-        log_full = named.log_full;
-        next = λ batch is. (left batch is).step;
-      }, tt);
+      logs = (
+        record {
+          steps = ledger.steps;
+          opened = opened;
+          contents = contents told start now images log cause held;
+          disk_fault = named.disk_fault;
+          fits = subst (λ (n : ℕ). n ≤ log_limit) ledger.extent ledger.fits;
+          log_full = named.log_full;
+          next = λ batch is. (left batch is).step;
+        },
+        tt,
+      );
       stamped = (ledger.stamped, tt);
       ascending = (subst IsStrictlyIncreasing (sym ledger.stamps) (increasing (length log)), tt);
       each_once =
-        let same : range_with_len 0 (length (log ++ [])) ≡ places ++ [] = rw (append-nil log, append-nil places) (sym ledger.stamps) in
-        subst (λ (l : List ℕ). IsPermutation (range_with_len 0 (length (log ++ []))) l) same (IsPermutation-refl (range_with_len 0 (length (log ++ []))));
-      sessions = (record {
-        takes = stream.takes;
-        lines = stream.are;
-        to_end = stream.to_end;
-        first = stream.first;
-        answers = are;
-        sent = sent;
-        done = named.done;
-        source_fault = named.source_fault;
-        sink_fault = named.sink_fault;
-      }, tt);
+          let same : range_with_len 0 (length (log ++ [])) ≡ places ++ [] = rw (append-nil log, append-nil places) (sym ledger.stamps) in
+          subst (λ (l : List ℕ). IsPermutation (range_with_len 0 (length (log ++ []))) l) same (IsPermutation-refl (range_with_len 0 (length (log ++ []))));
+      sessions = (
+        record {
+          takes = stream.takes;
+          lines = stream.are;
+          to_end = stream.to_end;
+          first = stream.first;
+          answers = are;
+          sent = sent;
+          done = named.done;
+          source_fault = named.source_fault;
+          sink_fault = named.sink_fault;
+        },
+        tt,
+      );
       batches = refl;
       next = λ batch is.
-        let l = left batch is in
-        record { place = 0; run = run; is = refl; line = l.line; lines = l.lines; unserved = l.first; request = l.asks.request; asked = l.asks.is; command = l.asks.command };
+          let l = left batch is in
+          record { place = 0; run = run; is = refl; line = l.line; lines = l.lines; unserved = l.first; request = l.asks.request; asked = l.asks.is; command = l.asks.command };
       crash_now = λ tells place listed ends image is_log is_ends left. crash_at told start now images log cause held tells place listed ends image is_log is_ends left;
     }

@@ -55,9 +55,9 @@ pub run_single : {S K D : Type 0} (told : Told) (source : S → SourceView) (sin
     (old new : Session S K) (olds news : List (Session S K)) (volume volume' : Volume D) (volumes volumes' : List (Volume D)) (cause : Cause) (stamps : List (List ℕ))
     → olds ≡ old ∷ [] → news ≡ new ∷ [] → volumes ≡ volume ∷ [] → volumes' ≡ volume' ∷ []
     → IsRun told (session_ends (start_of (source old.source) (sink old.sink) (view volume.log)) (now_of (source new.source) (sink new.sink) (view volume'.log)) ∷ [])
-        (log_ends (start_of (source old.source) (sink old.sink) (view volume.log)) (now_of (source new.source) (sink new.sink) (view volume'.log)) ∷ [])
-        (λ place image. images volume'.log image) cause stamps
+    (log_ends (start_of (source old.source) (sink old.sink) (view volume.log)) (now_of (source new.source) (sink new.sink) (view volume'.log)) ∷ [])
+    (λ place image. images volume'.log image) cause stamps
     → IsRun told (sessions_ends source sink olds news) (logs_ends view volumes volumes') (images_at images volumes') cause stamps
 run_single told source sink view images old new olds news volume volume' volumes volumes' cause stamps e1 e2 e3 e4 run =
     rw (e1, e2, e3, e4) (run_fewer told (session_ends (start_of (source old.source) (sink old.sink) (view volume.log)) (now_of (source new.source) (sink new.sink) (view volume'.log)) ∷ [])
-        (log_ends (start_of (source old.source) (sink old.sink) (view volume.log)) (now_of (source new.source) (sink new.sink) (view volume'.log)) ∷ []) (λ place image. images volume'.log image) (images_at images (volume' ∷ [])) cause stamps (image_of images volume') run)
+    (log_ends (start_of (source old.source) (sink old.sink) (view volume.log)) (now_of (source new.source) (sink new.sink) (view volume'.log)) ∷ []) (λ place image. images volume'.log image) (images_at images (volume' ∷ [])) cause stamps (image_of images volume') run)

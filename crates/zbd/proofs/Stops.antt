@@ -30,10 +30,10 @@ pub stops_memory : (told : Told) (start : Start) (old : Now) (images : List ℕ 
 stops_memory told start old images extent places held number source more s takes =
     let split = splits (held ++ more) in
     over told start (now_of source old.sink old.disk) images extent places causes.Memory s.lines split.lines false s.answers None
-        (stream_cut told.source start.source source s.lines (held ++ more) (behind told start old images extent places held number source more s takes) split)
-        s.are (λ t. inl (s.sent t)) s.ledger (inl s.stored) s.opened
-        (named_memory told start (now_of source old.sink old.disk) (batches_of s.answers) split.lines false)
-        (none_left (batches_of s.answers) split.lines)
+    (stream_cut told.source start.source source s.lines (held ++ more) (behind told start old images extent places held number source more s takes) split)
+    s.are (λ t. inl (s.sent t)) s.ledger (inl s.stored) s.opened
+    (named_memory told start (now_of source old.sink old.disk) (batches_of s.answers) split.lines false)
+    (none_left (batches_of s.answers) split.lines)
 
 -- the source failed
 pub stops_source : (told : Told) (start : Start) (old : Now) (images : List ℕ → Type 0) (extent : ℕ) (places held : List ℕ) (number : ℕ) (source : SourceView) (more : List ℕ)
@@ -41,10 +41,10 @@ pub stops_source : (told : Told) (start : Start) (old : Now) (images : List ℕ 
     → IsOver told start (now_of source old.sink old.disk) images places (causes.SourceFault 1)
 stops_source told start old images extent places held number source more s takes one rose =
     over told start (now_of source old.sink old.disk) images extent places (causes.SourceFault 1) s.lines [] false s.answers None
-        (stream_within told.source start.source source s.lines (held ++ more) (behind told start old images extent places held number source more s takes) one)
-        s.are (λ t. inl (s.sent t)) s.ledger (inl s.stored) s.opened
-        (named_source told start (now_of source old.sink old.disk) (batches_of s.answers) false (rose_since start.source.faults old.source.faults source.faults s.source_later rose))
-        (none_left (batches_of s.answers) [])
+    (stream_within told.source start.source source s.lines (held ++ more) (behind told start old images extent places held number source more s takes) one)
+    s.are (λ t. inl (s.sent t)) s.ledger (inl s.stored) s.opened
+    (named_source told start (now_of source old.sink old.disk) (batches_of s.answers) false (rose_since start.source.faults old.source.faults source.faults s.source_later rose))
+    (none_left (batches_of s.answers) [])
 
 -- the source could not be read on
 pub stops_reading : (told : Told) (start : Start) (old : Now) (images : List ℕ → Type 0) (extent : ℕ) (places held : List ℕ) (number : ℕ) (source : SourceView) (more left shown : List ℕ) (most : ℕ) (trouble : Trouble)
@@ -60,10 +60,10 @@ pub stops_done : (told : Told) (start : Start) (old : Now) (images : List ℕ �
     → IsOver told start (now_of source old.sink old.disk) images places causes.Done
 stops_done told start old images extent places held number source more s takes none end =
     over told start (now_of source old.sink old.disk) images extent places causes.Done s.lines [] true s.answers None
-        (stream_end told.source start.source source s.lines (held ++ more) (behind told start old images extent places held number source more s takes) none end)
-        s.are (λ t. inl (s.sent t)) s.ledger (inl s.stored) s.opened
-        (named_done told start (now_of source old.sink old.disk) (batches_of s.answers))
-        (none_left (batches_of s.answers) [])
+    (stream_end told.source start.source source s.lines (held ++ more) (behind told start old images extent places held number source more s takes) none end)
+    s.are (λ t. inl (s.sent t)) s.ledger (inl s.stored) s.opened
+    (named_done told start (now_of source old.sink old.disk) (batches_of s.answers))
+    (none_left (batches_of s.answers) [])
 
 -- a turn that told that no more may come ended the run
 pub goes_over : (told : Told) (start : Start) (now : Now) (images : List ℕ → Type 0) (extent : ℕ) (places held : List ℕ) (number : ℕ) (more : Bool) → more ≡ false
@@ -96,37 +96,39 @@ module _ (told : Told) (start : Start) (old : Now) (images images' : List ℕ �
       let answer = unsent.answered.answer in
       let log : batches_of (s.answers ++ answer ∷ []) ≡ batches_of s.answers ++ answer.batches = batches_of_more s.answers answer in
       over told start new images' extent' places' cause (s.lines ++ line ∷ []) unserved at_end (s.answers ++ answer ∷ []) None
-          (stream_on told.source start.source source s.lines line unserved at_end stream)
-          (answered answer unsent.answered.is)
-          (λ t.
-            let n = (unsent.sent t).0 in
-            let front : take (length (replies_of s.answers) + n) (replies_of (s.answers ++ answer ∷ [])) ≡ replies_of s.answers ++ take n answer.reply =
-                ap (take (length (replies_of s.answers) + n)) (replies_of_more s.answers answer) ∙ take-append-add (replies_of s.answers) answer.reply n in
-            inr (length (replies_of s.answers) + n,
-                (unsent.sent t).1 ∙ ap (λ bs. bs ++ take n answer.reply) (s.sent t) ∙ append_assoc start.sink.written (replies_of s.answers) (take n answer.reply) ∙ ap (λ bs. start.sink.written ++ bs) (sym front),
-                short told start.sink old.sink sink cause unsent.named s.sink_later))
-          (subst (IsLedger extent' places') (sym log) unsent.answered.ledger)
-          (inl (subst (IsStored told new images') (sym log) unsent.answered.stored))
-          s.opened
-          (named_sink told start mid new (batches_of (s.answers ++ answer ∷ [])) unserved at_end cause unsent.named s.sink_later)
-          (none_left (batches_of (s.answers ++ answer ∷ [])) unserved)
+      (stream_on told.source start.source source s.lines line unserved at_end stream)
+      (answered answer unsent.answered.is)
+      (λ t.
+      let n = (unsent.sent t).0 in
+      let front : take (length (replies_of s.answers) + n) (replies_of (s.answers ++ answer ∷ [])) ≡ replies_of s.answers ++ take n answer.reply =
+      ap (take (length (replies_of s.answers) + n)) (replies_of_more s.answers answer) ∙ take-append-add (replies_of s.answers) answer.reply n in
+      inr (
+        length (replies_of s.answers) + n,
+        (unsent.sent t).1 ∙ ap (λ bs. bs ++ take n answer.reply) (s.sent t) ∙ append_assoc start.sink.written (replies_of s.answers) (take n answer.reply) ∙ ap (λ bs. start.sink.written ++ bs) (sym front),
+        short told start.sink old.sink sink cause unsent.named s.sink_later,
+      ))
+      (subst (IsLedger extent' places') (sym log) unsent.answered.ledger)
+      (inl (subst (IsStored told new images') (sym log) unsent.answered.stored))
+      s.opened
+      (named_sink told start mid new (batches_of (s.answers ++ answer ∷ [])) unserved at_end cause unsent.named s.sink_later)
+      (none_left (batches_of (s.answers ++ answer ∷ [])) unserved)
 
   -- the line was not answered
   stops_unanswered : (cause : Cause) → IsUnanswered told line mid new images' extent' places' (batches_of s.answers) cause → IsOver told start new images' places' cause
   stops_unanswered cause un =
       let silent : IsTrue told.sink → IsSent told (record { source = start.source; source_after = source; sink = start.sink; sink_after = sink }) cause (replies_of s.answers) =
-          λ t. inl (ap (λ (v : SinkView). v.written) un.silent ∙ s.sent t) in
+      λ t. inl (ap (λ (v : SinkView). v.written) un.silent ∙ s.sent t) in
       ⊎_elim
-        (λ memory. over told start new images' extent' places' cause s.lines (line ∷ unserved) at_end s.answers None stream s.are silent un.ledger (inl memory.1) s.opened
-            (subst (λ (why : Cause). IsNamed told start new (batches_of s.answers) None (line ∷ unserved) at_end why) (sym memory.0) (named_memory told start new (batches_of s.answers) (line ∷ unserved) at_end))
-            (none_left (batches_of s.answers) (line ∷ unserved)))
-        (λ refused.
-          let r = refused_named told start mid new images' (batches_of s.answers) refused.0 (line ∷ unserved) at_end cause refused.3 s.disk_later in
-          let l : IsLeft (batches_of s.answers) (line ∷ unserved) refused.0 = record { step = refused.2.step; line = line; lines = unserved; first = refl; asks = refused.1 } in
-          over told start new images' extent' places' cause s.lines (line ∷ unserved) at_end s.answers r.unlogged stream s.are silent un.ledger
-            (refused_held told start mid new images' (batches_of s.answers) refused.0 cause refused.3 s.disk_later) s.opened r.named
-            (λ batch is. subst (IsLeft (batches_of s.answers) (line ∷ unserved)) (r.is batch is) l))
-        un.why
+      (λ memory. over told start new images' extent' places' cause s.lines (line ∷ unserved) at_end s.answers None stream s.are silent un.ledger (inl memory.1) s.opened
+      (subst (λ (why : Cause). IsNamed told start new (batches_of s.answers) None (line ∷ unserved) at_end why) (sym memory.0) (named_memory told start new (batches_of s.answers) (line ∷ unserved) at_end))
+      (none_left (batches_of s.answers) (line ∷ unserved)))
+      (λ refused.
+      let r = refused_named told start mid new images' (batches_of s.answers) refused.0 (line ∷ unserved) at_end cause refused.3 s.disk_later in
+      let l : IsLeft (batches_of s.answers) (line ∷ unserved) refused.0 = record { step = refused.2.step; line = line; lines = unserved; first = refl; asks = refused.1 } in
+      over told start new images' extent' places' cause s.lines (line ∷ unserved) at_end s.answers r.unlogged stream s.are silent un.ledger
+      (refused_held told start mid new images' (batches_of s.answers) refused.0 cause refused.3 s.disk_later) s.opened r.named
+      (λ batch is. subst (IsLeft (batches_of s.answers) (line ∷ unserved)) (r.is batch is) l))
+      un.why
 
   -- a line ended the run
   pub stops_line : (cause : Cause) → IsLineEnd told number line mid new images' extent' places' (batches_of s.answers) cause → IsOver told start new images' places' cause
@@ -139,13 +141,13 @@ module _ (told : Told) (start : Start) (old : Now) (images images' : List ℕ �
       let answer = replied.answered.answer in
       let log : batches_of (s.answers ++ answer ∷ []) ≡ batches_of s.answers ++ answer.batches = batches_of_more s.answers answer in
       let last : IsStream told.source start.source source (s.lines ++ line ∷ []) [] true =
-          subst (λ (b : Bool). IsStream told.source start.source source (s.lines ++ line ∷ []) [] b) end
-              (subst (λ (more : List (List ℕ)). IsStream told.source start.source source (s.lines ++ line ∷ []) more at_end) none (stream_on told.source start.source source s.lines line unserved at_end stream)) in
+      subst (λ (b : Bool). IsStream told.source start.source source (s.lines ++ line ∷ []) [] b) end
+      (subst (λ (more : List (List ℕ)). IsStream told.source start.source source (s.lines ++ line ∷ []) more at_end) none (stream_on told.source start.source source s.lines line unserved at_end stream)) in
       over told start new images' extent' places' causes.Done (s.lines ++ line ∷ []) [] true (s.answers ++ answer ∷ []) None last
-          (answered answer replied.answered.is)
-          (λ t. inl (replied.sent t ∙ ap (λ bs. bs ++ answer.reply) (s.sent t) ∙ append_assoc start.sink.written (replies_of s.answers) answer.reply ∙ ap (λ bs. start.sink.written ++ bs) (sym (replies_of_more s.answers answer))))
-          (subst (IsLedger extent' places') (sym log) replied.answered.ledger)
-          (inl (subst (IsStored told new images') (sym log) replied.answered.stored))
-          s.opened
-          (named_done told start new (batches_of (s.answers ++ answer ∷ [])))
-          (none_left (batches_of (s.answers ++ answer ∷ [])) [])
+      (answered answer replied.answered.is)
+      (λ t. inl (replied.sent t ∙ ap (λ bs. bs ++ answer.reply) (s.sent t) ∙ append_assoc start.sink.written (replies_of s.answers) answer.reply ∙ ap (λ bs. start.sink.written ++ bs) (sym (replies_of_more s.answers answer))))
+      (subst (IsLedger extent' places') (sym log) replied.answered.ledger)
+      (inl (subst (IsStored told new images') (sym log) replied.answered.stored))
+      s.opened
+      (named_done told start new (batches_of (s.answers ++ answer ∷ [])))
+      (none_left (batches_of (s.answers ++ answer ∷ [])) [])

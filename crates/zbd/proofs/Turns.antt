@@ -102,8 +102,8 @@ turn_on told start old images images' extent extent' places places' held number 
       each = AllByRecursion-append IsOneLine s.lines (line ∷ []) s.each (one, tt);
       count = omega (arith, s.count, length-append s.lines (line ∷ []));
       are =
-        let at : number ≡ 1 + length s.lines = omega (arith, s.count) in
-        are_answers_more 1 s.lines s.answers line answer s.are (subst (λ (n : ℕ). IsAnswer n line answer) at replied.answered.is);
+          let at : number ≡ 1 + length s.lines = omega (arith, s.count) in
+          are_answers_more 1 s.lines s.answers line answer s.are (subst (λ (n : ℕ). IsAnswer n line answer) at replied.answered.is);
       sent = λ t. replied.sent t ∙ ap (λ bs. bs ++ answer.reply) (s.sent t) ∙ append_assoc start.sink.written (replies_of s.answers) answer.reply ∙ ap (λ bs. start.sink.written ++ bs) (sym (replies_of_more s.answers answer));
       ledger = subst (IsLedger extent' places') (sym log) replied.answered.ledger;
       stored = subst (IsStored told (now_of source sink disk) images') (sym log) replied.answered.stored;
@@ -226,10 +226,10 @@ refused_named told start old now images log batch unserved at_end (causes.LogFul
     sink_fault = λ e. absurd (cc);
     disk_fault = λ other e. absurd (cc);
     log_full = λ n' frame' limit' e.
-      let same_length : n ≡ n' = cc in
-      let same_frame : frame ≡ frame' = cc in
-      let same_limit : limit ≡ limit' = cc in
-      (sym same_length ∙ is.2, sym same_limit ∙ is.3, omega (arith, is.4, same_length, same_frame, same_limit), (batch, refl, sym same_frame ∙ is.5));
+        let same_length : n ≡ n' = cc in
+        let same_frame : frame ≡ frame' = cc in
+        let same_limit : limit ≡ limit' = cc in
+        (sym same_length ∙ is.2, sym same_limit ∙ is.3, omega (arith, is.4, same_length, same_frame, same_limit), (batch, refl, sym same_frame ∙ is.5));
   };
 }
 refused_named told start old now images log batch unserved at_end causes.Done is later = absurd is

@@ -28,13 +28,21 @@ pub record Told : Type 0 where
 
 abbrev pub told : Bool → Bool → Bool → Bool → Bool → Bool → Told
 told source sink disk images sink_memory disk_memory = record {
-  source = source; sink = sink; disk = disk; images = images; sink_memory = sink_memory; disk_memory = disk_memory;
+  source = source;
+  sink = sink;
+  disk = disk;
+  images = images;
+  sink_memory = sink_memory;
+  disk_memory = disk_memory;
 }
 
 -- the ends of each session
 abbrev pub sessions_ends : {S K : Type 0} → (S → SourceView) → (K → SinkView) → List (Session S K) → List (Session S K) → List SessionEnds
 sessions_ends source sink (old ∷ olds) (new ∷ news) = record {
-  source = source old.source; source_after = source new.source; sink = sink old.sink; sink_after = sink new.sink;
+  source = source old.source;
+  source_after = source new.source;
+  sink = sink old.sink;
+  sink_after = sink new.sink;
 } ∷ sessions_ends source sink olds news
 sessions_ends source sink [] news = []
 sessions_ends source sink (old ∷ olds) [] = []

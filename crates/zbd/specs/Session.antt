@@ -76,7 +76,7 @@ pub record SessionRun : Type 0 where
 abbrev pub IsSent : Told → SessionEnds → Cause → List ℕ → Type 0
 IsSent told ends cause bytes = (ends.sink_after.written ≡ ends.sink.written ++ bytes)
     ⊎ ((n : ℕ) × (ends.sink_after.written ≡ ends.sink.written ++ take n bytes)
-        × (Rose ends.sink.faults ends.sink_after.faults ⊎ (IsTrue told.sink_memory × (cause ≡ causes.Memory))))
+    × (Rose ends.sink.faults ends.sink_after.faults ⊎ (IsTrue told.sink_memory × (cause ≡ causes.Memory))))
 
 -- the session with this number, in a run that ended by this cause
 pub record IsSession (told : Told) (cause : Cause) (number : ℕ) (ends : SessionEnds) (run : SessionRun) : Type 0 where

@@ -5,12 +5,10 @@ ghost use Rattle.zb_rules.specs.View.{events_of, greatest_counter, last_moment};
 ghost use Rattle.zbd.specs.Session.{IsAnswer, IsPublished};
 ghost use Rattle.zbd.specs.Ledger.{IsNextOf};
 
+use crate::run::PARTITION;
 use std::alloc::{AllocError, Global};
 use zb_model::{Batch, MessagePublish, Moment, PartitionId};
 use zb_wire::{LineFault, Reply, Request};
-
-/// The number of the one partition.
-const PARTITION: u32 = 1;
 
 /// What the line with this number leads to: the batch of its request, if it is one, and in `reply` the
 /// line of its reply. `count` is the number of batches in the log. Nothing is refused but for memory.
@@ -22,8 +20,10 @@ pub fn answer_line(
     reply: &mut Vec<u8>,
 ) -> Result<Option<Batch>, AllocError>
     requires { count < 2 ^ 50 }
-    ensures answer { IfOk result (λ batch. IsAnswer number line.now (record { batches = option_to_list batch; reply = reply.new.items })) }
-    ensures next { (log : List Batch) → greatest_counter 1 (events_of log) ≡ count → last_moment log ≡ 0 → length log ≡ count
+    ensures answer { IfOk result (λ batch. IsAnswer number line.now
+        (record { batches = option_to_list batch; reply = reply.new.items })) }
+    ensures next { (log : List Batch) → greatest_counter 1 (events_of log) ≡ count
+        → last_moment log ≡ 0 → length log ≡ count
         → IfOk result (λ found. IfSome found (IsNextOf log)) }
 {
     reply.clear();
@@ -46,7 +46,8 @@ fn publish(
 ) -> Result<Option<Batch>, AllocError>
     requires { count < 2 ^ 50 }
     ensures answer { IfOk result (λ found. IsPublished command reply.old.items reply.new.items found) }
-    ensures next { (log : List Batch) → greatest_counter 1 (events_of log) ≡ count → last_moment log ≡ 0 → length log ≡ count
+    ensures next { (log : List Batch) → greatest_counter 1 (events_of log) ≡ count
+        → last_moment log ≡ 0 → length log ≡ count
         → IfOk result (λ found. IfSome found (IsNextOf log)) }
 {
     let place = PartitionId::new(PARTITION);

@@ -59,14 +59,19 @@ impl Ledger {
         requires { (log : List Batch) × IsLedger self.old.length self.old.stamps.items log
             × IsAtRest D.tells D.tells_images (D.view disk.old) (D.images disk.old) log }
         ensures later { (D.view disk.old).faults ≤ (D.view disk.new).faults }
-        ensures ledger { (log : List Batch) → IsLedger self.old.length self.old.stamps.items log → IsNextOf log batch
+
+        // For every log that the ledger may be of.
+        ensures ledger { (log : List Batch) → IsLedger self.old.length self.old.stamps.items log
+            → IsNextOf log batch
             → OnOk result (IsLedger self.new.length self.new.stamps.items (log ++ batch ∷ [])) }
         ensures file { (log : List Batch) → IsLedger self.old.length self.old.stamps.items log
             → IsAtRest D.tells D.tells_images (D.view disk.old) (D.images disk.old) log
-            → OnOk result (IsAtRest D.tells D.tells_images (D.view disk.new) (D.images disk.new) (log ++ batch ∷ [])) }
+            → OnOk result (IsAtRest D.tells D.tells_images (D.view disk.new) (D.images disk.new)
+            (log ++ batch ∷ [])) }
         ensures refused { (log : List Batch) → IsLedger self.old.length self.old.stamps.items log
             → IsAtRest D.tells D.tells_images (D.view disk.old) (D.images disk.old) log
-            → IfErr result (Refuses D.tells D.tells_images D.takes_memory (D.view disk.old) (D.view disk.new) (D.images disk.new) log batch) }
+            → IfErr result (Refuses D.tells D.tells_images D.takes_memory (D.view disk.old)
+            (D.view disk.new) (D.images disk.new) log batch) }
         ensures kept { (log : List Batch) → IsLedger self.old.length self.old.stamps.items log
             → IfErr result (λ cause. IsLedger self.new.length self.new.stamps.items log) }
     {

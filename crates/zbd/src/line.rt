@@ -8,14 +8,11 @@ ghost use Rattle.zbd.specs.Serving.{now_of, IsLineEnd, IsReplied, IsSinkCause};
 
 use crate::answer::answer_line;
 use crate::ledger::Ledger;
-use crate::run::Cause;
+use crate::run::{Cause, SESSION};
 use std::alloc::{AllocError, Global};
 use zb_disk::Disk;
 use zb_model::Batch;
 use zb_outside::{Sink, Trouble};
-
-/// The number of the one session.
-const SESSION: u32 = 1;
 
 /// Serves a line: its batch is added to the log, if it has one, and then its reply is written. An `Err`
 /// ends the run.
@@ -30,16 +27,25 @@ pub fn serve_line<K: Sink, D: Disk>(
 ) -> Result<(), Cause>
     requires { (log : List Batch) × IsLedger ledger.old.length ledger.old.stamps.items log
         × IsAtRest D.tells D.tells_images (D.view disk.old) (D.images disk.old) log }
-    ensures replied { (source : SourceView) (tells : Bool) (log : List Batch) → IsLedger ledger.old.length ledger.old.stamps.items log
+
+    // For every source and every log that the ledger may be of.
+    ensures replied { (source : SourceView) (tells : Bool) (log : List Batch)
+        → IsLedger ledger.old.length ledger.old.stamps.items log
         → IsAtRest D.tells D.tells_images (D.view disk.old) (D.images disk.old) log
-        → OnOk result (IsReplied (told tells K.tells D.tells D.tells_images K.takes_memory D.takes_memory) number line.now
-            (now_of source (K.view sink.old) (D.view disk.old)) (now_of source (K.view sink.new) (D.view disk.new))
-            (D.images disk.new) ledger.new.length ledger.new.stamps.items log) }
-    ensures over { (source : SourceView) (tells : Bool) (log : List Batch) → IsLedger ledger.old.length ledger.old.stamps.items log
+        → OnOk result (IsReplied
+        (told tells K.tells D.tells D.tells_images K.takes_memory D.takes_memory) number line.now
+        (now_of source (K.view sink.old) (D.view disk.old))
+        (now_of source (K.view sink.new) (D.view disk.new))
+        (D.images disk.new) ledger.new.length ledger.new.stamps.items log) }
+    ensures over { (source : SourceView) (tells : Bool) (log : List Batch)
+        → IsLedger ledger.old.length ledger.old.stamps.items log
         → IsAtRest D.tells D.tells_images (D.view disk.old) (D.images disk.old) log
-        → IfErr result (IsLineEnd (told tells K.tells D.tells D.tells_images K.takes_memory D.takes_memory) number line.now
-            (now_of source (K.view sink.old) (D.view disk.old)) (now_of source (K.view sink.new) (D.view disk.new))
-            (D.images disk.new) ledger.new.length ledger.new.stamps.items log) }
+        → IfErr result (IsLineEnd
+        (told tells K.tells D.tells D.tells_images K.takes_memory D.takes_memory) number line.now
+        (now_of source (K.view sink.old) (D.view disk.old))
+        (now_of source (K.view sink.new) (D.view disk.new))
+        (D.images disk.new) ledger.new.length ledger.new.stamps.items log) }
+
     ensures sink_later { (K.view sink.old).faults ≤ (K.view sink.new).faults }
     ensures disk_later { (D.view disk.old).faults ≤ (D.view disk.new).faults }
 {
@@ -64,15 +70,18 @@ fn record_batch<D: Disk>(
     requires { (log : List Batch) × IsLedger ledger.old.length ledger.old.stamps.items log
         × IsAtRest D.tells D.tells_images (D.view disk.old) (D.images disk.old) log }
     ensures later { (D.view disk.old).faults ≤ (D.view disk.new).faults }
-    ensures ledger { (log : List Batch) → IsLedger ledger.old.length ledger.old.stamps.items log → IfSome found (IsNextOf log)
+    ensures ledger { (log : List Batch) → IsLedger ledger.old.length ledger.old.stamps.items log
+        → IfSome found (IsNextOf log)
         → OnOk result (IsLedger ledger.new.length ledger.new.stamps.items (log ++ option_to_list found)) }
     ensures file { (log : List Batch) → IsLedger ledger.old.length ledger.old.stamps.items log
         → IsAtRest D.tells D.tells_images (D.view disk.old) (D.images disk.old) log
-        → OnOk result (IsAtRest D.tells D.tells_images (D.view disk.new) (D.images disk.new) (log ++ option_to_list found)) }
+        → OnOk result (IsAtRest D.tells D.tells_images (D.view disk.new) (D.images disk.new)
+        (log ++ option_to_list found)) }
     ensures refused { (log : List Batch) → IsLedger ledger.old.length ledger.old.stamps.items log
         → IsAtRest D.tells D.tells_images (D.view disk.old) (D.images disk.old) log
         → IfErr result (λ cause. (batch : Batch) × (found ≡ Some batch)
-            × Refuses D.tells D.tells_images D.takes_memory (D.view disk.old) (D.view disk.new) (D.images disk.new) log batch cause) }
+        × Refuses D.tells D.tells_images D.takes_memory (D.view disk.old) (D.view disk.new)
+        (D.images disk.new) log batch cause) }
     ensures kept { (log : List Batch) → IsLedger ledger.old.length ledger.old.stamps.items log
         → IfErr result (λ cause. IsLedger ledger.new.length ledger.new.stamps.items log) }
 {

@@ -1,6 +1,12 @@
 use std::fmt;
 use zb_model::Batch;
 
+/// The number of the one session that is served so far.
+pub const SESSION: u32 = 1;
+
+/// The number of the one partition that there is so far.
+pub const PARTITION: u32 = 1;
+
 /// A client: where its lines come from, and where the replies go.
 #[derive(Drop)]
 pub struct Session<S, K> {
@@ -24,16 +30,23 @@ pub enum Cause {
     /// The words, or the number of volumes, can't be served.
     Usage,
     /// That session's source failed.
-    SourceFault { session: u32 },
+    SourceFault {
+        session: u32,
+    },
     /// A disk of that partition failed. The batch is the one that was being written.
     DiskFault {
         partition: u32,
         in_writing: Option<Batch>,
     },
     /// That partition's log can't be read from this frame on, counted from 0.
-    BadLog { partition: u32, frame: u64 },
+    BadLog {
+        partition: u32,
+        frame: u64,
+    },
     /// That session's sink failed.
-    SinkFault { session: u32 },
+    SinkFault {
+        session: u32,
+    },
     /// There was no memory.
     Memory,
     /// The next frame doesn't fit into that partition's log. All numbers are of bytes.
@@ -44,7 +57,9 @@ pub enum Cause {
         limit: u64,
     },
     /// That session took as many bytes as a session may.
-    InputFull { session: u32 },
+    InputFull {
+        session: u32,
+    },
 }
 
 impl fmt::Display for Cause {

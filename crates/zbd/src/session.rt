@@ -4,15 +4,12 @@ ghost use Rattle.zbd.specs.Serving.{now_of, Start, IsServing, IsOver, GoesOn, so
 
 use crate::ledger::Ledger;
 use crate::line::serve_line;
-use crate::run::{Cause, Session};
+use crate::run::{Cause, SESSION, Session};
 use std::alloc::{AllocError, Global};
 use zb_disk::Disk;
 use zb_lines::{LineReader, Next};
 use zb_outside::{Sink, Source, Trouble};
 use zb_wire::longest_shown;
-
-/// The number of the one session.
-const SESSION: u32 = 1;
 
 // What a session keeps from line to line.
 #[derive(Drop)]
@@ -42,15 +39,18 @@ pub fn serve_session<S: Source, K: Sink, D: Disk>(
     disk: &mut D,
     ledger: &mut Ledger,
 ) -> Cause
-    requires { (start : Start) × IsServing (told S.tells K.tells D.tells D.tells_images K.takes_memory D.takes_memory) start
-        (now_of (S.view session.old.source) (K.view session.old.sink) (D.view disk.old)) (D.images disk.old)
-        ledger.old.length ledger.old.stamps.items [] 1 }
-    ensures { (start : Start) → IsServing (told S.tells K.tells D.tells D.tells_images K.takes_memory D.takes_memory) start
-        (now_of (S.view session.old.source) (K.view session.old.sink) (D.view disk.old)) (D.images disk.old)
-        ledger.old.length ledger.old.stamps.items [] 1
-        → IsOver (told S.tells K.tells D.tells D.tells_images K.takes_memory D.takes_memory) start
-        (now_of (S.view session.new.source) (K.view session.new.sink) (D.view disk.new)) (D.images disk.new)
-        ledger.new.stamps.items result }
+    requires { (start : Start) × IsServing
+        (told S.tells K.tells D.tells D.tells_images K.takes_memory D.takes_memory)
+        start (now_of (S.view session.old.source) (K.view session.old.sink) (D.view disk.old))
+        (D.images disk.old) ledger.old.length ledger.old.stamps.items [] 1 }
+    ensures { (start : Start) → IsServing
+        (told S.tells K.tells D.tells D.tells_images K.takes_memory D.takes_memory)
+        start (now_of (S.view session.old.source) (K.view session.old.sink) (D.view disk.old))
+        (D.images disk.old) ledger.old.length ledger.old.stamps.items [] 1
+        → IsOver
+        (told S.tells K.tells D.tells D.tells_images K.takes_memory D.takes_memory)
+        start (now_of (S.view session.new.source) (K.view session.new.sink) (D.view disk.new))
+        (D.images disk.new) ledger.new.stamps.items result }
 {
     let mut desk = match Desk::new(alloc) {
         Ok(desk) => desk,
@@ -75,15 +75,18 @@ fn serve_next<S: Source, K: Sink, D: Disk>(
     disk: &mut D,
     ledger: &mut Ledger,
 ) -> Result<bool, Cause>
-    requires { (start : Start) × IsServing (told S.tells K.tells D.tells D.tells_images K.takes_memory D.takes_memory) start
-        (now_of (S.view session.old.source) (K.view session.old.sink) (D.view disk.old)) (D.images disk.old)
-        ledger.old.length ledger.old.stamps.items desk.old.reader number }
-    ensures { (start : Start) → IsServing (told S.tells K.tells D.tells D.tells_images K.takes_memory D.takes_memory) start
-        (now_of (S.view session.old.source) (K.view session.old.sink) (D.view disk.old)) (D.images disk.old)
-        ledger.old.length ledger.old.stamps.items desk.old.reader number
-        → GoesOn (told S.tells K.tells D.tells D.tells_images K.takes_memory D.takes_memory) start
-        (now_of (S.view session.new.source) (K.view session.new.sink) (D.view disk.new)) (D.images disk.new)
-        ledger.new.length ledger.new.stamps.items desk.new.reader number result }
+    requires { (start : Start) × IsServing
+        (told S.tells K.tells D.tells D.tells_images K.takes_memory D.takes_memory)
+        start (now_of (S.view session.old.source) (K.view session.old.sink) (D.view disk.old))
+        (D.images disk.old) ledger.old.length ledger.old.stamps.items desk.old.reader number }
+    ensures { (start : Start) → IsServing
+        (told S.tells K.tells D.tells D.tells_images K.takes_memory D.takes_memory)
+        start (now_of (S.view session.old.source) (K.view session.old.sink) (D.view disk.old))
+        (D.images disk.old) ledger.old.length ledger.old.stamps.items desk.old.reader number
+        → GoesOn
+        (told S.tells K.tells D.tells D.tells_images K.takes_memory D.takes_memory)
+        start (now_of (S.view session.new.source) (K.view session.new.sink) (D.view disk.new))
+        (D.images disk.new) ledger.new.length ledger.new.stamps.items desk.new.reader number result }
 {
     let next = match desk
         .reader
@@ -94,13 +97,29 @@ fn serve_next<S: Source, K: Sink, D: Disk>(
     };
     match next {
         Next::Line => {
-            match serve_line(alloc, number, &desk.line, &mut desk.reply, &mut session.sink, disk, ledger) {
+            match serve_line(
+                alloc,
+                number,
+                &desk.line,
+                &mut desk.reply,
+                &mut session.sink,
+                disk,
+                ledger,
+            ) {
                 Ok(()) => Ok(true),
                 Err(cause) => Err(cause),
             }
         }
         Next::Last => {
-            match serve_line(alloc, number, &desk.line, &mut desk.reply, &mut session.sink, disk, ledger) {
+            match serve_line(
+                alloc,
+                number,
+                &desk.line,
+                &mut desk.reply,
+                &mut session.sink,
+                disk,
+                ledger,
+            ) {
                 Ok(()) => Ok(false),
                 Err(cause) => Err(cause),
             }

@@ -35,7 +35,9 @@ where
     C: Clock,
     G: Door,
     requires { length sessions.items < 2 ^ 32 }
-    ensures closed { Closes (told S.tells K.tells D.tells D.tells_images K.takes_memory D.takes_memory) S.view K.view D.view D.images
+    ensures closed { Closes
+        (told S.tells K.tells D.tells D.tells_images K.takes_memory D.takes_memory)
+        S.view K.view D.view D.images
         (map string_bytes words.now) sessions.items volumes.items result }
     ensures clock { clock.new ≡ clock.old }
 {
@@ -53,7 +55,9 @@ pub fn serve_alone<S: Source, K: Sink, D: Disk, C: Clock>(
     clock: &mut C,
 ) -> Closed<S, K, D>
     requires { length sessions.items < 2 ^ 32 }
-    ensures closed { Closes (told S.tells K.tells D.tells D.tells_images K.takes_memory D.takes_memory) S.view K.view D.view D.images
+    ensures closed { Closes
+        (told S.tells K.tells D.tells D.tells_images K.takes_memory D.takes_memory)
+        S.view K.view D.view D.images
         (map string_bytes words.now) sessions.items volumes.items result }
     // The manual clock stands at 0, and the one handed in isn't read.
     ensures clock { clock.new ≡ clock.old }
@@ -137,9 +141,14 @@ fn run<S: Source, K: Sink, D: Disk>(
     log: &mut D,
 ) -> (Cause, Vec<Vec<u64>>)
     ensures unread { result.1.items ≡ [] → session.new ≡ session.old }
-    ensures run { IsRun (told S.tells K.tells D.tells D.tells_images K.takes_memory D.takes_memory)
-        (session_ends (start_of (S.view session.old.source) (K.view session.old.sink) (D.view log.old)) (now_of (S.view session.new.source) (K.view session.new.sink) (D.view log.new)) ∷ [])
-        (log_ends (start_of (S.view session.old.source) (K.view session.old.sink) (D.view log.old)) (now_of (S.view session.new.source) (K.view session.new.sink) (D.view log.new)) ∷ [])
+    ensures run { IsRun
+        (told S.tells K.tells D.tells D.tells_images K.takes_memory D.takes_memory)
+        (session_ends
+        (start_of (S.view session.old.source) (K.view session.old.sink) (D.view log.old))
+        (now_of (S.view session.new.source) (K.view session.new.sink) (D.view log.new)) ∷ [])
+        (log_ends
+        (start_of (S.view session.old.source) (K.view session.old.sink) (D.view log.old))
+        (now_of (S.view session.new.source) (K.view session.new.sink) (D.view log.new)) ∷ [])
         (λ place image. D.images log.new image) result.0 (map (λ list. list.items) result.1.items) }
 {
     let mut stamps = Vec::new(alloc);

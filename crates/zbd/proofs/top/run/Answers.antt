@@ -12,9 +12,10 @@ returns-in-Err-open-clause-run g c =
 
 pub serve_session-cause-requires : goal.serve_session-cause-requires
 serve_session-cause-requires g c =
-    let said = c.in-Ok-open.ensures in
-    (start_of (g.S.Source.view c.args.session.now.source) (g.K.Sink.view c.args.session.now.sink) (g.D.Disk.view c.args.log.now),
-        serving_first _ _ _ _ _ _ c.new-ledger.ensures (record { file = said.opened; durable = said.durable }) said.empty said.later)
+    let said = c.in-Ok-open.ensures in (
+      start_of (g.S.Source.view c.args.session.now.source) (g.K.Sink.view c.args.session.now.sink) (g.D.Disk.view c.args.log.now),
+      serving_first _ _ _ _ _ _ c.new-ledger.ensures (record { file = said.opened; durable = said.durable }) said.empty said.later,
+    )
 
 pub returns-clause-run : goal.returns-clause-run
 returns-clause-run g c =

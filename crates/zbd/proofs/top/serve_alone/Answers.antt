@@ -25,6 +25,6 @@ returns-clause-closed g c = record {
       let sessions = ap (λ v. v.items) c.closed-2.ensures.sessions ∙ one_set c.args.sessions.items _ c.run-cause.new.session session in
       let volumes = ap (λ v. v.items) c.closed-2.ensures.volumes ∙ one_set c.args.volumes.items _ _ volume in
       rw (c.closed-2.ensures.cause, c.closed-2.ensures.stamps)
-          (run_single (told g.S.Source.tells g.K.Sink.tells g.D.Disk.tells g.D.Disk.tells_images g.K.Sink.takes_memory g.D.Disk.takes_memory)
-              g.S.Source.view g.K.Sink.view g.D.Disk.view g.D.Disk.images c.index_mut.result.now c.run-cause.new.session _ _ c.index_mut-2.result.now _ _ _ _ _ session sessions volume volumes c.run-cause.ensures.run);
+      (run_single (told g.S.Source.tells g.K.Sink.tells g.D.Disk.tells g.D.Disk.tells_images g.K.Sink.takes_memory g.D.Disk.takes_memory)
+      g.S.Source.view g.K.Sink.view g.D.Disk.view g.D.Disk.images c.index_mut.result.now c.run-cause.new.session _ _ c.index_mut-2.result.now _ _ _ _ _ session sessions volume volumes c.run-cause.ensures.run);
 }

@@ -1,0 +1,33 @@
+#!/usr/bin/env bash
+# Feeds publish lines to the built server, on a real disk and on a file system in memory, and prints requests
+# per second of both and what part of the time is the device's. It is no test.
+# usage: bench/publish.sh [LINES] [DIRECTORY ON A DISK] [DIRECTORY IN MEMORY]
+set -eu
+top=$(cd "$(dirname "$0")/.." && pwd)
+lines=${1:-20000}
+disk=$(mktemp -d "${2:-$top}/bench.XXXXXX")
+memory=$(mktemp -d "${3:-/dev/shm}/bench.XXXXXX")
+trap 'rm -rf "$disk" "$memory"' EXIT
+"$top/zbd" >/dev/null 2>&1 || true
+for ((line = 1; line <= lines; line++)); do
+    printf '{"op":"publish","name":"paid","correlationKey":"o-%d","timeToLive":60000}\n' "$line"
+done >"$memory/lines"
+
+# seconds DIRECTORY: how long the lines take there
+seconds() {
+    local start end
+    start=$(date +%s.%N)
+    (cd "$1" && "$top/zbd" serve --clock manual <"$memory/lines" >"$memory/replies")
+    end=$(date +%s.%N)
+    [ "$(wc -l <"$memory/replies")" -eq "$lines" ] || { echo 'bench: not every line has a reply' >&2; exit 1; }
+    awk -v a="$start" -v b="$end" 'BEGIN { print b - a }'
+}
+
+on_disk=$(seconds "$disk")
+in_memory=$(seconds "$memory")
+awk -v n="$lines" -v d="$on_disk" -v m="$in_memory" -v c="$(nproc)" 'BEGIN {
+    printf "%d publish requests, %d processors\n", n, c
+    printf "on the disk:  %8.0f requests a second\n", n / d
+    printf "in memory:    %8.0f requests a second\n", n / m
+    printf "the device has %.0f%% of the time on the disk\n", 100 * (1 - m / d)
+}'
