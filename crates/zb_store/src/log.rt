@@ -44,6 +44,10 @@ pub fn open<D: Disk>(disk: &mut D) -> Result<(), OpenFault>
     ensures kept { IsTrue D.tells → (n : ℕ) → IsErrOf result (OpenFault.BadLog n) → (D.view disk.new).contents ≡ (D.view disk.old).contents }
     ensures kept_images { IsTrue D.tells_images → (n : ℕ) → IsErrOf result (OpenFault.BadLog n) → (c : List ℕ) → D.images disk.new c → D.images disk.old c }
 
+    // Nor is it changed where the disk or the memory ends the opening.
+    ensures spared { IsTrue D.tells → 1 < length (D.view disk.old).contents → (D.view disk.new).contents ≡ (D.view disk.old).contents }
+    ensures spared_images { IsTrue D.tells_images → 1 < length (D.view disk.old).contents → (c : List ℕ) → D.images disk.new c → D.images disk.old c }
+
     ensures later { (D.view disk.old).faults ≤ (D.view disk.new).faults }
     ensures failed { IsErrOf result OpenFault.DiskFault → Rose (D.view disk.old).faults (D.view disk.new).faults }
     ensures memory { IsErrOf result OpenFault.Memory → IsTrue D.takes_memory }

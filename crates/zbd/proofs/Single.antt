@@ -1,10 +1,10 @@
 -- A run of one session and one volume, as a run of lists of them.
-use Rattle.std.proofs.Common.{◌≡◌, ◌⊎◌, ℕ, zero, suc, ◌+◌, List, [], ◌∷◌, length, get_or, IsTrue, Some, None, refl, sym, ap, ◌∙◌, subst, arith}
+use Rattle.std.proofs.Common.{◌≡◌, ◌⊎◌, ℕ, zero, suc, ◌+◌, ◌<◌, List, [], ◌∷◌, length, get_or, IsTrue, Some, None, refl, sym, ap, ◌∙◌, subst, arith}
 use Rattle.std.specs.List.{slice_get}
 use Rattle.std.proofs.Math.ListN.{set}
 use Rattle.zb_disk.specs.Disk.{DiskView}
 use Rattle.zb_outside.specs.Stream.{SourceView, SinkView}
-use Rattle.zbd.specs.Ends.{Told, SessionEnds, LogEnds, sessions_ends, logs_ends, images_at}
+use Rattle.zbd.specs.Ends.{Told, SessionEnds, LogEnds, sessions_ends, logs_ends, images_at, AreSpared}
 use Rattle.zbd.specs.Served.{Serves, IsRun}
 use Rattle.zbd.specs.Serving.{start_of, now_of, session_ends, log_ends}
 use Rattle.zbd.specs.declared.run.Session.{Session}
@@ -26,6 +26,16 @@ image_of {D} images volume zero image at =
     let same : volume ≡ at.0 = cc (at.1) in
     subst (λ (v : Volume D). images v.log image) (sym same) at.2
 image_of images volume (suc place) image at = absurd (let e = at.1 in cc)
+
+-- nothing was done
+pub spared_same : {D : Type 0} (view : D → DiskView) (images : D → List ℕ → Type 0) (volumes : List (Volume D)) → AreSpared view images volumes volumes
+spared_same view images [] = tt
+spared_same view images (volume ∷ volumes) = (λ long image left. left, spared_same view images volumes)
+
+pub spared_single : {D : Type 0} (view : D → DiskView) (images : D → List ℕ → Type 0) (volume volume' : Volume D) (volumes volumes' : List (Volume D))
+    → volumes ≡ volume ∷ [] → volumes' ≡ volume' ∷ [] → (1 < length (view volume.log).contents → (image : List ℕ) → images volume'.log image → images volume.log image)
+    → AreSpared view images volumes volumes'
+spared_single view images volume volume' volumes volumes' e1 e2 spared = rw (e1, e2) (spared, tt)
 
 -- fewer images
 serves_fewer : (told : Told) (streams : List SessionEnds) (volumes : List LogEnds) (images fewer : ℕ → List ℕ → Type 0) (cause : Cause) (stamps : List (List ℕ))

@@ -213,8 +213,8 @@ refused_named told start old now images log batch unserved at_end (causes.DiskFa
     source_fault = λ e. absurd (cc);
     sink_fault = λ e. absurd (cc);
     disk_fault = λ other e.
-      let same : Some batch ≡ other = cc (is.3, e) in
-      (rose_since start.disk.faults old.disk.faults now.disk.faults later is.1, sym same, subst IsSome same refl);
+        let same : Some batch ≡ other = cc (is.3, e) in
+        (rose_since start.disk.faults old.disk.faults now.disk.faults later is.1, sym same, subst IsSome same refl);
     log_full = λ n frame limit e. absurd (cc);
   };
 }

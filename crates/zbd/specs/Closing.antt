@@ -1,9 +1,9 @@
 -- What the server promises of a run: the clauses of its top call.
-use Rattle.std.specs.Prelude.{◌≡◌, ◌≢◌, ℕ, List, [], length, map}
+use Rattle.std.specs.Prelude.{◌≡◌, ◌≢◌, ℕ, List, [], length, map, IsTrue}
 use Rattle.zb_disk.specs.Disk.{DiskView}
 use Rattle.zb_outside.specs.Stream.{SourceView, SinkView}
 use Rattle.zbd.specs.Words.{IsPlanned}
-use Rattle.zbd.specs.Ends.{Told, sessions_ends, logs_ends, images_at}
+use Rattle.zbd.specs.Ends.{Told, sessions_ends, logs_ends, images_at, AreSpared}
 use Rattle.zbd.specs.Served.{IsRun, status_of, slots_of}
 use Rattle.zbd.specs.declared.run.Session.{Session}
 use Rattle.zbd.specs.declared.run.Volume.{Volume}
@@ -22,6 +22,8 @@ pub record Closes {S K D : Type 0} (told : Told) (source : S → SourceView) (si
   pub untouched : closed.cause ≡ causes.Usage → closed.volumes.items ≡ volumes
   -- no session is touched before the logs are open
   pub unread : closed.stamps.items ≡ [] → closed.sessions.items ≡ sessions
+  -- nor is a log that was there before put at risk where none was opened
+  pub spared : closed.stamps.items ≡ [] → IsTrue told.images → AreSpared disk images volumes closed.volumes.items
   -- everything is handed back in order, and the slots for snapshots as they were
   pub same_sessions : length closed.sessions.items ≡ length sessions
   pub same_volumes : length closed.volumes.items ≡ length volumes

@@ -1,5 +1,5 @@
 -- What was handed to a run and what it handed back, as plain data.
-use Rattle.std.specs.Prelude.{◌≡◌, ℕ, suc, List, [], ◌∷◌, Bool, slice_get, Some}
+use Rattle.std.specs.Prelude.{◌≡◌, ◌<◌, ℕ, suc, List, [], ◌∷◌, length, Bool, slice_get, Some}
 use Rattle.zb_disk.specs.Disk.{DiskView}
 use Rattle.zb_outside.specs.Stream.{SourceView, SinkView}
 use Rattle.zbd.specs.declared.run.Session.{Session}
@@ -56,6 +56,13 @@ logs_ends view (old ∷ olds) [] = []
 -- a crash now may leave this of the log of the volume at a place, counted from 0
 abbrev pub images_at : {D : Type 0} → (D → List ℕ → Type 0) → List (Volume D) → ℕ → List ℕ → Type 0
 images_at {D} images volumes place image = (volume : Volume D) × (slice_get volumes place ≡ Some volume) × images volume.log image
+
+-- a crash leaves of a log that was longer than one byte no more than what it might have left before
+abbrev pub AreSpared : {D : Type 0} → (D → DiskView) → (D → List ℕ → Type 0) → List (Volume D) → List (Volume D) → Type 0
+AreSpared view images (old ∷ olds) (new ∷ news) =
+    (1 < length (view old.log).contents → (image : List ℕ) → images new.log image → images old.log image) × AreSpared view images olds news
+AreSpared view images [] news = Unit {0}
+AreSpared view images (old ∷ olds) [] = Unit {0}
 
 -- R holds of the members at each place, and of the place's number, where the first has the number n
 abbrev pub EachFrom : {A B : Type 0} → (ℕ → A → B → Type 0) → ℕ → List A → List B → Type 0

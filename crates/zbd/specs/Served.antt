@@ -1,6 +1,6 @@
 -- What a run of the server is.
 use Rattle.std.specs.Prelude.{◌≡◌, ◌⊎◌, ◌<◌, ◌≤◌, ◌-◌, ℕ, List, [], ◌∷◌, ◌++◌, length, slice_get, IsTrue, Option, Some, None, Ok}
-use Rattle.std.specs.List.{flat_map, AllZip, range_with_len}
+use Rattle.std.specs.List.{flat_map, AllByRecursion, AllZip, range_with_len}
 use Rattle.std.specs.List.Sorted.{IsPermutation, IsStrictlyIncreasing}
 use Rattle.zb_disk.specs.Cause.{Rose}
 use Rattle.zb_model.specs.declared.record.Batch.{Batch}
@@ -101,9 +101,13 @@ FailsToOpen told volumes (causes.SinkFault session) = ⊥
 FailsToOpen told volumes (causes.LogFull partition length_told frame limit) = ⊥
 FailsToOpen told volumes (causes.InputFull session) = ⊥
 
+-- a log longer than one byte is as it was
+abbrev pub IsSpared : Told → LogEnds → Type 0
+IsSpared told ends = IsTrue told.disk → 1 < length ends.disk.contents → ends.disk_after.contents ≡ ends.disk.contents
+
 -- a run of planned words: its logs were opened, and then it has stamps for each of them, or they weren't
 abbrev pub IsRun : Told → List SessionEnds → List LogEnds → (ℕ → List ℕ → Type 0) → Cause → List (List ℕ) → Type 0
-IsRun told streams volumes images cause [] = FailsToOpen told volumes cause
+IsRun told streams volumes images cause [] = FailsToOpen told volumes cause × AllByRecursion (IsSpared told) volumes
 IsRun told streams volumes images cause (first ∷ more) = Serves told streams volumes images cause (first ∷ more)
 
 -- the slots for snapshots of each volume

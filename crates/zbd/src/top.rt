@@ -141,6 +141,8 @@ fn run<S: Source, K: Sink, D: Disk>(
     log: &mut D,
 ) -> (Cause, Vec<Vec<u64>>)
     ensures unread { result.1.items ≡ [] → session.new ≡ session.old }
+    ensures spared { result.1.items ≡ [] → IsTrue D.tells_images → 1 < length (D.view log.old).contents
+        → (image : List ℕ) → D.images log.new image → D.images log.old image }
     ensures run { IsRun
         (told S.tells K.tells D.tells D.tells_images K.takes_memory D.takes_memory)
         (session_ends

@@ -25,7 +25,7 @@ returns-in-Ok-serve_line g c = λ start s.
     let came = subst (λ (l : List ℕ). Comes c.longest_shown.result (Ok c.in-Ok.next) (c.args.desk.now.reader ++ read.0) c.next.new.self l) (sym c.deref.ensures.value) read.2 in
     let replied = c.in-Ok-serve_line.ensures.replied (g.S.Source.view c.next.new.source) g.S.Source.tells (batches_of s.answers) s.ledger s.stored in
     rw c.may_go_on.ensures (turn_served _ start _ _ _ _ _ _ _ _ _ c.longest_shown.result _ _ _ read.0 _ _ s read.1 (omega (arith, c.longest_shown.ensures)) c.in-Ok.next c.in_default.not-End came c.in-Ok.ensures.at_end
-        replied c.in-Ok.ensures.later c.in-Ok-serve_line.ensures.sink_later c.in-Ok-serve_line.ensures.disk_later)
+    replied c.in-Ok.ensures.later c.in-Ok-serve_line.ensures.sink_later c.in-Ok-serve_line.ensures.disk_later)
 
 -- a line ended the run
 pub returns-in-Err-serve_line : goal.returns-in-Err-serve_line

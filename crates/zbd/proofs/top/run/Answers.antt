@@ -8,7 +8,7 @@ use Rattle.zbd.proofs.top.run.Goals as goal
 pub returns-in-Err-open-clause-run : goal.returns-in-Err-open-clause-run
 returns-in-Err-open-clause-run g c =
     let said = c.in-Err-open.ensures in
-    rw (c.reserve.ensures.items, c.new-stamps.ensures.items, c.open_cause.ensures) (fails_to_open (told g.S.Source.tells g.K.Sink.tells g.D.Disk.tells g.D.Disk.tells_images g.K.Sink.takes_memory g.D.Disk.takes_memory) _ c.in-Err-open.fault said.frame said.longer said.kept said.failed)
+    rw (c.reserve.ensures.items, c.new-stamps.ensures.items, c.open_cause.ensures) (fails_to_open (told g.S.Source.tells g.K.Sink.tells g.D.Disk.tells g.D.Disk.tells_images g.K.Sink.takes_memory g.D.Disk.takes_memory) _ c.in-Err-open.fault said.frame said.longer said.kept said.failed, (said.spared, tt))
 
 pub serve_session-cause-requires : goal.serve_session-cause-requires
 serve_session-cause-requires g c =

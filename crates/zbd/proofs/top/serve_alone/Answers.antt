@@ -1,9 +1,9 @@
-use Rattle.std.proofs.Common.{◌≡◌, [], ◌∷◌, length, map, ap, ◌∙◌, arith, rules}
+use Rattle.std.proofs.Common.{◌≡◌, [], ◌∷◌, length, map, ap, sym, ◌∙◌, arith, rules}
 use Rattle.std.proofs.lemmas.Grind.{common_steps}
 use Rattle.std.specs.String.{string_bytes}
 use Rattle.zbd.specs.Words.{IsPlanned}
 use Rattle.zbd.specs.Ends.{told}
-use Rattle.zbd.proofs.Single.{one_member, one_set, run_single}
+use Rattle.zbd.proofs.Single.{one_member, one_set, run_single, spared_same, spared_single}
 use Rattle.zbd.proofs.top.serve_alone.Goals as goal
 
 pub returns-clause-closed : goal.returns-clause-closed
@@ -14,6 +14,12 @@ returns-clause-closed g c = record {
   unopened = grind (arith, common_steps);
   untouched = grind (arith, common_steps);
   unread = grind (arith, common_steps);
+  spared = λ none tells.
+      let planned : IsPlanned (map string_bytes c.args.words.now) (length c.args.sessions.items) (length c.args.volumes.items) = search rules in
+      let volume = one_member c.args.volumes.items c.index_mut-2.result.now planned.one_volume c.index_mut-2.ensures.value in
+      let volumes = ap (λ v. v.items) c.closed-2.ensures.volumes ∙ one_set c.args.volumes.items _ _ volume in
+      spared_single g.D.Disk.view g.D.Disk.images c.index_mut-2.result.now _ _ _ volume volumes
+      (c.run-cause.ensures.spared (ap (λ v. v.items) (sym c.closed-2.ensures.stamps) ∙ none) tells);
   same_sessions = grind (arith, common_steps);
   same_volumes = grind (arith, common_steps);
   slots = grind (arith, common_steps);
@@ -27,4 +33,21 @@ returns-clause-closed g c = record {
       rw (c.closed-2.ensures.cause, c.closed-2.ensures.stamps)
       (run_single (told g.S.Source.tells g.K.Sink.tells g.D.Disk.tells g.D.Disk.tells_images g.K.Sink.takes_memory g.D.Disk.takes_memory)
       g.S.Source.view g.K.Sink.view g.D.Disk.view g.D.Disk.images c.index_mut.result.now c.run-cause.new.session _ _ c.index_mut-2.result.now _ _ _ _ _ session sessions volume volumes c.run-cause.ensures.run);
+}
+
+-- nothing was touched
+pub returns-then-not-is_planned-clause-closed : goal.returns-then-not-is_planned-clause-closed
+returns-then-not-is_planned-clause-closed g c = record {
+  status = grind (arith, common_steps);
+  usage = grind (arith, common_steps);
+  planned = grind (arith, common_steps);
+  unopened = grind (arith, common_steps);
+  untouched = grind (arith, common_steps);
+  unread = grind (arith, common_steps);
+  spared = λ none tells. rw (ap (λ v. v.items) c.closed.ensures.volumes) (spared_same g.D.Disk.view g.D.Disk.images c.args.volumes.items);
+  same_sessions = grind (arith, common_steps);
+  same_volumes = grind (arith, common_steps);
+  slots = grind (arith, common_steps);
+  units = grind (arith, common_steps);
+  run = λ not_usage. absurd (not_usage c.closed.ensures.cause);
 }
