@@ -1,5 +1,5 @@
 -- How a run ends.
-use Rattle.std.proofs.Common.{◌≡◌, ◌⊎◌, ℕ, zero, suc, ◌+◌, ◌-◌, ◌<◌, ◌≤◌, ◌^◌, min, List, [], ◌∷◌, ◌++◌, length, get_or, take, Bool, true, false, IsTrue, Option, Some, None, refl, sym, ap, ◌∙◌, subst, inl, inr, ⊎_elim, arith, length-append, IfSome}
+use Rattle.std.proofs.Common.{◌≡◌, ◌⊎◌, ℕ, zero, suc, ◌+◌, ◌-◌, ◌<◌, ◌≤◌, ◌^◌, min, List, [], ◌∷◌, ◌++◌, length, get_or, take, Bool, true, false, IsTrue, Option, Some, None, refl, sym, ap, ◌∙◌, subst, inl, inr, ⊎_elim, arith, length-append, IfSome, IsSome}
 use Rattle.std.proofs.lemmas.Bool.{false≢true}
 use Rattle.std.proofs.lemmas.List.{append-nil}
 use Rattle.std.proofs.lemmas.List.Sorted.{IsPermutation-refl}
@@ -34,7 +34,7 @@ pub record IsNamed (told : Told) (start : Start) (now : Now) (log : List Batch) 
   pub done : cause ≡ causes.Done → IsTrue at_end × (unserved ≡ [])
   pub source_fault : cause ≡ causes.SourceFault 1 → Rose start.source.faults now.source.faults × (unserved ≡ [])
   pub sink_fault : cause ≡ causes.SinkFault 1 → Rose start.sink.faults now.sink.faults
-  pub disk_fault : (batch : Option Batch) → cause ≡ causes.DiskFault 1 batch → Rose start.disk.faults now.disk.faults × (batch ≡ unlogged)
+  pub disk_fault : (batch : Option Batch) → cause ≡ causes.DiskFault 1 batch → Rose start.disk.faults now.disk.faults × (batch ≡ unlogged) × IsSome batch
   pub log_full : (length_told frame limit : ℕ) → cause ≡ causes.LogFull 1 length_told frame limit
       → (length_told ≡ length_of log) × (limit ≡ log_limit) × (limit < length_told + frame)
       × ((batch : Batch) × (unlogged ≡ Some batch) × (frame ≡ min (length (bytes_of batch) + 9) (2 ^ 64 - 1)))

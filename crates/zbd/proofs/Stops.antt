@@ -1,24 +1,26 @@
 -- How a turn of a session ends the run.
-use Rattle.std.proofs.Common.{◌≡◌, ◌⊎◌, ℕ, suc, ◌+◌, ◌<◌, ◌≤◌, List, [], ◌∷◌, ◌++◌, length, take, Bool, true, false, IsTrue, Option, Some, None, Ok, Err, IsErrOf, refl, sym, ap, ◌∙◌, subst, inl, inr, ⊎_elim, append_assoc, arith}
+use Rattle.std.proofs.Common.{◌≡◌, ◌≢◌, ◌⊎◌, ℕ, suc, ◌+◌, ◌<◌, ◌≤◌, List, [], ◌∷◌, ◌++◌, length, take, Bool, true, false, IsTrue, Option, Some, None, Ok, Err, IsErrOf, refl, sym, ap, ◌∙◌, subst, inl, inr, ⊎_elim, append_assoc, arith}
 use Rattle.std.proofs.Math.Seq.{take-append-add}
 use Rattle.zb_disk.specs.Cause.{Rose}
 use Rattle.zb_disk.specs.Disk.{DiskView}
 use Rattle.zb_outside.specs.Stream.{SourceView, SinkView}
 use Rattle.zb_model.specs.declared.record.Batch.{Batch}
 use Rattle.zb_lines.specs.Taken.{Takes}
-use Rattle.zb_lines.specs.Line.{IsOneLine, ended, Comes}
+use Rattle.zb_lines.specs.Line.{IsOneLine, ended, Comes, IsAtEnd}
 use Rattle.zb_lines.specs.declared.reader.Next.{Next}
+use Rattle.zb_lines.specs.declared.reader.Next.TheVariants as nexts
+use Rattle.zb_wire.specs.Request.{longest_line}
 use Rattle.zb_outside.specs.declared.trouble.Trouble.{Trouble}
 use Rattle.zb_outside.specs.declared.trouble.Trouble.TheVariants as troubles
 use Rattle.zbd.specs.Ends.{Told}
 use Rattle.zbd.specs.Ledger.{IsLedger, IsNextOf, Refuses}
-use Rattle.zbd.specs.Serving.{Start, Now, now_of, IsServing, IsStored, IsReplied, IsUnsent, IsUnanswered, IsLineEnd, IsOver, Asks, GoesOn, source_cause_of}
+use Rattle.zbd.specs.Serving.{Start, Now, now_of, IsServing, IsStored, IsReplied, IsUnsent, IsUnanswered, IsLineEnd, IsOver, Asks, GoesOn, goes_on, source_cause_of}
 use Rattle.zbd.specs.Session.{Answer, IsAnswer, IsSent, AreAnswers, batches_of, replies_of}
 use Rattle.zbd.specs.declared.run.Cause.{Cause}
 use Rattle.zbd.specs.declared.run.Cause.TheVariants as causes
-use Rattle.zbd.proofs.Streams.{IsStream, IsBehind, length-lines, splits, stream_cut, stream_within, stream_end, stream_on, are_answers_more, batches_of_more, replies_of_more}
+use Rattle.zbd.proofs.Streams.{IsStream, IsBehind, length-lines, splits, stream_cut, stream_within, stream_end, stream_last, stream_line, stream_on, are_answers_more, batches_of_more, replies_of_more}
 use Rattle.zbd.proofs.Over.{IsHeld, IsNamed, IsLeft, over}
-use Rattle.zbd.proofs.Turns.{behind, named_memory, named_done, named_source, named_sink, short, refused_held, refused_named, rose_since}
+use Rattle.zbd.proofs.Turns.{behind, replied_whole, line_end_whole, turn_on, named_memory, named_done, named_source, named_sink, short, refused_held, refused_named, rose_since}
 
 none_left : (log : List Batch) (unserved : List (List ℕ)) (batch : Batch) → None ≡ Some batch → IsLeft log unserved batch
 none_left log unserved batch e = absurd (cc)
@@ -151,3 +153,39 @@ module _ (told : Told) (start : Start) (old : Now) (images images' : List ℕ �
       s.opened
       (named_done told start new (batches_of (s.answers ++ answer ∷ [])))
       (none_left (batches_of (s.answers ++ answer ∷ [])) [])
+
+module _ (told : Told) (start : Start) (old : Now) (images images' : List ℕ → Type 0) (extent extent' : ℕ) (places places' held : List ℕ) (number most : ℕ)
+    (source : SourceView) (sink : SinkView) (disk : DiskView) (more left shown : List ℕ) (s : IsServing told start old images extent places held number)
+    (takes : Takes told.source old.source source more) (above : longest_line < most) where
+  abbrev behind_it : IsBehind told.source start.source source s.lines (held ++ more)
+  behind_it = behind told start old images extent places held number source more s takes
+
+  -- a line was read and served
+  pub turn_served : (next : Next) → next ≢ nexts.End → Comes most (Ok next) (held ++ more) left shown → (IsAtEnd (Ok next) → IsTrue told.source → source.left ≡ [])
+      → IsReplied told number shown (now_of source old.sink old.disk) (now_of source sink disk) images' extent' places' (batches_of s.answers)
+      → old.source.faults ≤ source.faults → old.sink.faults ≤ sink.faults → old.disk.faults ≤ disk.faults
+      → GoesOn told start (now_of source sink disk) images' extent' places' left number (Ok (goes_on next))
+  turn_served nexts.Line other came end replied source_later sink_later disk_later =
+      let whole = replied_whole told number most came.0 shown (now_of source old.sink old.disk) (now_of source sink disk) images' extent' places' (batches_of s.answers) above came.3 replied in
+      turn_on told start old images images' extent extent' places places' held number source sink disk more came.0 left s takes came.1 came.2 whole source_later sink_later disk_later
+  turn_served nexts.Last other came end replied source_later sink_later disk_later =
+      let line = held ++ more in
+      let whole = replied_whole told number most line shown (now_of source old.sink old.disk) (now_of source sink disk) images' extent' places' (batches_of s.answers) above came.3 replied in
+      let stream = stream_last told.source start.source source s.lines line behind_it came.0 came.1 (end tt) in
+      stops_served told start old images images' extent extent' places places' held number source sink disk line [] true s stream refl refl whole
+  turn_served nexts.End other came end replied source_later sink_later disk_later = absurd (other refl)
+
+  -- a line was read, and ended the run
+  pub turn_stopped : (next : Next) → next ≢ nexts.End → Comes most (Ok next) (held ++ more) left shown → (IsAtEnd (Ok next) → IsTrue told.source → source.left ≡ []) → (cause : Cause)
+      → IsLineEnd told number shown (now_of source old.sink old.disk) (now_of source sink disk) images' extent' places' (batches_of s.answers) cause
+      → IsOver told start (now_of source sink disk) images' places' cause
+  turn_stopped nexts.Line other came end cause ended =
+      let whole = line_end_whole told number most came.0 shown (now_of source old.sink old.disk) (now_of source sink disk) images' extent' places' (batches_of s.answers) cause above came.3 ended in
+      let stream = stream_line told.source start.source source s.lines (held ++ more) came.0 left behind_it came.2 came.1 in
+      stops_line told start old images images' extent extent' places places' held number source sink disk came.0 (splits left).lines false s stream cause whole
+  turn_stopped nexts.Last other came end cause ended =
+      let line = held ++ more in
+      let whole = line_end_whole told number most line shown (now_of source old.sink old.disk) (now_of source sink disk) images' extent' places' (batches_of s.answers) cause above came.3 ended in
+      let stream = stream_last told.source start.source source s.lines line behind_it came.0 came.1 (end tt) in
+      stops_line told start old images images' extent extent' places places' held number source sink disk line [] true s stream cause whole
+  turn_stopped nexts.End other came end cause ended = absurd (other refl)

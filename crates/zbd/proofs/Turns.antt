@@ -1,5 +1,5 @@
 -- One turn of a session: a line is read, answered and replied to, or the run ends.
-use Rattle.std.proofs.Common.{◌≡◌, ◌⊎◌, ℕ, zero, suc, ◌+◌, ◌-◌, ◌*◌, ◌<◌, ◌≤◌, ◌^◌, List, [], ◌∷◌, ◌++◌, length, take, Bool, true, false, IsTrue, Option, Some, None, Result, Ok, Err, refl, sym, ap, ◌∙◌, subst, inl, inr, ⊎_elim, append_assoc, arith, length-append}
+use Rattle.std.proofs.Common.{◌≡◌, ◌⊎◌, ℕ, zero, suc, ◌+◌, ◌-◌, ◌*◌, ◌<◌, ◌≤◌, ◌^◌, List, [], ◌∷◌, ◌++◌, length, take, Bool, true, false, IsTrue, IsSome, Option, Some, None, Result, Ok, Err, refl, sym, ap, ◌∙◌, subst, inl, inr, ⊎_elim, append_assoc, arith, length-append}
 use Rattle.std.specs.List.{flat_map, AllByRecursion}
 use Rattle.std.proofs.lemmas.Grind.{flat_map-append}
 use Rattle.std.proofs.lemmas.List.{append-nil}
@@ -212,7 +212,9 @@ refused_named told start old now images log batch unserved at_end (causes.DiskFa
     done = λ e. absurd (cc);
     source_fault = λ e. absurd (cc);
     sink_fault = λ e. absurd (cc);
-    disk_fault = λ other e. (rose_since start.disk.faults old.disk.faults now.disk.faults later is.1, cc (is.3, e));
+    disk_fault = λ other e.
+      let same : Some batch ≡ other = cc (is.3, e) in
+      (rose_since start.disk.faults old.disk.faults now.disk.faults later is.1, sym same, subst IsSome same refl);
     log_full = λ n frame limit e. absurd (cc);
   };
 }

@@ -1,5 +1,5 @@
 -- A partition's log in a run.
-use Rattle.std.specs.Prelude.{◌≡◌, ◌⊎◌, ◌<◌, ◌≤◌, ◌+◌, ◌-◌, ◌^◌, min, ℕ, List, length, map, IsTrue, Option, Some}
+use Rattle.std.specs.Prelude.{◌≡◌, ◌⊎◌, ◌<◌, ◌≤◌, ◌+◌, ◌-◌, ◌^◌, min, ℕ, List, length, map, IsTrue, IsSome, Option, Some}
 use Rattle.zb_disk.specs.Cause.{Rose}
 use Rattle.zb_model.specs.declared.record.Batch.{Batch}
 use Rattle.zb_codec.specs.Record.{bytes_of}
@@ -34,9 +34,9 @@ pub record IsLog (told : Told) (cause : Cause) (unlogged : Option Batch) (number
   pub opened : IsTrue told.disk → length ends.disk.contents ≤ 1
   pub contents : IsTrue told.disk → (ends.disk_after.contents ≡ at_rest (bodies log))
       ⊎ (Begins ends.disk_after.contents (front (bodies log)) × IsDiskHurt told ends cause)
-  -- the disk is named only where it failed
+  -- the disk is named only where it failed, with the batch that was being written
   pub disk_fault : (batch : Option Batch) → cause ≡ causes.DiskFault number batch
-      → Rose ends.disk.faults ends.disk_after.faults × (batch ≡ unlogged)
+      → Rose ends.disk.faults ends.disk_after.faults × (batch ≡ unlogged) × IsSome batch
   -- the log is full exactly where the frame of the batch that was made next doesn't fit: nine bytes more
   -- than the batch has, at most the greatest number of 64 bits
   pub fits : length_of log ≤ log_limit

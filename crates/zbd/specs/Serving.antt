@@ -11,6 +11,8 @@ use Rattle.zb_store.specs.declared.log.OpenFault.{OpenFault}
 use Rattle.zb_store.specs.declared.log.OpenFault.TheVariants as faults
 use Rattle.zb_lines.specs.Taken.{Takes}
 use Rattle.zb_lines.specs.Line.{IsOneLine, ended}
+use Rattle.zb_lines.specs.declared.reader.Next.{Next}
+use Rattle.zb_lines.specs.declared.reader.Next.TheVariants as nexts
 use Rattle.zb_wire.specs.declared.request.Request.{Request}
 use Rattle.zb_wire.specs.Request.{request_of}
 use Rattle.zb_wire.specs.Reply.{command_of}
@@ -125,6 +127,12 @@ abbrev pub GoesOn : Told → Start → Now → (List ℕ → Type 0) → ℕ →
 GoesOn told start now images extent places held number (Ok true) = IsServing told start now images extent places held (number + 1)
 GoesOn told start now images extent places held number (Ok false) = IsOver told start now images places causes.Done
 GoesOn told start now images extent places held number (Err cause) = IsOver told start now images places cause
+
+-- more lines may come
+abbrev pub goes_on : Next → Bool
+goes_on nexts.Line = true
+goes_on nexts.Last = false
+goes_on nexts.End = false
 
 -- why a source ends a run
 abbrev pub source_cause_of : Trouble → Cause

@@ -1,6 +1,6 @@
 ghost use Rattle.std.specs.Prelude.{◌≡◌, [], IfOk};
 ghost use Rattle.zbd.specs.Ends.{told};
-ghost use Rattle.zbd.specs.Serving.{now_of, Start, IsServing, IsOver, GoesOn, source_cause_of};
+ghost use Rattle.zbd.specs.Serving.{now_of, Start, IsServing, IsOver, GoesOn, goes_on, source_cause_of};
 
 use crate::ledger::Ledger;
 use crate::line::serve_line;
@@ -95,36 +95,30 @@ fn serve_next<S: Source, K: Sink, D: Disk>(
         Ok(next) => next,
         Err(trouble) => return Err(source_cause(trouble)),
     };
+    if let Next::End = next {
+        return Ok(false);
+    }
+    match serve_line(
+        alloc,
+        number,
+        &desk.line,
+        &mut desk.reply,
+        &mut session.sink,
+        disk,
+        ledger,
+    ) {
+        Ok(()) => Ok(may_go_on(next)),
+        Err(cause) => Err(cause),
+    }
+}
+
+// Whether more lines may come.
+fn may_go_on(next: Next) -> bool
+    ensures { result ≡ goes_on next }
+{
     match next {
-        Next::Line => {
-            match serve_line(
-                alloc,
-                number,
-                &desk.line,
-                &mut desk.reply,
-                &mut session.sink,
-                disk,
-                ledger,
-            ) {
-                Ok(()) => Ok(true),
-                Err(cause) => Err(cause),
-            }
-        }
-        Next::Last => {
-            match serve_line(
-                alloc,
-                number,
-                &desk.line,
-                &mut desk.reply,
-                &mut session.sink,
-                disk,
-                ledger,
-            ) {
-                Ok(()) => Ok(false),
-                Err(cause) => Err(cause),
-            }
-        }
-        Next::End => Ok(false),
+        Next::Line => true,
+        Next::Last | Next::End => false,
     }
 }
 
