@@ -10,6 +10,8 @@ mod ledger;
 mod line;
 mod run;
 mod session;
+#[cfg(test)]
+mod tests;
 mod top;
 
 use files::open_volumes;
