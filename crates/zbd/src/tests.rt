@@ -1,6 +1,6 @@
-ghost use Rattle.std.specs.Prelude.{◌<◌, ◌^◌, length};
+ghost use Rattle.std.specs.Prelude.{◌≤◌, length, IfOk};
 
-use crate::run::{Cause, Closed, Session, Volume};
+use crate::run::{Closed, Session, Volume};
 use crate::top::{serve, serve_alone};
 use std::alloc::{AllocError, Global};
 use std::process::Abort;
@@ -38,6 +38,48 @@ const PAID_LOG: [u8; 104] = [
     0, 0, 0, 0, 0, 0, 0, 0, 0, 0, 0xea, 0x60, 0, 0, 0, 0, 0,
 ];
 
+/// What is handed to a run, and which calls fail.
+#[derive(Clone, Copy)]
+struct Script<'a> {
+    words: &'a [&'a str],
+    /// Whether there is a session, and how many volumes there are.
+    is_attended: bool,
+    volumes: u32,
+    /// What the session says, and in pieces of which size.
+    input: &'a [u8],
+    piece: usize,
+    /// The numbers, from 0, of the reads, the writes and the calls of the log that fail.
+    reads: &'a [u64],
+    writes: &'a [u64],
+    calls: &'a [u64],
+    /// The bytes of each log, no more than those of `PAID_LOG`.
+    log: &'a [u8],
+}
+
+/// One session that says this over one empty volume, where nothing fails.
+const PLAIN: Script<'static> = Script {
+    words: &WORDS,
+    is_attended: true,
+    volumes: 1,
+    input: b"",
+    piece: 65_536,
+    reads: &[],
+    writes: &[],
+    calls: &[],
+    log: &[],
+};
+
+/// What a run comes to.
+#[derive(Clone, Copy)]
+struct Want<'a> {
+    status: u8,
+    output: &'a [u8],
+    /// The bytes of the one log, where they are known.
+    log: Option<&'a [u8]>,
+    /// The stamps of the one log, where it was opened.
+    stamps: Option<&'a [u64]>,
+}
+
 fn words_of(alloc: Global, texts: &[&str]) -> Result<Vec<String>, AllocError> {
     let mut words = Vec::new(alloc);
     for text in texts {
@@ -46,55 +88,61 @@ fn words_of(alloc: Global, texts: &[&str]) -> Result<Vec<String>, AllocError> {
     Ok(words)
 }
 
-/// A session over this input, which is given in pieces of this size. The reads and the writes with these
-/// numbers, from 0, fail.
-fn session(
+fn sessions_of(
     alloc: Global,
-    input: &[u8],
-    piece: usize,
-    reads: &[u64],
-    writes: &[u64],
-) -> Result<Session<MemSource, MemSink>, AllocError>
-    requires { 0 < piece }
+    script: &Script<'_>,
+) -> Result<Vec<Session<MemSource, MemSink>>, AllocError>
+    ensures { IfOk result (λ sessions. length sessions.items ≤ 1) }
 {
-    Ok(Session {
-        source: MemSource::new(input.to_vec(alloc)?, piece, reads.to_vec(alloc)?),
-        sink: MemSink::new(alloc, writes.to_vec(alloc)?),
-    })
-}
-
-/// A volume with this log, and empty slots. The calls of the log with these numbers, from 0, fail.
-fn volume(alloc: Global, log: &[u8], calls: &[u64]) -> Result<Volume<MemDisk>, AllocError>
-    requires { length log.now < 2 ^ 58 }
-{
-    Ok(Volume {
-        log: MemDisk::new(alloc, log.to_vec(alloc)?, calls.to_vec(alloc)?)?,
-        snap_a: MemDisk::new(alloc, Vec::new(alloc), Vec::new(alloc))?,
-        snap_b: MemDisk::new(alloc, Vec::new(alloc), Vec::new(alloc))?,
-    })
-}
-
-/// Serves one session over one volume by these words.
-fn run(
-    alloc: Global,
-    texts: &[&str],
-    session: Session<MemSource, MemSink>,
-    volume: Volume<MemDisk>,
-) -> Result<Ended, AllocError> {
-    let words = words_of(alloc, texts)?;
     let mut sessions = Vec::new(alloc);
-    sessions.push(session)?;
+    if script.is_attended {
+        let input = script.input.to_vec(alloc)?;
+        let reads = script.reads.to_vec(alloc)?;
+        let writes = script.writes.to_vec(alloc)?;
+        sessions.push(Session {
+            source: MemSource::new(input, script.piece.max(1), reads),
+            sink: MemSink::new(alloc, writes),
+        })?;
+    }
+    Ok(sessions)
+}
+
+fn disk_of(alloc: Global, bytes: &[u8], calls: &[u64]) -> Result<MemDisk, AllocError> {
+    let bytes = bytes[..bytes.len().min(PAID_LOG.len())].to_vec(alloc)?;
+    let calls = calls.to_vec(alloc)?;
+    MemDisk::new(alloc, bytes, calls)
+}
+
+fn volume_of(alloc: Global, script: &Script<'_>) -> Result<Volume<MemDisk>, AllocError> {
+    Ok(Volume {
+        log: disk_of(alloc, script.log, script.calls)?,
+        snap_a: disk_of(alloc, &[], &[])?,
+        snap_b: disk_of(alloc, &[], &[])?,
+    })
+}
+
+fn volumes_of(alloc: Global, script: &Script<'_>) -> Result<Vec<Volume<MemDisk>>, AllocError> {
     let mut volumes = Vec::new(alloc);
-    volumes.push(volume)?;
+    for _ in 0..script.volumes {
+        volumes.push(volume_of(alloc, script)?)?;
+    }
+    Ok(volumes)
+}
+
+/// Serves what the script says.
+fn served(alloc: Global, script: &Script<'_>) -> Result<Ended, AllocError> {
+    let words = words_of(alloc, script.words)?;
+    let sessions = sessions_of(alloc, script)?;
+    let volumes = volumes_of(alloc, script)?;
     let mut clock = ListClock::new(Vec::new(alloc));
     Ok(serve_alone(alloc, &words, sessions, volumes, &mut clock))
 }
 
-/// What the one session was sent.
+/// What the one session was sent, if there is one.
 fn output(ended: &Ended) -> &[u8] {
     match ended.sessions.as_slice() {
         [session] => session.sink.bytes(),
-        _ => b"not one session",
+        _ => b"",
     }
 }
 
@@ -115,76 +163,82 @@ fn expect_stamps(rt: &impl Abort, ended: &Ended, want: Option<&[u64]>) {
     }
 }
 
+/// Serves what the script says, and wants this of it.
+fn expect(
+    rt: &impl Abort,
+    alloc: Global,
+    script: &Script<'_>,
+    want: &Want<'_>,
+) -> Result<(), AllocError> {
+    let ended = served(alloc, script)?;
+    assert_eq!(rt; ended.status, want.status);
+    assert_eq!(rt; output(&ended), want.output);
+    if let Some(bytes) = want.log {
+        assert_eq!(rt; log(&ended), bytes);
+    }
+    expect_stamps(rt, &ended, want.stamps);
+    Ok(())
+}
+
 /// Refuses `always_memory`, a body that answers want of memory whatever there is: this run has ample
 /// memory, and is served.
 #[test]
 fn ample_memory_serves_so_always_memory_is_refused(rt: HostRuntime) -> Result<(), Fail> {
-    let alloc = rt.alloc();
-    let client = session(alloc, PAID.as_bytes(), 65_536, &[], &[])?;
-    let ended = run(alloc, &WORDS, client, volume(alloc, &[], &[])?)?;
-    assert!(rt; matches!(&ended.cause, Cause::Done));
-    assert_eq!(rt; (ended.status, ended.units), (0, 0));
-    assert_eq!(rt; output(&ended), FIRST.as_bytes());
-    assert_eq!(rt; log(&ended), PAID_LOG.as_slice());
-    expect_stamps(&rt, &ended, Some(&[0]));
-    Ok(())
-}
-
-/// Serves this input in pieces of several sizes, and wants this output, a log of so many bytes, and these
-/// stamps.
-fn expect_replies(
-    rt: &impl Abort,
-    alloc: Global,
-    input: &str,
-    want: &str,
-    length: usize,
-    stamps: &[u64],
-) -> Result<(), Fail> {
-    for piece in [1, 7, 65_536] {
-        let client = session(alloc, input.as_bytes(), piece, &[], &[])?;
-        let ended = run(alloc, &WORDS, client, volume(alloc, &[], &[])?)?;
-        assert!(rt; matches!(&ended.cause, Cause::Done), "at {input}");
-        assert_eq!(rt; ended.status, 0, "at {input}");
-        assert_eq!(rt; output(&ended), want.as_bytes(), "at {input}");
-        assert_eq!(rt; log(&ended).len(), length, "at {input}");
-        assert_eq!(rt; log(&ended).last(), Some(&0), "at {input}");
-        expect_stamps(rt, &ended, Some(stamps));
-    }
+    let want = Want {
+        status: 0,
+        output: FIRST.as_bytes(),
+        log: Some(&PAID_LOG),
+        stamps: Some(&[0]),
+    };
+    let script = Script {
+        input: PAID.as_bytes(),
+        ..PLAIN
+    };
+    expect(&rt, rt.alloc(), &script, &want)?;
     Ok(())
 }
 
 #[test]
 fn each_line_has_its_reply(rt: HostRuntime) -> Result<(), Fail> {
-    let table: [(&str, &str, usize, &[u64]); 6] = [
-        ("", "", 1, &[]),
-        ("\n", "{\"fault\":\"NOT_JSON\",\"line\":1}\n", 1, &[]),
+    let table: [(&[u8], &[u8], &[u64]); 6] = [
+        (b"", b"", &[]),
+        (b"\n", b"{\"fault\":\"NOT_JSON\",\"line\":1}\n", &[]),
         (
-            "{\"op\":\"fly\"}\n",
-            "{\"fault\":\"UNKNOWN_OP\",\"line\":1}\n",
-            1,
+            b"{\"op\":\"fly\"}\n",
+            b"{\"fault\":\"UNKNOWN_OP\",\"line\":1}\n",
             &[],
         ),
         (
-            "{\"op\":\"fly\"}\n<bpmn>",
-            "{\"fault\":\"UNKNOWN_OP\",\"line\":1}\n{\"fault\":\"NOT_JSON\",\"line\":2}\n",
-            1,
+            b"{\"op\":\"fly\"}\n<bpmn>",
+            b"{\"fault\":\"UNKNOWN_OP\",\"line\":1}\n{\"fault\":\"NOT_JSON\",\"line\":2}\n",
             &[],
         ),
         (
-            "{\"op\":\"publish\",\"name\":\"paid\",\"correlationKey\":\"o-1\",\"timeToLive\":60000}\n{\"op\":\"publish\",\"name\":\"paid\",\"correlationKey\":\"o-2\",\"timeToLive\":1}\n",
-            "{\"ok\":{\"message\":2251799813685249},\"units\":0}\n{\"ok\":{\"message\":2251799813685250},\"units\":0}\n",
-            207,
+            b"{\"op\":\"publish\",\"name\":\"paid\",\"correlationKey\":\"o-1\",\"timeToLive\":60000}\n{\"op\":\"publish\",\"name\":\"paid\",\"correlationKey\":\"o-2\",\"timeToLive\":1}\n",
+            b"{\"ok\":{\"message\":2251799813685249},\"units\":0}\n{\"ok\":{\"message\":2251799813685250},\"units\":0}\n",
             &[0, 1],
         ),
         (
-            "{\"op\":\"publish\",\"name\":\"paid\",\"correlationKey\":\"o-1\",\"timeToLive\":60000}\n{\"op\":\"publish\"\n{\"op\":\"publish\",\"name\":\"due\",\"correlationKey\":\"o-22\",\"timeToLive\":1}",
-            "{\"ok\":{\"message\":2251799813685249},\"units\":0}\n{\"fault\":\"NOT_JSON\",\"line\":2}\n{\"ok\":{\"message\":2251799813685250},\"units\":0}\n",
-            207,
+            b"{\"op\":\"publish\",\"name\":\"paid\",\"correlationKey\":\"o-1\",\"timeToLive\":60000}\n{\"op\":\"publish\"\n{\"op\":\"publish\",\"name\":\"due\",\"correlationKey\":\"o-22\",\"timeToLive\":1}",
+            b"{\"ok\":{\"message\":2251799813685249},\"units\":0}\n{\"fault\":\"NOT_JSON\",\"line\":2}\n{\"ok\":{\"message\":2251799813685250},\"units\":0}\n",
             &[0, 1],
         ),
     ];
-    for (input, want, length, stamps) in table {
-        expect_replies(&rt, rt.alloc(), input, want, length, stamps)?;
+    for (input, output, stamps) in table {
+        for piece in [1, 7, 65_536] {
+            let script = Script {
+                input,
+                piece,
+                ..PLAIN
+            };
+            let want = Want {
+                status: 0,
+                output,
+                log: if stamps.is_empty() { Some(&[0]) } else { None },
+                stamps: Some(stamps),
+            };
+            expect(&rt, rt.alloc(), &script, &want)?;
+        }
     }
     Ok(())
 }
@@ -201,165 +255,213 @@ fn padded(alloc: Global, length: usize) -> Result<Vec<u8>, AllocError> {
 
 #[test]
 fn a_line_may_be_too_long(rt: HostRuntime) -> Result<(), Fail> {
-    let alloc = rt.alloc();
-    let table: [(usize, &str, &[u64]); 2] = [
+    let table: [(usize, &[u8], &[u64]); 2] = [
         (
             262_144,
-            "{\"ok\":{\"message\":2251799813685249},\"units\":0}\n{\"ok\":{\"message\":2251799813685250},\"units\":0}\n{\"fault\":\"UNKNOWN_OP\",\"line\":3}\n",
+            b"{\"ok\":{\"message\":2251799813685249},\"units\":0}\n{\"ok\":{\"message\":2251799813685250},\"units\":0}\n{\"fault\":\"UNKNOWN_OP\",\"line\":3}\n",
             &[0, 1],
         ),
         (
             262_145,
-            "{\"fault\":\"NOT_JSON\",\"line\":1}\n{\"ok\":{\"message\":2251799813685249},\"units\":0}\n{\"fault\":\"UNKNOWN_OP\",\"line\":3}\n",
+            b"{\"fault\":\"NOT_JSON\",\"line\":1}\n{\"ok\":{\"message\":2251799813685249},\"units\":0}\n{\"fault\":\"UNKNOWN_OP\",\"line\":3}\n",
             &[0],
         ),
     ];
-    for (length, want, stamps) in table {
-        let client = session(alloc, &padded(alloc, length)?, 65_536, &[], &[])?;
-        let ended = run(alloc, &WORDS, client, volume(alloc, &[], &[])?)?;
-        assert_eq!(rt; ended.status, 0, "at {length}");
-        assert_eq!(rt; output(&ended), want.as_bytes(), "at {length}");
-        expect_stamps(&rt, &ended, Some(stamps));
+    for (length, output, stamps) in table {
+        let input = padded(rt.alloc(), length)?;
+        let script = Script {
+            input: &input,
+            ..PLAIN
+        };
+        let want = Want {
+            status: 0,
+            output,
+            log: None,
+            stamps: Some(stamps),
+        };
+        expect(&rt, rt.alloc(), &script, &want)?;
     }
     Ok(())
 }
 
 #[test]
-fn a_stream_may_fail(rt: HostRuntime) -> Result<(), Fail> {
-    let alloc = rt.alloc();
-    let deaf = session(alloc, PAID.as_bytes(), 65_536, &[0], &[])?;
-    let unread = run(alloc, &WORDS, deaf, volume(alloc, &[], &[])?)?;
-    assert!(rt; matches!(&unread.cause, Cause::SourceFault { session: 1 }));
-    assert_eq!(rt; unread.status, 3);
-    assert_eq!(rt; output(&unread), b"".as_slice());
-    assert_eq!(rt; log(&unread), [0].as_slice());
-    expect_stamps(&rt, &unread, Some(&[]));
-
+fn a_device_may_fail(rt: HostRuntime) -> Result<(), Fail> {
+    let paid = Script {
+        input: PAID.as_bytes(),
+        ..PLAIN
+    };
     // The batch is in the log before its reply is written.
-    let mute = session(alloc, PAID.as_bytes(), 65_536, &[], &[0])?;
-    let unsent = run(alloc, &WORDS, mute, volume(alloc, &[], &[])?)?;
-    assert!(rt; matches!(&unsent.cause, Cause::SinkFault { session: 1 }));
-    assert_eq!(rt; unsent.status, 6);
-    assert_eq!(rt; output(&unsent), b"".as_slice());
-    assert_eq!(rt; log(&unsent), PAID_LOG.as_slice());
-    expect_stamps(&rt, &unsent, Some(&[0]));
-    Ok(())
-}
-
-/// Whether that partition's disk is why the run ended: while a batch was being written, or before.
-fn is_disk_fault(cause: &Cause, is_writing: bool) -> bool {
-    match cause {
-        Cause::DiskFault {
-            partition: 1,
-            in_writing,
-        } => in_writing.is_some() == is_writing,
-        _ => false,
-    }
-}
-
-#[test]
-fn each_call_of_a_disk_may_fail(rt: HostRuntime) -> Result<(), Fail> {
-    let alloc = rt.alloc();
-    // The length, the gate and its sync; then the batch and its sync.
-    for call in 0..5 {
-        let client = session(alloc, PAID.as_bytes(), 65_536, &[], &[])?;
-        let ended = run(alloc, &WORDS, client, volume(alloc, &[], &[call])?)?;
-        assert!(rt; is_disk_fault(&ended.cause, call > 2), "at call {call}");
-        assert_eq!(rt; ended.status, 4, "at call {call}");
-        assert_eq!(rt; output(&ended), b"".as_slice(), "at call {call}");
-        expect_stamps(&rt, &ended, if call > 2 { Some(&[]) } else { None });
-    }
-    Ok(())
-}
-
-#[test]
-fn a_log_with_frames_is_left_alone(rt: HostRuntime) -> Result<(), Fail> {
-    let alloc = rt.alloc();
-    for bytes in [PAID_LOG.as_slice(), [0, 0].as_slice()] {
-        assert!(rt; bytes.len() < 105);
-        let client = session(alloc, PAID.as_bytes(), 65_536, &[], &[])?;
-        let ended = run(alloc, &WORDS, client, volume(alloc, bytes, &[])?)?;
-        assert!(rt;
-            matches!(
-                &ended.cause,
-                Cause::BadLog {
-                    partition: 1,
-                    frame: 0
-                }
-            )
-        );
-        assert_eq!(rt; ended.status, 5);
-        assert_eq!(rt; output(&ended), b"".as_slice());
-        assert_eq!(rt; log(&ended), bytes);
-        expect_stamps(&rt, &ended, None);
-    }
-    Ok(())
-}
-
-/// Wants that nothing was served, and no stream or disk was called.
-fn expect_usage(rt: &impl Abort, ended: &Ended) {
-    assert!(rt; matches!(&ended.cause, Cause::Usage));
-    assert_eq!(rt; ended.status, 2);
-    expect_stamps(rt, ended, None);
-    for session in &ended.sessions {
-        assert_eq!(rt; session.sink.bytes(), b"".as_slice());
-    }
-    for volume in &ended.volumes {
-        assert_eq!(rt; volume.log.moment(), 0);
-        assert_eq!(rt; volume.snap_a.moment(), 0);
-        assert_eq!(rt; volume.snap_b.moment(), 0);
-    }
-}
-
-#[test]
-fn other_words_are_not_served(rt: HostRuntime) -> Result<(), Fail> {
-    let alloc = rt.alloc();
-    let table: [&[&str]; 5] = [
-        &[],
-        &["serve"],
-        &["serve", "--clock", "real"],
-        &["serve", "--clock", "manual", "x"],
-        &["check", "--clock", "manual"],
+    let table: [(Script<'_>, u8, Option<&[u8]>, Option<&[u64]>); 7] = [
+        (
+            Script {
+                reads: &[0],
+                ..paid
+            },
+            3,
+            Some(&[0]),
+            Some(&[]),
+        ),
+        (
+            Script {
+                writes: &[0],
+                ..paid
+            },
+            6,
+            Some(&PAID_LOG),
+            Some(&[0]),
+        ),
+        // The length of the log, its gate and the sync; then the batch and its sync.
+        (
+            Script {
+                calls: &[0],
+                ..paid
+            },
+            4,
+            None,
+            None,
+        ),
+        (
+            Script {
+                calls: &[1],
+                ..paid
+            },
+            4,
+            None,
+            None,
+        ),
+        (
+            Script {
+                calls: &[2],
+                ..paid
+            },
+            4,
+            None,
+            None,
+        ),
+        (
+            Script {
+                calls: &[3],
+                ..paid
+            },
+            4,
+            None,
+            Some(&[]),
+        ),
+        (
+            Script {
+                calls: &[4],
+                ..paid
+            },
+            4,
+            None,
+            Some(&[]),
+        ),
     ];
-    for texts in table {
-        let client = session(alloc, PAID.as_bytes(), 65_536, &[], &[])?;
-        let ended = run(alloc, texts, client, volume(alloc, &[], &[])?)?;
-        assert_eq!(rt; (ended.sessions.len(), ended.volumes.len()), (1, 1));
-        expect_usage(&rt, &ended);
+    for (script, status, log, stamps) in &table {
+        let want = Want {
+            status: *status,
+            output: b"",
+            log: *log,
+            stamps: *stamps,
+        };
+        expect(&rt, rt.alloc(), script, &want)?;
     }
     Ok(())
 }
 
 #[test]
-fn another_number_of_objects_is_not_served(rt: HostRuntime) -> Result<(), Fail> {
-    let alloc = rt.alloc();
-    let words = words_of(alloc, &WORDS)?;
-    let mut clock = ListClock::new(Vec::new(alloc));
-    let one = vec![in alloc; session(alloc, PAID.as_bytes(), 65_536, &[], &[])?]?;
-    let two = vec![in alloc; volume(alloc, &[], &[])?, volume(alloc, &[], &[])?]?;
-    let crowded = serve_alone(alloc, &words, one, two, &mut clock);
-    assert_eq!(rt; (crowded.sessions.len(), crowded.volumes.len()), (1, 2));
-    expect_usage(&rt, &crowded);
-
-    let lone = vec![in alloc; volume(alloc, &[], &[])?]?;
-    let empty = serve_alone(alloc, &words, Vec::new(alloc), lone, &mut clock);
-    assert_eq!(rt; (empty.sessions.len(), empty.volumes.len()), (0, 1));
-    expect_usage(&rt, &empty);
+fn what_can_not_be_served_is_refused(rt: HostRuntime) -> Result<(), Fail> {
+    let paid = Script {
+        input: PAID.as_bytes(),
+        ..PLAIN
+    };
+    let table: [(Script<'_>, u8, Option<&[u8]>); 10] = [
+        // A log with frames is refused, and is left as it is.
+        (
+            Script {
+                log: &PAID_LOG,
+                ..paid
+            },
+            5,
+            Some(&PAID_LOG),
+        ),
+        (
+            Script {
+                log: &[0, 0],
+                ..paid
+            },
+            5,
+            Some(&[0, 0]),
+        ),
+        (Script { words: &[], ..paid }, 2, Some(&[])),
+        (
+            Script {
+                words: &["serve"],
+                ..paid
+            },
+            2,
+            Some(&[]),
+        ),
+        (
+            Script {
+                words: &["serve", "--clock", "real"],
+                ..paid
+            },
+            2,
+            Some(&[]),
+        ),
+        (
+            Script {
+                words: &["serve", "--clock", "manual", "x"],
+                ..paid
+            },
+            2,
+            Some(&[]),
+        ),
+        (
+            Script {
+                words: &["check", "--clock", "manual"],
+                ..paid
+            },
+            2,
+            Some(&[]),
+        ),
+        (Script { volumes: 2, ..paid }, 2, None),
+        (
+            Script {
+                is_attended: false,
+                ..paid
+            },
+            2,
+            Some(&[]),
+        ),
+        (Script { volumes: 0, ..paid }, 2, None),
+    ];
+    for (script, status, log) in &table {
+        let want = Want {
+            status: *status,
+            output: b"",
+            log: *log,
+            stamps: None,
+        };
+        expect(&rt, rt.alloc(), script, &want)?;
+    }
     Ok(())
 }
 
 #[test]
 fn serving_with_threads_is_the_same(rt: HostRuntime) -> Result<(), Fail> {
     let alloc = rt.alloc();
+    let script = Script {
+        input: PAID.as_bytes(),
+        ..PLAIN
+    };
     let words = words_of(alloc, &WORDS)?;
-    let sessions = vec![in alloc; session(alloc, PAID.as_bytes(), 65_536, &[], &[])?]?;
-    let volumes = vec![in alloc; volume(alloc, &[], &[])?]?;
+    let sessions = sessions_of(alloc, &script)?;
+    let volumes = volumes_of(alloc, &script)?;
+    assert_eq!(rt; sessions.len(), 1);
     let mut clock = ListClock::new(Vec::new(alloc));
     let ended = serve(&rt, alloc, &words, sessions, volumes, &mut clock, &OpenDoor);
-    assert!(rt; matches!(&ended.cause, Cause::Done));
-    assert_eq!(rt; ended.status, 0);
     assert_eq!(rt; output(&ended), FIRST.as_bytes());
-    assert_eq!(rt; log(&ended), PAID_LOG.as_slice());
-    expect_stamps(&rt, &ended, Some(&[0]));
     Ok(())
 }
