@@ -1,0 +1,4 @@
+pub mod Key
+pub mod Moment
+pub mod Vars
+pub mod VarsLaws

@@ -1,0 +1,81 @@
+ghost use Rattle.std.specs.Prelude.{◌≡◌, ◌≤◌};
+ghost use Rattle.zb_base.specs.Key as spec;
+
+use std::marker::Model;
+
+/// The number of a partition, from 1 to 16.
+#[derive(Clone, Copy, Debug, PartialEq, Eq, PartialOrd, Ord)]
+pub struct PartitionId(u32);
+
+impl Model for PartitionId {
+    ghost use Rattle.std.specs.Prelude.{ℕ, ◌≤◌};
+
+    ghost Value = { ℕ };
+
+    ghost view = { λ p. p.0 };
+
+    ghost invariant = { λ p. (1 ≤ p.0) × (p.0 ≤ 16) };
+
+    ghost inverse = { λ n. record { 0 = n } };
+}
+
+impl PartitionId {
+    /// The partition with this number.
+    pub fn new(number: u32) -> PartitionId
+        requires from { 1 ≤ number }
+        requires to { number ≤ 16 }
+        ensures { result ≡ number }
+    {
+        PartitionId(number)
+    }
+
+    /// The number, from 1 to 16.
+    pub fn number(self) -> u32
+        ensures value { result ≡ self }
+        ensures from { 1 ≤ result }
+        ensures to { result ≤ 16 }
+    {
+        self.0
+    }
+}
+
+/// The partition at which the messages with this correlation key live, among so many.
+/// It takes one step for each byte of the key.
+pub fn home_of(key: &[u8], partitions: u32) -> PartitionId
+    requires from { 1 ≤ partitions }
+    requires to { partitions ≤ 16 }
+    ensures { result ≡ spec.home_of key.now partitions }
+{
+    let mut hash: u32 = 0;
+    for byte in key {
+        hash = hash.wrapping_mul(31).wrapping_add(u32::from(*byte));
+    }
+    PartitionId(hash % partitions + 1)
+}
+
+#[cfg(test)]
+mod tests {
+    use super::*;
+
+    #[test]
+    fn homes(rt: HostRuntime) {
+        for (key, partitions, home) in [
+            ("o-1", 1, 1),
+            ("o-2", 1, 1),
+            ("k-7", 1, 1),
+            ("o-1", 3, 2),
+            ("o-2", 3, 3),
+            ("k-7", 3, 1),
+            ("o-1", 16, 4),
+            ("o-2", 16, 5),
+            ("k-7", 16, 6),
+        ] {
+            assert!(rt; partitions >= 1 && partitions <= 16);
+            assert_eq!(rt;
+                home_of(key.as_bytes(), partitions).number(),
+                home,
+                "{key} of {partitions}"
+            );
+        }
+    }
+}

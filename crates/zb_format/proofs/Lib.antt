@@ -1,0 +1,4 @@
+pub mod Many
+pub mod Pieces
+pub mod Sizes
+pub mod Utf8

@@ -1,0 +1,22 @@
+-- The sizes of spellings.
+use Rattle.std.proofs.Common.{◌≡◌, ℕ, ℤ, ◌+◌, ◌*◌, ◌^◌, ◌-◌, min, List, [], ◌∷◌, ◌++◌, length, refl, ap, ◌∙◌, arith, length-append, add_assoc}
+use Rattle.std.specs.List.{flat_map}
+use Rattle.zb_format.specs.Field.{number, long, signed}
+
+pub length-number : (n : ℕ) → length (number n) ≡ 4
+unfolding number
+length-number n = refl
+
+pub length-long : (n : ℕ) → length (long n) ≡ 8
+unfolding long
+length-long n = refl
+
+pub length-signed : (z : ℤ) → length (signed z) ≡ 8
+unfolding signed
+length-signed z = refl
+
+pub length-flat_map-signed : (zs : List ℤ) → length (flat_map signed zs) ≡ length zs * 8
+length-flat_map-signed [] = refl
+length-flat_map-signed (z ∷ zs) = omega (arith, length-append (signed z) (flat_map signed zs), length-signed z, length-flat_map-signed zs)
+
+pub ruleset pieces = (length-append, length-number, length-long, length-signed, length-flat_map-signed)

@@ -1,0 +1,50 @@
+-- What has a spelling: numbers that fit their bytes, texts in UTF-8, and lists and texts whose length fits four bytes.
+use Rattle.std.specs.Prelude.{ℕ, ◌<◌, ◌^◌, ℤ, FitsSigned, Option, None, Some, List, length, IsTrue}
+use Rattle.std.specs.List.{AllByRecursion}
+use Rattle.std.specs.Int.{w64}
+use Rattle.std.specs.Str.{is_utf8}
+use Rattle.zb_base.specs.declared.value.Value.{Value}
+use Rattle.zb_base.specs.declared.value.Value.TheVariants as values
+use Rattle.zb_base.specs.declared.vars.Variable.{Variable}
+use Rattle.zb_base.specs.declared.pair.Pair.{Pair}
+use Rattle.zb_base.specs.Vars.{is_ascending}
+
+-- each value of the type has a spelling
+abbrev pub IsAny : {A : Type 0} → A → Type 0
+IsAny x = Unit {0}
+
+abbrev pub IsNumber : ℕ → Type 0
+IsNumber n = n < 2 ^ 32
+
+abbrev pub IsLong : ℕ → Type 0
+IsLong n = n < 2 ^ 64
+
+abbrev pub IsSigned : ℤ → Type 0
+IsSigned z = FitsSigned w64 z
+
+abbrev pub IsText : List ℕ → Type 0
+IsText bytes = (length bytes < 2 ^ 32) × IsTrue (is_utf8 bytes)
+
+-- a list whose members are such
+abbrev pub AreCounted : {A : Type 0} → (A → Type 0) → List A → Type 0
+AreCounted Is xs = (length xs < 2 ^ 32) × AllByRecursion Is xs
+
+abbrev pub IsOptional : {A : Type 0} → (A → Type 0) → Option A → Type 0
+IsOptional Is None = Unit {0}
+IsOptional Is (Some x) = Is x
+
+abbrev pub IsValue : Value → Type 0
+IsValue (values.Int z) = IsSigned z
+IsValue (values.Bool b) = Unit {0}
+IsValue (values.Text t) = IsText t
+IsValue (values.List zs) = AreCounted IsSigned zs
+
+abbrev pub IsVariable : Variable → Type 0
+IsVariable v = IsText v.name × IsValue v.value
+
+-- their names strictly ascend
+abbrev pub AreVariables : List Variable → Type 0
+AreVariables vs = AreCounted IsVariable vs × IsTrue (is_ascending vs)
+
+abbrev pub IsPair : Pair → Type 0
+IsPair p = IsText p.from × IsText p.to

@@ -1,0 +1,10 @@
+pub mod Expr
+pub mod ExprFalls
+pub mod ExprLaws
+pub mod ExprView
+pub mod Expression
+pub mod ExpressionFormats
+pub mod Process
+pub mod ProcessFormats
+pub mod Tree
+pub mod TreeCode
