@@ -1,4 +1,4 @@
-pub mod Key
-pub mod Moment
-pub mod Vars
-pub mod VarsLaws
+pub mod Record
+pub mod RecordFits
+pub mod RecordFormats
+pub mod RecordReading

@@ -1,22 +1,34 @@
-//! The types of zbd as plain data: keys, moments, texts, variables and records.
+//! The types of zbd as plain data: its records, and what they are made of.
 #![tactic(auto)]
 
-mod events;
-mod key;
-mod moment;
-mod partition;
+mod batch_format;
+mod command_format;
+mod event_format;
 mod record;
-mod text;
-mod value;
-mod vars;
+mod stop;
 
-pub use events::Events;
-pub use key::Key;
-pub use moment::Moment;
-pub use partition::{PartitionId, home_of};
-pub use record::{
-    Batch, Command, Event, MessagePublish, MessagePublished, Outcome, Rejection, RejectionKind,
+pub use record::{Batch, Command, Event, Outcome, Packet, Rejection, RejectionKind};
+pub use stop::{Note, Stop, TableFault};
+pub use zb_base::{
+    Key, List, Moment, Pair, PartitionId, Text, TryCopy, Value, Variable, Vars, home_of,
 };
-pub use text::Text;
-pub use value::{Ints, Value};
-pub use vars::{Variable, Vars};
+pub use zb_exchange_records::{
+    JobActivated, JobBatchActivate, JobBatchActivated, JobComplete, JobCreated, JobErrorThrown,
+    JobFail, JobFailed, JobRetriesUpdated, JobThrowError, JobUpdateRetries, MessagePublish,
+    MessagePublished, MessageStartEventSubscriptionCorrelated, MessageSubscriptionCorrelate,
+    MessageSubscriptionCorrelated, MessageSubscriptionCorrelating, MessageSubscriptionCreate,
+    MessageSubscriptionCreated, MessageSubscriptionDelete, MessageSubscriptionReject,
+    MessageSubscriptionRejected, ProcessMessageSubscriptionCorrelate,
+    ProcessMessageSubscriptionCorrelated, ProcessMessageSubscriptionCreating,
+    ProcessMessageSubscriptionDeleting,
+};
+pub use zb_instance_records::{
+    CommandDistributionAcknowledge, CommandDistributionAcknowledged,
+    CommandDistributionDistributing, DeploymentCreated, DeploymentDistribute, ElementActivated,
+    ElementActivating, ElementCompleted, ElementMigrated, IncidentCreated, IncidentKind,
+    IncidentResolved, ProcessCreated, ProcessEventTriggered, ProcessInstanceCreationCreate,
+    ProcessInstanceCreationCreated, ProcessInstanceMigrationMigrate,
+    ProcessInstanceMigrationMigrated, Role, SequenceFlowTaken, TimerCreated, VariableCreated,
+    VariableDocumentUpdate, VariableUpdated,
+};
+pub use zb_process::{Expr, ExprNode, Flow, Mapping, Model, Multi, Node, NodeKind, Operator};

@@ -1,0 +1,4 @@
+pub mod Record
+pub mod RecordFits
+pub mod RecordFormats
+pub mod RecordReading

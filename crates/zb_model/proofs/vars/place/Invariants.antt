@@ -1,9 +1,0 @@
-use Rattle.std.proofs.Common.{◌≡◌, All, take}
-use Rattle.std.specs.declared.cmp.Ordering.TheVariants.{Greater}
-use Rattle.zb_model.specs.declared.vars.Variable.{Variable}
-use Rattle.zb_model.specs.Vars.{order_of}
-use Rattle.zb_model.proofs.vars.place.Given as goal
-
--- the name comes behind the variables so far
-abbrev pub invariant-loop-index : goal.invariant-loop-index
-invariant-loop-index l = All (λ (v : Variable). order_of l.name v.name ≡ Greater) (take l.index l.variables)
