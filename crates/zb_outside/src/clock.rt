@@ -1,6 +1,6 @@
 ghost use Rattle.std.specs.Prelude.{◌≡◌, ℕ, List, Bool, IsTrue, Contains};
 
-use zb_model::Moment;
+use zb_base::Moment;
 
 /// A clock, which can't fail.
 pub trait Clock {

@@ -1,4 +1,4 @@
-use zb_model::PartitionId;
+use zb_base::PartitionId;
 
 /// A door that each command passes before it is processed, while its partition's lock is held.
 pub trait Door {

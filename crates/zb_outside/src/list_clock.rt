@@ -2,7 +2,7 @@ ghost use Rattle.std.specs.Prelude.{◌≡◌, true};
 ghost use Rattle.zb_outside.specs.Clock.{told};
 
 use crate::Clock;
-use zb_model::Moment;
+use zb_base::Moment;
 
 /// A clock that reads the moments of a list.
 #[derive(Drop)]

@@ -1,9 +1,9 @@
 ghost use Rattle.std.specs.Prelude.{◌≡◌, ◌≤◌, [], false};
-ghost use Rattle.zb_model.specs.Moment.{last_moment};
+ghost use Rattle.zb_base.specs.Moment.{last_moment};
 
 use crate::Clock;
 use std::time::{self, SystemTime};
-use zb_model::Moment;
+use zb_base::Moment;
 
 /// A clock over the system's time.
 #[derive(Drop)]

@@ -4,7 +4,7 @@ use crate::{
 use std::io::{self, ErrorKind, Read, Write};
 use std::process::Abort;
 use std::test::Fail;
-use zb_model::Moment;
+use zb_base::Moment;
 
 /// Reads once, at most three bytes, and wants this answer and these bytes.
 fn expect_read<S: Source>(

@@ -1,5 +1,5 @@
 use std::sync::Wait;
-use zb_model::Moment;
+use zb_base::Moment;
 
 /// A clock that several threads share.
 pub trait Watch {

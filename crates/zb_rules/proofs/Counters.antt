@@ -1,8 +1,8 @@
 -- The greatest counter of a log, as a batch is added.
 use Rattle.std.proofs.Common.{◌≡◌, ℕ, ◌/◌, ◌%◌, ◌^◌, ◌<◌, List, [], ◌∷◌, ◌++◌, arith}
 use Rattle.std.proofs.lemmas.Bool.Decides.{nat_tests}
-use Rattle.zb_model.specs.Key.{key_of}
-use Rattle.zb_model.specs.declared.record.MessagePublished.{MessagePublished}
+use Rattle.zb_base.specs.Key.{key_of}
+use Rattle.zb_exchange_records.specs.declared.message.MessagePublished.{MessagePublished}
 use Rattle.zb_model.specs.declared.record.Event.{Event}
 use Rattle.zb_model.specs.declared.record.Event.TheVariants as events
 use Rattle.zb_model.specs.declared.record.Outcome.TheVariants as outcomes

@@ -1,8 +1,8 @@
 -- What each command makes of the events before it.
-use Rattle.std.specs.Prelude.{ℕ, ◌+◌, min, List, [], ◌∷◌}
-use Rattle.zb_model.specs.Moment as moments
-use Rattle.zb_model.specs.declared.record.MessagePublish.{MessagePublish}
-use Rattle.zb_model.specs.declared.record.MessagePublished.{MessagePublished}
+use Rattle.std.specs.Prelude.{ℕ, ◌+◌, min, List, [], ◌∷◌, Option, Some, None}
+use Rattle.zb_base.specs.Moment as moments
+use Rattle.zb_exchange_records.specs.declared.message.MessagePublish.{MessagePublish}
+use Rattle.zb_exchange_records.specs.declared.message.MessagePublished.{MessagePublished}
 use Rattle.zb_model.specs.declared.record.Command.{Command}
 use Rattle.zb_model.specs.declared.record.Command.TheVariants as commands
 use Rattle.zb_model.specs.declared.record.Event.{Event}
@@ -24,6 +24,7 @@ message_under key moment c = record {
 abbrev pub published : ℕ → List Event → ℕ → MessagePublish → List Event
 published p before moment c = events.MessagePublished (message_under (next_key p before) moment c) ∷ []
 
--- the events that an accepted command makes of those before it, at a moment of partition p
-abbrev pub own_events : ℕ → List Event → ℕ → Command → List Event
-own_events p before moment (commands.MessagePublish c) = published p before moment c
+-- the events that a command makes of those before it, at a moment of partition p; None of a command that isn't run
+abbrev pub own_events : ℕ → List Event → ℕ → Command → Option (List Event)
+own_events p before moment (commands.MessagePublish c) = Some (published p before moment c)
+own_events p before moment _ = None

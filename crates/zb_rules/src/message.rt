@@ -3,15 +3,15 @@ ghost use Rattle.zb_model.specs.declared.record.Batch.{Batch};
 ghost use Rattle.zb_model.specs.declared.record.Command.TheVariants as commands;
 ghost use Rattle.zb_model.specs.declared.record.Event.TheVariants as events;
 ghost use Rattle.zb_model.specs.declared.record.Outcome.TheVariants as outcomes;
-ghost use Rattle.zb_model.specs.Key.{key_of};
+ghost use Rattle.zb_base.specs.Key.{key_of};
 ghost use Rattle.zb_rules.specs.View.{events_of, greatest_counter, last_moment};
 ghost use Rattle.zb_rules.specs.Own.{message_under};
 ghost use Rattle.zb_rules.specs.Step.{IsStep};
 
 use std::alloc::{AllocError, Global};
 use zb_model::{
-    Batch, Command, Event, Events, Key, MessagePublish, MessagePublished, Moment, Outcome,
-    PartitionId,
+    Batch, Command, Event, Key, List, MessagePublish, MessagePublished, Moment, Outcome,
+    PartitionId, TryCopy,
 };
 
 /// The step of MESSAGE PUBLISH at partition `place`, where `counter` is the greatest counter that its
@@ -35,7 +35,7 @@ pub fn publish(
         → IfOk result (λ batch. greatest_counter place (events_of (log ++ batch ∷ [])) ≡ counter + 1) }
 {
     let event = published(alloc, Key::make(place, counter + 1), moment, &command)?;
-    let mut events = Events::empty(alloc);
+    let mut events = List::empty(alloc);
     events.push(Event::MessagePublished(event))?;
     Ok(Batch {
         moment,

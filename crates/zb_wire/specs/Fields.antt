@@ -1,6 +1,6 @@
 -- What the fields of a publish line stand for.
 use Rattle.std.specs.Prelude.{[]}
-use Rattle.zb_model.specs.declared.record.MessagePublish.{MessagePublish}
+use Rattle.zb_exchange_records.specs.declared.message.MessagePublish.{MessagePublish}
 use Rattle.zb_wire.specs.declared.fields.PublishFields.{PublishFields}
 
 -- the message that the fields ask to publish

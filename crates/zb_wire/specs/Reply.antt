@@ -19,15 +19,17 @@ use Rattle.zb_wire.specs.declared.reply.Reply.TheVariants as replies
 abbrev pub command_of : Request → Command
 command_of (requests.Publish c) = commands.MessagePublish c
 
--- the key of the first message that the events publish
+-- the key of the first message that the events publish; other events are passed over
 abbrev pub message_in : List Event → Option ℕ
 message_in [] = None
 message_in (events.MessagePublished e ∷ es) = Some e.key
+message_in (_ ∷ es) = message_in es
 
--- the reply to a command that had this outcome
+-- the reply to a command that had this outcome; None where no request asks for the command, or it has no reply
 abbrev pub answer_to : Command → Outcome → Option Reply
 answer_to (commands.MessagePublish c) (outcomes.Accepted es) = option_map replies.Publish (message_in es)
 answer_to (commands.MessagePublish c) (outcomes.Rejected r) = None
+answer_to _ _ = None
 
 -- the reply to the request whose command became this batch
 unfoldable pub answer_of : Batch → Option Reply

@@ -3,8 +3,8 @@ use Rattle.std.specs.Prelude.{◌≡◌, [], ◌∷◌, Some, refl}
 use Rattle.zb_model.specs.declared.record.Batch.{Batch}
 use Rattle.zb_model.specs.declared.record.Command.TheVariants as commands
 use Rattle.zb_model.specs.declared.record.Event.TheVariants as events
-use Rattle.zb_model.specs.declared.record.MessagePublish.{MessagePublish}
-use Rattle.zb_model.specs.declared.record.MessagePublished.{MessagePublished}
+use Rattle.zb_exchange_records.specs.declared.message.MessagePublish.{MessagePublish}
+use Rattle.zb_exchange_records.specs.declared.message.MessagePublished.{MessagePublished}
 use Rattle.zb_model.specs.declared.record.Outcome.TheVariants as outcomes
 use Rattle.zb_wire.specs.Reply.{answer_of}
 use Rattle.zb_wire.specs.declared.reply.Reply.TheVariants as replies

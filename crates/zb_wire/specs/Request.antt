@@ -5,7 +5,7 @@ use Rattle.std.specs.Str.{bytes_eq, is_utf8}
 use Rattle.serde_json.specs.Data.{Data, Members, no_members, member}
 use Rattle.serde_json.specs.Read.{read}
 use Rattle.serde_json.specs.Find.{get, as_str, as_number, as_u64, as_object}
-use Rattle.zb_model.specs.declared.record.MessagePublish.{MessagePublish}
+use Rattle.zb_exchange_records.specs.declared.message.MessagePublish.{MessagePublish}
 use Rattle.zb_wire.specs.declared.request.Request.{Request}
 use Rattle.zb_wire.specs.declared.request.Request.TheVariants as requests
 use Rattle.zb_wire.specs.declared.request.LineFault.{LineFault}

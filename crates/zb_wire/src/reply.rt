@@ -1,9 +1,9 @@
 ghost use Rattle.std.specs.Prelude.{◌≡◌, ℕ, ◌++◌, Option, string_bytes, IsSome, Some, IfOk, OnOk, OnErr};
-ghost use Rattle.zb_wire.specs.Reply.{answer_of, line_of, fault_name, units_of, IsSpoken};
+ghost use Rattle.zb_wire.specs.Reply.{message_in, answer_of, line_of, fault_name, units_of, IsSpoken};
 
 use crate::LineFault;
 use std::alloc::{AllocError, Global};
-use zb_model::{Batch, Command, Event, Events, Key, Outcome};
+use zb_model::{Batch, Command, Event, Key, Outcome};
 
 /// So many bytes are room for the longest line of a reply.
 const LINE_ROOM: usize = 96;
@@ -24,12 +24,26 @@ pub fn reply_of(batch: &Batch) -> Result<Reply, AllocError>
     ensures { IfOk result (λ reply. answer_of batch.now ≡ Some reply) }
 {
     match (&batch.command, &batch.outcome) {
-        (Command::MessagePublish(_), Outcome::Accepted(events)) => match events.as_slice() {
-            [Event::MessagePublished(published), ..] => Ok(Reply::Publish(published.key)),
-            [] => unreachable!(),
-        },
-        (Command::MessagePublish(_), Outcome::Rejected(_)) => unreachable!(),
+        (Command::MessagePublish(_), Outcome::Accepted(events)) => {
+            match first_message(events.as_slice()) {
+                Some(key) => Ok(Reply::Publish(key)),
+                None => unreachable!(),
+            }
+        }
+        _ => unreachable!(),
     }
+}
+
+/// The key of the first message that the events publish.
+fn first_message(events: &[Event]) -> Option<Key>
+    ensures { result ≡ message_in events.now }
+{
+    for event in events {
+        if let Event::MessagePublished(published) = event {
+            return Some(published.key);
+        }
+    }
+    None
 }
 
 /// Appends the line of a reply with its newline, and `units` as its last field where it is given. After a

@@ -4,8 +4,7 @@ use crate::{
 use std::alloc::{AllocError, Global};
 use std::test::Fail;
 use zb_model::{
-    Batch, Command, Event, Events, Key, MessagePublish, MessagePublished, Moment, Outcome, Text,
-    Vars,
+    Batch, Command, Event, Key, List, MessagePublish, MessagePublished, Moment, Outcome, Text, Vars,
 };
 
 const PAID: &str = r#"{"op":"publish","name":"paid","correlationKey":"o-1","timeToLive":60000}"#;
@@ -67,6 +66,7 @@ fn reads_publish_lines(rt: HostRuntime) -> Result<(), Fail> {
     assert_eq!(rt; (LONGEST_LINE, longest_shown()), (262_144, 262_145));
     match Request::Publish(wide).into_command() {
         Command::MessagePublish(message) => assert_eq!(rt; message.name.as_str(), "paid"),
+        _ => assert!(rt; false, "a publish request asks for a publish"),
     }
     Ok(())
 }
@@ -166,7 +166,8 @@ fn writes_replies(rt: HostRuntime) -> Result<(), Fail> {
 #[tactic(auto, unfolding(crate::specs::Reply::answer_of))]
 fn answers_a_publish_request(rt: HostRuntime) -> Result<(), Fail> {
     let alloc = rt.alloc();
-    let mut events = Events::empty(alloc);
+    let mut events = List::empty(alloc);
+    events.push(Event::MessageExpired(Key::new(7)))?;
     events.push(Event::MessagePublished(MessagePublished {
         key: Key::new(2_251_799_813_685_249),
         name: Text::of(alloc, "paid")?,

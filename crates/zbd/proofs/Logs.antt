@@ -1,13 +1,12 @@
 -- The length of a log, batch by batch.
-use Rattle.std.proofs.Common.{◌≡◌, ℕ, suc, ◌+◌, ◌-◌, ◌^◌, ◌<◌, ◌≤◌, min, List, [], ◌∷◌, ◌++◌, length, map, refl, sym, ap, ◌∙◌, subst, arith, length-append}
+use Rattle.std.proofs.Common.{◌≡◌, ℕ, suc, ◌+◌, ◌≤◌, List, [], ◌∷◌, ◌++◌, length, refl, sym, ap, ◌∙◌, arith, length-append}
 use Rattle.std.proofs.lemmas.List.{map-append}
 use Rattle.std.proofs.lemmas.Grind.{flat_map-append}
 use Rattle.std.proofs.lemmas.List.FromFn.{length-range_with_len}
 use Rattle.std.specs.Int.{w64, to_be_bytes}
 use Rattle.std.specs.List.{range_with_len}
 use Rattle.zb_model.specs.declared.record.Batch.{Batch}
-use Rattle.zb_codec.specs.Record.{bytes_of}
-use Rattle.zb_rules.specs.View.{events_of, greatest_counter, last_moment}
+use Rattle.zb_model.specs.Record.{bytes_of}
 use Rattle.zb_rules.specs.StepLaws.{are_steps_none, are_steps_more, last_moment_more}
 use Rattle.zb_store.specs.Log.{open_frame, framed, front, at_rest}
 use Rattle.zbd.specs.Log.{bodies, length_of, log_limit}

@@ -1,5 +1,5 @@
 -- How a run begins, or ends at once.
-use Rattle.std.proofs.Common.{◌≡◌, ℕ, ◌+◌, ◌<◌, ◌≤◌, List, [], ◌∷◌, ◌++◌, length, IsTrue, Err, IsErrOf, refl, arith}
+use Rattle.std.proofs.Common.{◌≡◌, ℕ, ◌<◌, ◌≤◌, List, [], ◌∷◌, length, IsTrue, Err, IsErrOf, refl, arith}
 use Rattle.zb_disk.specs.Cause.{Rose}
 use Rattle.zb_disk.specs.Disk.{DiskView}
 use Rattle.zb_lines.specs.Taken.{takes_nothing}

@@ -1,24 +1,21 @@
 -- How a run ends.
-use Rattle.std.proofs.Common.{◌≡◌, ◌⊎◌, ℕ, zero, suc, ◌+◌, ◌-◌, ◌<◌, ◌≤◌, ◌^◌, min, List, [], ◌∷◌, ◌++◌, length, get_or, take, Bool, true, false, IsTrue, Option, Some, None, refl, sym, ap, ◌∙◌, subst, inl, inr, ⊎_elim, arith, length-append, IfSome, IsSome}
-use Rattle.std.proofs.lemmas.Bool.{false≢true}
+use Rattle.std.proofs.Common.{◌≡◌, ◌⊎◌, ℕ, zero, suc, ◌+◌, ◌-◌, ◌<◌, ◌≤◌, ◌^◌, min, List, [], ◌∷◌, ◌++◌, length, Bool, IsTrue, Option, Some, refl, sym, subst, inl, inr, arith, IsSome}
 use Rattle.std.proofs.lemmas.List.{append-nil}
 use Rattle.std.proofs.lemmas.List.Sorted.{IsPermutation-refl}
 use Rattle.std.proofs.lemmas.List.FromFn.{get_or-range_with_len, length-range_with_len}
-use Rattle.std.specs.List.{AllZip, range_with_len, slice_get, slice_index, flat_map}
+use Rattle.std.specs.List.{range_with_len, slice_get}
 use Rattle.std.specs.List.Sorted.{IsPermutation, IsStrictlyIncreasing}
 use Rattle.zb_disk.specs.Cause.{Rose}
-use Rattle.zb_disk.specs.Disk.{DiskView, Only}
 use Rattle.zb_model.specs.declared.record.Batch.{Batch}
-use Rattle.zb_codec.specs.Record.{bytes_of}
-use Rattle.zb_lines.specs.Line.{IsOneLine}
+use Rattle.zb_model.specs.Record.{bytes_of}
 use Rattle.zb_rules.specs.Step.{IsStep}
 use Rattle.zb_store.specs.Log.{front, at_rest, Begins}
-use Rattle.zbd.specs.Ends.{Told, SessionEnds, LogEnds}
-use Rattle.zbd.specs.Ledger.{IsAtRest, IsInFront, IsLedger, IsNextOf, Refuses}
-use Rattle.zbd.specs.Log.{IsLog, IsDiskHurt, bodies, length_of, log_limit}
-use Rattle.zbd.specs.Served.{Serves, MayEnd, IsNext, IsStamped}
-use Rattle.zbd.specs.Serving.{Start, Now, IsServing, IsStored, IsAnswered, IsReplied, IsUnsent, IsUnanswered, IsLineEnd, IsSinkCause, IsOver, Asks, session_ends, log_ends}
-use Rattle.zbd.specs.Session.{SessionRun, IsSession, IsSent, Answer, AreAnswers, batches_of, replies_of}
+use Rattle.zbd.specs.Ends.{Told, LogEnds}
+use Rattle.zbd.specs.Ledger.{IsInFront, IsLedger}
+use Rattle.zbd.specs.Log.{IsDiskHurt, bodies, length_of, log_limit}
+use Rattle.zbd.specs.Served.{MayEnd}
+use Rattle.zbd.specs.Serving.{Start, Now, IsStored, IsOver, Asks, session_ends, log_ends}
+use Rattle.zbd.specs.Session.{SessionRun, IsSent, Answer, AreAnswers, batches_of, replies_of}
 use Rattle.zbd.specs.declared.run.Cause.{Cause}
 use Rattle.zbd.specs.declared.run.Cause.TheVariants as causes
 use Rattle.zbd.proofs.Streams.{IsStream}

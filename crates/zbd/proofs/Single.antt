@@ -1,6 +1,5 @@
 -- A run of one session and one volume, as a run of lists of them.
-use Rattle.std.proofs.Common.{◌≡◌, ◌⊎◌, ℕ, zero, suc, ◌+◌, ◌<◌, List, [], ◌∷◌, length, get_or, IsTrue, Some, None, refl, sym, ap, ◌∙◌, subst, arith}
-use Rattle.std.specs.List.{slice_get}
+use Rattle.std.proofs.Common.{◌≡◌, ℕ, zero, suc, ◌<◌, List, [], ◌∷◌, length, get_or, sym, ap, subst, arith}
 use Rattle.std.proofs.Math.ListN.{set}
 use Rattle.zb_disk.specs.Disk.{DiskView}
 use Rattle.zb_outside.specs.Stream.{SourceView, SinkView}

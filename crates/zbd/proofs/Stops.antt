@@ -1,5 +1,5 @@
 -- How a turn of a session ends the run.
-use Rattle.std.proofs.Common.{◌≡◌, ◌≢◌, ◌⊎◌, ℕ, suc, ◌+◌, ◌<◌, ◌≤◌, List, [], ◌∷◌, ◌++◌, length, take, Bool, true, false, IsTrue, Option, Some, None, Ok, Err, IsErrOf, refl, sym, ap, ◌∙◌, subst, inl, inr, ⊎_elim, append_assoc, arith}
+use Rattle.std.proofs.Common.{◌≡◌, ◌≢◌, ℕ, ◌+◌, ◌<◌, ◌≤◌, List, [], ◌∷◌, ◌++◌, length, take, Bool, true, false, IsTrue, Some, None, Ok, Err, IsErrOf, refl, sym, ap, ◌∙◌, subst, inl, inr, ⊎_elim, append_assoc, arith}
 use Rattle.std.proofs.Math.Seq.{take-append-add}
 use Rattle.zb_disk.specs.Cause.{Rose}
 use Rattle.zb_disk.specs.Disk.{DiskView}
@@ -13,13 +13,13 @@ use Rattle.zb_wire.specs.Request.{longest_line}
 use Rattle.zb_outside.specs.declared.trouble.Trouble.{Trouble}
 use Rattle.zb_outside.specs.declared.trouble.Trouble.TheVariants as troubles
 use Rattle.zbd.specs.Ends.{Told}
-use Rattle.zbd.specs.Ledger.{IsLedger, IsNextOf, Refuses}
-use Rattle.zbd.specs.Serving.{Start, Now, now_of, IsServing, IsStored, IsReplied, IsUnsent, IsUnanswered, IsLineEnd, IsOver, Asks, GoesOn, goes_on, source_cause_of}
+use Rattle.zbd.specs.Ledger.{IsLedger}
+use Rattle.zbd.specs.Serving.{Start, Now, now_of, IsServing, IsStored, IsReplied, IsUnsent, IsUnanswered, IsLineEnd, IsOver, GoesOn, goes_on, source_cause_of}
 use Rattle.zbd.specs.Session.{Answer, IsAnswer, IsSent, AreAnswers, batches_of, replies_of}
 use Rattle.zbd.specs.declared.run.Cause.{Cause}
 use Rattle.zbd.specs.declared.run.Cause.TheVariants as causes
 use Rattle.zbd.proofs.Streams.{IsStream, IsBehind, length-lines, splits, stream_cut, stream_within, stream_end, stream_last, stream_line, stream_on, are_answers_more, batches_of_more, replies_of_more}
-use Rattle.zbd.proofs.Over.{IsHeld, IsNamed, IsLeft, over}
+use Rattle.zbd.proofs.Over.{IsNamed, IsLeft, over}
 use Rattle.zbd.proofs.Turns.{behind, replied_whole, line_end_whole, turn_on, named_memory, named_done, named_source, named_sink, short, refused_held, refused_named, rose_since}
 
 none_left : (log : List Batch) (unserved : List (List ℕ)) (batch : Batch) → None ≡ Some batch → IsLeft log unserved batch

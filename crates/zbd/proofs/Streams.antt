@@ -1,12 +1,11 @@
 -- The lines of a stream, served and to come.
-use Rattle.std.proofs.Common.{◌≡◌, ◌≢◌, ℕ, zero, suc, ◌+◌, ◌<◌, ◌≤◌, ◌^◌, List, [], ◌∷◌, ◌++◌, length, take, Bool, true, false, IsTrue, eqb, refl, sym, ap, ◌∙◌, subst, append_assoc, arith, length-append}
+use Rattle.std.proofs.Common.{◌≡◌, ◌≢◌, ℕ, suc, ◌+◌, ◌<◌, ◌≤◌, List, [], ◌∷◌, ◌++◌, length, Bool, true, false, IsTrue, eqb, refl, sym, ap, ◌∙◌, subst, append_assoc, arith, length-append}
 use Rattle.std.proofs.lemmas.Bool.{eqb-true, eqb-false, false≢true}
 use Rattle.std.proofs.lemmas.List.{append-nil}
 use Rattle.std.proofs.lemmas.Grind.{flat_map-append}
 use Rattle.std.specs.List.{flat_map, AllByRecursion}
 use Rattle.zb_outside.specs.Stream.{SourceView}
-use Rattle.zb_model.specs.declared.record.Batch.{Batch}
-use Rattle.zb_lines.specs.Taken.{Takes, takes_on}
+use Rattle.zb_lines.specs.Taken.{Takes}
 use Rattle.zb_lines.specs.Line.{newline, IsOneLine, ended, AreLines}
 use Rattle.zbd.specs.Session.{Answer, IsAnswer, AreAnswers, batches_of, replies_of, last_line}
 

@@ -1,9 +1,8 @@
 -- One turn of a session: a line is read, answered and replied to, or the run ends.
-use Rattle.std.proofs.Common.{◌≡◌, ◌⊎◌, ℕ, zero, suc, ◌+◌, ◌-◌, ◌*◌, ◌<◌, ◌≤◌, ◌^◌, List, [], ◌∷◌, ◌++◌, length, take, Bool, true, false, IsTrue, IsSome, Option, Some, None, Result, Ok, Err, refl, sym, ap, ◌∙◌, subst, inl, inr, ⊎_elim, append_assoc, arith, length-append}
-use Rattle.std.specs.List.{flat_map, AllByRecursion}
+use Rattle.std.proofs.Common.{◌≡◌, ◌⊎◌, ℕ, ◌+◌, ◌<◌, ◌≤◌, List, [], ◌∷◌, ◌++◌, length, take, Bool, true, IsTrue, IsSome, Option, Some, None, Result, refl, sym, ap, ◌∙◌, subst, inl, inr, ⊎_elim, append_assoc, arith, length-append}
+use Rattle.std.specs.List.{flat_map}
 use Rattle.std.proofs.lemmas.Grind.{flat_map-append}
 use Rattle.std.proofs.lemmas.List.{append-nil}
-use Rattle.std.proofs.Math.Seq.{take-append-add}
 use Rattle.zb_disk.specs.Cause.{Rose}
 use Rattle.zb_disk.specs.Disk.{DiskView}
 use Rattle.zb_outside.specs.Stream.{SourceView, SinkView}
@@ -15,13 +14,13 @@ use Rattle.zb_wire.specs.RequestLaws.{request_of-take}
 use Rattle.zb_wire.specs.declared.request.Request.{Request}
 use Rattle.zb_wire.specs.declared.request.LineFault.{LineFault}
 use Rattle.zbd.specs.Ends.{Told}
-use Rattle.zbd.specs.Ledger.{IsAtRest, IsInFront, IsLedger, IsNextOf, Refuses}
-use Rattle.zbd.specs.Serving.{Start, Now, now_of, IsServing, IsStored, IsAnswered, IsReplied, IsUnsent, IsUnanswered, IsLineEnd, IsSinkCause, IsOver, Asks}
-use Rattle.zbd.specs.Session.{Answer, IsAnswer, IsAnswerTo, IsSent, AreAnswers, batches_of, replies_of}
+use Rattle.zbd.specs.Ledger.{IsLedger, Refuses}
+use Rattle.zbd.specs.Serving.{Start, Now, now_of, IsServing, IsStored, IsAnswered, IsReplied, IsLineEnd, IsSinkCause, Asks}
+use Rattle.zbd.specs.Session.{Answer, IsAnswer, IsAnswerTo, batches_of, replies_of}
 use Rattle.zbd.specs.declared.run.Cause.{Cause}
 use Rattle.zbd.specs.declared.run.Cause.TheVariants as causes
-use Rattle.zbd.proofs.Streams.{IsStream, IsBehind, stream_on, AllByRecursion-append, are_answers_more, batches_of_more, replies_of_more}
-use Rattle.zbd.proofs.Over.{IsHeld, IsNamed, IsLeft, over}
+use Rattle.zbd.proofs.Streams.{IsBehind, AllByRecursion-append, are_answers_more, batches_of_more, replies_of_more}
+use Rattle.zbd.proofs.Over.{IsHeld, IsNamed}
 
 -- a count that rose later rose
 pub rose_since : (start old new : ℕ) → start ≤ old → Rose old new → Rose start new

@@ -1,10 +1,12 @@
 -- What the ledger of an open log knows of it.
-use Rattle.std.specs.Prelude.{◌≡◌, ◌⊎◌, ◌<◌, ◌≤◌, ◌+◌, ◌-◌, ◌^◌, min, ℕ, List, [], ◌∷◌, ◌++◌, length, Bool, IsTrue, Option, Some, None}
+use Rattle.std.specs.Prelude.{◌≡◌, ◌⊎◌, ◌<◌, ◌≤◌, ◌+◌, ◌-◌, ◌^◌, min, ℕ, List, [], ◌∷◌, ◌++◌, length, Bool, IsTrue, Some}
 use Rattle.std.specs.List.{AllZip, range_with_len}
 use Rattle.zb_disk.specs.Disk.{DiskView, Only}
 use Rattle.zb_disk.specs.Cause.{Rose}
 use Rattle.zb_model.specs.declared.record.Batch.{Batch}
-use Rattle.zb_codec.specs.Record.{bytes_of}
+use Rattle.zb_model.specs.declared.stop.Stop.{Stop}
+use Rattle.zb_model.specs.declared.stop.Stop.TheVariants as stops
+use Rattle.zb_model.specs.Record.{bytes_of}
 use Rattle.zb_store.specs.Log.{front, at_rest, Begins}
 use Rattle.zb_rules.specs.View.{events_of, greatest_counter, last_moment}
 use Rattle.zb_rules.specs.Step.{AreSteps, IsStep}
@@ -38,6 +40,12 @@ pub record IsNextOf (log : List Batch) (batch : Batch) : Type 0 where
   pub step : IsStep 1 log batch
   pub stamped : IsStamped (length log) batch
   pub counter : greatest_counter 1 (events_of (log ++ batch ∷ [])) ≡ length log + 1
+
+-- the cause of a run that a stop of partition 1 ended while this batch was to be added
+abbrev pub cause_of : Batch → Stop → Cause
+cause_of batch stops.Memory = causes.Memory
+cause_of batch stops.DiskFault = causes.DiskFault 1 (Some batch)
+cause_of batch (stops.LogFull length_told frame limit) = causes.LogFull 1 length_told frame limit
 
 -- why the next batch was not added to the log, and what the disk has then
 abbrev pub Refuses : (tells tells_images takes_memory : Bool) → DiskView → DiskView → (List ℕ → Type 0) → List Batch → Batch → Cause → Type 0

@@ -2,7 +2,7 @@
 use Rattle.std.specs.Prelude.{◌≡◌, ◌⊎◌, ◌<◌, ◌≤◌, ◌+◌, ◌-◌, ◌^◌, min, ℕ, List, length, map, IsTrue, IsSome, Option, Some}
 use Rattle.zb_disk.specs.Cause.{Rose}
 use Rattle.zb_model.specs.declared.record.Batch.{Batch}
-use Rattle.zb_codec.specs.Record.{bytes_of}
+use Rattle.zb_model.specs.Record.{bytes_of}
 use Rattle.zb_store.specs.Log.{front, at_rest, Begins}
 use Rattle.zb_rules.specs.Step.{AreSteps, IsStep}
 use Rattle.zbd.specs.Ends.{LogEnds, Told}

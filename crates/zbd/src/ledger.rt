@@ -1,14 +1,14 @@
 ghost use Rattle.std.specs.Prelude.{◌≡◌, ◌<◌, ◌≤◌, ◌+◌, ◌-◌, ◌^◌, List, [], ◌∷◌, ◌++◌, length, IfErr, IfOk, OnOk, vec_len, vec_capacity};
 ghost use Rattle.zb_model.specs.declared.record.Batch.{Batch};
-ghost use Rattle.zb_codec.specs.Record.{bytes_of};
+ghost use Rattle.zb_model.specs.Record.{bytes_of};
 ghost use Rattle.zb_store.specs.Log.{framed};
 ghost use Rattle.zbd.specs.Log.{log_limit};
-ghost use Rattle.zbd.specs.Ledger.{IsAtRest, IsLedger, IsNextOf, Refuses};
+ghost use Rattle.zbd.specs.Ledger.{IsAtRest, IsLedger, IsNextOf, Refuses, cause_of};
 
 use crate::run::Cause;
 use std::alloc::{AllocError, Global};
 use zb_disk::{Disk, Trouble};
-use zb_model::Batch;
+use zb_model::{Batch, Stop};
 
 /// The most bytes that a log has.
 pub const LOG_LIMIT: u64 = 1_073_741_824;
@@ -75,19 +75,45 @@ impl Ledger {
         ensures kept { (log : List Batch) → IsLedger self.old.length self.old.stamps.items log
             → IfErr result (λ cause. IsLedger self.new.length self.new.stamps.items log) }
     {
-        let size = zb_codec::size(&batch);
+        match self.append(disk, &batch) {
+            Ok(()) => Ok(()),
+            Err(stop) => Err(cause_of(stop, batch)),
+        }
+    }
+
+    // Adds the next batch to the log.
+    fn append<D: Disk>(&mut self, disk: &mut D, batch: &Batch) -> Result<(), Stop>
+        requires { (log : List Batch) × IsLedger self.old.length self.old.stamps.items log
+            × IsAtRest D.tells D.tells_images (D.view disk.old) (D.images disk.old) log }
+        ensures later { (D.view disk.old).faults ≤ (D.view disk.new).faults }
+
+        // For every log that the ledger may be of.
+        ensures ledger { (log : List Batch) → IsLedger self.old.length self.old.stamps.items log
+            → IsNextOf log batch.now
+            → OnOk result (IsLedger self.new.length self.new.stamps.items (log ++ batch.now ∷ [])) }
+        ensures file { (log : List Batch) → IsLedger self.old.length self.old.stamps.items log
+            → IsAtRest D.tells D.tells_images (D.view disk.old) (D.images disk.old) log
+            → OnOk result (IsAtRest D.tells D.tells_images (D.view disk.new) (D.images disk.new)
+            (log ++ batch.now ∷ [])) }
+        ensures refused { (log : List Batch) → IsLedger self.old.length self.old.stamps.items log
+            → IsAtRest D.tells D.tells_images (D.view disk.old) (D.images disk.old) log
+            → IfErr result (λ stop. Refuses D.tells D.tells_images D.takes_memory (D.view disk.old)
+            (D.view disk.new) (D.images disk.new) log batch.now (cause_of batch.now stop)) }
+        ensures kept { (log : List Batch) → IsLedger self.old.length self.old.stamps.items log
+            → IfErr result (λ stop. IsLedger self.new.length self.new.stamps.items log) }
+    {
+        let size = zb_codec::size(batch);
         let frame = size.saturating_add(FRAME_BYTES);
         if frame > LOG_LIMIT - self.length {
-            return Err(Cause::LogFull {
-                partition: 1,
+            return Err(Stop::LogFull {
                 length: self.length,
                 frame,
                 limit: LOG_LIMIT,
             });
         }
-        match prepare(&mut self.frame, &mut self.stamps, &batch, size) {
+        match prepare(&mut self.frame, &mut self.stamps, batch, size) {
             Ok(()) => {}
-            Err(AllocError) => return Err(Cause::Memory),
+            Err(AllocError) => return Err(Stop::Memory),
         }
         match zb_store::append(disk, self.length, &self.frame) {
             Ok(()) => {
@@ -95,12 +121,32 @@ impl Ledger {
                 self.length += frame;
                 Ok(())
             }
-            Err(Trouble::Failed) => Err(Cause::DiskFault {
-                partition: 1,
-                in_writing: Some(batch),
-            }),
-            Err(Trouble::Memory) => Err(Cause::Memory),
+            Err(Trouble::Failed) => Err(Stop::DiskFault),
+            Err(Trouble::Memory) => Err(Stop::Memory),
         }
+    }
+}
+
+// Why the run ends where this stopped the one partition while the batch was to be added.
+fn cause_of(stop: Stop, batch: Batch) -> Cause
+    ensures { result ≡ cause_of batch stop }
+{
+    match stop {
+        Stop::Memory => Cause::Memory,
+        Stop::DiskFault => Cause::DiskFault {
+            partition: 1,
+            in_writing: Some(batch),
+        },
+        Stop::LogFull {
+            length,
+            frame,
+            limit,
+        } => Cause::LogFull {
+            partition: 1,
+            length,
+            frame,
+            limit,
+        },
     }
 }
 

@@ -23,7 +23,7 @@ pub struct Volume<D> {
 }
 
 /// Why a run ended. Sessions and partitions are numbered from 1.
-#[derive(Debug, Drop)]
+#[derive(Drop)]
 pub enum Cause {
     /// Every source was read to its end, and every line has its reply.
     Done,

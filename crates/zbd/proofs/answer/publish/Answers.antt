@@ -1,5 +1,5 @@
-use Rattle.std.proofs.Common.{◌≡◌, ◌+◌, Some, refl, subst}
-use Rattle.zb_model.specs.Key.{key_of}
+use Rattle.std.proofs.Common.{◌≡◌, ◌+◌, refl, subst}
+use Rattle.zb_base.specs.Key.{key_of}
 use Rattle.zb_wire.specs.Reply.{IsSpoken}
 use Rattle.zb_wire.specs.ReplyLaws.{answer_of-published}
 use Rattle.zb_wire.specs.declared.reply.Reply.TheVariants as replies

@@ -1,4 +1,4 @@
-use Rattle.std.proofs.Common.{◌≡◌, append_assoc, rules}
+use Rattle.std.proofs.Common.{append_assoc}
 use Rattle.zb_store.specs.Log.{framed, open_frame}
 use Rattle.zbd.proofs.ledger.put_frame.Goals as goal
 

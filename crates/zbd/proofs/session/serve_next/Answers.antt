@@ -1,4 +1,4 @@
-use Rattle.std.proofs.Common.{ℕ, ◌+◌, ◌<◌, ◌++◌, List, Ok, sym, subst, arith}
+use Rattle.std.proofs.Common.{ℕ, ◌++◌, List, Ok, sym, subst, arith}
 use Rattle.zb_lines.specs.Line.{Comes, IsAtEnd}
 use Rattle.zb_lines.specs.declared.reader.Next.{Next}
 use Rattle.zbd.specs.Session.{batches_of}

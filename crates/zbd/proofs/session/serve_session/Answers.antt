@@ -1,4 +1,4 @@
-use Rattle.std.proofs.Common.{◌≤◌, ◌+◌, arith}
+use Rattle.std.proofs.Common.{arith}
 use Rattle.zb_lines.specs.Taken.{takes_nothing}
 use Rattle.zbd.proofs.Stops.{stops_memory, few, goes_over}
 use Rattle.zbd.proofs.session.serve_session.Goals as goal

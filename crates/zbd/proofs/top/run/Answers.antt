@@ -1,7 +1,5 @@
-use Rattle.std.proofs.Common.{◌≡◌, ◌++◌, List, [], ◌∷◌, map, refl, ap, ◌∙◌, subst}
-use Rattle.std.specs.Vec.{vec_len}
 use Rattle.zbd.specs.Ends.{told}
-use Rattle.zbd.specs.Serving.{start_of, log_ends, now_of}
+use Rattle.zbd.specs.Serving.{start_of}
 use Rattle.zbd.proofs.Opening.{fails_to_open, serving_first}
 use Rattle.zbd.proofs.top.run.Goals as goal
 

@@ -1,4 +1,4 @@
-use Rattle.std.proofs.Common.{◌≡◌, [], ◌∷◌, length, map, ap, sym, ◌∙◌, arith, rules}
+use Rattle.std.proofs.Common.{length, map, ap, sym, ◌∙◌, arith, rules}
 use Rattle.std.proofs.lemmas.Grind.{common_steps}
 use Rattle.std.specs.String.{string_bytes}
 use Rattle.zbd.specs.Words.{IsPlanned}
