@@ -29,6 +29,7 @@ abbrev pub Comes : ℕ → Result Next Trouble → List ℕ → List ℕ → Lis
 Comes most (Ok nexts.Line) bytes left shown = (line : List ℕ) × IsOneLine line × (bytes ≡ ended line ++ left) × (shown ≡ take most line)
 Comes most (Ok nexts.Last) bytes left shown = IsOneLine bytes × (0 < length bytes) × (left ≡ []) × (shown ≡ take most bytes)
 Comes most (Ok nexts.End) bytes left shown = (bytes ≡ []) × (left ≡ [])
+Comes most (Ok nexts.Full) bytes left shown = IsOneLine bytes
 Comes most (Err troubles.Failed) bytes left shown = IsOneLine bytes
 Comes most (Err troubles.Memory) bytes left shown = Unit {0}
 
@@ -37,4 +38,5 @@ abbrev pub IsAtEnd : Result Next Trouble → Type 0
 IsAtEnd (Ok nexts.Line) = ⊥
 IsAtEnd (Ok nexts.Last) = Unit {0}
 IsAtEnd (Ok nexts.End) = Unit {0}
+IsAtEnd (Ok nexts.Full) = ⊥
 IsAtEnd (Err e) = ⊥

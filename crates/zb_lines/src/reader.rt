@@ -1,4 +1,4 @@
-ghost use Rattle.std.specs.Prelude.{◌≡◌, ◌↔◌, ◌++◌, ◌≤◌, ◌<◌, ℕ, List, [], MatchOption, IfOk, OnOk, OnErr, IsErrOf, IsTrue, length, vec_len, vec_capacity};
+ghost use Rattle.std.specs.Prelude.{◌≡◌, ◌↔◌, ◌++◌, ◌+◌, ◌≤◌, ◌<◌, ℕ, List, [], Ok, MatchOption, IfOk, OnOk, OnErr, IsErrOf, IsTrue, length, vec_len, vec_capacity, take};
 ghost use Rattle.zb_outside.specs.Cause.{Rose, HasCause};
 ghost use Rattle.zb_lines.specs.Taken.{Takes};
 ghost use Rattle.zb_lines.specs.Line.{Comes, IsAtEnd, IsOneLine};
@@ -21,6 +21,19 @@ pub enum Next {
     Last,
     /// Nothing, at the end of the stream.
     End,
+    /// More bytes are wanted than may be taken. No line is handed out.
+    Full,
+}
+
+/// What came of a wish for more bytes.
+#[derive(Clone, Copy)]
+enum Supply {
+    /// The next piece.
+    Piece,
+    /// Nothing, at the end of the source.
+    End,
+    /// Nothing, since no more may be taken. The source wasn't asked.
+    Spent,
 }
 
 /// Reads lines from a source. Contracts see the bytes that were taken and not yet handed out.
@@ -56,15 +69,20 @@ impl LineReader {
 
     /// Takes bytes from the source up to the next newline, and puts the line without it into `line`,
     /// or its first `most` bytes where it is longer. It goes through each byte once, and keeps no more
-    /// than `most` bytes. After an `Err` the reader is only dropped.
+    /// than `most` bytes. The budget is how many bytes may still be taken: it falls by those that were,
+    /// and where it is 0 the source isn't asked. After `Full` or an `Err` the reader is only dropped.
     pub fn next<S: Source>(
         &mut self,
         source: &mut S,
+        budget: &mut u64,
         most: usize,
         line: &mut Vec<u8>,
     ) -> Result<Next, Trouble>
         ensures comes { (more : List ℕ) × Takes S.tells (S.view source.old) (S.view source.new) more
+            × (budget.old ≡ budget.new + length more)
             × Comes most result (self.old ++ more) self.new line.new.items }
+        ensures full { result ≡ Ok Next.Full → budget.new ≡ 0 }
+        ensures unasked { budget.old ≡ 0 → S.view source.new ≡ S.view source.old }
         ensures at_end { IsAtEnd result → IsTrue S.tells → (S.view source.new).left ≡ [] }
         ensures later { (S.view source.old).faults ≤ (S.view source.new).faults }
         // A line that has room for `most` bytes keeps it, and then the reader wants no memory of its own.
@@ -80,11 +98,12 @@ impl LineReader {
                 Ok(true) => return Ok(Next::Line),
                 Ok(false) => {}
             }
-            match self.refill(source) {
+            match self.refill(source, budget) {
                 Err(trouble) => return Err(trouble),
-                Ok(true) => is_begun = true,
-                Ok(false) if is_begun => return Ok(Next::Last),
-                Ok(false) => return Ok(Next::End),
+                Ok(Supply::Piece) => is_begun = true,
+                Ok(Supply::End) if is_begun => return Ok(Next::Last),
+                Ok(Supply::End) => return Ok(Next::End),
+                Ok(Supply::Spent) => return Ok(Next::Full),
             }
         }
     }
@@ -116,19 +135,50 @@ impl LineReader {
         }
     }
 
-    /// Takes the next piece from the source, and answers whether there was one.
-    fn refill<S: Source>(&mut self, source: &mut S) -> Result<bool, Trouble>
+    /// Takes the next piece from the source, as far as the budget goes.
+    fn refill<S: Source>(&mut self, source: &mut S, budget: &mut u64) -> Result<Supply, Trouble>
         requires { self.old ≡ [] }
-        ensures refills { Refills S.tells result (S.view source.old) (S.view source.new) self.new }
+        ensures refills { Refills S.tells result (S.view source.old) (S.view source.new) budget.old budget.new self.new }
+        ensures unasked { budget.old ≡ 0 → S.view source.new ≡ S.view source.old }
         ensures cause { HasCause S.takes_memory (S.view source.old).faults (S.view source.new).faults result }
     {
-        match source.read(&mut self.piece) {
+        if *budget == 0 {
+            return Ok(Supply::Spent);
+        }
+        match read_within(source, budget, &mut self.piece) {
             Err(trouble) => Err(trouble),
+            Ok(0) => Ok(Supply::End),
             Ok(count) => {
                 self.at = 0;
                 self.end = count;
-                Ok(count > 0)
+                Ok(Supply::Piece)
             }
+        }
+    }
+}
+
+/// Reads into the front of the piece, as far as the budget goes, and takes what was read off the budget.
+fn read_within<S: Source>(
+    source: &mut S,
+    budget: &mut u64,
+    piece: &mut [u8],
+) -> Result<usize, Trouble>
+    requires some { 0 < budget.old }
+    requires room { 0 < length piece.old }
+    ensures fits { IfOk result (λ count. count ≤ length piece.new) }
+    ensures taken { IfOk result (λ count. Takes S.tells (S.view source.old) (S.view source.new) (take count piece.new)) }
+    ensures spent { IfOk result (λ count. budget.old ≡ budget.new + count) }
+    ensures end { IsTrue S.tells → IfOk result (λ count. count ≡ 0 → (S.view source.new).left ≡ []) }
+    ensures refused { OnErr result (Takes S.tells (S.view source.old) (S.view source.new) []) }
+    ensures unspent { OnErr result (budget.new ≡ budget.old) }
+    ensures cause { HasCause S.takes_memory (S.view source.old).faults (S.view source.new).faults result }
+{
+    let most = piece.len().min(*budget as usize);
+    match source.read(&mut piece[..most]) {
+        Err(trouble) => Err(trouble),
+        Ok(count) => {
+            *budget -= count as u64;
+            Ok(count)
         }
     }
 }

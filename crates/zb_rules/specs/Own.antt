@@ -1,5 +1,5 @@
 -- What each command makes of the events before it.
-use Rattle.std.specs.Prelude.{ℕ, ◌+◌, min, List, [], ◌∷◌, Option, Some, None}
+use Rattle.std.specs.Prelude.{ℕ, ◌+◌, ◌==◌, min, if◌then◌else◌, List, [], ◌∷◌, Option, Some, None}
 use Rattle.zb_base.specs.Moment as moments
 use Rattle.zb_exchange_records.specs.declared.message.MessagePublish.{MessagePublish}
 use Rattle.zb_exchange_records.specs.declared.message.MessagePublished.{MessagePublished}
@@ -20,11 +20,15 @@ message_under key moment c = record {
   variables = c.variables;
 }
 
--- the message is published under the next key
-abbrev pub published : ℕ → List Event → ℕ → MessagePublish → List Event
-published p before moment c = events.MessagePublished (message_under (next_key p before) moment c) ∷ []
+-- a message without time to live expires at once
+abbrev pub expiry_of : ℕ → MessagePublish → List Event
+expiry_of key c = if c.time_to_live == 0 then events.MessageExpired key ∷ [] else []
+
+-- the message is published under this key
+abbrev pub published_under : ℕ → ℕ → MessagePublish → List Event
+published_under key moment c = events.MessagePublished (message_under key moment c) ∷ expiry_of key c
 
 -- the events that a command makes of those before it, at a moment of partition p; None of a command that isn't run
 abbrev pub own_events : ℕ → List Event → ℕ → Command → Option (List Event)
-own_events p before moment (commands.MessagePublish c) = Some (published p before moment c)
+own_events p before moment (commands.MessagePublish c) = Some (published_under (next_key p before) moment c)
 own_events p before moment _ = None

@@ -1,5 +1,5 @@
 -- Laws of a log as it grows by a batch.
-use Rattle.std.proofs.Common.{◌≡◌, ℕ, max, List, [], ◌∷◌, ◌++◌, length, slice_get, Some, refl, inl, inr, ap, sym, ◌∙◌, arith, get_or, subst, append-nil}
+use Rattle.std.proofs.Common.{◌≡◌, ℕ, max, List, [], ◌∷◌, ◌++◌, length, slice_get, Some, refl, inl, inr, ap, sym, ◌∙◌, arith, get_or, subst, append-nil, append_assoc, ◌&&◌}
 use Rattle.std.proofs.lemmas.Grind.{flat_map-append}
 use Rattle.std.proofs.lemmas.List.{take-append-le, get_or_append_left, length-append}
 use Rattle.std.proofs.lemmas.Option.{slice_get_within, get_or_from_slice_get, slice_get-get_or}
@@ -8,7 +8,8 @@ use Rattle.std.proofs.Math.Seq.{take-append_seam, get_or-append_seam}
 use Rattle.zb_model.specs.declared.record.Event.{Event}
 use Rattle.zb_model.specs.declared.record.Batch.{Batch}
 use Rattle.zb_rules.specs.View.{events_in, events_of, keys_in, greatest_among, greatest_counter, last_moment}
-use Rattle.zb_rules.specs.Step.{IsStep, AreSteps}
+use Rattle.zb_rules.specs.Step.{IsStep, AreStepsOn}
+use Rattle.zb_rules.specs.Applies.{applies, all_apply}
 
 -- the events of a log that grew are those before, and then the batch's
 pub events_of_more : (log : List Batch) (batch : Batch) → events_of (log ++ batch ∷ []) ≡ events_of log ++ events_in batch.outcome
@@ -32,22 +33,32 @@ last_moment_more (first ∷ []) batch = refl
 last_moment_more (first ∷ next ∷ log) batch = last_moment_more (next ∷ log) batch
 
 -- no batches are steps
-pub are_steps_none : (p : ℕ) → AreSteps p []
-are_steps_none p k batch h = cc
+pub are_steps_none : (p : ℕ) (log : List Batch) → AreStepsOn p log []
+are_steps_none p log k batch h = cc
 
 -- steps, and a step on them
-pub are_steps_more : (p : ℕ) (log : List Batch) (batch : Batch) → AreSteps p log → IsStep p log batch → AreSteps p (log ++ batch ∷ [])
-are_steps_more p log batch before step k b h =
-    let within = slice_get_within (log ++ batch ∷ []) k b h in
-    let here : get_or (log ++ batch ∷ []) k b ≡ b = get_or_from_slice_get (log ++ batch ∷ []) k b b h in
+pub are_steps_more : (p : ℕ) (log more : List Batch) (batch : Batch) → AreStepsOn p log more → IsStep p (log ++ more) batch → AreStepsOn p log (more ++ batch ∷ [])
+are_steps_more p log more batch before step k b h =
+    let within = slice_get_within (more ++ batch ∷ []) k b h in
+    let here : get_or (more ++ batch ∷ []) k b ≡ b = get_or_from_slice_get (more ++ batch ∷ []) k b b h in
     let Is : List Batch → Batch → Type 0 = λ l x. IsStep p l x in
-    elim (cases_lt k (length log)) [
+    elim (cases_lt k (length more)) [
       | inl lt ↦
-          let at : slice_get log k ≡ Some b = slice_get-get_or log k b lt ∙ ap Some (sym (get_or_append_left log (batch ∷ []) b k lt) ∙ here) in
-          rw (take-append-le k log (batch ∷ []) (omega arith)) (before k b at)
+          let at : slice_get more k ≡ Some b = slice_get-get_or more k b lt ∙ ap Some (sym (get_or_append_left more (batch ∷ []) b k lt) ∙ here) in
+          rw (take-append-le k more (batch ∷ []) (omega arith)) (before k b at)
       | inr ge ↦
-          let end : k ≡ length log = omega (arith, length-append log (batch ∷ []), within) in
-          let last : get_or (log ++ batch ∷ []) (length log) b ≡ batch = get_or-append_seam log batch [] b in
+          let end : k ≡ length more = omega (arith, length-append more (batch ∷ []), within) in
+          let last : get_or (more ++ batch ∷ []) (length more) b ≡ batch = get_or-append_seam more batch [] b in
           let same : batch ≡ b = cc in
-          rw (end, take-append_seam log (batch ∷ [])) (subst (Is log) same step)
+          rw (end, take-append_seam more (batch ∷ [])) (subst (Is (log ++ more)) same step)
     ]
+
+-- each of some events applies, and one behind them
+pub all_apply_more : (p : ℕ) (before es : List Event) (e : Event) → all_apply p before (es ++ e ∷ []) ≡ (all_apply p before es && applies p (before ++ es) e)
+all_apply_more p before [] e = rw (append-nil before) (grind arith)
+all_apply_more p before (x ∷ es) e = rw (all_apply_more p (before ++ x ∷ []) es e, append_assoc before (x ∷ []) es) (grind arith)
+
+-- each of some events applies, and each of those behind them
+pub all_apply_on : (p : ℕ) (before es more : List Event) → all_apply p before (es ++ more) ≡ (all_apply p before es && all_apply p (before ++ es) more)
+all_apply_on p before [] more = rw (append-nil before) refl
+all_apply_on p before (x ∷ es) more = rw (all_apply_on p (before ++ x ∷ []) es more, append_assoc before (x ∷ []) es) (grind arith)

@@ -1,6 +1,6 @@
-//! The rules of a partition: what a command makes of a log.
+//! The rules of a partition: what a log holds, what a command makes of it, and which events it may have.
 #![tactic(auto)]
 
-mod message;
+mod laws;
 
-pub use message::publish;
+pub use laws::buffered_grows;

@@ -1,1 +1,7 @@
-mod Gate
+mod Leading
+mod Numbers
+mod Bodies
+mod ReadingCalls
+mod Opening
+mod Appending
+mod Frames

@@ -1,2 +1,8 @@
 pub mod Log
-pub mod Fault
+pub mod Stands
+pub mod Step
+pub mod Cause
+pub mod Calls
+pub mod Window
+pub mod Gates
+pub mod GateLog

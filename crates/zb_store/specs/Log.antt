@@ -1,25 +1,25 @@
--- The file of a log: a gate byte, 0 where it is closed, before each frame and at the end. A frame is the
--- length of its body in eight bytes, big-endian, and the body.
-use Rattle.std.specs.Prelude.{◌≡◌, ℕ, List, [], ◌∷◌, ◌++◌, length}
-use Rattle.std.specs.List.{flat_map}
+-- What is written for a frame, and how long a log is.
+use Rattle.std.specs.Prelude.{◌≡◌, ℕ, ◌+◌, List, [], ◌∷◌, ◌++◌, length}
 use Rattle.std.specs.Int.{w64, to_be_bytes}
+use Rattle.std.proofs.Common.{arith}
+use Rattle.std.proofs.lemmas.List.{length_push}
 
--- an open gate and a frame
-unfoldable pub open_frame : List ℕ → List ℕ
-open_frame body = 1 ∷ (to_be_bytes w64 (length body) ++ body)
-
--- what is written over the closed gate at the end: an open gate, the frame and a closed gate
+-- what is written behind the closed gate at the end: the length of a body in eight bytes, highest first, the body
+-- and a closed gate
 unfoldable pub framed : List ℕ → List ℕ
-framed body = open_frame body ++ 0 ∷ []
+framed body = to_be_bytes w64 (length body) ++ (body ++ 0 ∷ [])
 
--- the frames of these bodies, each behind an open gate
-unfoldable pub front : List (List ℕ) → List ℕ
-front bodies = flat_map open_frame bodies
+-- how long a log with these bodies is, its last gate included
+abbrev pub extent : List (List ℕ) → ℕ
+extent [] = 1
+extent (body ∷ bodies) = 9 + length body + extent bodies
 
--- the whole file of a log at rest: its frames and a closed gate
-unfoldable pub at_rest : List (List ℕ) → List ℕ
-at_rest bodies = front bodies ++ 0 ∷ []
+-- one more
+pub extent_more : (bodies : List (List ℕ)) (body : List ℕ) → extent (bodies ++ body ∷ []) ≡ extent bodies + (9 + length body)
+extent_more [] body = omega arith
+extent_more (next ∷ bodies) body = omega (arith, extent_more bodies body)
 
--- the file begins with these bytes
-abbrev pub Begins : List ℕ → List ℕ → Type 0
-Begins file bytes = (rest : List ℕ) × (file ≡ bytes ++ rest)
+-- what is written for a frame is as long as the log gets longer
+pub framed_length : (body : List ℕ) → length (framed body) ≡ 9 + length body
+unfolding framed
+framed_length body = omega (arith, length_push body 0)

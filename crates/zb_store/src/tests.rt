@@ -1,36 +1,304 @@
+ghost use Rattle.std.specs.Prelude.{◌<◌, ◌^◌, length, IsTrue};
+ghost use Rattle.zb_store.specs.GateLog.{is_whole};
+
 use super::*;
+use std::alloc::Global;
+use std::process::Abort;
 use std::test::Fail;
 use zb_disk::MemDisk;
 
 // An open gate, the length of the body in eight bytes, the body 07 08, and a closed gate.
 const FRAME: [u8; 12] = [1, 0, 0, 0, 0, 0, 0, 0, 2, 7, 8, 0];
 
-#[test]
-fn a_frame_is_appended(rt: HostRuntime) -> Result<(), Fail> {
-    let alloc = rt.alloc();
-    let mut disk = MemDisk::new(alloc, Vec::new(alloc), Vec::new(alloc))?;
-    open(&mut disk)?;
-    assert_eq!(rt; disk.bytes(), [0].as_slice());
-    append(&mut disk, 1, &FRAME)?;
-    assert_eq!(rt; disk.bytes(), FRAME.as_slice());
+// The frames of the bodies 07 08 and 09, and a closed gate.
+const TWO_FRAMES: [u8; 22] = [
+    1, 0, 0, 0, 0, 0, 0, 0, 2, 7, 8, 1, 0, 0, 0, 0, 0, 0, 0, 1, 9, 0,
+];
+
+/// The log on a disk whose calls succeed.
+fn opened(alloc: Global, disk: MemDisk) -> Result<GateLog<MemDisk>, StoreFault> {
+    match GateLog::open(alloc, disk, 1_000_000) {
+        Ok(log) => Ok(log),
+        Err((fault, _disk)) => Err(fault),
+    }
+}
+
+/// Wants the frame with this number to have this body.
+fn expect_frame(
+    rt: &impl Abort,
+    alloc: Global,
+    log: &mut GateLog<MemDisk>,
+    i: u64,
+    want: &[u8],
+) -> Result<(), Fail> {
+    assert!(rt; i < log.count(), "no frame {i}");
+    let mut body = b"left from before".to_vec(alloc)?;
+    log.frame(i, &mut body)?;
+    assert_eq!(rt; body.as_slice(), want, "at frame {i}");
+    Ok(())
+}
+
+/// Wants this file to be a log with these bodies, of this length, and whole or not.
+fn expect_log(
+    rt: &impl Abort,
+    alloc: Global,
+    file: &[u8],
+    whole: bool,
+    end: u64,
+    bodies: &[&[u8]],
+) -> Result<(), Fail>
+    requires { length file.now < 2 ^ 20 }
+{
+    let disk = MemDisk::new(alloc, file.to_vec(alloc)?, Vec::new(alloc))?;
+    let mut log = opened(alloc, disk)?;
+    assert_eq!(rt; log.whole(), whole, "at {file:?}");
+    assert_eq!(rt; log.length(), end, "at {file:?}");
+    assert_eq!(rt; log.count(), bodies.len() as u64, "at {file:?}");
+    for (i, body) in bodies.iter().enumerate() {
+        expect_frame(rt, alloc, &mut log, i as u64, body)?;
+    }
+    let disk = log.into_disk();
+    let left = if file.len() < 2 { b"\0" } else { file };
+    assert_eq!(rt; disk.bytes(), left, "at {file:?}");
     Ok(())
 }
 
 #[test]
-fn a_file_of_one_byte_is_opened(rt: HostRuntime) -> Result<(), Fail> {
-    let alloc = rt.alloc();
-    let bad = Err(OpenFault::BadLog { frame: 0 });
-    let cases = [
-        ([0].as_slice(), Ok(()), [0].as_slice()),
-        ([1].as_slice(), Ok(()), [0].as_slice()),
-        ([0, 0].as_slice(), bad, [0, 0].as_slice()),
-        ([1, 0].as_slice(), bad, [1, 0].as_slice()),
+fn files_and_their_bodies(rt: HostRuntime) -> Result<(), Fail> {
+    let table: [(&[u8], bool, u64, &[&[u8]]); 14] = [
+        (&[], true, 1, &[]),
+        (&[0], true, 1, &[]),
+        (&[1], true, 1, &[]),
+        (&FRAME, true, 12, &[&[7, 8]]),
+        (&TWO_FRAMES, true, 22, &[&[7, 8], &[9]]),
+        // An empty body, behind a gate that is open by another byte.
+        (&[255, 0, 0, 0, 0, 0, 0, 0, 0, 0], true, 10, &[&[]]),
+        // Whatever stands behind a closed gate.
+        (&[0, 1, 0, 0, 0, 0, 0, 0, 0, 1, 5, 0], true, 1, &[]),
+        (
+            &[1, 0, 0, 0, 0, 0, 0, 0, 1, 5, 0, 1, 0, 0],
+            true,
+            11,
+            &[&[5]],
+        ),
+        (&[0, 0], true, 1, &[]),
+        // A frame that runs past the end.
+        (&[1, 0], false, 1, &[]),
+        (&[1, 0, 0, 0, 0, 0, 0, 0, 1, 5], false, 1, &[]),
+        (&[1, 0, 0, 0, 0, 0, 0, 1, 1, 5, 0], false, 1, &[]),
+        (&[1, 128, 0, 0, 0, 0, 0, 0, 0, 5, 0], false, 1, &[]),
+        (
+            &[1, 255, 255, 255, 255, 255, 255, 255, 255, 5, 0],
+            false,
+            1,
+            &[],
+        ),
     ];
-    for (file, want, left) in cases {
-        assert!(rt; file.len() < 3);
-        let mut disk = MemDisk::new(alloc, file.to_vec(alloc)?, Vec::new(alloc))?;
-        assert_eq!(rt; open(&mut disk), want, "at {file:?}");
-        assert_eq!(rt; disk.bytes(), left, "at {file:?}");
+    for (file, whole, length, bodies) in table {
+        assert!(rt; file.len() < 100);
+        expect_log(&rt, rt.alloc(), file, whole, length, bodies)?;
     }
+    Ok(())
+}
+
+#[test]
+fn a_file_cut_at_each_byte(rt: HostRuntime) -> Result<(), Fail> {
+    let bodies: [&[u8]; 2] = [&[7, 8], &[9]];
+    for size in 0..TWO_FRAMES.len() {
+        let file = &TWO_FRAMES[..size];
+        let (whole, length, count) = match size {
+            0 | 1 => (true, 1, 0),
+            2..=11 => (false, 1, 0),
+            _ => (false, 12, 1),
+        };
+        expect_log(&rt, rt.alloc(), file, whole, length, &bodies[..count])?;
+    }
+    Ok(())
+}
+
+/// Opens a file on a disk whose call with this number fails, and wants that fault and this file then.
+fn expect_fault(
+    rt: &impl Abort,
+    alloc: Global,
+    file: &[u8],
+    call: u64,
+    left: &[u8],
+) -> Result<(), Fail>
+    requires file { length file.now < 2 ^ 20 }
+    requires call { call < 100 }
+{
+    let fails = [call].to_vec(alloc)?;
+    let disk = MemDisk::new(alloc, file.to_vec(alloc)?, fails)?;
+    match GateLog::open(alloc, disk, 1_000) {
+        Ok(_log) => assert_eq!(rt; None, Some(call), "at {file:?}"),
+        Err((fault, disk)) => {
+            assert_eq!(rt; fault, StoreFault::DiskFault, "call {call} at {file:?}");
+            assert_eq!(rt; disk.moment(), call + 1, "call {call} at {file:?}");
+            assert_eq!(rt; disk.bytes(), left, "call {call} at {file:?}");
+        }
+    }
+    Ok(())
+}
+
+#[test]
+fn each_call_of_an_opening_fails(rt: HostRuntime) -> Result<(), Fail> {
+    let alloc = rt.alloc();
+    for call in 0..3 {
+        expect_fault(&rt, alloc, &[], call, &[])?;
+        expect_fault(&rt, alloc, &[1], call, &[1])?;
+        expect_fault(&rt, alloc, &TWO_FRAMES, call, &TWO_FRAMES)?;
+    }
+    // The gate is written by then.
+    expect_fault(&rt, alloc, &[], 3, &[0])?;
+    expect_fault(&rt, alloc, &[1], 3, &[0])
+}
+
+#[test]
+fn a_frame_that_cannot_be_read(rt: HostRuntime) -> Result<(), Fail> {
+    let alloc = rt.alloc();
+    let fails = [3].to_vec(alloc)?;
+    let disk = MemDisk::new(alloc, TWO_FRAMES.to_vec(alloc)?, fails)?;
+    let mut log = opened(alloc, disk)?;
+    let mut body = Vec::new(alloc);
+    assert!(rt; log.count() == 2);
+    assert_eq!(rt; log.frame(1, &mut body), Err(StoreFault::DiskFault));
+    expect_frame(&rt, alloc, &mut log, 1, &[9])
+}
+
+/// Adds an open gate and a frame with a body of this byte, repeated.
+fn push_frame(alloc: Global, file: &mut Vec<u8>, size: usize, byte: u8) -> Result<(), Fail> {
+    file.push(1)?;
+    file.extend_from_slice(&(size as u64).to_be_bytes())?;
+    let body = vec![in alloc; byte; size]?;
+    file.extend_from_slice(&body)?;
+    Ok(())
+}
+
+#[test]
+fn a_log_longer_than_a_piece(rt: HostRuntime) -> Result<(), Fail> {
+    let alloc = rt.alloc();
+    let bodies = [
+        (65_523, 3),
+        (3, 4),
+        (200_000, 5),
+        (65_519, 6),
+        (0, 7),
+        (1, 8),
+    ];
+    let mut file = Vec::new(alloc);
+    for (size, byte) in bodies {
+        push_frame(alloc, &mut file, size, byte)?;
+    }
+    file.push(0)?;
+    assert!(rt; file.len() == 331_101);
+    let mut log = opened(alloc, MemDisk::new(alloc, file, Vec::new(alloc))?)?;
+    assert_eq!(rt; log.count(), 6);
+    assert_eq!(rt; log.length(), 331_101);
+    for (i, (size, byte)) in bodies.iter().enumerate() {
+        let body = vec![in alloc; *byte; *size]?;
+        expect_frame(&rt, alloc, &mut log, i as u64, &body)?;
+    }
+    // A sync, the length, four pieces, and a read for each body.
+    assert_eq!(rt; log.into_disk().moment(), 12);
+    Ok(())
+}
+
+/// Adds a frame with this body.
+fn add(alloc: Global, log: &mut GateLog<MemDisk>, body: &[u8]) -> Result<(), StoreFault>
+    requires { IsTrue (is_whole log.old) }
+{
+    let frame = framed(alloc, body)?;
+    log.append(&frame)
+}
+
+/// Adds these frames to a log, which must be whole.
+fn add_all(
+    rt: &impl Abort,
+    alloc: Global,
+    log: &mut GateLog<MemDisk>,
+    bodies: &[&[u8]],
+) -> Result<(), Fail> {
+    for body in bodies {
+        assert!(rt; log.whole());
+        add(alloc, log, body)?;
+    }
+    Ok(())
+}
+
+#[test]
+fn frames_are_added(rt: HostRuntime) -> Result<(), Fail> {
+    let alloc = rt.alloc();
+    let table: [(&[&[u8]], &[u8]); 4] = [
+        (&[], &[0]),
+        (&[&[7, 8]], &FRAME),
+        (&[&[7, 8], &[9]], &TWO_FRAMES),
+        (
+            &[&[], &[0]],
+            &[1, 0, 0, 0, 0, 0, 0, 0, 0, 1, 0, 0, 0, 0, 0, 0, 0, 1, 0, 0],
+        ),
+    ];
+    for (bodies, file) in table {
+        let disk = MemDisk::new(alloc, Vec::new(alloc), Vec::new(alloc))?;
+        let mut log = opened(alloc, disk)?;
+        add_all(&rt, alloc, &mut log, bodies)?;
+        assert_eq!(rt; log.length(), file.len() as u64, "at {file:?}");
+        for (i, body) in bodies.iter().enumerate() {
+            expect_frame(&rt, alloc, &mut log, i as u64, body)?;
+        }
+        let disk = log.into_disk();
+        assert_eq!(rt; disk.bytes(), file, "at {file:?}");
+    }
+    Ok(())
+}
+
+#[test]
+fn a_frame_is_added_in_front_of_what_a_crash_left(rt: HostRuntime) -> Result<(), Fail> {
+    let alloc = rt.alloc();
+    let file = [0, 1, 2, 3, 4, 5, 6, 7, 8, 9, 10, 11, 12, 13];
+    let disk = MemDisk::new(alloc, file.to_vec(alloc)?, Vec::new(alloc))?;
+    let mut log = opened(alloc, disk)?;
+    add_all(&rt, alloc, &mut log, &[&[7, 8]])?;
+    assert_eq!(rt; log.length(), 12);
+    let disk = log.into_disk();
+    assert_eq!(rt;
+        disk.bytes(),
+        [1, 0, 0, 0, 0, 0, 0, 0, 2, 7, 8, 0, 12, 13].as_slice()
+    );
+    Ok(())
+}
+
+/// Adds a frame to a new log on a disk whose call with this number fails, and wants that fault and this file
+/// then.
+fn expect_refusal(rt: &impl Abort, alloc: Global, call: u64, left: &[u8]) -> Result<(), Fail>
+    requires { call < 100 }
+{
+    let fails = [call].to_vec(alloc)?;
+    let disk = MemDisk::new(alloc, Vec::new(alloc), fails)?;
+    let mut log = opened(alloc, disk)?;
+    assert!(rt; log.whole());
+    let added = add(alloc, &mut log, &[7, 8]);
+    assert_eq!(rt; added, Err(StoreFault::DiskFault), "call {call}");
+    let disk = log.into_disk();
+    assert_eq!(rt; disk.moment(), call + 1, "call {call}");
+    assert_eq!(rt; disk.bytes(), left, "call {call}");
+    Ok(())
+}
+
+#[test]
+fn each_call_of_an_addition_fails(rt: HostRuntime) -> Result<(), Fail> {
+    let alloc = rt.alloc();
+    let behind = [0, 0, 0, 0, 0, 0, 0, 0, 2, 7, 8, 0];
+    // The opening makes four calls.
+    expect_refusal(&rt, alloc, 4, &[0])?;
+    expect_refusal(&rt, alloc, 5, &behind)?;
+    expect_refusal(&rt, alloc, 6, &behind)?;
+    expect_refusal(&rt, alloc, 7, &FRAME)
+}
+
+#[test]
+fn a_frame_of_forty_bytes(rt: HostRuntime) -> Result<(), Fail> {
+    let alloc = rt.alloc();
+    let frame = framed(alloc, &[7; 40])?;
+    assert_eq!(rt; frame.len(), 49);
     Ok(())
 }

@@ -1,6 +1,8 @@
-pub mod Request
-pub mod Reply
+pub mod Variables
 pub mod Fields
+pub mod Request
+pub mod Limits
+pub mod Reply
 pub mod Reading
 pub mod RequestLaws
 pub mod ReplyLaws

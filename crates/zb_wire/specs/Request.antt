@@ -1,85 +1,96 @@
--- Which request a line is. A line holds one JSON value (RFC 8259).
-use Rattle.std.specs.Prelude.{◌≡◌, ℕ, ◌&&◌, List, [], ◌∷◌, length, codes, Bool, true, nat_le, if◌then◌else◌, Option, Some, None, option_and_then, Result, Ok, Err}
-use Rattle.std.specs.List.{list_any}
+-- Which request a line is, or what is wrong with it: the first fault, in the order in which they stand here.
+-- What no standard says is marked as this project's own.
+use Rattle.std.specs.Prelude.{◌≡◌, ℕ, List, length, codes, nat_le, if◌then◌else◌, Option, Some, None, option_and_then, Result, Ok, Err, ⊤}
 use Rattle.std.specs.Str.{bytes_eq, is_utf8}
-use Rattle.serde_json.specs.Data.{Data, Members, no_members, member}
+use Rattle.serde_json.specs.Data.{Data, Members}
 use Rattle.serde_json.specs.Read.{read}
-use Rattle.serde_json.specs.Find.{get, as_str, as_number, as_u64, as_object}
-use Rattle.zb_exchange_records.specs.declared.message.MessagePublish.{MessagePublish}
+use Rattle.serde_json.specs.Find.{get, as_str, as_object}
+use Rattle.zb_wire.specs.Fields.{Field, publish_fields, is_right, is_within, first_failing, first_unknown, message_of}
 use Rattle.zb_wire.specs.declared.request.Request.{Request}
 use Rattle.zb_wire.specs.declared.request.Request.TheVariants as requests
 use Rattle.zb_wire.specs.declared.request.LineFault.{LineFault}
 use Rattle.zb_wire.specs.declared.request.LineFault.TheVariants as faults
 
--- a line has at most so many bytes
+-- a line has at most so many bytes (own)
 unfoldable pub longest_line : ℕ
 longest_line = 262144
 
--- a name, an id or a correlation key has at most so many bytes
-abbrev pub longest_name : ℕ
-longest_name = 255
+-- what is there, or this fault
+abbrev pub or_fault : {A : Type 0} → LineFault → Option A → Result A LineFault
+or_fault fault None = Err fault
+or_fault fault (Some a) = Ok a
 
--- the longest time to live, in milliseconds
-abbrev pub longest_duration : ℕ
-longest_duration = 4000000000000
+-- a fault that names the field, if there is one
+abbrev pub none_of : (List ℕ → LineFault) → Option (List ℕ) → Result ⊤ LineFault
+none_of fault None = Ok tt
+none_of fault (Some field) = Err (fault field)
 
--- the JSON value of a line that isn't too long
-unfoldable pub value_of : List ℕ → Option Data
-value_of line = if nat_le (length line) longest_line && is_utf8 line then read line else None
+-- TOO_LONG (own): the line has more bytes than the longest
+unfoldable pub short_line : List ℕ → Result (List ℕ) LineFault
+short_line line = if nat_le (length line) longest_line then Ok line else Err faults.TooLong
 
--- each member has one of these names
-abbrev pub has_only : List (List ℕ) → Members → Bool
-has_only names no_members = true
-has_only names (member name d ms) = list_any (bytes_eq name) names && has_only names ms
+-- NOT_JSON (RFC 8259, sections 2 and 8.1): the text isn't in UTF-8, or it is no JSON value
+abbrev pub value_in : List ℕ → Result Data LineFault
+value_in text = or_fault faults.NotJson (if is_utf8 text then read text else None)
 
--- a text of at most this many bytes
-abbrev pub text_within : ℕ → Data → Option (List ℕ)
-text_within most d = option_and_then (λ s. if nat_le (length s) most then Some s else None) (as_str d)
+-- NOT_OBJECT (RFC 8259, section 4): the value is no object
+abbrev pub members_in : Data → Result Members LineFault
+members_in value = or_fault faults.NotObject (as_object value)
 
--- a whole number from low to high
-abbrev pub number_within : ℕ → ℕ → Data → Option ℕ
-number_within low high d = option_and_then (λ n. if nat_le low n && nat_le n high then Some n else None) (option_and_then as_u64 (as_number d))
+-- NO_OP (own): the value has no field op with a text
+abbrev pub op_in : Data → Result (List ℕ) LineFault
+op_in value = or_fault faults.NoOp (option_and_then as_str (get (codes "op") value))
 
--- the text that a field of an object has
-abbrev pub name_at : List ℕ → Data → Option (List ℕ)
-name_at field d = option_and_then (text_within longest_name) (get field d)
+-- UNKNOWN_OP (own): no request is called so
+abbrev pub fields_of : List ℕ → Result (List Field) LineFault
+fields_of op = if bytes_eq op (codes "publish") then Ok publish_fields else Err faults.UnknownOp
 
--- the fields of a publish line
-abbrev pub publish_fields : List (List ℕ)
-publish_fields = codes "op" ∷ codes "name" ∷ codes "correlationKey" ∷ codes "timeToLive" ∷ []
+-- FIELD (own): a field is missing or of the wrong kind, the first in the order of the fields
+abbrev pub none_wrong : List Field → Data → Result ⊤ LineFault
+none_wrong fields value = none_of faults.Field (first_failing (is_right value) fields)
+
+-- FIELD (own): a member is no field of the request, the first in byte order
+abbrev pub none_unknown : List Field → Members → Result ⊤ LineFault
+none_unknown fields members = none_of faults.Field (first_unknown fields members)
+
+-- RANGE (own): a field is outside its limits, the first in the order of the fields
+abbrev pub none_outside : List Field → Data → Result ⊤ LineFault
+none_outside fields value = none_of faults.Range (first_failing (is_within value) fields)
 
 infixl 10 ◌>>=◌
-abbrev pub ◌>>=◌ : {A B : Type 0} → Option A → (A → Option B) → Option B
-o >>= f = option_and_then f o
+abbrev pub ◌>>=◌ : {A B : Type 0} → Result A LineFault → (A → Result B LineFault) → Result B LineFault
+Ok a >>= f = f a
+Err fault >>= f = Err fault
 
--- an object with these fields and no others, whose op is publish
-unfoldable pub publish_of : Data → Option MessagePublish
-publish_of d = do
-  members ← as_object d
-  fields ← if has_only publish_fields members then Some members else None
-  op ← name_at (codes "op") d
-  is_publish ← if bytes_eq op (codes "publish") then Some op else None
-  name ← name_at (codes "name") d
-  correlation_key ← name_at (codes "correlationKey") d
-  time_to_live ← option_and_then (number_within 1 longest_duration) (get (codes "timeToLive") d)
-  Some (record { name = name; correlation_key = correlation_key; time_to_live = time_to_live; id = []; variables = [] })
+-- the request with these fields that a value is
+abbrev pub request_with : List Field → Members → Data → Result Request LineFault
+request_with fields members value = do
+  right ← none_wrong fields value
+  known ← none_unknown fields members
+  within ← none_outside fields value
+  Ok (requests.Publish (message_of value))
 
--- the request that a value asks for
-abbrev pub asked : Option MessagePublish → Result Request LineFault
-asked None = Err faults.UnknownOp
-asked (Some c) = Ok (requests.Publish c)
+-- the request that a value is
+abbrev pub request_in : Data → Result Request LineFault
+request_in value = do
+  members ← members_in value
+  op ← op_in value
+  fields ← fields_of op
+  request_with fields members value
 
-abbrev pub request_in : Option Data → Result Request LineFault
-request_in None = Err faults.NotJson
-request_in (Some d) = asked (publish_of d)
-
--- the request that a line asks for, or its fault
+-- the request that a line is, or its fault
 unfoldable pub request_of : List ℕ → Result Request LineFault
-request_of line = request_in (value_of line)
+request_of line = do
+  text ← short_line line
+  value ← value_in text
+  request_in value
 
--- what was read is this, unless memory ran out
+-- this fault was found, unless memory ran out
+abbrev pub Tells : LineFault → Result Request LineFault → Type 0
+Tells faults.Memory found = Unit {0}
+Tells fault found = found ≡ Err fault
+
+-- this was found, unless memory ran out
 abbrev pub Gives : Result Request LineFault → Result Request LineFault → Type 0
-Gives (Err faults.Memory) read = Unit {0}
-Gives (Err faults.NotJson) read = read ≡ Err faults.NotJson
-Gives (Err faults.UnknownOp) read = read ≡ Err faults.UnknownOp
-Gives (Ok request) read = read ≡ Ok request
+Gives (Ok request) found = found ≡ Ok request
+Gives (Err fault) found = Tells fault found

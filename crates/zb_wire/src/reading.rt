@@ -1,14 +1,14 @@
-ghost use Rattle.std.specs.Prelude.{◌≡◌, ◌+◌, nat_le, length, IfOk};
+ghost use Rattle.std.specs.Prelude.{◌≡◌, ◌+◌, ℕ, List, take, Err, IfOk};
+ghost use Rattle.zb_wire.specs.Limits.{IsWithinLimits};
 ghost use Rattle.serde_json.specs.View.{view};
-ghost use Rattle.zb_wire.specs.Fields.{message_of};
 ghost use Rattle.zb_wire.specs.Reading.{Reads, Blames};
-ghost use Rattle.zb_wire.specs.Request.{longest_line, value_of, publish_of, asked, request_of, Gives};
+ghost use Rattle.zb_wire.specs.Request.{longest_line, value_in, request_in, request_of, Tells, Gives};
 
-use crate::fields::{PublishFields, publish_fields};
+use crate::publish::publish_in;
 use crate::{LineFault, Request};
-use serde_json::{Category, Error, Value};
-use std::alloc::{AllocError, Global};
-use zb_model::{MessagePublish, Text, Vars};
+use serde_json::{Category, Error, Value as Json};
+use std::alloc::Global;
+use zb_model::Text;
 
 /// A line has at most so many bytes, without its newline.
 pub const LONGEST_LINE: usize = 262_144;
@@ -16,69 +16,37 @@ pub const LONGEST_LINE: usize = 262_144;
 /// So many bytes of a line, from its front, show which request it is or that it is too long.
 #[tactic(auto, unfolding(crate::specs::Request::longest_line))]
 pub fn longest_shown() -> usize
-    ensures { result ≡ longest_line + 1 }
+    ensures number { result ≡ longest_line + 1 }
+    ensures decides { (line : List ℕ) → request_of (take result line) ≡ request_of line }
 {
     LONGEST_LINE + 1
 }
 
 /// The request that a line, without its newline, asks for, or its fault. It takes time and memory in
 /// proportion to the line.
-#[tactic(auto, unfolding(crate::specs::Request::request_of))]
+#[tactic(auto, unfolding(crate::specs::Request::request_of, crate::specs::Request::short_line, crate::specs::Request::longest_line))]
 pub fn read_line(alloc: Global, line: &[u8]) -> Result<Request, LineFault>
-    ensures { Gives result (request_of line.now) }
+    ensures found { Gives result (request_of line.now) }
+    ensures within { IfOk result IsWithinLimits }
 {
-    match read_value(alloc, line) {
+    if line.len() > LONGEST_LINE {
+        return Err(LineFault::TooLong);
+    }
+    match value_in(alloc, line) {
         Ok(value) => request_in(alloc, &value),
         Err(fault) => Err(fault),
     }
 }
 
-/// The request that a value asks for.
-fn request_in(alloc: Global, value: &Value) -> Result<Request, LineFault>
-    ensures { Gives result (asked (publish_of (view value.now))) }
-{
-    let Some(fields) = publish_fields(value) else {
-        return Err(LineFault::UnknownOp);
-    };
-    match message_publish(alloc, fields) {
-        Ok(message) => Ok(Request::Publish(message)),
-        Err(_) => Err(LineFault::Memory),
-    }
-}
-
-/// The message that the fields ask to publish.
-fn message_publish(alloc: Global, fields: PublishFields<'_>) -> Result<MessagePublish, AllocError>
-    ensures { IfOk result (λ message. message ≡ message_of fields.entry) }
-{
-    Ok(MessagePublish {
-        name: Text::of(alloc, fields.name)?,
-        correlation_key: Text::of(alloc, fields.correlation_key)?,
-        time_to_live: fields.time_to_live,
-        id: Text::empty(alloc),
-        variables: Vars::empty(alloc),
-    })
-}
-
-/// The JSON value of a line.
+/// The JSON value that a text is.
 #[tactic(auto, using(crate::proofs::Values::value_laws))]
-fn read_value(alloc: Global, line: &[u8]) -> Result<Value, LineFault>
-    ensures { Reads result (value_of line.now) }
+fn value_in(alloc: Global, text: &[u8]) -> Result<Json, LineFault>
+    ensures { Reads result (value_in text.now) }
 {
-    if !is_within(line) {
-        return Err(LineFault::NotJson);
-    }
-    match Value::from_slice(alloc, line) {
+    match Json::from_slice(alloc, text) {
         Ok(value) => Ok(value),
         Err(error) => Err(fault_of(&error)),
     }
-}
-
-/// Whether the line isn't too long.
-#[tactic(auto, unfolding(crate::specs::Request::longest_line))]
-fn is_within(line: &[u8]) -> bool
-    ensures { result ≡ nat_le (length line.now) longest_line }
-{
-    line.len() <= LONGEST_LINE
 }
 
 /// What an error of the JSON reader says of a line.
@@ -88,5 +56,41 @@ fn fault_of(error: &Error) -> LineFault
     match error.classify() {
         Category::Memory => LineFault::Memory,
         _ => LineFault::NotJson,
+    }
+}
+
+/// The request that a value is.
+fn request_in(alloc: Global, value: &Json) -> Result<Request, LineFault>
+    ensures { Gives result (request_in (view value.now)) }
+{
+    let Some(members) = value.as_object() else {
+        return Err(LineFault::NotObject);
+    };
+    let Some(op) = value.get("op").and_then(Json::as_str) else {
+        return Err(LineFault::NoOp);
+    };
+    if op != "publish" {
+        return Err(LineFault::UnknownOp);
+    }
+    publish_in(alloc, members, value)
+}
+
+/// The fault of a field that is missing, of the wrong kind or unknown.
+pub fn field_fault(alloc: Global, field: &str) -> LineFault
+    ensures { Tells result (Err (LineFault.Field field.now)) }
+{
+    match Text::of(alloc, field) {
+        Ok(field) => LineFault::Field { field },
+        Err(_) => LineFault::Memory,
+    }
+}
+
+/// The fault of a field that is outside its limits.
+pub fn range_fault(alloc: Global, field: &str) -> LineFault
+    ensures { Tells result (Err (LineFault.Range field.now)) }
+{
+    match Text::of(alloc, field) {
+        Ok(field) => LineFault::Range { field },
+        Err(_) => LineFault::Memory,
     }
 }

@@ -1,6 +1,6 @@
 ghost use Rattle.std.specs.Prelude.{◌≡◌};
 
-use zb_model::{Command, MessagePublish};
+use zb_model::{Command, MessagePublish, Text};
 
 /// What a line asks for.
 #[derive(Drop)]
@@ -21,13 +21,23 @@ impl Request {
     }
 }
 
-/// Why a line is no request.
-#[derive(Clone, Copy, Debug, PartialEq, Eq)]
+/// Why a line is no request: the first of these that holds.
+#[derive(Debug, Drop)]
 pub enum LineFault {
-    /// The line is longer than 262,144 bytes, or no JSON value (RFC 8259).
+    /// It is longer than 262,144 bytes.
+    TooLong,
+    /// It is no JSON value in UTF-8 (RFC 8259).
     NotJson,
-    /// It asks for nothing that this server knows.
+    /// Its value is no object.
+    NotObject,
+    /// It has no field `op` with a text.
+    NoOp,
+    /// Its `op` is no request of this server.
     UnknownOp,
+    /// This field is missing, of the wrong kind or unknown.
+    Field { field: Text },
+    /// This field is outside its limits.
+    Range { field: Text },
     /// There was no memory.
     Memory,
 }

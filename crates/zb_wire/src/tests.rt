@@ -4,190 +4,429 @@ use crate::{
 use std::alloc::{AllocError, Global};
 use std::test::Fail;
 use zb_model::{
-    Batch, Command, Event, Key, List, MessagePublish, MessagePublished, Moment, Outcome, Text, Vars,
+    Batch, Command, Event, Key, List, MessagePublish, MessagePublished, Moment, Outcome, Rejection,
+    RejectionKind, Text, Value, Vars,
 };
 
 const PAID: &str = r#"{"op":"publish","name":"paid","correlationKey":"o-1","timeToLive":60000}"#;
 
-/// The line `PAID`, padded by spaces to so many bytes.
-fn padded(alloc: Global, length: usize) -> Result<Vec<u8>, AllocError> {
-    let mut line = Vec::from_slice(alloc, PAID.as_bytes())?;
-    line.resize(length, b' ')?;
+/// `head`, then so many bytes `fill`, then `tail`.
+fn filled(
+    alloc: Global,
+    head: &str,
+    fill: u8,
+    count: usize,
+    tail: &str,
+) -> Result<Vec<u8>, AllocError> {
+    let mut line = Vec::from_slice(alloc, head.as_bytes())?;
+    for _ in 0..count {
+        line.push(fill)?;
+    }
+    line.extend_from_slice(tail.as_bytes())?;
     Ok(line)
 }
 
-/// A publish line whose name has so many bytes.
-fn named(alloc: Global, length: usize) -> Result<Vec<u8>, AllocError> {
-    let mut line = Vec::from_slice(alloc, br#"{"op":"publish","name":""#)?;
-    for _ in 0..length {
-        line.push(b'n')?;
+/// The line of the reply to a line that is no request, and nothing for one that is.
+fn fault_of(alloc: Global, line: &[u8]) -> Result<Vec<u8>, AllocError> {
+    let mut reply = Vec::new(alloc);
+    match read_line(alloc, line) {
+        Ok(_) => Ok(reply),
+        Err(LineFault::Memory) => Err(AllocError),
+        Err(fault) => {
+            reply_text(alloc, &Reply::Fault(1, fault), None, &mut reply)?;
+            Ok(reply)
+        }
     }
-    line.extend_from_slice(br#"","correlationKey":"o-1","timeToLive":1}"#)?;
-    Ok(line)
 }
 
-/// So many arrays, each within the one before.
-fn nested(alloc: Global, depth: usize) -> Result<Vec<u8>, AllocError> {
-    let mut line = Vec::new(alloc);
-    for _ in 0..depth {
-        line.push(b'[')?;
+/// What the line asks to publish.
+fn message_of(alloc: Global, line: &[u8]) -> Result<MessagePublish, LineFault> {
+    match read_line(alloc, line) {
+        Ok(Request::Publish(message)) => Ok(message),
+        Err(fault) => Err(fault),
     }
-    for _ in 0..depth {
-        line.push(b']')?;
-    }
-    Ok(line)
 }
 
 #[test]
 fn reads_publish_lines(rt: HostRuntime) -> Result<(), Fail> {
     let lines = [
-        PAID,
-        r#"{"timeToLive":60000,"correlationKey":"o-1","name":"paid","op":"publish"}"#,
-        r#"{"op":"fly","op":"publish","name":"due","correlationKey":"o-1","name":"paid","timeToLive":60000}"#,
-        r#"{"op":"publish","na\u006de":"paid","correlationKey":"o-1","timeToLive":60000}"#,
-        "{\"op\":\"publish\",\"name\":\"paid\",\"correlationKey\":\"o-1\",\"timeToLive\":60000}\r",
+        (PAID, "paid", "o-1", 60_000, ""),
+        (
+            r#" {"timeToLive":0,"correlationKey":"","name":"","op":"publish","messageId":"x"} "#,
+            "",
+            "",
+            0,
+            "x",
+        ),
+        (
+            r#"{"op":"fly","op":"publish","name":1,"correlationKey":"k","name":"n","timeToLive":1}"#,
+            "n",
+            "k",
+            1,
+            "",
+        ),
+        (
+            r#"{"\u006fp":"publish","name":"\"\\\/\b\f\n\r\t\u0000\u00E9","correlationKey":"\ud83d\ude00","timeToLive":4000000000000}"#,
+            "\"\\/\u{8}\u{c}\n\r\t\0\u{e9}",
+            "\u{1f600}",
+            4_000_000_000_000,
+            "",
+        ),
+        (
+            "{\"op\":\"publish\",\"name\":\"\u{e9}\",\"correlationKey\":\"k\",\"timeToLive\":1,\"variables\":{}}\r",
+            "\u{e9}",
+            "k",
+            1,
+            "",
+        ),
     ];
-    for line in lines {
-        let Request::Publish(message) = read_line(rt.alloc(), line.as_bytes())?;
-        assert_eq!(rt; message.name.as_str(), "paid", "in {line}");
-        assert_eq!(rt; message.correlation_key.as_str(), "o-1", "in {line}");
-        assert_eq!(rt; message.time_to_live, 60_000, "in {line}");
-        assert_eq!(rt; message.id.as_str(), "", "in {line}");
-    }
-    let Request::Publish(short) = read_line(rt.alloc(), named(rt.alloc(), 255)?.as_slice())?;
-    assert_eq!(rt; (short.name.as_str().len(), short.time_to_live), (255, 1));
-    let Request::Publish(longest) = read_line(
-        rt.alloc(),
-        br#"{"op":"publish","name":"","correlationKey":"","timeToLive":4000000000000}"#,
-    )?;
-    assert_eq!(rt; longest.time_to_live, 4_000_000_000_000);
-    let Request::Publish(wide) = read_line(rt.alloc(), padded(rt.alloc(), 262_144)?.as_slice())?;
-    assert_eq!(rt; wide.name.as_str(), "paid");
-    assert_eq!(rt; (LONGEST_LINE, longest_shown()), (262_144, 262_145));
-    match Request::Publish(wide).into_command() {
-        Command::MessagePublish(message) => assert_eq!(rt; message.name.as_str(), "paid"),
-        _ => assert!(rt; false, "a publish request asks for a publish"),
+    for (line, name, correlation_key, time_to_live, id) in lines {
+        let message = message_of(rt.alloc(), line.as_bytes())?;
+        assert_eq!(rt; message.name.as_str(), name, "in {line}");
+        assert_eq!(rt;
+            message.correlation_key.as_str(),
+            correlation_key,
+            "in {line}"
+        );
+        assert_eq!(rt; message.time_to_live, time_to_live, "in {line}");
+        assert_eq!(rt; message.id.as_str(), id, "in {line}");
+        assert!(rt; message.variables.as_slice().is_empty(), "in {line}");
     }
     Ok(())
 }
 
 #[test]
-fn refuses_what_is_no_json(rt: HostRuntime) -> Result<(), Fail> {
-    let lines: [&[u8]; 7] = [
-        b"",
-        b"<bpmn>",
-        b"\"\xff\"",
-        b"01",
-        b"\xef\xbb\xbf{}",
-        b"\"\x01\"",
-        b"{\"op\":",
+fn reads_variables(rt: HostRuntime) -> Result<(), Fail> {
+    let message = message_of(
+        rt.alloc(),
+        br#"{"op":"publish","name":"paid","correlationKey":"o-1","timeToLive":1,"variables":
+            {"n":9223372036854775807,"m":-9223372036854775808,"b":true,"":"\u00e9","l":[0,-1],"b":false,"e":[]}}"#,
+    )?;
+    let variables = message.variables;
+    assert_eq!(rt; variables.as_slice().len(), 6);
+    assert!(rt; matches!(variables.get("n"), Some(Value::Int(i64::MAX))));
+    assert!(rt; matches!(variables.get("m"), Some(Value::Int(i64::MIN))));
+    assert!(rt; matches!(variables.get("b"), Some(Value::Bool(false))));
+    assert!(rt; matches!(variables.get(""), Some(Value::Text(text)) if text.as_str() == "\u{e9}"));
+    assert!(rt;
+        matches!(variables.get("l"), Some(Value::List(list)) if list.as_slice() == [0, -1].as_slice())
+    );
+    assert!(rt;
+        matches!(variables.get("e"), Some(Value::List(list)) if list.as_slice().is_empty())
+    );
+    Ok(())
+}
+
+#[test]
+fn names_what_is_wrong(rt: HostRuntime) -> Result<(), Fail> {
+    let rows: [(&[u8], &str); 20] = [
+        (b"", "NOT_JSON"),
+        (b"<bpmn>", "NOT_JSON"),
+        (b"\"\xff\"", "NOT_JSON"),
+        (b"\"\xed\xa0\x80\"", "NOT_JSON"),
+        (b"\"\xc0\xaf\"", "NOT_JSON"),
+        (br#""\ud83d""#, "NOT_JSON"),
+        (br#""\ude00""#, "NOT_JSON"),
+        (b"\"\x01\"", "NOT_JSON"),
+        (b"\"\t\"", "NOT_JSON"),
+        (b"\xef\xbb\xbf{}", "NOT_JSON"),
+        (b"01", "NOT_JSON"),
+        (b"1e400", "NOT_JSON"),
+        (b"{} {}", "NOT_JSON"),
+        (b"{\"op\":", "NOT_JSON"),
+        (b"[]", "NOT_OBJECT"),
+        (b"\"publish\"", "NOT_OBJECT"),
+        (b"null", "NOT_OBJECT"),
+        (b"{}", "NO_OP"),
+        (br#"{"op":7,"name":"paid"}"#, "NO_OP"),
+        (br#"{"op":"fly"}"#, "UNKNOWN_OP"),
     ];
-    for line in lines {
+    for (line, name) in rows {
+        let reply = fault_of(rt.alloc(), line)?;
+        let told = format!(in rt.alloc(); "{{\"fault\":\"{name}\",\"line\":1}}\n")?;
+        assert_eq!(rt; reply.as_slice(), told.as_bytes(), "at {line:?}");
+    }
+    Ok(())
+}
+
+#[test]
+fn names_the_field(rt: HostRuntime) -> Result<(), Fail> {
+    let rows = [
+        (r#""correlationKey":7,"timeToLive":1"#, "FIELD", "name"),
+        (
+            r#""name":null,"correlationKey":"k","timeToLive":1"#,
+            "FIELD",
+            "name",
+        ),
+        (
+            r#""name":"n","timeToLive":1,"more":1"#,
+            "FIELD",
+            "correlationKey",
+        ),
+        (
+            r#""name":"n","correlationKey":7,"timeToLive":1"#,
+            "FIELD",
+            "correlationKey",
+        ),
+        (r#""name":"n","correlationKey":"k""#, "FIELD", "timeToLive"),
+        (
+            r#""name":"n","correlationKey":"k","timeToLive":-1"#,
+            "FIELD",
+            "timeToLive",
+        ),
+        (
+            r#""name":"n","correlationKey":"k","timeToLive":1.5"#,
+            "FIELD",
+            "timeToLive",
+        ),
+        (
+            r#""name":"n","correlationKey":"k","timeToLive":1e0"#,
+            "FIELD",
+            "timeToLive",
+        ),
+        (
+            r#""name":"n","correlationKey":"k","timeToLive":-0"#,
+            "FIELD",
+            "timeToLive",
+        ),
+        (
+            r#""name":"n","correlationKey":"k","timeToLive":"1""#,
+            "FIELD",
+            "timeToLive",
+        ),
+        (
+            r#""name":"n","correlationKey":"k","timeToLive":18446744073709551616"#,
+            "FIELD",
+            "timeToLive",
+        ),
+        (
+            r#""name":"n","correlationKey":"k","timeToLive":4000000000001,"messageId":null"#,
+            "FIELD",
+            "messageId",
+        ),
+        (
+            r#""name":"n","correlationKey":"k","timeToLive":4000000000001,"more":1,"less":1"#,
+            "FIELD",
+            "less",
+        ),
+        (
+            r#""name":"n","correlationKey":"k","timeToLive":1,"a\"\\\n\u0001\u00e9":1"#,
+            "FIELD",
+            "a\\\"\\\\\\n\\u0001\u{e9}",
+        ),
+        (
+            r#""name":"n","correlationKey":"k","timeToLive":4000000000001"#,
+            "RANGE",
+            "timeToLive",
+        ),
+        (
+            r#""name":"n","correlationKey":"k","timeToLive":18446744073709551615,"variables":{"a":9223372036854775808}"#,
+            "RANGE",
+            "timeToLive",
+        ),
+    ];
+    for (fields, fault, field) in rows {
+        let line = format!(in rt.alloc(); "{{\"op\":\"publish\",{fields}}}")?;
+        let reply = fault_of(rt.alloc(), line.as_bytes())?;
+        let told = format!(in rt.alloc();
+            "{{\"fault\":\"{fault}\",\"field\":\"{field}\",\"line\":1}}\n"
+        )?;
+        assert_eq!(rt; reply.as_slice(), told.as_bytes(), "at {fields}");
+    }
+    Ok(())
+}
+
+#[test]
+fn refuses_variables(rt: HostRuntime) -> Result<(), Fail> {
+    let rows = [
+        ("[]", "FIELD"),
+        ("null", "FIELD"),
+        (r#"{"a":null}"#, "FIELD"),
+        (r#"{"a":{}}"#, "FIELD"),
+        (r#"{"a":1.0}"#, "FIELD"),
+        (r#"{"a":-0}"#, "FIELD"),
+        (r#"{"a":18446744073709551616}"#, "FIELD"),
+        (r#"{"a":-9223372036854775809}"#, "FIELD"),
+        (r#"{"a":[1,"2"]}"#, "FIELD"),
+        (r#"{"a":[1,[2]]}"#, "FIELD"),
+        (r#"{"a":[18446744073709551616]}"#, "FIELD"),
+        (r#"{"a":9223372036854775808,"b":null}"#, "FIELD"),
+        (r#"{"a":9223372036854775808}"#, "RANGE"),
+        (r#"{"a":18446744073709551615}"#, "RANGE"),
+        (r#"{"a":[0,9223372036854775808]}"#, "RANGE"),
+        (r#"{"a":[18446744073709551615,0]}"#, "RANGE"),
+    ];
+    for (variables, fault) in rows {
+        let line = format!(in rt.alloc();
+            "{{\"op\":\"publish\",\"name\":\"n\",\"correlationKey\":\"k\",\"timeToLive\":1,\"variables\":{variables}}}"
+        )?;
+        let reply = fault_of(rt.alloc(), line.as_bytes())?;
+        let told = format!(in rt.alloc();
+            "{{\"fault\":\"{fault}\",\"field\":\"variables\",\"line\":1}}\n"
+        )?;
+        assert_eq!(rt; reply.as_slice(), told.as_bytes(), "at {variables}");
+    }
+    Ok(())
+}
+
+#[test]
+fn keeps_to_the_lengths(rt: HostRuntime) -> Result<(), Fail> {
+    let rows = [
+        (
+            r#"{"op":"publish","correlationKey":"k","timeToLive":1,"name":""#,
+            r#""}"#,
+            255,
+            r#"{"fault":"RANGE","field":"name","line":1}"#,
+        ),
+        (
+            r#"{"op":"publish","name":"n","timeToLive":1,"correlationKey":""#,
+            r#""}"#,
+            255,
+            r#"{"fault":"RANGE","field":"correlationKey","line":1}"#,
+        ),
+        (
+            r#"{"op":"publish","name":"n","correlationKey":"k","timeToLive":1,"messageId":""#,
+            r#""}"#,
+            255,
+            r#"{"fault":"RANGE","field":"messageId","line":1}"#,
+        ),
+        (
+            r#"{"op":"publish","name":"n","correlationKey":"k","timeToLive":1,"variables":{""#,
+            r#"":1}}"#,
+            255,
+            r#"{"fault":"RANGE","field":"variables","line":1}"#,
+        ),
+        (
+            r#"{"op":"publish","name":"n","correlationKey":"k","timeToLive":1,"variables":{"a":""#,
+            r#""}}"#,
+            32_768,
+            r#"{"fault":"RANGE","field":"variables","line":1}"#,
+        ),
+    ];
+    for (head, tail, most, told) in rows {
+        let longest = filled(rt.alloc(), head, b'n', most, tail)?;
         assert_eq!(rt;
-            read_line(rt.alloc(), line).err(),
-            Some(LineFault::NotJson),
-            "at {line:?}"
+            fault_of(rt.alloc(), longest.as_slice())?.as_slice(),
+            b"".as_slice(),
+            "at {head}"
+        );
+        let longer = filled(rt.alloc(), head, b'n', most + 1, tail)?;
+        let reply = fault_of(rt.alloc(), longer.as_slice())?;
+        assert_eq!(rt;
+            reply.as_slice().strip_suffix(b"\n"),
+            Some(told.as_bytes()),
+            "at {head}"
         );
     }
-    let deep = nested(rt.alloc(), 128)?;
-    assert_eq!(rt;
-        read_line(rt.alloc(), deep.as_slice()).err(),
-        Some(LineFault::NotJson)
-    );
-    let long = padded(rt.alloc(), 262_145)?;
-    assert_eq!(rt;
-        read_line(rt.alloc(), long.as_slice()).err(),
-        Some(LineFault::NotJson)
-    );
     Ok(())
 }
 
 #[test]
-fn refuses_what_asks_for_nothing(rt: HostRuntime) -> Result<(), Fail> {
-    let lines = [
-        "{}",
-        "[]",
-        r#"{"op":"fly"}"#,
-        r#"{"op":"publish","name":"paid","correlationKey":"o-1","timeToLive":-1}"#,
-        r#"{"op":"publish","name":"paid","correlationKey":"o-1","timeToLive":1.5}"#,
-        r#"{"op":"publish","name":"paid","correlationKey":"o-1","timeToLive":0}"#,
-        r#"{"op":"publish","name":"paid","correlationKey":"o-1","timeToLive":9223372036854775808}"#,
-        r#"{"op":"publish","name":"paid","correlationKey":"o-1","timeToLive":18446744073709551616}"#,
-        r#"{"op":"publish","name":"paid","correlationKey":"o-1","timeToLive":4000000000001}"#,
-        r#"{"op":"publish","name":"paid","correlationKey":"o-1","timeToLive":"1"}"#,
-        r#"{"name":"paid","correlationKey":"o-1","timeToLive":60000}"#,
-        r#"{"op":"publish","correlationKey":"o-1","timeToLive":60000}"#,
-        r#"{"op":"publish","name":"paid","timeToLive":60000}"#,
-        r#"{"op":"publish","name":"paid","correlationKey":"o-1"}"#,
-        r#"{"op":"publish","name":"paid","correlationKey":"o-1","timeToLive":60000,"more":1}"#,
+fn keeps_to_the_longest_line(rt: HostRuntime) -> Result<(), Fail> {
+    assert_eq!(rt; (LONGEST_LINE, longest_shown()), (262_144, 262_145));
+    let rows = [
+        (PAID, 262_144, ""),
+        (PAID, 262_145, "{\"fault\":\"TOO_LONG\",\"line\":1}\n"),
+        (PAID, 600_000, "{\"fault\":\"TOO_LONG\",\"line\":1}\n"),
+        ("<bpmn>", 262_144, "{\"fault\":\"NOT_JSON\",\"line\":1}\n"),
+        ("<bpmn>", 262_145, "{\"fault\":\"TOO_LONG\",\"line\":1}\n"),
     ];
-    for line in lines {
-        let fault = read_line(rt.alloc(), line.as_bytes()).err();
-        assert_eq!(rt; fault, Some(LineFault::UnknownOp), "at {line}");
+    for (text, length, told) in rows {
+        let line = filled(rt.alloc(), text, b' ', length - text.len(), "")?;
+        let reply = fault_of(rt.alloc(), line.as_slice())?;
+        assert_eq!(rt; reply.as_slice(), told.as_bytes(), "at {text} of {length}");
     }
-    let deep = nested(rt.alloc(), 127)?;
-    assert_eq!(rt;
-        read_line(rt.alloc(), deep.as_slice()).err(),
-        Some(LineFault::UnknownOp)
-    );
-    let wide = named(rt.alloc(), 256)?;
-    assert_eq!(rt;
-        read_line(rt.alloc(), wide.as_slice()).err(),
-        Some(LineFault::UnknownOp)
-    );
+    for (depth, told) in [
+        (127, "{\"fault\":\"NOT_OBJECT\",\"line\":1}\n"),
+        (128, "{\"fault\":\"NOT_JSON\",\"line\":1}\n"),
+    ] {
+        let mut line = filled(rt.alloc(), "", b'[', depth, "")?;
+        line.resize(2 * depth, b']')?;
+        assert_eq!(rt;
+            fault_of(rt.alloc(), line.as_slice())?.as_slice(),
+            told.as_bytes(),
+            "at {depth}"
+        );
+    }
     Ok(())
 }
 
 #[test]
 fn writes_replies(rt: HostRuntime) -> Result<(), Fail> {
-    let mut bytes = Vec::from_slice(rt.alloc(), b"> ")?;
+    let alloc = rt.alloc();
+    let mut bytes = Vec::from_slice(alloc, b"> ")?;
     let key = Key::new(2_251_799_813_685_249);
-    reply_text(rt.alloc(), &Reply::Publish(key), Some(0), &mut bytes)?;
-    reply_text(rt.alloc(), &Reply::Publish(Key::new(7)), None, &mut bytes)?;
+    reply_text(alloc, &Reply::Publish(key), Some(0), &mut bytes)?;
+    reply_text(alloc, &Reply::Publish(Key::new(7)), None, &mut bytes)?;
     reply_text(
-        rt.alloc(),
-        &Reply::Fault(1, LineFault::NotJson),
-        None,
+        alloc,
+        &Reply::Fault(7, LineFault::NotJson),
+        Some(0),
         &mut bytes,
     )?;
+    let field = Text::of(alloc, "a\tb")?;
     reply_text(
-        rt.alloc(),
-        &Reply::Fault(7, LineFault::UnknownOp),
+        alloc,
+        &Reply::Fault(8, LineFault::Range { field }),
         None,
         &mut bytes,
     )?;
     let lines =
-        "> {\"ok\":{\"message\":2251799813685249},\"units\":0}\n{\"ok\":{\"message\":7}}\n{\"fault\":\"NOT_JSON\",\"line\":1}\n{\"fault\":\"UNKNOWN_OP\",\"line\":7}\n";
+        "> {\"ok\":{\"message\":2251799813685249},\"units\":0}\n{\"ok\":{\"message\":7}}\n{\"fault\":\"NOT_JSON\",\"line\":7}\n{\"fault\":\"RANGE\",\"field\":\"a\\tb\",\"line\":8}\n";
     assert_eq!(rt; bytes.as_slice(), lines.as_bytes());
     Ok(())
 }
 
+/// The line of a rejection.
+fn rejected_line(
+    alloc: Global,
+    kind: RejectionKind,
+    reason: &str,
+    units: Option<u64>,
+) -> Result<Vec<u8>, AllocError> {
+    let reason = Text::of(alloc, reason)?;
+    let mut bytes = Vec::new(alloc);
+    reply_text(
+        alloc,
+        &Reply::Rejected(Rejection { kind, reason }),
+        units,
+        &mut bytes,
+    )?;
+    Ok(bytes)
+}
+
 #[test]
-#[tactic(auto, unfolding(crate::specs::Reply::answer_of))]
-fn answers_a_publish_request(rt: HostRuntime) -> Result<(), Fail> {
-    let alloc = rt.alloc();
-    let mut events = List::empty(alloc);
-    events.push(Event::MessageExpired(Key::new(7)))?;
-    events.push(Event::MessagePublished(MessagePublished {
-        key: Key::new(2_251_799_813_685_249),
-        name: Text::of(alloc, "paid")?,
-        correlation_key: Text::of(alloc, "o-1")?,
-        id: Text::empty(alloc),
-        deadline: Moment::new(60_000),
-        variables: Vars::empty(alloc),
-    }))?;
-    let batch = Batch {
-        moment: Moment::new(0),
-        begin: 0,
-        command: Command::MessagePublish(message(alloc)?),
-        outcome: Outcome::Accepted(events),
-    };
-    let reply = reply_of(&batch)?;
-    let Reply::Publish(key) = reply else {
-        assert!(rt; false, "a publish request has the reply of one");
-        return Ok(());
-    };
-    assert_eq!(rt; key, Key::new(2_251_799_813_685_249));
+fn writes_rejections(rt: HostRuntime) -> Result<(), Fail> {
+    let rows = [
+        (
+            RejectionKind::AlreadyExists,
+            "message paid o-1 x is buffered",
+            Some(0),
+            "{\"reason\":\"message paid o-1 x is buffered\",\"rejected\":\"ALREADY_EXISTS\",\"units\":0}\n",
+        ),
+        (
+            RejectionKind::InvalidArgument,
+            "",
+            Some(1_000),
+            "{\"reason\":\"\",\"rejected\":\"INVALID_ARGUMENT\",\"units\":1000}\n",
+        ),
+        (
+            RejectionKind::NotFound,
+            "no job 7",
+            None,
+            "{\"reason\":\"no job 7\",\"rejected\":\"NOT_FOUND\"}\n",
+        ),
+        (
+            RejectionKind::InvalidState,
+            "\"\\/\u{8}\u{c}\n\r\t\u{0}\u{1f}\u{7f}\u{e9}",
+            None,
+            "{\"reason\":\"\\\"\\\\/\\b\\f\\n\\r\\t\\u0000\\u001f\u{7f}\u{e9}\",\"rejected\":\"INVALID_STATE\"}\n",
+        ),
+    ];
+    for (kind, reason, units, told) in rows {
+        let line = rejected_line(rt.alloc(), kind, reason, units)?;
+        assert_eq!(rt; line.as_slice(), told.as_bytes(), "at {told}");
+    }
     Ok(())
 }
 
@@ -199,4 +438,72 @@ fn message(alloc: Global) -> Result<MessagePublish, AllocError> {
         id: Text::empty(alloc),
         variables: Vars::empty(alloc),
     })
+}
+
+ghost use Rattle.std.specs.Prelude.{◌≡◌, Some, IfOk};
+ghost use Rattle.zb_wire.specs.Reply.{message_in};
+
+#[test]
+fn answers_a_publish_request(rt: HostRuntime) -> Result<(), Fail> {
+    let key = answered(rt.alloc())?;
+    assert_eq!(rt; key, Some(Key::new(2_251_799_813_685_249)));
+    Ok(())
+}
+
+/// The key that a publish is answered with.
+#[tactic(auto, unfolding(crate::specs::Reply::answer_of))]
+fn answered(alloc: Global) -> Result<Option<Key>, AllocError> {
+    let key = Key::new(2_251_799_813_685_249);
+    let command = message(alloc)?;
+    let batch = Batch {
+        moment: Moment::new(0),
+        begin: 0,
+        outcome: Outcome::Accepted(published_behind_another(alloc, key)?),
+        command: Command::MessagePublish(command),
+    };
+    let reply = reply_of(alloc, &batch);
+    drop(batch);
+    match reply? {
+        Reply::Publish(key) => Ok(Some(key)),
+        _ => Ok(None),
+    }
+}
+
+/// The events of a publish, behind another event.
+fn published_behind_another(alloc: Global, key: Key) -> Result<List<Event>, AllocError>
+    ensures { IfOk result (λ events. message_in events ≡ Some key) }
+{
+    let published = MessagePublished {
+        key,
+        name: Text::of(alloc, "paid")?,
+        correlation_key: Text::of(alloc, "o-1")?,
+        id: Text::empty(alloc),
+        deadline: Moment::new(60_000),
+        variables: Vars::empty(alloc),
+    };
+    let mut events = List::empty(alloc);
+    events.push(Event::MessageExpired(Key::new(7)))?;
+    events.push(Event::MessagePublished(published))?;
+    Ok(events)
+}
+
+#[test]
+#[tactic(auto, unfolding(crate::specs::Reply::answer_of))]
+fn answers_a_rejected_request(rt: HostRuntime) -> Result<(), Fail> {
+    let alloc = rt.alloc();
+    let rejection = Rejection {
+        kind: RejectionKind::AlreadyExists,
+        reason: Text::of(alloc, "message paid o-1 x is buffered")?,
+    };
+    let batch = Batch {
+        moment: Moment::new(0),
+        begin: 0,
+        command: Command::MessagePublish(message(alloc)?),
+        outcome: Outcome::Rejected(rejection),
+    };
+    let reply = reply_of(alloc, &batch)?;
+    assert!(rt;
+        matches!(&reply, Reply::Rejected(rejection) if rejection.reason.as_str() == "message paid o-1 x is buffered")
+    );
+    Ok(())
 }

@@ -1,4 +1,6 @@
-pub mod Asking
+pub mod Answering
+pub mod Halts
+pub mod Handing
 pub mod Lists
 pub mod Logs
 pub mod Opening

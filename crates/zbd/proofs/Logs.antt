@@ -1,87 +1,72 @@
--- The length of a log, batch by batch.
-use Rattle.std.proofs.Common.{◌≡◌, ℕ, suc, ◌+◌, ◌≤◌, List, [], ◌∷◌, ◌++◌, length, refl, sym, ap, ◌∙◌, arith, length-append}
-use Rattle.std.proofs.lemmas.List.{map-append}
-use Rattle.std.proofs.lemmas.Grind.{flat_map-append}
-use Rattle.std.proofs.lemmas.List.FromFn.{length-range_with_len}
-use Rattle.std.specs.Int.{w64, to_be_bytes}
-use Rattle.std.specs.List.{range_with_len}
+-- Batches that are made one after the other.
+use Rattle.std.proofs.Common.{◌≡◌, ℕ, suc, ◌+◌, ◌≤◌, List, [], ◌∷◌, ◌++◌, length, Bool, IsTrue, None, sym, ap, ◌∙◌, subst, inl, inr, append_assoc, arith, length-append}
+use Rattle.std.specs.List.{range_with_len, AllByRecursion}
 use Rattle.zb_model.specs.declared.record.Batch.{Batch}
-use Rattle.zb_model.specs.Record.{bytes_of}
-use Rattle.zb_rules.specs.StepLaws.{are_steps_none, are_steps_more, last_moment_more}
-use Rattle.zb_store.specs.Log.{open_frame, framed, front, at_rest}
-use Rattle.zbd.specs.Log.{bodies, length_of, log_limit}
-use Rattle.zbd.specs.Ledger.{IsLedger, IsNextOf}
+use Rattle.zb_rules.specs.Step.{IsStep}
+use Rattle.zb_rules.specs.StepLaws.{are_steps_more, last_moment_more}
+use Rattle.zb_rules.specs.View.{last_moment}
+use Rattle.zb_disk.specs.declared.disk.Disk.{Ghosts}
+use Rattle.zb_model.specs.declared.record.Command.{Command}
+use Rattle.zb_model.specs.declared.stop.Stop.TheVariants as stops
+use Rattle.zb_store.specs.GateLog.{log_stands}
+use Rattle.zb_store.specs.Log.{extent}
+use Rattle.zb_store.specs.Stands.{Stands}
+use Rattle.zb_partition.specs.Log.{bodies_of}
+use Rattle.zb_partition.specs.Partition.{disk_of, in_writing, HasLog}
+use Rattle.zb_partition.specs.Stopping.{IsStopped}
+use Rattle.zb_partition.specs.declared.partition.Partition.{Partition}
+use Rattle.zbd.specs.Log.{log_limit}
+use Rattle.zbd.specs.Ledger.{IsMade, IsStored}
 use Rattle.zbd.specs.Served.{IsStamped}
-use Rattle.zbd.proofs.Lists.{range_with_len_more, AllZip_more}
+use Rattle.zbd.proofs.Lists.{range_with_len_more, AllZip_more, append_none}
+use Rattle.zbd.proofs.Streams.{AllByRecursion-append}
 
--- an empty log is one gate
-pub length_of_none : length_of [] ≡ 1
-unfolding length_of at_rest front
-length_of_none = refl
+-- the last moment stays where each batch is made at it
+pub moment_kept : (opened made : List Batch) → AllByRecursion (λ batch. batch.moment ≡ last_moment opened) made → last_moment (opened ++ made) ≡ last_moment opened
+moment_kept opened [] all = ap last_moment (sym (append_none opened))
+moment_kept opened (batch ∷ made) all = ap last_moment (sym (append_assoc opened (batch ∷ []) made)) ∙ (moment_kept (opened ++ batch ∷ []) made (later made all.1) ∙ moved)
+  where
+    moved : last_moment (opened ++ batch ∷ []) ≡ last_moment opened
+    moved = last_moment_more opened batch ∙ all.0
 
-length-open_frame : (body : List ℕ) → length (open_frame body) ≡ length body + 9
-unfolding open_frame
-length-open_frame body = omega (arith, length-append (to_be_bytes w64 (length body)) body)
+    later : (made : List Batch) → AllByRecursion (λ batch. batch.moment ≡ last_moment opened) made → AllByRecursion (λ other. other.moment ≡ last_moment (opened ++ batch ∷ [])) made
+    later [] all = tt
+    later (other ∷ made) all = (all.0 ∙ sym moved, later made all.1)
 
--- a batch takes nine bytes more than it has
-pub length_of_more : (log : List Batch) (batch : Batch) → length_of (log ++ batch ∷ []) ≡ length_of log + (length (bytes_of batch) + 9)
-unfolding length_of at_rest front
-length_of_more log batch =
-    let grown = map-append bytes_of log (batch ∷ []) in
-    let framed = flat_map-append open_frame (bodies log) (bytes_of batch ∷ []) in
-    rw (grown, framed) (omega (arith, length-append {A = ℕ}, length-open_frame))
-
--- a log has a gate at least
-pub length_of_some : (log : List Batch) → 1 ≤ length_of log
-unfolding length_of at_rest
-length_of_some log = omega (arith, length-append (front (bodies log)) (0 ∷ []))
-
--- the ledger of an empty log
-pub is_ledger_none : IsLedger 1 [] []
-unfolding log_limit
-is_ledger_none = record {
-  extent = sym length_of_none;
-  fits = omega arith;
-  stamps = refl;
-  stamped = tt;
-  steps = are_steps_none 1;
-  counter = refl;
-  moment = refl;
-}
-
--- the ledger of a log with one batch more
-pub is_ledger_more : (extent frame : ℕ) (places : List ℕ) (log : List Batch) (batch : Batch) → IsLedger extent places log → IsNextOf log batch
-    → frame ≡ length (bytes_of batch) + 9 → extent + frame ≤ log_limit → IsLedger (extent + frame) (places ++ batch.begin ∷ []) (log ++ batch ∷ [])
-is_ledger_more extent frame places log batch old next size fits = record {
-  extent = omega (arith, old.extent, size, length_of_more log batch);
-  fits = fits;
+-- one batch more, with the next place
+pub made_more : (opened made : List Batch) (places : List ℕ) (batch : Batch) → IsMade opened made places → IsStep 1 (opened ++ made) batch
+    → batch.begin ≡ length (opened ++ made) → batch.moment ≡ last_moment (opened ++ made) → extent (bodies_of ((opened ++ made) ++ batch ∷ [])) ≤ log_limit
+    → IsMade opened (made ++ batch ∷ []) (places ++ length (opened ++ made) ∷ [])
+made_more opened made places batch old step begin moment fits = record {
   stamps =
-      let count : length (log ++ batch ∷ []) ≡ suc (length log) = omega (arith, length-append log (batch ∷ [])) in
-      let last : 0 + length log ≡ length log = omega arith in
-      let put : places ++ batch.begin ∷ [] ≡ range_with_len 0 (length log) ++ (0 + length log) ∷ [] = rw (old.stamps, next.stamped.0) (ap (λ k. range_with_len 0 (length log) ++ k ∷ []) (sym last)) in
-      put ∙ sym (range_with_len_more 0 (length log)) ∙ ap (range_with_len 0) (sym count);
-  stamped = AllZip_more IsStamped places log batch.begin batch old.stamped (refl, next.stamped.1);
-  steps = are_steps_more 1 log batch old.steps next.step;
-  counter = next.counter ∙ omega (arith, length-append log (batch ∷ []));
-  moment = last_moment_more log batch ∙ next.stamped.1;
+      let count : length (made ++ batch ∷ []) ≡ suc (length made) = omega (arith, length-append made (batch ∷ [])) in
+      let put : places ++ length (opened ++ made) ∷ [] ≡ range_with_len (length opened) (length made) ++ (length opened + length made) ∷ [] =
+      rw (old.stamps) (ap (λ k. range_with_len (length opened) (length made) ++ k ∷ []) (length-append opened made)) in
+      put ∙ sym (range_with_len_more (length opened) (length made)) ∙ ap (range_with_len (length opened)) (sym count);
+  stamped = AllZip_more IsStamped places made (length (opened ++ made)) batch old.stamped begin;
+  steps = are_steps_more 1 opened made batch old.steps step;
+  moments = AllByRecursion-append (λ (b : Batch). b.moment ≡ last_moment opened) made (batch ∷ []) old.moments (moment ∙ moment_kept opened made old.moments, tt);
+  fits = inr (subst (λ (log : List Batch). extent (bodies_of log) ≤ log_limit) (append_assoc opened made (batch ∷ [])) fits);
 }
 
--- what is written for a batch: its frame behind an open gate, and a closed one
-pub length-framed : (body : List ℕ) → length (framed body) ≡ length body + 10
-unfolding framed
-length-framed body = omega (arith, length-append (open_frame body) (0 ∷ []), length-open_frame body)
+-- a partition that is known to have this log
+module _ {D : Type 0} {disks : Ghosts D} (log : List Batch) (partition : Partition D disks) (told : IsTrue disks.tells_images → IsTrue disks.tells) (has : HasLog log partition) where
+  crash_stands : IsTrue disks.tells_images → (image : List ℕ) → disks.images (disk_of partition) image → Stands image (bodies_of log)
+  crash_stands t image left = rw (has.durable t image left) (log_stands _ _ _ (has.file (told t)))
 
--- each batch takes a byte at least
-pub length_front : (log : List Batch) → length log ≤ length (front (bodies log))
-unfolding front
-length_front [] = omega arith
-length_front (batch ∷ log) = omega (arith, length_front log, length-append (open_frame (bytes_of batch)) (front (bodies log)), length-open_frame (bytes_of batch))
+  -- its file stands for the log, whatever a crash leaves
+  pub has_stored : IsStored disks.tells disks.tells_images (disks.view (disk_of partition)) (disks.images (disk_of partition)) log
+  has_stored = record { file = λ t. log_stands _ _ _ (has.file t); crash = crash_stands }
 
--- so a ledger has fewer stamps than a log may have bytes
-pub count_within : (extent : ℕ) (places : List ℕ) (log : List Batch) → IsLedger extent places log → length places ≤ log_limit
-unfolding length_of at_rest
-count_within extent places log ledger =
-    omega (arith, ledger.fits, ledger.extent, ap length ledger.stamps, length-range_with_len 0 (length log), length_front log, length-append (front (bodies log)) (0 ∷ []))
-
-pub count_is : (extent : ℕ) (places : List ℕ) (log : List Batch) → IsLedger extent places log → length places ≡ length log
-count_is extent places log ledger = ap length ledger.stamps ∙ length-range_with_len 0 (length log)
+  -- nothing was done to it, since there was no memory
+  pub stopped_unasked : (takes_memory : Bool) (limit moment begin : ℕ) (command : Command)
+      → IsStopped disks.tells disks.tells_images takes_memory (disks.view (disk_of partition)) (disks.view (disk_of partition)) (disks.images (disk_of partition)) 1 limit log moment begin command (in_writing partition) stops.Memory
+  stopped_unasked takes_memory limit moment begin command = record {
+    refused = None;
+    next = λ batch e. absurd (cc);
+    unwritten = record {
+      cause = inl has.resting;
+      file = λ t. rw (has.resting) (log_stands _ _ _ (has.file t));
+      crash = λ t image left. rw (has.resting) (crash_stands t image left);
+    };
+  }

@@ -1,5 +1,5 @@
 -- A run of one session and one volume, as a run of lists of them.
-use Rattle.std.proofs.Common.{◌≡◌, ℕ, zero, suc, ◌<◌, List, [], ◌∷◌, length, get_or, sym, ap, subst, arith}
+use Rattle.std.proofs.Common.{◌≡◌, ℕ, zero, suc, ◌<◌, List, [], ◌∷◌, ◌++◌, length, get_or, refl, sym, ap, subst, arith, length-append}
 use Rattle.std.proofs.Math.ListN.{set}
 use Rattle.zb_disk.specs.Disk.{DiskView}
 use Rattle.zb_outside.specs.Stream.{SourceView, SinkView}
@@ -18,6 +18,15 @@ one_member (a ∷ b ∷ xs) x one is = absurd (omega arith)
 
 pub one_set : {A : Type 0} (xs : List A) (x y : A) → xs ≡ x ∷ [] → set xs 0 y ≡ y ∷ []
 one_set xs x y is = ap (λ l. set l 0 y) is
+
+-- the one member was taken off, and another one put in its place
+pub one_taken : {A : Type 0} (xs rest : List A) (x : A) → length xs ≡ 1 → xs ≡ rest ++ x ∷ [] → xs ≡ x ∷ []
+one_taken xs [] x one is = is
+one_taken xs (a ∷ rest) x one is = absurd (omega (arith, ap length is, length-append rest (x ∷ [])))
+
+pub one_put : {A : Type 0} (xs rest : List A) (x y : A) → length xs ≡ 1 → xs ≡ rest ++ x ∷ [] → rest ++ y ∷ [] ≡ y ∷ []
+one_put xs [] x y one is = refl
+one_put xs (a ∷ rest) x y one is = absurd (omega (arith, ap length is, length-append rest (x ∷ [])))
 
 -- what a crash may leave of the one log
 image_of : {D : Type 0} (images : D → List ℕ → Type 0) (volume : Volume D) (place : ℕ) (image : List ℕ) → images_at images (volume ∷ []) place image → images volume.log image
@@ -41,15 +50,17 @@ serves_fewer : (told : Told) (streams : List SessionEnds) (volumes : List LogEnd
     → ((place : ℕ) (image : List ℕ) → fewer place image → images place image) → Serves told streams volumes images cause stamps → Serves told streams volumes fewer cause stamps
 serves_fewer told streams volumes images fewer cause stamps less s = record {
   runs = s.runs;
-  made = s.made;
+  logs = s.logs;
+  silent = s.silent;
   unlogged = s.unlogged;
   status = s.status;
-  logs = s.logs;
+  are_logs = s.are_logs;
   stamped = s.stamped;
   ascending = s.ascending;
   each_once = s.each_once;
   sessions = s.sessions;
   batches = s.batches;
+  are_silent = s.are_silent;
   next = s.next;
   crash_now = λ told place log ends image is_log is_ends left. s.crash_now told place log ends image is_log is_ends (less place image left);
 }

@@ -7,7 +7,7 @@ use Rattle.std.specs.List.{flat_map, AllByRecursion}
 use Rattle.zb_outside.specs.Stream.{SourceView}
 use Rattle.zb_lines.specs.Taken.{Takes}
 use Rattle.zb_lines.specs.Line.{newline, IsOneLine, ended, AreLines}
-use Rattle.zbd.specs.Session.{Answer, IsAnswer, AreAnswers, batches_of, replies_of, last_line}
+use Rattle.zbd.specs.Session.{Answer, IsAnswer, AreAnswers, batches_of, replies_of, last_line, most_taken}
 
 -- the lines of some bytes
 pub record Splits (bytes : List ℕ) : Type 0 where
@@ -84,6 +84,7 @@ pub record IsStream (tells : Bool) (start now : SourceView) (served unserved : L
   pub lines : List (List ℕ)
   pub rest : List ℕ
   pub takes : Takes tells start now taken
+  pub within : length taken ≤ most_taken
   pub are : AreLines taken lines rest
   pub to_end : IsTrue at_end → IsTrue tells → now.left ≡ []
   pub first : lines ++ last_line at_end rest ≡ served ++ unserved
@@ -92,6 +93,7 @@ pub record IsStream (tells : Bool) (start now : SourceView) (served unserved : L
 pub record IsBehind (tells : Bool) (start now : SourceView) (lines : List (List ℕ)) (bytes : List ℕ) : Type 0 where
   pub taken : List ℕ
   pub takes : Takes tells start now taken
+  pub within : length taken ≤ most_taken
   pub whole : taken ≡ flat_map ended lines ++ bytes
   pub each : AllByRecursion IsOneLine lines
 
@@ -102,6 +104,7 @@ stream_cut tells start now lines bytes behind s = record {
   lines = lines ++ s.lines;
   rest = s.rest;
   takes = behind.takes;
+  within = behind.within;
   are = record {
     whole = behind.whole ∙ rw (s.are.whole, flat_map-append ended lines s.lines) (sym (append_assoc (flat_map ended lines) (flat_map ended s.lines) s.rest));
     each = AllByRecursion-append IsOneLine lines s.lines behind.each s.are.each;
@@ -118,6 +121,7 @@ stream_within tells start now lines bytes behind one = record {
   lines = lines;
   rest = bytes;
   takes = behind.takes;
+  within = behind.within;
   are = record { whole = behind.whole; each = behind.each; partial = one };
   to_end = λ none. absurd (false≢true none);
   first = refl;
@@ -135,6 +139,7 @@ stream_last tells start now lines bytes behind one some end = record {
   lines = lines;
   rest = bytes;
   takes = behind.takes;
+  within = behind.within;
   are = record { whole = behind.whole; each = behind.each; partial = one };
   to_end = λ ended told. end told;
   first = ap (λ more. lines ++ more) (last_line_some bytes some);
@@ -149,6 +154,7 @@ stream_end tells start now lines bytes behind none end = record {
   lines = lines;
   rest = [];
   takes = behind.takes;
+  within = behind.within;
   are = record { whole = behind.whole ∙ ap (λ bs. flat_map ended lines ++ bs) none; each = behind.each; partial = tt };
   to_end = λ ended told. end told;
   first = refl;
@@ -162,6 +168,7 @@ stream_on tells start now served line unserved at_end s = record {
   lines = s.lines;
   rest = s.rest;
   takes = s.takes;
+  within = s.within;
   are = s.are;
   to_end = s.to_end;
   first = s.first ∙ sym (append_assoc served (line ∷ []) unserved);

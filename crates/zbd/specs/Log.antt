@@ -1,47 +1,58 @@
 -- A partition's log in a run.
-use Rattle.std.specs.Prelude.{◌≡◌, ◌⊎◌, ◌<◌, ◌≤◌, ◌+◌, ◌-◌, ◌^◌, min, ℕ, List, length, map, IsTrue, IsSome, Option, Some}
+use Rattle.std.specs.Prelude.{◌≡◌, ◌⊎◌, ◌<◌, ◌≤◌, ◌+◌, ℕ, List, [], ◌∷◌, ◌++◌, IsTrue, IsSome, Option, Some}
+use Rattle.std.specs.List.{AllByRecursion}
 use Rattle.zb_disk.specs.Cause.{Rose}
 use Rattle.zb_model.specs.declared.record.Batch.{Batch}
-use Rattle.zb_model.specs.Record.{bytes_of}
-use Rattle.zb_store.specs.Log.{front, at_rest, Begins}
-use Rattle.zb_rules.specs.Step.{AreSteps, IsStep}
+use Rattle.zb_store.specs.Log.{extent}
+use Rattle.zb_store.specs.Stands.{Stands}
+use Rattle.zb_rules.specs.View.{last_moment}
+use Rattle.zb_rules.specs.Step.{IsStep, AreStepsOn}
+use Rattle.zb_partition.specs.Log.{bodies_of, IsApplied}
+use Rattle.zb_partition.specs.Stopping.{frame_of}
 use Rattle.zbd.specs.Ends.{LogEnds, Told}
 use Rattle.zbd.specs.declared.run.Cause.{Cause}
 use Rattle.zbd.specs.declared.run.Cause.TheVariants as causes
 
--- a log has at most so many bytes
+-- a log may have so many bytes
 unfoldable pub log_limit : ℕ
 log_limit = 1073741824
 
--- the bodies of the frames that a log of these batches has
-abbrev pub bodies : List Batch → List (List ℕ)
-bodies log = map bytes_of log
+-- a log in a run: the batches that it had at opening, and those that were made in the run
+pub record Growth : Type 0 where
+  pub opened : List Batch
+  pub made : List Batch
 
--- the length of a log of these batches, its last gate included
-unfoldable pub length_of : List Batch → ℕ
-length_of log = length (at_rest (bodies log))
+-- all batches of the log
+abbrev pub whole_of : Growth → List Batch
+whole_of growth = growth.opened ++ growth.made
 
 -- the disk failed, or its call wanted memory, which ended the run
 abbrev pub IsDiskHurt : Told → LogEnds → Cause → Type 0
 IsDiskHurt told ends cause = Rose ends.disk.faults ends.disk_after.faults ⊎ (IsTrue told.disk_memory × (cause ≡ causes.Memory))
 
--- the partition with this number, whose volume was empty, in a run that made this log of it, and the batch
--- that was made last and isn't in the log
-pub record IsLog (told : Told) (cause : Cause) (unlogged : Option Batch) (number : ℕ) (ends : LogEnds) (log : List Batch) : Type 0 where
-  -- each batch is a step on those before it
-  pub steps : AreSteps number log
-  -- the file is the log at rest, or begins with it, since the disk was hurt in a write behind it
-  pub opened : IsTrue told.disk → length ends.disk.contents ≤ 1
-  pub contents : IsTrue told.disk → (ends.disk_after.contents ≡ at_rest (bodies log))
-      ⊎ (Begins ends.disk_after.contents (front (bodies log)) × IsDiskHurt told ends cause)
+-- a file stands for the log, or, where the disk was hurt, for the log and the batch that was in writing
+abbrev pub IsKept : Told → LogEnds → Cause → Option Batch → List Batch → List ℕ → Type 0
+IsKept told ends cause unlogged log file = Stands file (bodies_of log)
+    ⊎ (((batch : Batch) × (unlogged ≡ Some batch) × Stands file (bodies_of (log ++ batch ∷ []))) × IsDiskHurt told ends cause)
+
+-- the log of the partition with this number, and the batch that was made last and isn't in the log
+pub record IsLog (told : Told) (cause : Cause) (unlogged : Option Batch) (number : ℕ) (ends : LogEnds) (growth : Growth) : Type 0 where
+  -- the file stood for the batches that it had at opening, whose events apply
+  pub opened : IsTrue told.disk → Stands ends.disk.contents (bodies_of growth.opened)
+  pub applied : IsApplied number growth.opened
+  -- each batch that was made is a step on those before it, at the moment of the last one that was there, since the
+  -- manual clock stands at 0
+  pub steps : AreStepsOn number growth.opened growth.made
+  pub moments : AllByRecursion (λ batch. batch.moment ≡ last_moment growth.opened) growth.made
+  -- the file stands for all of them
+  pub contents : IsTrue told.disk → IsKept told ends cause unlogged (whole_of growth) ends.disk_after.contents
   -- the disk is named only where it failed, with the batch that was being written
   pub disk_fault : (batch : Option Batch) → cause ≡ causes.DiskFault number batch
       → Rose ends.disk.faults ends.disk_after.faults × (batch ≡ unlogged) × IsSome batch
-  -- the log is full exactly where the frame of the batch that was made next doesn't fit: nine bytes more
-  -- than the batch has, at most the greatest number of 64 bits
-  pub fits : length_of log ≤ log_limit
+  -- the log is full exactly where the frame of the batch that was made next doesn't fit
+  pub fits : (growth.made ≡ []) ⊎ (extent (bodies_of (whole_of growth)) ≤ log_limit)
   pub log_full : (length_told frame limit : ℕ) → cause ≡ causes.LogFull number length_told frame limit
-      → (length_told ≡ length_of log) × (limit ≡ log_limit) × (limit < length_told + frame)
-      × ((batch : Batch) × (unlogged ≡ Some batch) × (frame ≡ min (length (bytes_of batch) + 9) (2 ^ 64 - 1)))
+      → (length_told ≡ extent (bodies_of (whole_of growth))) × (limit ≡ log_limit) × (limit < length_told + frame)
+      × ((batch : Batch) × (unlogged ≡ Some batch) × (frame ≡ frame_of batch))
   -- that batch is a step on the log
-  pub next : (batch : Batch) → unlogged ≡ Some batch → IsStep number log batch
+  pub next : (batch : Batch) → unlogged ≡ Some batch → IsStep number (whole_of growth) batch

@@ -1,16 +1,16 @@
 -- What a run of the server is.
-use Rattle.std.specs.Prelude.{◌≡◌, ◌⊎◌, ◌<◌, ◌≤◌, ◌-◌, ℕ, List, [], ◌∷◌, length, slice_get, IsTrue, Option, Some, None, Ok}
+use Rattle.std.specs.Prelude.{◌≡◌, ◌⊎◌, ◌<◌, ◌≤◌, ◌-◌, ℕ, List, [], ◌∷◌, ◌++◌, length, slice_get, IsTrue, Option, Some, None, Ok}
 use Rattle.std.specs.List.{flat_map, AllByRecursion, AllZip, range_with_len}
 use Rattle.std.specs.List.Sorted.{IsPermutation, IsStrictlyIncreasing}
 use Rattle.zb_disk.specs.Cause.{Rose}
 use Rattle.zb_model.specs.declared.record.Batch.{Batch}
-use Rattle.zb_store.specs.Log.{front, at_rest, Begins}
 use Rattle.zb_wire.specs.declared.request.Request.{Request}
 use Rattle.zb_wire.specs.Request.{request_of}
 use Rattle.zb_wire.specs.Reply.{command_of}
 use Rattle.zbd.specs.Ends.{SessionEnds, LogEnds, Told, EachFrom}
 use Rattle.zbd.specs.Session.{SessionRun, IsSession, batches_of}
-use Rattle.zbd.specs.Log.{IsLog, IsDiskHurt, bodies}
+use Rattle.zb_partition.specs.Log.{IsBadAt}
+use Rattle.zbd.specs.Log.{Growth, whole_of, IsLog, IsKept}
 use Rattle.zbd.specs.declared.run.Volume.{Volume}
 use Rattle.zbd.specs.declared.run.Cause.{Cause}
 use Rattle.zbd.specs.declared.run.Cause.TheVariants as causes
@@ -41,7 +41,7 @@ MayEnd sessions partitions (causes.BadLog partition frame) = ⊥
 MayEnd sessions partitions (causes.SinkFault session) = IsOneOf sessions session
 MayEnd sessions partitions causes.Memory = Unit {0}
 MayEnd sessions partitions (causes.LogFull partition length_told frame limit) = IsOneOf partitions partition
-MayEnd sessions partitions (causes.InputFull session) = ⊥
+MayEnd sessions partitions (causes.InputFull session) = IsOneOf sessions session
 
 -- a batch is made of the next line of a session
 pub record IsNext (runs : List SessionRun) (batch : Batch) : Type 0 where
@@ -55,44 +55,57 @@ pub record IsNext (runs : List SessionRun) (batch : Batch) : Type 0 where
   pub asked : request_of line ≡ Ok request
   pub command : batch.command ≡ command_of request
 
--- a batch has this number as its begin, and the moment at which the manual clock stands
+-- a batch has this number as its begin
 abbrev pub IsStamped : ℕ → Batch → Type 0
-IsStamped stamp batch = (batch.begin ≡ stamp) × (batch.moment ≡ 0)
+IsStamped stamp batch = batch.begin ≡ stamp
+
+-- the batches that all logs had at opening, and those that were made
+abbrev pub all_opened : List Growth → List Batch
+all_opened growths = flat_map (λ growth. growth.opened) growths
+
+abbrev pub all_made : List Growth → List Batch
+all_made growths = flat_map (λ growth. growth.made) growths
+
+-- the batches of a line that was not answered: none, or that of the next line of a session where memory ran out behind it
+abbrev pub AreSilent : List SessionRun → Cause → List Batch → Type 0
+AreSilent runs cause silent = (silent ≡ []) ⊎ ((batch : Batch) × (silent ≡ batch ∷ []) × IsNext runs batch × (cause ≡ causes.Memory))
 
 -- a run whose logs were opened: its sessions, its logs, and its cause
 pub record Serves (told : Told) (streams : List SessionEnds) (volumes : List LogEnds) (images : ℕ → List ℕ → Type 0)
     (cause : Cause) (stamps : List (List ℕ)) : Type 0 where
-  -- each session's part, the batches of each partition, and the batch that was made last and isn't in its log
+  -- each session's part, the batches of each partition, the batches of a line that was not answered, and the batch
+  -- that was made last and isn't in its log
   pub runs : List SessionRun
-  pub made : List (List Batch)
+  pub logs : List Growth
+  pub silent : List Batch
   pub unlogged : Option Batch
   -- the causes that there are, and when each comes
   pub status : MayEnd (length streams) (length volumes) cause
-  -- each log has as many batches as stamps; the stamps are 0, 1, 2, .., each once, and ascend in each log
-  pub logs : EachFrom (IsLog told cause unlogged) 1 volumes made
-  pub stamped : AllZip (AllZip IsStamped) stamps made
-  pub ascending : AllZip (λ list log. IsStrictlyIncreasing list) stamps made
-  pub each_once : IsPermutation (range_with_len 0 (length (flat_map (λ log. log) made))) (flat_map (λ list. list) stamps)
+  -- each log has as many new batches as stamps; the stamps are the numbers from the count of all opened batches on,
+  -- each once, and ascend in each log
+  pub are_logs : EachFrom (IsLog told cause unlogged) 1 volumes logs
+  pub stamped : AllZip (λ list growth. AllZip IsStamped list growth.made) stamps logs
+  pub ascending : AllZip (λ list growth. IsStrictlyIncreasing list) stamps logs
+  pub each_once : IsPermutation (range_with_len (length (all_opened logs)) (length (all_made logs))) (flat_map (λ list. list) stamps)
   -- the lines that were served, and what each led to
   pub sessions : EachFrom (IsSession told cause) 1 streams runs
-  -- the batches are those of the served lines and no others
-  pub batches : flat_map (λ log. log) made ≡ flat_map (λ run. batches_of run.answers) runs
+  -- the new batches are those of the served lines, and of one that was not answered, and no others
+  pub batches : all_made logs ≡ flat_map (λ run. batches_of run.answers) runs ++ silent
+  pub are_silent : AreSilent runs cause silent
   pub next : (batch : Batch) → unlogged ≡ Some batch → IsNext runs batch
-  -- what a crash now leaves begins with every batch of the log, and is the log where the disk wasn't hurt
-  pub crash_now : IsTrue told.images → (place : ℕ) (log : List Batch) (ends : LogEnds) (image : List ℕ)
-      → slice_get made place ≡ Some log → slice_get volumes place ≡ Some ends → images place image
-      → Begins image (front (bodies log)) × ((image ≡ at_rest (bodies log)) ⊎ IsDiskHurt told ends cause)
+  -- what a crash now leaves stands for the log
+  pub crash_now : IsTrue told.images → (place : ℕ) (growth : Growth) (ends : LogEnds) (image : List ℕ)
+      → slice_get logs place ≡ Some growth → slice_get volumes place ≡ Some ends → images place image
+      → IsKept told ends cause unlogged (whole_of growth) image
 
 -- the member with this number, from 1, has P
 abbrev pub OfNumber : {A : Type 0} → List A → ℕ → (A → Type 0) → Type 0
 OfNumber {A} members number P = (member : A) × (1 ≤ number) × (slice_get members (number - 1) ≡ Some member) × P member
 
--- Opening ended the run: a disk failed, a log longer than one byte can't be read and is unchanged, or there
--- was no memory.
+-- Opening ended the run: a disk failed, a log has a first frame that can't be read, or there was no memory.
 abbrev pub FailsToOpen : Told → List LogEnds → Cause → Type 0
 FailsToOpen told volumes (causes.DiskFault partition batch) = (batch ≡ None) × OfNumber volumes partition (λ ends. Rose ends.disk.faults ends.disk_after.faults)
-FailsToOpen told volumes (causes.BadLog partition frame) = (frame ≡ 0)
-    × OfNumber volumes partition (λ ends. IsTrue told.disk → (1 < length ends.disk.contents) × (ends.disk_after.contents ≡ ends.disk.contents))
+FailsToOpen told volumes (causes.BadLog partition frame) = OfNumber volumes partition (λ ends. IsTrue told.disk → IsBadAt partition ends.disk.contents frame)
 FailsToOpen told volumes causes.Memory = Unit {0}
 FailsToOpen told volumes causes.Done = ⊥
 FailsToOpen told volumes causes.Usage = ⊥

@@ -1,10 +1,8 @@
 -- A session: the lines of a source, what each led to, and the replies.
-use Rattle.std.specs.Prelude.{◌≡◌, ◌⊎◌, ℕ, suc, List, [], ◌∷◌, ◌++◌, take, Bool, true, false, IsTrue, Option, Some, None, Result, Ok, Err}
+use Rattle.std.specs.Prelude.{◌≡◌, ◌⊎◌, ◌≤◌, ◌^◌, ℕ, suc, List, [], ◌∷◌, ◌++◌, length, take, Bool, true, false, IsTrue, Some, None, Result, Ok, Err}
 use Rattle.std.specs.List.{flat_map}
 use Rattle.zb_disk.specs.Cause.{Rose}
 use Rattle.zb_model.specs.declared.record.Batch.{Batch}
-use Rattle.zb_exchange_records.specs.declared.message.MessagePublish.{MessagePublish}
-use Rattle.zb_model.specs.declared.record.Command.TheVariants as commands
 use Rattle.zb_lines.specs.Taken.{Takes}
 use Rattle.zb_lines.specs.Line.{AreLines}
 use Rattle.zb_wire.specs.declared.request.Request.{Request}
@@ -17,6 +15,10 @@ use Rattle.zbd.specs.Ends.{SessionEnds, Told}
 use Rattle.zbd.specs.declared.run.Cause.{Cause}
 use Rattle.zbd.specs.declared.run.Cause.TheVariants as causes
 
+-- a session takes at most so many bytes
+unfoldable pub most_taken : ℕ
+most_taken = 2 ^ 40
+
 -- what a line led to: the batches that its request made, and the line of its reply
 pub record Answer : Type 0 where
   pub batches : List Batch
@@ -28,11 +30,6 @@ abbrev pub IsAnswerTo : ℕ → Result Request LineFault → Answer → Type 0
 IsAnswerTo number (Err fault) answer = (answer.batches ≡ []) × (answer.reply ≡ line_of (replies.Fault number fault) None)
 IsAnswerTo number (Ok request) answer = (batch : Batch) × (answer.batches ≡ batch ∷ []) × (batch.command ≡ command_of request)
     × (reply : Reply) × (answer_of batch ≡ Some reply) × (answer.reply ≡ line_of reply (Some 0))
-
--- a publish made this batch, and its reply was put behind these bytes
-abbrev pub IsPublished : MessagePublish → List ℕ → List ℕ → Option Batch → Type 0
-IsPublished command before after found = (batch : Batch) × (found ≡ Some batch) × (batch.command ≡ commands.MessagePublish command)
-    × (reply : Reply) × (answer_of batch ≡ Some reply) × (after ≡ before ++ line_of reply (Some 0))
 
 -- this is what the line with this number led to
 abbrev pub IsAnswer : ℕ → List ℕ → Answer → Type 0
@@ -83,6 +80,7 @@ pub record IsSession (told : Told) (cause : Cause) (number : ℕ) (ends : Sessio
   -- the bytes that were taken, and the lines that they are
   pub takes : Takes told.source ends.source ends.source_after run.taken
   pub lines : AreLines run.taken run.lines run.rest
+  pub within : length run.taken ≤ most_taken
   pub to_end : IsTrue run.ended → IsTrue told.source → ends.source_after.left ≡ []
   -- the served lines are the first ones, each with its answer, and the replies were written in order
   pub first : run.lines ++ last_line run.ended run.rest ≡ run.served ++ run.unserved
@@ -93,3 +91,5 @@ pub record IsSession (told : Told) (cause : Cause) (number : ℕ) (ends : Sessio
   -- a stream is named only where it failed; a source then has all its lines served
   pub source_fault : cause ≡ causes.SourceFault number → Rose ends.source.faults ends.source_after.faults × (run.unserved ≡ [])
   pub sink_fault : cause ≡ causes.SinkFault number → Rose ends.sink.faults ends.sink_after.faults
+  -- a session is full exactly where it took as many bytes as it may and hasn't ended; all its lines are served then
+  pub input_full : cause ≡ causes.InputFull number → (length run.taken ≡ most_taken) × (run.ended ≡ false) × (run.unserved ≡ [])

@@ -1,11 +1,28 @@
 use std::fmt;
-use zb_model::Batch;
+use zb_model::{Batch, Stop};
 
 /// The number of the one session that is served so far.
 pub const SESSION: u32 = 1;
 
 /// The number of the one partition that there is so far.
 pub const PARTITION: u32 = 1;
+
+/// Why the serving of a session ended.
+#[derive(Clone, Copy, Debug, PartialEq, Eq)]
+pub enum End {
+    /// Its source was read to its end, and every line has its reply.
+    Done,
+    /// Its source failed.
+    SourceFault,
+    /// Its sink failed.
+    SinkFault,
+    /// It took as many bytes as a session may.
+    InputFull,
+    /// There was no memory.
+    Memory,
+    /// The partition stopped.
+    Stopped(Stop),
+}
 
 /// A client: where its lines come from, and where the replies go.
 #[derive(Drop)]

@@ -1,30 +1,41 @@
 ghost use Rattle.std.specs.Prelude.{◌≡◌, [], IfOk};
+ghost use Rattle.zb_partition.specs.Partition.{disk_of, in_writing};
 ghost use Rattle.zbd.specs.Ends.{told};
-ghost use Rattle.zbd.specs.Serving.{now_of, Start, IsServing, IsOver, GoesOn, goes_on, source_cause_of};
+ghost use Rattle.zbd.specs.Ledger.{IsOpen};
+ghost use Rattle.zbd.specs.Session.{most_taken};
+ghost use Rattle.zbd.specs.Serving.{now_of, Start, IsServing, IsOver, GoesOn, cause_of, goes_on, source_end_of};
 
 use crate::ledger::Ledger;
 use crate::line::serve_line;
-use crate::run::{Cause, SESSION, Session};
+use crate::run::{End, Session};
 use std::alloc::{AllocError, Global};
 use zb_disk::Disk;
 use zb_lines::{LineReader, Next};
 use zb_outside::{Sink, Source, Trouble};
 use zb_wire::longest_shown;
 
+/// A session takes at most so many bytes.
+const MOST_TAKEN: u64 = 1 << 40;
+
 // What a session keeps from line to line.
 #[derive(Drop)]
 struct Desk {
     reader: LineReader,
+    // How many bytes may still be taken.
+    budget: u64,
     line: Vec<u8>,
     reply: Vec<u8>,
 }
 
 impl Desk {
+    #[tactic(auto, unfolding(crate::specs::Session::most_taken))]
     fn new(alloc: Global) -> Result<Desk, AllocError>
-        ensures { IfOk result (λ desk. desk.reader ≡ []) }
+        ensures reader { IfOk result (λ desk. desk.reader ≡ []) }
+        ensures budget { IfOk result (λ desk. desk.budget ≡ most_taken) }
     {
         Ok(Desk {
             reader: LineReader::new(alloc)?,
+            budget: MOST_TAKEN,
             line: Vec::new(alloc),
             reply: Vec::new(alloc),
         })
@@ -32,35 +43,34 @@ impl Desk {
 }
 
 /// Serves the lines of a session one after the other, up to the end of its source or to what ends the run
-/// before. It takes one step for each byte of the lines, and a write and a sync of the disk for each batch.
+/// before. It takes one step for each byte of the lines, and the partition's calls for each batch.
 pub fn serve_session<S: Source, K: Sink, D: Disk>(
     alloc: Global,
     session: &mut Session<S, K>,
-    disk: &mut D,
-    ledger: &mut Ledger,
-) -> Cause
+    ledger: &mut Ledger<D>,
+) -> End
     requires { (start : Start) × IsServing
         (told S.tells K.tells D.tells D.tells_images K.takes_memory D.takes_memory)
-        start (now_of (S.view session.old.source) (K.view session.old.sink) (D.view disk.old))
-        (D.images disk.old) ledger.old.length ledger.old.stamps.items [] 1 }
+        start (now_of (S.view session.old.source) (K.view session.old.sink) (D.view (disk_of ledger.old.partition)))
+        (D.images (disk_of ledger.old.partition)) (IsOpen ledger.old.partition) ledger.old.stamps.items [] most_taken 1 }
     ensures { (start : Start) → IsServing
         (told S.tells K.tells D.tells D.tells_images K.takes_memory D.takes_memory)
-        start (now_of (S.view session.old.source) (K.view session.old.sink) (D.view disk.old))
-        (D.images disk.old) ledger.old.length ledger.old.stamps.items [] 1
+        start (now_of (S.view session.old.source) (K.view session.old.sink) (D.view (disk_of ledger.old.partition)))
+        (D.images (disk_of ledger.old.partition)) (IsOpen ledger.old.partition) ledger.old.stamps.items [] most_taken 1
         → IsOver
         (told S.tells K.tells D.tells D.tells_images K.takes_memory D.takes_memory)
-        start (now_of (S.view session.new.source) (K.view session.new.sink) (D.view disk.new))
-        (D.images disk.new) ledger.new.stamps.items result }
+        start (now_of (S.view session.new.source) (K.view session.new.sink) (D.view (disk_of ledger.new.partition)))
+        (D.images (disk_of ledger.new.partition)) ledger.new.stamps.items (cause_of (in_writing ledger.new.partition) result) }
 {
     let mut desk = match Desk::new(alloc) {
         Ok(desk) => desk,
-        Err(AllocError) => return Cause::Memory,
+        Err(AllocError) => return End::Memory,
     };
     for number in 1..u64::MAX {
-        match serve_next(alloc, number, &mut desk, session, disk, ledger) {
+        match serve_next(alloc, number, &mut desk, session, ledger) {
             Ok(true) => {}
-            Ok(false) => return Cause::Done,
-            Err(cause) => return cause,
+            Ok(false) => return End::Done,
+            Err(end) => return end,
         }
     }
     unreachable!()
@@ -72,31 +82,35 @@ fn serve_next<S: Source, K: Sink, D: Disk>(
     number: u64,
     desk: &mut Desk,
     session: &mut Session<S, K>,
-    disk: &mut D,
-    ledger: &mut Ledger,
-) -> Result<bool, Cause>
+    ledger: &mut Ledger<D>,
+) -> Result<bool, End>
     requires { (start : Start) × IsServing
         (told S.tells K.tells D.tells D.tells_images K.takes_memory D.takes_memory)
-        start (now_of (S.view session.old.source) (K.view session.old.sink) (D.view disk.old))
-        (D.images disk.old) ledger.old.length ledger.old.stamps.items desk.old.reader number }
+        start (now_of (S.view session.old.source) (K.view session.old.sink) (D.view (disk_of ledger.old.partition)))
+        (D.images (disk_of ledger.old.partition)) (IsOpen ledger.old.partition) ledger.old.stamps.items desk.old.reader desk.old.budget number }
     ensures { (start : Start) → IsServing
         (told S.tells K.tells D.tells D.tells_images K.takes_memory D.takes_memory)
-        start (now_of (S.view session.old.source) (K.view session.old.sink) (D.view disk.old))
-        (D.images disk.old) ledger.old.length ledger.old.stamps.items desk.old.reader number
+        start (now_of (S.view session.old.source) (K.view session.old.sink) (D.view (disk_of ledger.old.partition)))
+        (D.images (disk_of ledger.old.partition)) (IsOpen ledger.old.partition) ledger.old.stamps.items desk.old.reader desk.old.budget number
         → GoesOn
         (told S.tells K.tells D.tells D.tells_images K.takes_memory D.takes_memory)
-        start (now_of (S.view session.new.source) (K.view session.new.sink) (D.view disk.new))
-        (D.images disk.new) ledger.new.length ledger.new.stamps.items desk.new.reader number result }
+        start (now_of (S.view session.new.source) (K.view session.new.sink) (D.view (disk_of ledger.new.partition)))
+        (D.images (disk_of ledger.new.partition)) (IsOpen ledger.new.partition) ledger.new.stamps.items desk.new.reader desk.new.budget number
+        (in_writing ledger.new.partition) result }
 {
-    let next = match desk
-        .reader
-        .next(&mut session.source, longest_shown(), &mut desk.line)
-    {
+    let next = match desk.reader.next(
+        &mut session.source,
+        &mut desk.budget,
+        longest_shown(),
+        &mut desk.line,
+    ) {
         Ok(next) => next,
-        Err(trouble) => return Err(source_cause(trouble)),
+        Err(trouble) => return Err(source_end(trouble)),
     };
-    if let Next::End = next {
-        return Ok(false);
+    match next {
+        Next::End => return Ok(false),
+        Next::Full => return Err(End::InputFull),
+        Next::Line | Next::Last => {}
     }
     match serve_line(
         alloc,
@@ -104,11 +118,10 @@ fn serve_next<S: Source, K: Sink, D: Disk>(
         &desk.line,
         &mut desk.reply,
         &mut session.sink,
-        disk,
         ledger,
     ) {
         Ok(()) => Ok(may_go_on(next)),
-        Err(cause) => Err(cause),
+        Err(end) => Err(end),
     }
 }
 
@@ -118,16 +131,16 @@ fn may_go_on(next: Next) -> bool
 {
     match next {
         Next::Line => true,
-        Next::Last | Next::End => false,
+        Next::Last | Next::End | Next::Full => false,
     }
 }
 
-// Why a source ends the run.
-fn source_cause(trouble: Trouble) -> Cause
-    ensures { result ≡ source_cause_of trouble }
+// Why a source ends a session.
+fn source_end(trouble: Trouble) -> End
+    ensures { result ≡ source_end_of trouble }
 {
     match trouble {
-        Trouble::Failed => Cause::SourceFault { session: SESSION },
-        Trouble::Memory => Cause::Memory,
+        Trouble::Failed => End::SourceFault,
+        Trouble::Memory => End::Memory,
     }
 }

@@ -1,6 +1,6 @@
 ghost use Rattle.std.specs.Prelude.{◌≤◌, length, IfOk};
 
-use crate::run::{Closed, Session, Volume};
+use crate::run::{Cause, Closed, Session, Volume};
 use crate::top::{serve, serve_alone};
 use std::alloc::{AllocError, Global};
 use std::process::Abort;
@@ -52,7 +52,7 @@ struct Script<'a> {
     reads: &'a [u64],
     writes: &'a [u64],
     calls: &'a [u64],
-    /// The bytes of each log, no more than those of `PAID_LOG`.
+    /// The bytes of each log, at most 4,096.
     log: &'a [u8],
 }
 
@@ -78,6 +78,8 @@ struct Want<'a> {
     log: Option<&'a [u8]>,
     /// The stamps of the one log, where it was opened.
     stamps: Option<&'a [u64]>,
+    /// The frame at which it was refused as a bad log, if it was.
+    bad_frame: Option<u64>,
 }
 
 fn words_of(alloc: Global, texts: &[&str]) -> Result<Vec<String>, AllocError> {
@@ -108,7 +110,7 @@ fn sessions_of(
 }
 
 fn disk_of(alloc: Global, bytes: &[u8], calls: &[u64]) -> Result<MemDisk, AllocError> {
-    let bytes = bytes[..bytes.len().min(PAID_LOG.len())].to_vec(alloc)?;
+    let bytes = bytes[..bytes.len().min(4096)].to_vec(alloc)?;
     let calls = calls.to_vec(alloc)?;
     MemDisk::new(alloc, bytes, calls)
 }
@@ -163,6 +165,14 @@ fn expect_stamps(rt: &impl Abort, ended: &Ended, want: Option<&[u64]>) {
     }
 }
 
+/// The frame at which the run's log was refused.
+fn bad_frame(ended: &Ended) -> Option<u64> {
+    match &ended.cause {
+        Cause::BadLog { frame, .. } => Some(*frame),
+        _ => None,
+    }
+}
+
 /// Serves what the script says, and wants this of it.
 fn expect(
     rt: &impl Abort,
@@ -177,6 +187,7 @@ fn expect(
         assert_eq!(rt; log(&ended), bytes);
     }
     expect_stamps(rt, &ended, want.stamps);
+    assert_eq!(rt; bad_frame(&ended), want.bad_frame);
     Ok(())
 }
 
@@ -189,6 +200,7 @@ fn ample_memory_serves_so_always_memory_is_refused(rt: HostRuntime) -> Result<()
         output: FIRST.as_bytes(),
         log: Some(&PAID_LOG),
         stamps: Some(&[0]),
+        bad_frame: None,
     };
     let script = Script {
         input: PAID.as_bytes(),
@@ -198,49 +210,94 @@ fn ample_memory_serves_so_always_memory_is_refused(rt: HostRuntime) -> Result<()
     Ok(())
 }
 
+/// A publish whose message has an id.
+const NAMED: &str =
+    "{\"op\":\"publish\",\"name\":\"paid\",\"correlationKey\":\"o-1\",\"timeToLive\":1000,\"messageId\":\"x\"}\n";
+
+/// The same, which expires at once.
+const BRIEF: &str =
+    "{\"op\":\"publish\",\"name\":\"paid\",\"correlationKey\":\"o-1\",\"timeToLive\":0,\"messageId\":\"x\"}\n";
+
+/// The reply of a publish that is the second.
+const SECOND: &str = "{\"ok\":{\"message\":2251799813685250},\"units\":0}\n";
+
+/// The reply of a publish that is the third.
+const THIRD: &str = "{\"ok\":{\"message\":2251799813685251},\"units\":0}\n";
+
+/// The reply of a publish whose message is buffered.
+const REPEATED: &str =
+    "{\"reason\":\"message paid o-1 x is buffered\",\"rejected\":\"ALREADY_EXISTS\",\"units\":0}\n";
+
 #[test]
 fn each_line_has_its_reply(rt: HostRuntime) -> Result<(), Fail> {
-    let table: [(&[u8], &[u8], &[u64]); 6] = [
-        (b"", b"", &[]),
-        (b"\n", b"{\"fault\":\"NOT_JSON\",\"line\":1}\n", &[]),
+    let table: [(&[&str], &[&str], &[u64]); 10] = [
+        (&[], &[], &[]),
+        (&["\n"], &["{\"fault\":\"NOT_JSON\",\"line\":1}\n"], &[]),
         (
-            b"{\"op\":\"fly\"}\n",
-            b"{\"fault\":\"UNKNOWN_OP\",\"line\":1}\n",
+            &["{\"op\":\"fly\"}\n", "[]\n", "{}\n"],
+            &[
+                "{\"fault\":\"UNKNOWN_OP\",\"line\":1}\n",
+                "{\"fault\":\"NOT_OBJECT\",\"line\":2}\n",
+                "{\"fault\":\"NO_OP\",\"line\":3}\n",
+            ],
             &[],
         ),
         (
-            b"{\"op\":\"fly\"}\n<bpmn>",
-            b"{\"fault\":\"UNKNOWN_OP\",\"line\":1}\n{\"fault\":\"NOT_JSON\",\"line\":2}\n",
+            &["{\"op\":\"publish\"}\n", "<bpmn>"],
+            &[
+                "{\"fault\":\"FIELD\",\"field\":\"name\",\"line\":1}\n",
+                "{\"fault\":\"NOT_JSON\",\"line\":2}\n",
+            ],
             &[],
         ),
+        (&[PAID, PAID], &[FIRST, SECOND], &[0, 1]),
+        (&[NAMED, NAMED], &[FIRST, REPEATED], &[0, 1]),
         (
-            b"{\"op\":\"publish\",\"name\":\"paid\",\"correlationKey\":\"o-1\",\"timeToLive\":60000}\n{\"op\":\"publish\",\"name\":\"paid\",\"correlationKey\":\"o-2\",\"timeToLive\":1}\n",
-            b"{\"ok\":{\"message\":2251799813685249},\"units\":0}\n{\"ok\":{\"message\":2251799813685250},\"units\":0}\n",
-            &[0, 1],
+            &[NAMED, BRIEF, PAID],
+            &[FIRST, REPEATED, SECOND],
+            &[0, 1, 2],
+        ),
+        (&[BRIEF, BRIEF], &[FIRST, SECOND], &[0, 1]),
+        (
+            &[BRIEF, NAMED, BRIEF],
+            &[FIRST, SECOND, REPEATED],
+            &[0, 1, 2],
         ),
         (
-            b"{\"op\":\"publish\",\"name\":\"paid\",\"correlationKey\":\"o-1\",\"timeToLive\":60000}\n{\"op\":\"publish\"\n{\"op\":\"publish\",\"name\":\"due\",\"correlationKey\":\"o-22\",\"timeToLive\":1}",
-            b"{\"ok\":{\"message\":2251799813685249},\"units\":0}\n{\"fault\":\"NOT_JSON\",\"line\":2}\n{\"ok\":{\"message\":2251799813685250},\"units\":0}\n",
+            &[PAID, "{\"op\":\"publish\"\n", NAMED.trim_end()],
+            &[FIRST, "{\"fault\":\"NOT_JSON\",\"line\":2}\n", SECOND],
             &[0, 1],
         ),
     ];
-    for (input, output, stamps) in table {
+    for (lines, replies, stamps) in table {
+        let input = joined(rt.alloc(), lines)?;
+        let output = joined(rt.alloc(), replies)?;
         for piece in [1, 7, 65_536] {
             let script = Script {
-                input,
+                input: &input,
                 piece,
                 ..PLAIN
             };
             let want = Want {
                 status: 0,
-                output,
+                output: &output,
                 log: if stamps.is_empty() { Some(&[0]) } else { None },
                 stamps: Some(stamps),
+                bad_frame: None,
             };
             expect(&rt, rt.alloc(), &script, &want)?;
         }
     }
     Ok(())
+}
+
+/// The texts, one behind the other.
+fn joined(alloc: Global, texts: &[&str]) -> Result<Vec<u8>, AllocError> {
+    let mut bytes = Vec::new(alloc);
+    for text in texts {
+        bytes.extend_from_slice(text.as_bytes())?;
+    }
+    Ok(bytes)
 }
 
 /// A publish line padded by blanks to so many bytes, then a publish, then a line that asks for nothing.
@@ -255,7 +312,7 @@ fn padded(alloc: Global, length: usize) -> Result<Vec<u8>, AllocError> {
 
 #[test]
 fn a_line_may_be_too_long(rt: HostRuntime) -> Result<(), Fail> {
-    let table: [(usize, &[u8], &[u64]); 2] = [
+    let table: [(usize, &[u8], &[u64]); 3] = [
         (
             262_144,
             b"{\"ok\":{\"message\":2251799813685249},\"units\":0}\n{\"ok\":{\"message\":2251799813685250},\"units\":0}\n{\"fault\":\"UNKNOWN_OP\",\"line\":3}\n",
@@ -263,7 +320,12 @@ fn a_line_may_be_too_long(rt: HostRuntime) -> Result<(), Fail> {
         ),
         (
             262_145,
-            b"{\"fault\":\"NOT_JSON\",\"line\":1}\n{\"ok\":{\"message\":2251799813685249},\"units\":0}\n{\"fault\":\"UNKNOWN_OP\",\"line\":3}\n",
+            b"{\"fault\":\"TOO_LONG\",\"line\":1}\n{\"ok\":{\"message\":2251799813685249},\"units\":0}\n{\"fault\":\"UNKNOWN_OP\",\"line\":3}\n",
+            &[0],
+        ),
+        (
+            600_000,
+            b"{\"fault\":\"TOO_LONG\",\"line\":1}\n{\"ok\":{\"message\":2251799813685249},\"units\":0}\n{\"fault\":\"UNKNOWN_OP\",\"line\":3}\n",
             &[0],
         ),
     ];
@@ -278,6 +340,7 @@ fn a_line_may_be_too_long(rt: HostRuntime) -> Result<(), Fail> {
             output,
             log: None,
             stamps: Some(stamps),
+            bad_frame: None,
         };
         expect(&rt, rt.alloc(), &script, &want)?;
     }
@@ -290,81 +353,175 @@ fn a_device_may_fail(rt: HostRuntime) -> Result<(), Fail> {
         input: PAID.as_bytes(),
         ..PLAIN
     };
-    // The batch is in the log before its reply is written.
-    let table: [(Script<'_>, u8, Option<&[u8]>, Option<&[u64]>); 7] = [
+    let streams = [
         (
             Script {
                 reads: &[0],
                 ..paid
             },
             3,
-            Some(&[0]),
-            Some(&[]),
+            &[0u8] as &[u8],
+            &[] as &[u64],
         ),
+        // The batch is in the log before its reply is written.
         (
             Script {
                 writes: &[0],
                 ..paid
             },
             6,
-            Some(&PAID_LOG),
-            Some(&[0]),
-        ),
-        // The length of the log, its gate and the sync; then the batch and its sync.
-        (
-            Script {
-                calls: &[0],
-                ..paid
-            },
-            4,
-            None,
-            None,
-        ),
-        (
-            Script {
-                calls: &[1],
-                ..paid
-            },
-            4,
-            None,
-            None,
-        ),
-        (
-            Script {
-                calls: &[2],
-                ..paid
-            },
-            4,
-            None,
-            None,
-        ),
-        (
-            Script {
-                calls: &[3],
-                ..paid
-            },
-            4,
-            None,
-            Some(&[]),
-        ),
-        (
-            Script {
-                calls: &[4],
-                ..paid
-            },
-            4,
-            None,
-            Some(&[]),
+            &PAID_LOG,
+            &[0],
         ),
     ];
-    for (script, status, log, stamps) in &table {
+    for (script, status, log, stamps) in &streams {
         let want = Want {
             status: *status,
             output: b"",
-            log: *log,
-            stamps: *stamps,
+            log: Some(log),
+            stamps: Some(stamps),
+            bad_frame: None,
         };
         expect(&rt, rt.alloc(), script, &want)?;
+    }
+    // Opening syncs, asks for the length, writes the gate and syncs, or reads the frames twice; a batch is
+    // written, synced, its gate opened, and synced.
+    for (log, opening) in [(&[] as &[u8], 4u64), (&PAID_LOG, 4)] {
+        for call in 0..opening + 4 {
+            let script = Script {
+                calls: &[call],
+                log,
+                ..paid
+            };
+            let want = Want {
+                status: 4,
+                output: b"",
+                log: None,
+                stamps: if call < opening { None } else { Some(&[]) },
+                bad_frame: None,
+            };
+            expect(&rt, rt.alloc(), &script, &want)?;
+        }
+    }
+    Ok(())
+}
+
+/// A batch whose event says that a message has expired that was never there: format, moment, begin, the
+/// command with the message's key, and one event with the same key.
+const STRANGE_LOG: [u8; 50] = [
+    1, 0, 0, 0, 0, 0, 0, 0, 40, 1, 0, 0, 0, 0, 0, 0, 0, 0, 0, 0, 0, 0, 0, 0, 0, 0, 0x0d, 0, 8, 0,
+    0, 0, 0, 0, 1, 1, 0, 0, 0, 1, 0x1e, 0, 8, 0, 0, 0, 0, 0, 1, 0,
+];
+
+/// Where the last byte of the event's key is in `STRANGE_LOG` behind a log of a publish.
+const STRANGE_KEY: usize = 103 + 48;
+
+/// Where the last byte of the key is in the second of two logs of a publish, one behind the other.
+const SECOND_KEY: usize = 103 + 71;
+
+#[test]
+fn a_log_is_read_from_its_first_frame_on(rt: HostRuntime) -> Result<(), Fail> {
+    let alloc = rt.alloc();
+    // A log of two batches, what is behind a closed gate, an open gate and a frame that isn't there, a format
+    // that isn't known, and an event that doesn't apply behind a good frame.
+    let mut twice = PAID_LOG.to_vec(alloc)?;
+    twice[103] = 0xff;
+    twice.extend_from_slice(&PAID_LOG[1..])?;
+    twice[SECOND_KEY] = 2;
+    let mut behind = PAID_LOG.to_vec(alloc)?;
+    behind.extend_from_slice(b"any bytes")?;
+    let mut format = PAID_LOG;
+    format[9] = 3;
+    let mut strange = PAID_LOG.to_vec(alloc)?;
+    strange[103] = 1;
+    strange.extend_from_slice(&STRANGE_LOG[1..])?;
+    strange[STRANGE_KEY] = 2;
+    let cut = [1, 0, 0, 0, 0, 0, 0, 0, 5];
+    let table: [(&[u8], Option<u64>, &str, &[u64]); 11] = [
+        (&[], None, FIRST, &[0]),
+        (&[1], None, FIRST, &[0]),
+        (&[0, 9, 9], None, FIRST, &[0]),
+        (&PAID_LOG, None, SECOND, &[1]),
+        (&behind, None, SECOND, &[1]),
+        (&twice, None, THIRD, &[2]),
+        (&cut, Some(0), "", &[]),
+        (&format, Some(0), "", &[]),
+        (&STRANGE_LOG, Some(0), "", &[]),
+        (&strange, Some(1), "", &[]),
+        (&[7, 7], Some(0), "", &[]),
+    ];
+    for (log, bad_frame, reply, stamps) in table {
+        let script = Script {
+            input: PAID.as_bytes(),
+            log,
+            ..PLAIN
+        };
+        let is_bad = bad_frame.is_some();
+        let want = Want {
+            status: if is_bad { 5 } else { 0 },
+            output: reply.as_bytes(),
+            log: if is_bad { Some(log) } else { None },
+            stamps: if is_bad { None } else { Some(stamps) },
+            bad_frame,
+        };
+        expect(&rt, alloc, &script, &want)?;
+    }
+    Ok(())
+}
+
+#[test]
+fn a_log_may_be_cut_at_each_byte(rt: HostRuntime) -> Result<(), Fail> {
+    for length in 0..PAID_LOG.len() {
+        let log = &PAID_LOG[..length];
+        let script = Script {
+            input: PAID.as_bytes(),
+            log,
+            ..PLAIN
+        };
+        let is_empty = length < 2;
+        let want = Want {
+            status: if is_empty { 0 } else { 5 },
+            output: if is_empty { FIRST.as_bytes() } else { b"" },
+            log: if is_empty { None } else { Some(log) },
+            stamps: if is_empty { Some(&[0]) } else { None },
+            bad_frame: if is_empty { None } else { Some(0) },
+        };
+        expect(&rt, rt.alloc(), &script, &want)?;
+    }
+    Ok(())
+}
+
+/// Serves what the script says, and gives the log that it leaves, and in `reply` what was sent.
+fn stored(alloc: Global, script: &Script<'_>, reply: &mut Vec<u8>) -> Result<Vec<u8>, AllocError> {
+    let ended = served(alloc, script)?;
+    copied(alloc, &ended, reply)
+}
+
+fn copied(alloc: Global, ended: &Ended, reply: &mut Vec<u8>) -> Result<Vec<u8>, AllocError> {
+    reply.clear();
+    reply.extend_from_slice(output(ended))?;
+    log(ended).to_vec(alloc)
+}
+
+#[test]
+fn a_log_is_served_again(rt: HostRuntime) -> Result<(), Fail> {
+    let alloc = rt.alloc();
+    let mut bytes = Vec::new(alloc);
+    let mut reply = Vec::new(alloc);
+    for (line, want) in [
+        (NAMED, FIRST),
+        (NAMED, REPEATED),
+        (BRIEF, REPEATED),
+        (PAID, SECOND),
+    ] {
+        let script = Script {
+            input: line.as_bytes(),
+            log: &bytes,
+            ..PLAIN
+        };
+        let next = stored(alloc, &script, &mut reply)?;
+        assert_eq!(rt; reply.as_slice(), want.as_bytes());
+        bytes = next;
     }
     Ok(())
 }
@@ -375,24 +532,7 @@ fn what_can_not_be_served_is_refused(rt: HostRuntime) -> Result<(), Fail> {
         input: PAID.as_bytes(),
         ..PLAIN
     };
-    let table: [(Script<'_>, u8, Option<&[u8]>); 10] = [
-        // A log with frames is refused, and is left as it is.
-        (
-            Script {
-                log: &PAID_LOG,
-                ..paid
-            },
-            5,
-            Some(&PAID_LOG),
-        ),
-        (
-            Script {
-                log: &[0, 0],
-                ..paid
-            },
-            5,
-            Some(&[0, 0]),
-        ),
+    let table: [(Script<'_>, u8, Option<&[u8]>); 8] = [
         (Script { words: &[], ..paid }, 2, Some(&[])),
         (
             Script {
@@ -443,6 +583,7 @@ fn what_can_not_be_served_is_refused(rt: HostRuntime) -> Result<(), Fail> {
             output: b"",
             log: *log,
             stamps: None,
+            bad_frame: None,
         };
         expect(&rt, rt.alloc(), script, &want)?;
     }

@@ -1,23 +1,35 @@
+use Rattle.std.proofs.Common.{ℕ, ◌∙◌, subst, ⊎_elim, arith}
+use Rattle.zb_partition.specs.Log.{IsApplied, IsBadAt}
 use Rattle.zbd.specs.Ends.{told}
-use Rattle.zbd.specs.Serving.{start_of}
-use Rattle.zbd.proofs.Opening.{fails_to_open, serving_first}
+use Rattle.zbd.specs.Ledger.{IsOpen}
+use Rattle.zbd.specs.Log.{log_limit}
+use Rattle.zbd.proofs.Opening.{fails_to_open}
 use Rattle.zbd.proofs.top.run.Goals as goal
 
 pub returns-in-Err-open-clause-run : goal.returns-in-Err-open-clause-run
 returns-in-Err-open-clause-run g c =
     let said = c.in-Err-open.ensures in
-    rw (c.reserve.ensures.items, c.new-stamps.ensures.items, c.open_cause.ensures) (fails_to_open (told g.S.Source.tells g.K.Sink.tells g.D.Disk.tells g.D.Disk.tells_images g.K.Sink.takes_memory g.D.Disk.takes_memory) _ c.in-Err-open.fault said.frame said.longer said.kept said.failed, (said.spared, tt))
-
-pub serve_session-cause-requires : goal.serve_session-cause-requires
-serve_session-cause-requires g c =
-    let said = c.in-Ok-open.ensures in (
-      start_of (g.S.Source.view c.args.session.now.source) (g.K.Sink.view c.args.session.now.sink) (g.D.Disk.view c.args.log.now),
-      serving_first _ _ _ _ _ _ c.new-ledger.ensures (record { file = said.opened; durable = said.durable }) said.empty said.later,
+    rw (c.reserve.ensures.items, c.new-stamps.ensures.items, c.open_cause.ensures) (
+      fails_to_open (told g.S.Source.tells g.K.Sink.tells g.D.Disk.tells g.D.Disk.tells_images g.K.Sink.takes_memory g.D.Disk.takes_memory)
+          (record { disk = g.D.Disk.view c.args.disk; disk_after = g.D.Disk.view c.in-Err-open.log }) c.in-Err-open.fault
+          (λ t frame e. subst (λ (p : ℕ). IsBadAt p (g.D.Disk.view c.args.disk).contents frame) c.new.ensures (said.bad t frame e)) said.cause,
+      (said.opens.same, tt),
     )
 
-pub returns-clause-run : goal.returns-clause-run
-returns-clause-run g c =
+pub returns-in-Err-open-clause-spared : goal.returns-in-Err-open-clause-spared
+returns-in-Err-open-clause-spared g c = λ none tells long image left. ⊎_elim (λ before. before) (λ few. absurd (omega arith)) (c.in-Err-open.ensures.opens.crash tells image left)
+
+pub serve_partition-requires-clause-opened : goal.serve_partition-requires-clause-opened
+unfolding log_limit
+serve_partition-requires-clause-opened g c =
     let said = c.in-Ok-open.ensures in
-    let start = start_of (g.S.Source.view c.args.session.now.source) (g.K.Sink.view c.args.session.now.sink) (g.D.Disk.view c.args.log.now) in
-    let first = serving_first _ start _ _ _ _ c.new-ledger.ensures (record { file = said.opened; durable = said.durable }) said.empty said.later in
-    rw (c.push_reserved.ensures.items, c.reserve.ensures.items, c.new-stamps.ensures.items, c.into_stamps.ensures) (c.serve_session-cause.ensures start first)
+    let is_open : IsOpen c.in-Ok-open.partition said.opened.0 = record { has = said.opened.1.has; live = said.live; place = said.place ∙ c.new.ensures; limit = said.limit } in
+    (said.opened.0, is_open, subst (λ (p : ℕ). IsApplied p said.opened.0) c.new.ensures said.opened.1.applied)
+
+pub returns-in-Ok-open-clause-run : goal.returns-in-Ok-open-clause-run
+unfolding log_limit
+returns-in-Ok-open-clause-run g c =
+    let said = c.in-Ok-open.ensures in
+    let is_open : IsOpen c.in-Ok-open.partition said.opened.0 = record { has = said.opened.1.has; live = said.live; place = said.place ∙ c.new.ensures; limit = said.limit } in
+    let applied = subst (λ (p : ℕ). IsApplied p said.opened.0) c.new.ensures said.opened.1.applied in
+    c.serve_partition.ensures.run (g.D.Disk.view c.args.disk) said.opened.0 is_open applied said.opened.1.stood said.opens.later

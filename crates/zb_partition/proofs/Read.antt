@@ -1,0 +1,62 @@
+-- Reading a log frame by frame.
+use Rattle.std.proofs.Common.{◌≡◌, ◌∷◌, ◌++◌, ◌+◌, ◌<◌, List, [], ℕ, suc, length, take, drop, IsTrue, IsFalse, sym, ap, ◌∙◌, arith, get_or, add-one, append_assoc, append-nil, subst}
+use Rattle.std.proofs.lemmas.List.{take_more, take-append-drop}
+use Rattle.std.proofs.Math.Seq.{drop-cons}
+use Rattle.zb_model.specs.declared.record.Event.{Event}
+use Rattle.zb_model.specs.declared.record.Batch.{Batch}
+use Rattle.zb_model.specs.Record.{bytes_of}
+use Rattle.zb_model.specs.RecordFits.{IsBatch}
+use Rattle.zb_codec.proofs.Reading.{one_spelling}
+use Rattle.zb_rules.specs.View.{events_of, events_in}
+use Rattle.zb_rules.specs.Applies.{applies, all_apply}
+use Rattle.zb_rules.specs.StepLaws.{all_apply_more, all_apply_on, events_of_more, last_moment_more}
+use Rattle.zb_state.specs.State.{place_of, IsStateOf}
+use Rattle.zb_partition.specs.declared.opening.Known.{Known}
+use Rattle.zb_partition.specs.Log.{IsApplied, IsBadBody}
+use Rattle.zb_partition.specs.Reading.{IsKnown}
+
+-- the first events, and the one behind them
+pub taken_next : (i : ℕ) (events : List Event) (e : Event) → i < length events → e ≡ get_or events i e → take (i + 1) events ≡ take i events ++ e ∷ []
+taken_next i events e lt at = take_more events i e lt ∙ ap (λ x. take i events ++ x ∷ []) (sym at)
+
+-- the same behind others
+pub behind_next : (i : ℕ) (es events : List Event) (e : Event) → i < length events → e ≡ get_or events i e → (es ++ take i events) ++ e ∷ [] ≡ es ++ take (i + 1) events
+behind_next i es events e lt at = append_assoc es (take i events) (e ∷ []) ∙ ap (λ l. es ++ l) (sym (taken_next i events e lt at))
+
+-- each of some events and then one more applies
+pub apply_next : (p i : ℕ) (es events : List Event) (e : Event) → i < length events → e ≡ get_or events i e → IsTrue (all_apply p es (take i events)) → IsTrue (applies p (es ++ take i events) e) → IsTrue (all_apply p es (take (i + 1) events))
+apply_next p i es events e lt at front here = rw (taken_next i events e lt at, all_apply_more p es (take i events) e) (grind (arith, front, here))
+
+-- some of them don't all apply, where one of them doesn't to those before it
+pub one_fails : (p i : ℕ) (es events : List Event) (e : Event) → i < length events → e ≡ get_or events i e → IsFalse (applies p (es ++ take i events) e) → IsFalse (all_apply p es events)
+one_fails p i es events e lt at here =
+    let at_end : drop i events ≡ e ∷ drop (i + 1) events = rw add-one (drop-cons events i e lt ∙ ap (λ x. x ∷ drop (suc i) events) (sym at)) in
+    let split : events ≡ take i events ++ (e ∷ drop (i + 1) events) = sym (take-append-drop i events) ∙ ap (λ l. take i events ++ l) at_end in
+    let Fails : List Event → Type 0 = λ l. IsFalse (all_apply p es l) in
+    let fails : Fails (take i events ++ (e ∷ drop (i + 1) events)) = rw (all_apply_on p es (take i events) (e ∷ drop (i + 1) events)) (grind (arith, here)) in
+    subst Fails (sym split) fails
+
+-- a log whose events apply, and a batch whose events apply to it
+pub applied_more : (p : ℕ) (log : List Batch) (batch : Batch) → IsApplied p log → IsTrue (all_apply p (events_of log) (events_in batch.outcome)) → IsApplied p (log ++ batch ∷ [])
+applied_more p log batch before here = rw (events_of_more log batch, all_apply_on p [] (events_of log) (events_in batch.outcome)) (grind (arith, before, here))
+
+-- two batches with one spelling are one
+pub one_batch : (a b : Batch) → IsBatch a → IsBatch b → bytes_of a ≡ bytes_of b → a ≡ b
+one_batch a b of_a of_b same = (one_spelling a b [] of_a of_b (sym same ∙ sym (append-nil (bytes_of a)))).0
+
+-- where a body's batch doesn't apply, the body is bad
+pub bad_body : (p : ℕ) (log : List Batch) (body : List ℕ) (found : Batch) → IsBatch found → body ≡ bytes_of found → IsFalse (all_apply p (events_of log) (events_in found.outcome)) → IsBadBody p log body
+bad_body p log body found of_found spelled fails batch of_batch also applies_too =
+    let same : found ≡ batch = one_batch found batch of_found of_batch (sym spelled ∙ also) in
+    let Applies : Batch → Type 0 = λ b. IsTrue (all_apply p (events_of log) (events_in b.outcome)) in
+    let applied : Applies found = subst Applies (sym same) applies_too in
+    grind (arith, fails, applied)
+
+-- one batch more is known
+pub known_more : (p : ℕ) (log : List Batch) (batch : Batch) (old new : Known) → IsKnown p log old → place_of new.state ≡ place_of old.state → IsTrue (all_apply (place_of old.state) (events_of log) (events_in batch.outcome)) → IsStateOf (events_of log ++ events_in batch.outcome) new.state → batch.moment ≡ new.last_moment → IsKnown p (log ++ batch ∷ []) new
+known_more p log batch old new known place here state moment = record {
+  place = place ∙ known.place;
+  applied = applied_more p log batch known.applied (subst (λ (q : ℕ). IsTrue (all_apply q (events_of log) (events_in batch.outcome))) known.place here);
+  state = subst (λ (l : List Event). IsStateOf l new.state) (sym (events_of_more log batch)) state;
+  moment = last_moment_more log batch ∙ moment;
+}

@@ -1,0 +1,77 @@
+-- A partition that a command has stopped.
+use Rattle.std.specs.Prelude.{◌≡◌, ◌⊎◌, ◌<◌, ◌+◌, ◌-◌, ◌^◌, min, ℕ, List, [], ◌∷◌, ◌++◌, length, Bool, IsTrue, IsSome, Option, Some, None}
+use Rattle.zb_disk.specs.Disk.{DiskView}
+use Rattle.zb_disk.specs.Cause.{Rose}
+use Rattle.zb_model.specs.declared.record.Batch.{Batch}
+use Rattle.zb_model.specs.declared.record.Command.{Command}
+use Rattle.zb_model.specs.declared.record.Command.TheVariants as commands
+use Rattle.zb_model.specs.declared.stop.Stop.{Stop}
+use Rattle.zb_model.specs.declared.stop.Stop.TheVariants as stops
+use Rattle.zb_model.specs.Record.{bytes_of}
+use Rattle.zb_store.specs.Log.{extent}
+use Rattle.zb_store.specs.Stands.{Stands}
+use Rattle.zb_store.specs.declared.fault.StoreFault.{StoreFault}
+use Rattle.zb_store.specs.declared.fault.StoreFault.TheVariants as store
+use Rattle.zb_rules.specs.Step.{IsStep}
+use Rattle.zb_partition.specs.Log.{bodies_of}
+
+-- a command that is run so far
+abbrev pub IsRun : Command → Type 0
+IsRun (commands.MessagePublish c) = Unit {0}
+IsRun _ = ⊥
+
+-- at partition p the batch is the step of this command on the log
+pub record IsStepOf (p : ℕ) (log : List Batch) (at from : ℕ) (asked : Command) (batch : Batch) : Type 0 where
+  pub step : IsStep p log batch
+  pub moment : batch.moment ≡ at
+  pub begin : batch.begin ≡ from
+  pub command : batch.command ≡ asked
+
+-- the frame of a batch: nine bytes more than the batch has, at most the greatest number of 64 bits
+abbrev pub frame_of : Batch → ℕ
+frame_of batch = min (length (bytes_of batch) + 9) (2 ^ 64 - 1)
+
+-- a file stands for the log, or, where the disk was hurt, for it with the batch that was in writing
+abbrev pub IsLeft : Type 0 → List Batch → Option Batch → List ℕ → Type 0
+IsLeft hurt log None file = Stands file (bodies_of log)
+IsLeft hurt log (Some batch) file = Stands file (bodies_of log) ⊎ (hurt × Stands file (bodies_of (log ++ batch ∷ [])))
+
+-- Why the partition stopped. `refused` is the batch that was made and isn't in the log. It was in writing where the
+-- disk failed; a log is full exactly where the frame doesn't fit.
+abbrev pub IsStopCause : (before after limit : ℕ) → List Batch → Option Batch → Option Batch → Stop → Type 0
+IsStopCause before after limit log refused in_writing stops.Memory = (in_writing ≡ None) ⊎ (refused ≡ in_writing)
+IsStopCause before after limit log refused in_writing stops.DiskFault = Rose before after × IsSome in_writing × (refused ≡ in_writing)
+IsStopCause before after limit log refused in_writing (stops.LogFull length_told frame most) = (in_writing ≡ None)
+    × (length_told ≡ extent (bodies_of log)) × (most ≡ limit) × (most < length_told + frame)
+    × ((batch : Batch) × (refused ≡ Some batch) × (frame ≡ frame_of batch))
+
+-- the disk failed, or its calls take memory
+abbrev pub IsHurt : (takes_memory : Bool) (before after : ℕ) → Type 0
+IsHurt takes_memory before after = Rose before after ⊎ IsTrue takes_memory
+
+-- a batch was not added to the log, for this reason: what the file holds, and what a crash now leaves of it
+pub record IsUnwritten (tells tells_images takes_memory : Bool) (old new : DiskView) (images : List ℕ → Type 0) (limit : ℕ)
+    (log : List Batch) (refused in_writing : Option Batch) (stop : Stop) : Type 0 where
+  pub cause : IsStopCause old.faults new.faults limit log refused in_writing stop
+  pub file : IsTrue tells → IsLeft (IsHurt takes_memory old.faults new.faults) log in_writing new.contents
+  pub crash : IsTrue tells_images → (image : List ℕ) → images image → IsLeft (IsHurt takes_memory old.faults new.faults) log in_writing image
+
+-- a command stopped the partition
+pub record IsStopped (tells tells_images takes_memory : Bool) (old new : DiskView) (images : List ℕ → Type 0) (place limit : ℕ)
+    (log : List Batch) (moment begin : ℕ) (command : Command) (in_writing : Option Batch) (stop : Stop) : Type 0 where
+  -- the batch that was made and isn't in the log, if there was one
+  pub refused : Option Batch
+  pub next : (batch : Batch) → refused ≡ Some batch → IsStepOf place log moment begin command batch
+  pub unwritten : IsUnwritten tells tells_images takes_memory old new images limit log refused in_writing stop
+
+-- the frame of the batch doesn't fit into a log of this length, or there was no memory for it
+abbrev pub IsTooLong : (length_is limit : ℕ) → Batch → Stop → Type 0
+IsTooLong length_is limit batch stops.Memory = Unit {0}
+IsTooLong length_is limit batch stops.DiskFault = ⊥
+IsTooLong length_is limit batch (stops.LogFull length_told frame most) = (length_told ≡ length_is) × (frame ≡ frame_of batch) × (most ≡ limit) × (most < length_told + frame)
+
+-- why a partition stops where its log was refused a frame
+abbrev pub stop_of : StoreFault → Stop
+stop_of store.DiskFault = stops.DiskFault
+stop_of (store.LogFull length_told frame limit) = stops.LogFull length_told frame limit
+stop_of store.Memory = stops.Memory

@@ -1,0 +1,11 @@
+//! A partition: a log of batches on a disk, what they come to, and one command after the other on top.
+#![tactic(auto)]
+
+mod fault;
+mod opening;
+mod partition;
+mod publish;
+mod record;
+
+pub use fault::OpenFault;
+pub use partition::{Partition, Stopped};

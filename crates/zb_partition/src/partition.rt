@@ -1,0 +1,347 @@
+ghost use Rattle.std.specs.Prelude.{◌≡◌, ◌<◌, ◌≤◌, ◌+◌, ◌++◌, ◌∷◌, ◌^◌, ℕ, List, [], length, IsTrue, IsFalse, IsOk, IfErr, IfOk, OnErr, OnOk, IsErrOf, Some, None, Err};
+ghost use Rattle.zb_disk.specs.Disk.{Only};
+ghost use Rattle.zb_model.specs.declared.record.Event.{Event};
+ghost use Rattle.zb_model.specs.declared.record.Batch.{Batch};
+ghost use Rattle.zb_model.specs.Record.{bytes_of};
+ghost use Rattle.zb_store.specs.Calls.{OnlyReads, OnlyOpens};
+ghost use Rattle.zb_store.specs.GateLog as gates;
+ghost use Rattle.zb_store.specs.Log.{framed, extent};
+ghost use Rattle.zb_rules.specs.View.{last_moment};
+ghost use Rattle.zb_rules.specs.Reason.{reason_for};
+ghost use Rattle.zb_rules.specs.Own.{own_events};
+ghost use Rattle.zb_rules.specs.Step.{IsOutcome};
+ghost use Rattle.zb_state.specs.State as states;
+ghost use Rattle.zb_state.specs.State.{IsStateOf};
+ghost use Rattle.zb_partition.specs.Fault.{IsDiskCause};
+ghost use Rattle.zb_partition.specs.Reading.{IsRead, IsRefused};
+ghost use Rattle.zb_partition.specs.Log.{bodies_of};
+ghost use Rattle.zb_partition.specs.Stopping.{IsRun, IsStepOf, IsStopped, IsUnwritten, IsTooLong, stop_of};
+
+use crate::fault::OpenFault;
+use crate::opening::{Known, read_frames};
+use crate::publish::publish;
+use crate::record::{put_frame, take_in};
+use std::alloc::{AllocError, Global};
+use zb_disk::Disk;
+use zb_model::{Batch, Command, Moment, Outcome, PartitionId, Stop, TableFault};
+use zb_state::State;
+use zb_store::{GateLog, StoreFault};
+
+/// How many bytes a frame has beyond its body: the length in front, and the gate behind.
+const FRAME_BYTES: u64 = 9;
+
+/// A partition: its log on a disk, and what the log's events come to. Its clauses hold for all lists of
+/// batches that its log may be.
+#[derive(Drop)]
+pub struct Partition<D: Disk> {
+    log: GateLog<D>,
+    state: State,
+    last_moment: Moment,
+    live: bool,
+    in_writing: Option<Batch>,
+    // The frame of the batch that was written last.
+    frame: Vec<u8>,
+    ghost whole: { IsTrue live → IsTrue (gates.is_whole log) },
+    ghost limited: { gates.limit_of log ≤ 2 ^ 32 },
+    ghost resting: { IsTrue live → in_writing ≡ None },
+}
+
+/// What is left of a partition.
+#[derive(Drop)]
+pub struct Stopped<D> {
+    /// The disk of its log.
+    pub log: D,
+    /// The batch that was being written when it stopped. At the next opening the log has it or hasn't it.
+    pub in_writing: Option<Batch>,
+}
+
+impl<D: Disk> Partition<D> {
+    ghost use Rattle.zb_partition.specs.Log.{IsBadAt};
+    ghost use Rattle.zb_partition.specs.Partition.{place_of, disk_of, limit_of, frames_of, last_moment_of, is_live, in_writing, HasLog, IsAhead};
+    ghost use Rattle.zb_partition.specs.Opening.{IsOpened, IsReadWhole, disk_after};
+
+    /// Opens the partition with this number over its log, which may have so many bytes. Every frame is read,
+    /// and the log is refused where one can't be: at the first frame that spells no batch, that has an event
+    /// that doesn't apply, or that runs past the end of the file. No frame is changed.
+    pub fn open(
+        alloc: Global,
+        disk: D,
+        place: PartitionId,
+        limit: u64,
+    ) -> Result<Partition<D>, (OpenFault, D)>
+        requires { limit ≤ 2 ^ 32 }
+        ensures opened { IfOk result (λ partition. (log : List Batch) × IsOpened place (D.view disk).contents log partition) }
+        ensures place { IfOk result (λ partition. place_of partition ≡ place) }
+        ensures limit { IfOk result (λ partition. limit_of partition ≡ limit) }
+        ensures live { IfOk result (λ partition. IsTrue (is_live partition)) }
+        ensures bad { IsTrue D.tells → (frame : ℕ) → IfErr result (λ refused. refused.0 ≡ OpenFault.BadLog frame → IsBadAt place (D.view disk).contents frame) }
+
+        // What becomes of the file, and what a crash may leave of it at any moment.
+        ensures opens { OnlyOpens D.tells D.tells_images D.view D.images D.since disk (disk_after result) }
+        ensures cause { IfErr result (λ refused. IsDiskCause (D.view disk).faults (D.view refused.1).faults refused.0) }
+    {
+        match GateLog::open(alloc, disk, limit) {
+            Ok(log) => Partition::over(alloc, log, place),
+            Err((fault, disk)) => Err((OpenFault::from(fault), disk)),
+        }
+    }
+
+    /// How many batches its log has.
+    pub fn frames(&self) -> u64
+        ensures { result ≡ frames_of self.now }
+    {
+        self.log.count()
+    }
+
+    /// The moment of the last batch of its log, or 0.
+    pub fn last_moment(&self) -> Moment
+        ensures { result ≡ last_moment_of self.now }
+    {
+        self.last_moment
+    }
+
+    /// Whether no command has stopped it.
+    pub fn live(&self) -> bool
+        ensures { result ≡ is_live self.now }
+    {
+        self.live
+    }
+
+    /// Makes the step of a command at this moment and adds it to the log. At `Ok` it is on the disk. After an
+    /// `Err` the partition has stopped. It costs the step, its bytes, and the four calls of the disk.
+    pub fn submit(
+        &mut self,
+        alloc: Global,
+        moment: Moment,
+        begin: u64,
+        command: Command,
+    ) -> Result<Batch, Stop>
+        requires live { IsTrue (is_live self.old) }
+        requires run { IsRun command }
+        ensures step { (log : List Batch) → HasLog log self.old → last_moment log ≤ moment
+            → IfOk result (IsStepOf (place_of self.old) log moment begin command) }
+        ensures log { (log : List Batch) → HasLog log self.old → IfOk result (λ batch. HasLog (log ++ batch ∷ []) self.new) }
+        ensures fits { (log : List Batch) → HasLog log self.old
+            → IfOk result (λ batch. extent (bodies_of (log ++ batch ∷ [])) ≤ limit_of self.old) }
+        ensures stopped { (log : List Batch) → HasLog log self.old → last_moment log ≤ moment
+            → IfErr result (IsStopped D.tells D.tells_images D.takes_memory (D.view (disk_of self.old)) (D.view (disk_of self.new))
+            (D.images (disk_of self.new)) (place_of self.old) (limit_of self.old) log moment begin command (in_writing self.new)) }
+        ensures live { IsOk result → IsTrue (is_live self.new) }
+        ensures place { place_of self.new ≡ place_of self.old }
+        ensures limit { limit_of self.new ≡ limit_of self.old }
+        ensures later { (D.view (disk_of self.old)).faults ≤ (D.view (disk_of self.new)).faults }
+    {
+        self.live = false;
+        let batch = match self.make(alloc, moment, begin, command) {
+            Ok(batch) => batch,
+            Err(stop) => return Err(stop),
+        };
+        match self.write(batch) {
+            Ok(batch) => {
+                self.live = true;
+                Ok(batch)
+            }
+            Err(stop) => Err(stop),
+        }
+    }
+
+    /// The disk of its log, and the batch that it was writing when it stopped, if it did.
+    pub fn stopped(self) -> Stopped<D>
+        ensures log { result.log ≡ disk_of self }
+        ensures in_writing { result.in_writing ≡ in_writing self }
+    {
+        let Partition {
+            log,
+            in_writing,
+            ..
+        } = self;
+        Stopped {
+            log: log.into_disk(),
+            in_writing,
+        }
+    }
+
+    // The partition over a log that was found.
+    fn over(
+        alloc: Global,
+        mut log: GateLog<D>,
+        place: PartitionId,
+    ) -> Result<Partition<D>, (OpenFault, D)>
+        requires first { gates.place_of log 0 ≡ 0 }
+        requires limit { gates.limit_of log ≤ 2 ^ 32 }
+        requires durable { IsTrue D.tells_images → Only (D.view (gates.disk_of log)).contents (D.images (gates.disk_of log)) }
+        ensures read { IfOk result (λ partition. (batches : List Batch) × IsReadWhole place log batches partition) }
+        ensures place { IfOk result (λ partition. place_of partition ≡ place) }
+        ensures limit { IfOk result (λ partition. limit_of partition ≡ gates.limit_of log) }
+        ensures live { IfOk result (λ partition. IsTrue (is_live partition)) }
+        ensures bad { IsTrue D.tells → IfErr result (λ refused. IsRefused place log refused.0) }
+        ensures reads { OnlyReads D.tells D.tells_images D.view D.images D.since (gates.disk_of log) (disk_after result) }
+        ensures cause { IfErr result (λ refused. IsDiskCause (D.view (gates.disk_of log)).faults (D.view refused.1).faults refused.0) }
+    {
+        match read_log(alloc, &mut log, place) {
+            Ok(known) => Ok(Partition {
+                log,
+                state: known.state,
+                last_moment: known.last_moment,
+                live: true,
+                in_writing: None,
+                frame: Vec::new(alloc),
+            }),
+            Err(fault) => Err((fault, log.into_disk())),
+        }
+    }
+
+    // Makes the step of a command, and takes it into what is known of the log.
+    fn make(
+        &mut self,
+        alloc: Global,
+        moment: Moment,
+        begin: u64,
+        command: Command,
+    ) -> Result<Batch, Stop>
+        requires { IsRun command }
+        ensures step { (log : List Batch) → HasLog log self.old → last_moment log ≤ moment
+            → IfOk result (IsStepOf (place_of self.old) log moment begin command) }
+        ensures ahead { (log : List Batch) → HasLog log self.old → IfOk result (λ batch. IsAhead log batch self.new) }
+        ensures memory { OnErr result (result ≡ Err Stop.Memory) }
+        ensures log { self.new.log ≡ self.old.log }
+        ensures live { is_live self.new ≡ is_live self.old }
+        ensures in_writing { in_writing self.new ≡ in_writing self.old }
+        ensures place { place_of self.new ≡ place_of self.old }
+    {
+        let outcome = outcome_of(alloc, &self.state, moment, &command)?;
+        let batch = Batch {
+            moment,
+            begin,
+            command,
+            outcome,
+        };
+        match take_in(alloc, &mut self.state, &batch) {
+            Ok(()) => {
+                self.last_moment = moment;
+                Ok(batch)
+            }
+            Err(_) => Err(Stop::Memory),
+        }
+    }
+
+    // Adds the batch that was made to the log.
+    fn write(&mut self, batch: Batch) -> Result<Batch, Stop>
+        requires whole { IsTrue (gates.is_whole self.old.log) }
+        requires stopped { IsFalse (is_live self.old) }
+        ensures same { IfOk result (λ stored. stored ≡ batch) }
+        ensures log { (log : List Batch) → IsAhead log batch self.old → OnOk result (HasLog (log ++ batch ∷ []) self.new) }
+        ensures stopped { (log : List Batch) → IsAhead log batch self.old → in_writing self.old ≡ None
+            → IfErr result (IsUnwritten D.tells D.tells_images D.takes_memory (D.view (disk_of self.old)) (D.view (disk_of self.new))
+            (D.images (disk_of self.new)) (limit_of self.old) log (Some batch) (in_writing self.new)) }
+        ensures fits { (log : List Batch) → IsAhead log batch self.old
+            → OnOk result (extent (bodies_of (log ++ batch ∷ [])) ≤ limit_of self.old) }
+        ensures whole { OnOk result (IsTrue (gates.is_whole self.new.log)) }
+        ensures live { is_live self.new ≡ is_live self.old }
+        ensures resting { OnOk result (in_writing self.new ≡ in_writing self.old) }
+        ensures place { place_of self.new ≡ place_of self.old }
+        ensures limit { limit_of self.new ≡ limit_of self.old }
+        ensures later { (D.view (disk_of self.old)).faults ≤ (D.view (disk_of self.new)).faults }
+    {
+        match self.prepare(&batch) {
+            Ok(()) => {}
+            Err(stop) => return Err(stop),
+        }
+        match self.log.append(&self.frame) {
+            Ok(()) => Ok(batch),
+            Err(fault) => {
+                self.in_writing = Some(batch);
+                Err(stop_of(fault))
+            }
+        }
+    }
+
+    // Makes the frame of a batch, if the log has room for it.
+    fn prepare(&mut self, batch: &Batch) -> Result<(), Stop>
+        ensures frame { OnOk result (self.new.frame.items ≡ framed (bytes_of batch.now)) }
+        ensures fits { OnOk result (gates.length_of self.new.log + length self.new.frame.items ≤ limit_of self.new) }
+        ensures full { IfErr result (IsTooLong (gates.length_of self.old.log) (limit_of self.old) batch.now) }
+        ensures log { self.new.log ≡ self.old.log }
+        ensures state { self.new.state ≡ self.old.state }
+        ensures last_moment { self.new.last_moment ≡ self.old.last_moment }
+        ensures live { is_live self.new ≡ is_live self.old }
+        ensures in_writing { in_writing self.new ≡ in_writing self.old }
+    {
+        let size = zb_codec::size(batch);
+        let frame = size.saturating_add(FRAME_BYTES);
+        let length = self.log.length();
+        let limit = self.log.limit();
+        if length.saturating_add(frame) > limit {
+            return Err(Stop::LogFull {
+                length,
+                frame,
+                limit,
+            });
+        }
+        put_frame(&mut self.frame, batch, size)?;
+        Ok(())
+    }
+}
+
+// What a command leads to at this moment.
+fn outcome_of(
+    alloc: Global,
+    state: &State,
+    moment: Moment,
+    command: &Command,
+) -> Result<Outcome, AllocError>
+    requires { IsRun command.now }
+    ensures { (es : List Event) → IsStateOf es state.now
+        → IfOk result (IsOutcome (reason_for es command.now) (own_events (states.place_of state.now) es moment command.now)) }
+{
+    match command {
+        Command::MessagePublish(message) => publish(alloc, state, moment, message),
+        _ => unreachable!(),
+    }
+}
+
+// Why a partition stops where its log was refused a frame.
+fn stop_of(fault: StoreFault) -> Stop
+    ensures { result ≡ stop_of fault }
+{
+    match fault {
+        StoreFault::DiskFault => Stop::DiskFault,
+        StoreFault::LogFull {
+            length,
+            frame,
+            limit,
+        } => Stop::LogFull {
+            length,
+            frame,
+            limit,
+        },
+        StoreFault::Memory => Stop::Memory,
+    }
+}
+
+// Reads a log that was found.
+fn read_log<D: Disk>(
+    alloc: Global,
+    log: &mut GateLog<D>,
+    place: PartitionId,
+) -> Result<Known, OpenFault>
+    requires { gates.place_of log.old 0 ≡ 0 }
+    ensures whole { IfOk result (λ known. IsTrue (gates.is_whole log.old)) }
+    ensures read { IfOk result (λ known. (batches : List Batch)
+        × IsRead place log.new (D.view (gates.disk_of log.new)).contents (gates.count_of log.new) batches known) }
+    ensures bad { IsTrue D.tells → IfErr result (IsRefused place log.old) }
+    ensures same { gates.IsSameLog log.old log.new }
+    ensures kept { IsTrue D.tells → (bodies : List (List ℕ)) → gates.HasLog (D.view (gates.disk_of log.old)).contents log.old bodies
+        → gates.HasLog (D.view (gates.disk_of log.new)).contents log.new bodies }
+    ensures reads { OnlyReads D.tells D.tells_images D.view D.images D.since (gates.disk_of log.old) (gates.disk_of log.new) }
+    ensures cause { IfErr result (IsDiskCause (D.view (gates.disk_of log.old)).faults (D.view (gates.disk_of log.new)).faults) }
+{
+    let known = match read_frames(alloc, log, place) {
+        Ok(known) => known,
+        Err(fault) => return Err(fault),
+    };
+    if !log.whole() {
+        return Err(OpenFault::BadLog { frame: log.count() });
+    }
+    Ok(known)
+}

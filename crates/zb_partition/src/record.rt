@@ -1,0 +1,58 @@
+// Taking a batch into what is known of a log.
+ghost use Rattle.std.specs.Prelude.{◌≡◌, ◌<◌, ◌^◌, ◌++◌, List, [], length, IsTrue, IsFalse, IsErrOf, OnOk};
+ghost use Rattle.zb_model.specs.declared.record.Event.{Event};
+ghost use Rattle.zb_model.specs.Record.{bytes_of};
+ghost use Rattle.zb_store.specs.Log.{framed};
+ghost use Rattle.zb_rules.specs.View.{events_in};
+ghost use Rattle.zb_rules.specs.Applies.{all_apply};
+ghost use Rattle.zb_state.specs.State.{place_of, IsStateOf};
+
+use std::alloc::{AllocError, Global};
+use zb_model::{Batch, Event, Outcome, TableFault};
+use zb_state::State;
+
+/// Takes in the events of a batch. At `NotApplicable` one of them doesn't apply; after any refusal the
+/// state is only dropped.
+pub fn take_in(alloc: Global, state: &mut State, batch: &Batch) -> Result<(), TableFault>
+    ensures place { place_of state.new ≡ place_of state.old }
+    ensures applied { (es : List Event) → IsStateOf es state.old → OnOk result (IsTrue (all_apply (place_of state.old) es (events_in batch.now.outcome))) }
+    ensures state { (es : List Event) → IsStateOf es state.old → OnOk result (IsStateOf (es ++ events_in batch.now.outcome) state.new) }
+    ensures refused { (es : List Event) → IsStateOf es state.old
+        → IsErrOf result TableFault.NotApplicable → IsFalse (all_apply (place_of state.old) es (events_in batch.now.outcome)) }
+{
+    match &batch.outcome {
+        Outcome::Accepted(events) => apply_all(alloc, state, events.as_slice()),
+        Outcome::Rejected(_) => Ok(()),
+    }
+}
+
+/// Takes in the events, one after the other.
+fn apply_all(alloc: Global, state: &mut State, events: &[Event]) -> Result<(), TableFault>
+    ensures place { place_of state.new ≡ place_of state.old }
+    ensures applied { (es : List Event) → IsStateOf es state.old → OnOk result (IsTrue (all_apply (place_of state.old) es events.now)) }
+    ensures state { (es : List Event) → IsStateOf es state.old → OnOk result (IsStateOf (es ++ events.now) state.new) }
+    ensures refused { (es : List Event) → IsStateOf es state.old
+        → IsErrOf result TableFault.NotApplicable → IsFalse (all_apply (place_of state.old) es events.now) }
+{
+    for event in events {
+        match state.apply(alloc, event) {
+            Ok(()) => {}
+            Err(fault) => return Err(fault),
+        }
+    }
+    Ok(())
+}
+
+/// Makes the frame of a batch of this size: its length, its bytes and a closed gate.
+#[tactic(auto, unfolding(zb_store::specs::Log::framed))]
+pub fn put_frame(frame: &mut Vec<u8>, batch: &Batch, size: u64) -> Result<(), AllocError>
+    requires whole { size ≡ length (bytes_of batch.now) }
+    requires small { size < 2 ^ 32 }
+    ensures { OnOk result (frame.new.items ≡ framed (bytes_of batch.now)) }
+{
+    frame.clear();
+    frame.extend_from_slice(&size.to_be_bytes())?;
+    zb_codec::write(batch, frame)?;
+    frame.push(0)?;
+    Ok(())
+}

@@ -1,0 +1,108 @@
+-- Messages in the order of their keys.
+use Rattle.std.proofs.Common.{◌≡◌, ℕ, zero, suc, ◌+◌, ◌<◌, ◌≤◌, ◌/◌, ◌%◌, ◌^◌, ◌==◌, not, List, [], ◌∷◌, ◌++◌, remove, slice_get, Some, Bool, true, false, IsTrue, if◌then◌else◌, refl, ap, sym, arith}
+use Rattle.std.specs.List.{list_any}
+use Rattle.std.proofs.lemmas.Bool.Decides.{nat_tests}
+use Rattle.zb_base.specs.Key.{key_of}
+use Rattle.zb_exchange_records.specs.declared.message.MessagePublished.{MessagePublished}
+use Rattle.zb_rules.specs.View.{counter_at}
+use Rattle.zb_rules.specs.MessageLaws.{without}
+use Rattle.zb_state.specs.Messages.{are_between}
+
+-- the keys ascend, as a fact
+abbrev Between : ℕ → ℕ → List MessagePublished → Type 0
+Between low high [] = low ≤ high
+Between low high (m ∷ ms) = (low ≤ m.key) × Between (m.key + 1) high ms
+
+between_of : (low high : ℕ) (ms : List MessagePublished) → IsTrue (are_between low high ms) → Between low high ms
+between_of low high [] b = grind (arith, nat_tests)
+between_of low high (x ∷ ms) b =
+    let here : low ≤ x.key = grind (arith, nat_tests) in
+    let later : IsTrue (are_between (x.key + 1) high ms) = grind (arith, nat_tests) in
+    (here, between_of (x.key + 1) high ms later)
+
+of_between : (low high : ℕ) (ms : List MessagePublished) → Between low high ms → IsTrue (are_between low high ms)
+of_between low high [] b = grind (arith, nat_tests)
+of_between low high (x ∷ ms) (here, later) =
+    let rest : IsTrue (are_between (x.key + 1) high ms) = of_between (x.key + 1) high ms later in
+    grind (arith, nat_tests)
+
+-- one more, with the next key
+more : (low high : ℕ) (ms : List MessagePublished) (m : MessagePublished) → Between low high ms → m.key ≡ high → Between low (high + 1) (ms ++ m ∷ [])
+more low high [] m b is = (omega (arith, b, is), omega (arith, is))
+more low high (x ∷ ms) m b is = (b.0, more (x.key + 1) high ms m b.1 is)
+
+pub between_more : (high : ℕ) (ms : List MessagePublished) (m : MessagePublished) → IsTrue (are_between 0 high ms) → m.key ≡ high → IsTrue (are_between 0 (high + 1) (ms ++ m ∷ []))
+between_more high ms m b is = of_between 0 (high + 1) (ms ++ m ∷ []) (more 0 high ms m (between_of 0 high ms b) is)
+
+-- from lower on
+between_lower : (low low' high : ℕ) (ms : List MessagePublished) → low' ≤ low → Between low high ms → Between low' high ms
+between_lower low low' high [] le b = omega (arith, b, le)
+between_lower low low' high (x ∷ ms) le b = (omega (arith, le, b.0), b.1)
+
+-- some of them
+by_test : (t : Bool) (key low high : ℕ) (x : MessagePublished) (ms : List MessagePublished) → low ≤ x.key → Between (x.key + 1) high (without key ms) → Between low high (if not t then x ∷ without key ms else without key ms)
+by_test true key low high x ms here later = between_lower (x.key + 1) low high (without key ms) (omega (arith, here)) later
+by_test false key low high x ms here later = (here, later)
+
+some : (key low high : ℕ) (ms : List MessagePublished) → Between low high ms → Between low high (without key ms)
+some key low high [] b = b
+some key low high (x ∷ ms) b = by_test (x.key == key) key low high x ms b.0 (some key (x.key + 1) high ms b.1)
+
+pub between_without : (key high : ℕ) (ms : List MessagePublished) → IsTrue (are_between 0 high ms) → IsTrue (are_between 0 high (without key ms))
+between_without key high ms b = of_between 0 high (without key ms) (some key 0 high ms (between_of 0 high ms b))
+
+-- none of them has a key below theirs
+without_lower : (key low high : ℕ) (ms : List MessagePublished) → Between low high ms → key < low → without key ms ≡ ms
+without_lower key low high [] b below = refl
+without_lower key low high (x ∷ ms) b below =
+    let rest : without key ms ≡ ms = without_lower key (x.key + 1) high ms b.1 (omega (arith, b.0, below)) in
+    let other : (x.key == key) ≡ false = grind (arith, nat_tests) in
+    rw other (ap (λ l. x ∷ l) rest)
+
+-- the one at a place is the one with its key
+one_at : (low high : ℕ) (ms : List MessagePublished) (i : ℕ) (m : MessagePublished) → Between low high ms → slice_get ms i ≡ Some m → (low ≤ m.key) × (remove ms i ≡ without m.key ms)
+one_at low high [] i m b at = absurd (cc)
+one_at low high (x ∷ ms) zero m b at =
+    let same : x ≡ m = cc in
+    let key : x.key ≡ m.key = ap (λ (y : MessagePublished). y.key) same in
+    let rest : without m.key ms ≡ ms = without_lower m.key (x.key + 1) high ms b.1 (omega (arith, key)) in
+    let test : (x.key == m.key) ≡ true = grind (arith, nat_tests) in
+    (omega (arith, b.0, key), rw test (sym rest))
+one_at low high (x ∷ ms) (suc i) m b at =
+    let later = one_at (x.key + 1) high ms i m b.1 at in
+    let test : (x.key == m.key) ≡ false = grind (arith, nat_tests, later.0) in
+    (omega (arith, b.0, later.0), rw test (ap (λ l. x ∷ l) later.1))
+
+pub remove_at : (high : ℕ) (ms : List MessagePublished) (i : ℕ) (m : MessagePublished) → IsTrue (are_between 0 high ms) → slice_get ms i ≡ Some m → remove ms i ≡ without m.key ms
+remove_at high ms i m b at = (one_at 0 high ms i m (between_of 0 high ms b) at).1
+
+-- the key of one of them is below the end
+below : (low high : ℕ) (ms : List MessagePublished) (i : ℕ) (m : MessagePublished) → Between low high ms → slice_get ms i ≡ Some m → m.key < high
+below low high [] i m b at = absurd (cc)
+below low high (x ∷ []) zero m b at =
+    let key : x.key ≡ m.key = ap (λ (y : MessagePublished). y.key) (let same : x ≡ m = cc in same) in
+    omega (arith, key, b.1)
+below low high (x ∷ y ∷ ms) zero m b at =
+    let key : x.key ≡ m.key = ap (λ (y : MessagePublished). y.key) (let same : x ≡ m = cc in same) in
+    omega (arith, key, b.1.0, below (x.key + 1) high (y ∷ ms) zero y b.1 refl)
+below low high (x ∷ ms) (suc i) m b at = below (x.key + 1) high ms i m b.1 at
+
+pub below_end : (high : ℕ) (ms : List MessagePublished) (i : ℕ) (m : MessagePublished) → IsTrue (are_between 0 high ms) → slice_get ms i ≡ Some m → m.key < high
+below_end high ms i m b at = below 0 high ms i m (between_of 0 high ms b) at
+
+-- one of them has the key
+pub any_at : (ms : List MessagePublished) (i : ℕ) (m : MessagePublished) → slice_get ms i ≡ Some m → IsTrue (list_any (λ x. x.key == m.key) ms)
+any_at [] i m at = absurd (cc)
+any_at (x ∷ ms) zero m at =
+    let key : x.key ≡ m.key = ap (λ (y : MessagePublished). y.key) (let same : x ≡ m = cc in same) in
+    let test : (x.key == m.key) ≡ true = grind (arith, nat_tests) in
+    rw test refl
+any_at (x ∷ ms) (suc i) m at = let later = any_at ms i m at in grind (arith, nat_tests)
+
+-- a key below the next one adds nothing to the greatest counter
+pub counter_below : (p n key : ℕ) → n < 2 ^ 51 → key < key_of p (n + 1) → counter_at p key ≤ n
+counter_below p n key small low = by_test (key / 2 ^ 51 == p) refl
+  where
+    by_test : (t : Bool) → (key / 2 ^ 51 == p) ≡ t → (if t then key % 2 ^ 51 else 0) ≤ n
+    by_test true is = let home : key / 2 ^ 51 ≡ p = grind (arith, nat_tests) in omega (arith, home, low)
+    by_test false is = omega arith

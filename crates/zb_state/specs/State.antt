@@ -1,0 +1,15 @@
+-- What contracts see of a state.
+use Rattle.std.specs.Prelude.{◌≡◌, ℕ, List}
+use Rattle.zb_model.specs.declared.record.Event.{Event}
+use Rattle.zb_state.specs.declared.state.State.{State}
+use Rattle.zb_rules.specs.View.{greatest_counter}
+use Rattle.zb_rules.specs.Messages.{buffered}
+
+-- the partition that the state is of
+abbrev pub place_of : State → ℕ
+place_of state = state.place
+
+-- it is what these events come to
+pub record IsStateOf (es : List Event) (state : State) : Type 0 where
+  pub counter : greatest_counter state.place es ≡ state.counter
+  pub messages : buffered es ≡ state.messages.items

@@ -1,0 +1,194 @@
+ghost use Rattle.std.specs.Prelude.{◌≡◌, ◌⊎◌, ◌<◌, ◌≤◌, ◌+◌, ◌^◌, ℕ, List, [], ◌∷◌, ◌++◌, length, slice_get, IsTrue, IsFalse, IfErr, IfOk, IsErrOf, OnOk, OnErr};
+ghost use Rattle.zb_disk.specs.Disk.{Only};
+ghost use Rattle.zb_disk.specs.Cause.{Rose};
+ghost use Rattle.zb_store.specs.Cause.{IsCaused, IsFullAt};
+ghost use Rattle.zb_store.specs.Calls.{OnlyReads, OnlyOpens};
+ghost use Rattle.zb_store.specs.Gates.{last_of};
+ghost use Rattle.zb_store.specs.Log.{framed};
+ghost use Rattle.zb_store.specs.Stands.{Stands, IsCutAfter, StandsWithOrWithout};
+
+use crate::fault::StoreFault;
+use crate::finding::find;
+use crate::gates::Gates;
+use crate::writing::write_frame;
+use std::alloc::Global;
+use zb_disk::Disk;
+
+/// The log in a file of a disk: frames, each behind a gate, up to the first gate that is closed. Of each
+/// frame only the place is kept.
+#[derive(Drop)]
+pub struct GateLog<D: Disk> {
+    disk: D,
+    limit: u64,
+    gates: Gates,
+    whole: bool,
+    ghost inside: { IsTrue D.tells → last_of gates < length (D.view disk).contents },
+    ghost small: { limit ≤ 2 ^ 32 },
+}
+
+impl<D: Disk> GateLog<D> {
+    ghost use Rattle.zb_store.specs.GateLog.{disk_of, limit_of, count_of, length_of, place_of, is_whole, HasFrames, HasLog, IsSameLog, disk_after};
+
+    /// Opens the log in a file, once all that was written to it is on the disk. It is read in one
+    /// pass, in pieces of a fixed size. A file of at most one byte becomes a closed gate; no frame is changed.
+    pub fn open(alloc: Global, disk: D, limit: u64) -> Result<GateLog<D>, (StoreFault, D)>
+        requires { limit ≤ 2 ^ 32 }
+
+        // Its frames are those that the file stood for. One that isn't whole has those before the cut.
+        ensures whole { IsTrue D.tells → IfOk result (λ log. IsTrue (is_whole log)
+            → (bodies : List (List ℕ)) × Stands (D.view disk).contents bodies × HasLog (D.view (disk_of log)).contents log bodies) }
+        ensures cut { IsTrue D.tells → IfOk result (λ log. IsFalse (is_whole log)
+            → (bodies : List (List ℕ)) × IsCutAfter (D.view disk).contents bodies × HasFrames (D.view (disk_of log)).contents log bodies) }
+        ensures limit { IfOk result (λ log. limit_of log ≡ limit) }
+        ensures first { IfOk result (λ log. place_of log 0 ≡ 0) }
+
+        // No frame is changed: the file goes on to stand for the same bodies, and so does what a crash at any
+        // moment since leaves, if all that one before might have left does.
+        ensures frames { IsTrue D.tells → (bodies : List (List ℕ)) → Stands (D.view disk).contents bodies
+            → Stands (D.view (disk_after result)).contents bodies }
+        ensures since { IsTrue D.tells_images → (bodies : List (List ℕ)) → ((c : List ℕ) → D.images disk c → Stands c bodies)
+            → (c : List ℕ) → D.since (disk_after result) (D.view disk).moment c → Stands c bodies }
+
+        // What becomes of the file, and what a crash may leave of it at any moment.
+        ensures opens { OnlyOpens D.tells D.tells_images D.view D.images D.since disk (disk_after result) }
+        ensures gate { IsTrue D.tells → length (D.view disk).contents ≤ 1 → OnOk result ((D.view (disk_after result)).contents ≡ 0 ∷ []) }
+        ensures durable { IsTrue D.tells_images → OnOk result (Only (D.view (disk_after result)).contents (D.images (disk_after result))) }
+
+        ensures later { (D.view disk).faults ≤ (D.view (disk_after result)).faults }
+        ensures cause { IfErr result (λ refused. IsCaused (D.view disk).faults (D.view refused.1).faults refused.0) }
+    {
+        let mut disk = disk;
+        match find(alloc, &mut disk) {
+            Ok(found) => Ok(GateLog {
+                disk,
+                limit,
+                gates: found.gates,
+                whole: found.whole,
+            }),
+            Err(fault) => Err((fault, disk)),
+        }
+    }
+
+    /// How many frames it has. The frame behind an open gate that runs past the end of the file is none.
+    pub fn count(&self) -> u64
+        ensures { result ≡ count_of self.now }
+    {
+        self.gates.count()
+    }
+
+    /// Its length in bytes up to the last gate, this one included.
+    pub fn length(&self) -> u64
+        ensures length { result ≡ length_of self.now }
+        ensures place { result ≡ place_of self.now (count_of self.now) + 1 }
+        ensures some { 1 ≤ result }
+        ensures small { result ≤ 2 ^ 58 }
+    {
+        self.gates.last() + 1
+    }
+
+    /// How many bytes it may have.
+    pub fn limit(&self) -> u64
+        ensures { result ≡ limit_of self.now }
+    {
+        self.limit
+    }
+
+    /// Whether the last gate is closed. Where it isn't, its frame runs past the end of the file.
+    pub fn whole(&self) -> bool
+        ensures { result ≡ is_whole self.now }
+    {
+        self.whole
+    }
+
+    /// Reads the body of the frame with this number, from 0. After an `Err` any bytes may be in `body`.
+    pub fn frame(&mut self, i: u64, body: &mut Vec<u8>) -> Result<(), StoreFault>
+        requires { i < count_of self.old }
+        ensures body { IsTrue D.tells → (bodies : List (List ℕ)) → HasFrames (D.view (disk_of self.old)).contents self.old bodies
+            → OnOk result (slice_get bodies i ≡ Some body.new.items) }
+        ensures size { OnOk result (place_of self.old (i + 1) ≡ place_of self.old i + 9 + length body.new.items) }
+        ensures kept { IsTrue D.tells → (bodies : List (List ℕ)) → HasFrames (D.view (disk_of self.old)).contents self.old bodies
+            → HasFrames (D.view (disk_of self.new)).contents self.new bodies }
+        ensures kept_log { IsTrue D.tells → (bodies : List (List ℕ)) → HasLog (D.view (disk_of self.old)).contents self.old bodies
+            → HasLog (D.view (disk_of self.new)).contents self.new bodies }
+        ensures same { IsSameLog self.old self.new }
+        ensures reads { OnlyReads D.tells D.tells_images D.view D.images D.since (disk_of self.old) (disk_of self.new) }
+        ensures cause { IfErr result (IsCaused (D.view (disk_of self.old)).faults (D.view (disk_of self.new)).faults) }
+    {
+        let (start, end) = self.gates.body_range(i);
+        body.resize((end - start) as usize, 0)?;
+        Ok(self.disk.read_at(start, body.as_mut_slice())?)
+    }
+
+    /// Adds a frame: the length of a body in eight bytes, the body and a closed gate. That is one write
+    /// behind the closed gate at the end, a sync, 1 on that gate, and a sync. It makes no copy of the bytes.
+    pub fn append(&mut self, frame: &[u8]) -> Result<(), StoreFault>
+        requires form { (body : List ℕ) × (frame.now ≡ framed body) }
+        requires whole { IsTrue (is_whole self.old) }
+
+        ensures appended { IsTrue D.tells → (bodies : List (List ℕ)) (body : List ℕ)
+            → HasLog (D.view (disk_of self.old)).contents self.old bodies → frame.now ≡ framed body
+            → OnOk result (HasLog (D.view (disk_of self.new)).contents self.new (bodies ++ body ∷ [])) }
+        ensures count { OnOk result (count_of self.new ≡ count_of self.old + 1) }
+        ensures length { OnOk result (length_of self.new ≡ length_of self.old + length frame.now) }
+        ensures places { OnOk result ((k : ℕ) → k ≤ count_of self.old → place_of self.new k ≡ place_of self.old k) }
+        ensures fits { OnOk result (length_of self.old + length frame.now ≤ limit_of self.old) }
+        ensures limit { limit_of self.new ≡ limit_of self.old }
+        ensures whole { IsTrue (is_whole self.new) }
+        ensures same { OnErr result (IsSameLog self.old self.new) }
+
+        // What it leaves, refused or not, and what a crash at any moment since the call began might have left.
+        ensures left { IsTrue D.tells → (bodies : List (List ℕ)) (body : List ℕ)
+            → HasLog (D.view (disk_of self.old)).contents self.old bodies → frame.now ≡ framed body
+            → StandsWithOrWithout bodies body (D.view (disk_of self.new)).contents }
+        ensures since { IsTrue D.tells_images → (bodies : List (List ℕ)) (body : List ℕ)
+            → HasLog (D.view (disk_of self.old)).contents self.old bodies
+            → Only (D.view (disk_of self.old)).contents (D.images (disk_of self.old)) → frame.now ≡ framed body
+            → (c : List ℕ) → D.since (disk_of self.new) (D.view (disk_of self.old)).moment c → StandsWithOrWithout bodies body c }
+        ensures crash { IsTrue D.tells_images → (bodies : List (List ℕ)) (body : List ℕ)
+            → HasLog (D.view (disk_of self.old)).contents self.old bodies
+            → Only (D.view (disk_of self.old)).contents (D.images (disk_of self.old)) → frame.now ≡ framed body
+            → (c : List ℕ) → D.images (disk_of self.new) c → StandsWithOrWithout bodies body c }
+        ensures durable { IsTrue D.tells_images → OnOk result (Only (D.view (disk_of self.new)).contents (D.images (disk_of self.new))) }
+
+        // Why it is refused. A full log leaves the disk alone, and so does want of memory where the disk takes none.
+        ensures over { limit_of self.old < length_of self.old + length frame.now
+            → result ≡ Err (StoreFault.LogFull (length_of self.old) (length frame.now) (limit_of self.old)) }
+        ensures full { IfErr result (IsFullAt (length_of self.old) (length frame.now) (limit_of self.old)) }
+        ensures untouched { (n m k : ℕ) → IsErrOf result (StoreFault.LogFull n m k) → disk_of self.new ≡ disk_of self.old }
+        ensures later { (D.view (disk_of self.old)).faults ≤ (D.view (disk_of self.new)).faults }
+        ensures failed { IsErrOf result StoreFault.DiskFault
+            → Rose (D.view (disk_of self.old)).faults (D.view (disk_of self.new)).faults }
+        ensures memory { IsErrOf result StoreFault.Memory → IsTrue D.takes_memory ⊎ (disk_of self.new ≡ disk_of self.old) }
+    {
+        let gate = self.gates.last();
+        let size = frame.len() as u64;
+        if gate + 1 + size > self.limit {
+            return Err(StoreFault::LogFull {
+                length: gate + 1,
+                frame: size,
+                limit: self.limit,
+            });
+        }
+        self.gates.push(gate + size)?;
+        match write_frame(&mut self.disk, gate, frame) {
+            Ok(()) => Ok(()),
+            Err(trouble) => {
+                self.gates.pop();
+                Err(StoreFault::from(trouble))
+            }
+        }
+    }
+
+    /// The disk that it lies on.
+    pub fn into_disk(self) -> D
+        ensures { result ≡ disk_of self }
+    {
+        let GateLog {
+            disk,
+            limit: _,
+            gates: _,
+            whole: _,
+        } = self;
+        disk
+    }
+}

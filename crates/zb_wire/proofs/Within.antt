@@ -1,0 +1,141 @@
+-- What a line asks for is within the limits.
+use Rattle.std.proofs.Common.{◌≡◌, ℕ, ◌≤◌, List, [], ◌∷◌, length, Bool, true, false, if◌then◌else◌, Option, Some, None, Result, Ok, Err, refl, subst, lit≤}
+use Rattle.std.proofs.lemmas.Bool.{leb-true}
+use Rattle.std.proofs.lemmas.List.Elements.{All-nil, All-from_recursion}
+use Rattle.std.specs.List.{AllByRecursion, All}
+use Rattle.std.specs.Option.{option_map_or}
+use Rattle.std.specs.Prelude.{option_map, option_and_then, unwrap_or, nat_le, codes, ⊤, IfOk}
+use Rattle.std.specs.Str.{bytes_eq}
+use Rattle.serde_json.specs.Data.{Data, null, boolean, number, string, array, object, Members, no_members, member}
+use Rattle.serde_json.specs.Find.{get, as_str, as_object, as_i64}
+use Rattle.zb_base.specs.declared.value.Value.{Value}
+use Rattle.zb_base.specs.declared.value.Value.TheVariants as values
+use Rattle.zb_base.specs.declared.vars.Variable.{Variable}
+use Rattle.zb_wire.specs.Fields.{Field, longest_duration, is_name, is_duration, are_within, variables_in, publish_fields, is_within, first_failing, message_of}
+use Rattle.zb_wire.specs.Limits.{text_length, IsShort, IsModest, IsWithinLimits}
+use Rattle.zb_wire.specs.Request.{members_in, op_in, fields_of, none_of, none_wrong, none_unknown, none_outside, request_with, request_in, Gives, ◌>>=◌}
+use Rattle.zb_wire.specs.Variables.{longest_name, longest_text, unsigned_of, numbers_of, value_of, variable_of, variables_of}
+use Rattle.zb_wire.specs.declared.request.LineFault.{LineFault}
+use Rattle.zb_wire.specs.declared.request.LineFault.TheVariants as faults
+use Rattle.zb_wire.specs.declared.request.Request.{Request}
+use Rattle.zb_wire.specs.declared.request.Request.TheVariants as requests
+
+-- a field that passes has a short text
+name_within : (o : Option Data) → option_map_or is_name o true ≡ true → length (unwrap_or (option_and_then as_str o) []) ≤ longest_name
+name_within None passes = lit≤ tt
+name_within (Some d) passes = text_within (as_str d) passes where
+  text_within : (s : Option (List ℕ)) → option_map_or (λ s. nat_le (length s) longest_name) s false ≡ true → length (unwrap_or s []) ≤ longest_name
+  text_within None passes = absurd (cc)
+  text_within (Some s) passes = leb-true _ _ passes
+
+duration_within : (o : Option Data) → option_map_or is_duration o true ≡ true → unwrap_or (option_and_then unsigned_of o) 0 ≤ longest_duration
+duration_within None passes = lit≤ tt
+duration_within (Some d) passes = number_within (unsigned_of d) passes where
+  number_within : (n : Option ℕ) → option_map_or (λ n. nat_le n longest_duration) n false ≡ true → unwrap_or n 0 ≤ longest_duration
+  number_within None passes = absurd (cc)
+  number_within (Some n) passes = leb-true _ _ passes
+
+value_short_by : (b : Bool) (s : List ℕ) (v : Value) → nat_le (length s) longest_text ≡ b → option_map values.Text (if b then Some s else None) ≡ Some v → text_length v ≤ longest_text
+value_short_by false s v fits is = absurd (cc)
+value_short_by true s v fits is = let same : values.Text s ≡ v = cc in subst (λ (v : Value). text_length v ≤ longest_text) same (leb-true _ _ fits)
+
+-- a value that is no text has no long one
+no_text : {A : Type 0} (f : A → Value) (o : Option A) (v : Value) → ((a : A) → text_length (f a) ≡ 0) → option_map f o ≡ Some v → text_length v ≤ longest_text
+no_text f None v none is = absurd (cc)
+no_text f (Some a) v none is = let same : f a ≡ v = cc in subst (λ (v : Value). text_length v ≤ longest_text) same (rw (none a) (lit≤ tt))
+
+value_short : (d : Data) (v : Value) → value_of d ≡ Some v → text_length v ≤ longest_text
+value_short null v is = absurd (cc)
+value_short (boolean b) v is = no_text values.Bool (Some b) v (λ _. refl) is
+value_short (number n) v is = no_text values.Int (as_i64 n) v (λ _. refl) is
+value_short (string s) v is = value_short_by _ s v refl is
+value_short (array ds) v is = no_text values.List (numbers_of ds) v (λ _. refl) is
+value_short (object ms) v is = absurd (cc)
+
+variable_short_by : (name : List ℕ) (d : Data) (b : Bool) (o : Option Value) (v : Variable) → nat_le (length name) longest_name ≡ b → value_of d ≡ o → (if b then option_map (λ value. record { name = name; value = value }) o else None) ≡ Some v → IsShort v
+variable_short_by name d false o v fits holds is = absurd (cc)
+variable_short_by name d true None v fits holds is = absurd (cc)
+variable_short_by name d true (Some value) v fits holds is =
+    let named : name ≡ v.name = cc in
+    let held : value ≡ v.value = cc in
+    record { name = subst (λ (s : List ℕ). length s ≤ longest_name) named (leb-true _ _ fits); text = subst (λ (x : Value). text_length x ≤ longest_text) held (value_short d value holds) }
+
+variables_short_by : (o : Option Variable) (rest : Option (List Variable)) (vs : List Variable) → ((v : Variable) → o ≡ Some v → IsShort v) → ((vs : List Variable) → rest ≡ Some vs → AllByRecursion IsShort vs) → option_and_then (λ v. option_map (λ vs. v ∷ vs) rest) o ≡ Some vs → AllByRecursion IsShort vs
+variables_short_by None rest vs first others is = absurd (cc)
+variables_short_by (Some v) None vs first others is = absurd (cc)
+variables_short_by (Some v) (Some ws) vs first others is = let same : v ∷ ws ≡ vs = cc in subst (λ (vs : List Variable). AllByRecursion IsShort vs) same (first v refl, others ws refl)
+
+variables_short : (ms : Members) (vs : List Variable) → variables_of ms ≡ Some vs → AllByRecursion IsShort vs
+variables_short no_members vs is = let same : [] ≡ vs = cc in subst (λ (vs : List Variable). AllByRecursion IsShort vs) same tt
+variables_short (member name d ms) vs is = variables_short_by (variable_of name d) (variables_of ms) vs (λ v. variable_short_by name d _ _ v refl refl) (variables_short ms) is
+
+all_pass_by : (passes : Field → Bool) (f : Field) (fs : List Field) (b : Bool) → passes f ≡ b → (first_failing passes fs ≡ None → AllByRecursion (λ g. passes g ≡ true) fs) → (if b then first_failing passes fs else Some f.name) ≡ None → AllByRecursion (λ g. passes g ≡ true) (f ∷ fs)
+all_pass_by passes f fs true is others none = (is, others none)
+all_pass_by passes f fs false is others none = absurd (cc)
+
+-- where no field fails, each passes
+all_pass : (passes : Field → Bool) (fs : List Field) → first_failing passes fs ≡ None → AllByRecursion (λ f. passes f ≡ true) fs
+all_pass passes [] none = tt
+all_pass passes (f ∷ fs) none = all_pass_by passes f fs (passes f) refl (all_pass passes fs) none
+
+variables_within : (o : Option Data) → option_map_or are_within o true ≡ true → All IsShort (unwrap_or (option_and_then variables_in o) [])
+variables_within None passes = All-nil IsShort
+variables_within (Some d) passes = short_of (as_object d) where
+  short_all : (vs : Option (List Variable)) → ((xs : List Variable) → vs ≡ Some xs → AllByRecursion IsShort xs) → All IsShort (unwrap_or vs [])
+  short_all None short = All-nil IsShort
+  short_all (Some xs) short = All-from_recursion IsShort xs (short xs refl)
+
+  short_of : (o : Option Members) → All IsShort (unwrap_or (option_and_then variables_of o) [])
+  short_of None = All-nil IsShort
+  short_of (Some ms) = short_all (variables_of ms) (variables_short ms)
+
+-- a message whose fields are within their limits
+message_within : (d : Data) → first_failing (is_within d) publish_fields ≡ None → IsModest (message_of d)
+message_within d none =
+    let each = all_pass (is_within d) publish_fields none in
+    record {
+      name = name_within (get (codes "name") d) each.0;
+      correlation_key = name_within (get (codes "correlationKey") d) each.1.0;
+      time_to_live = duration_within (get (codes "timeToLive") d) each.1.1.0;
+      id = name_within (get (codes "messageId") d) each.1.1.1.0;
+      variables = variables_within (get (codes "variables") d) each.1.1.1.1.0;
+    }
+
+-- a step that was made, and what came of it
+record Made {A : Type 0} (x : Result A LineFault) (f : A → Result Request LineFault) (r : Request) : Type 0 where
+  value : A
+  is : x ≡ Ok value
+  goes : f value ≡ Ok r
+
+made : {A : Type 0} (x : Result A LineFault) (f : A → Result Request LineFault) (r : Request) → (x >>= f) ≡ Ok r → Made x f r
+made (Ok a) f r found = record { value = a; is = refl; goes = found }
+made (Err fault) f r found = absurd (cc)
+
+none_found : (fault : List ℕ → LineFault) (o : Option (List ℕ)) (t : ⊤) → none_of fault o ≡ Ok t → o ≡ None
+none_found fault None t is = refl
+none_found fault (Some field) t is = absurd (cc)
+
+fields_are : (b : Bool) (fields : List Field) → (if b then Ok publish_fields else Err faults.UnknownOp) ≡ Ok fields → fields ≡ publish_fields
+fields_are true fields is = cc
+fields_are false fields is = absurd (cc)
+
+request_with_within : (fields : List Field) (members : Members) (value : Data) (r : Request) → fields ≡ publish_fields → request_with fields members value ≡ Ok r → IsWithinLimits r
+request_with_within fields members value r same found =
+    let right = made (none_wrong fields value) (λ _. none_unknown fields members >>= (λ _. none_outside fields value >>= (λ _. Ok (requests.Publish (message_of value))))) r found in
+    let known = made (none_unknown fields members) (λ _. none_outside fields value >>= (λ _. Ok (requests.Publish (message_of value)))) r right.goes in
+    let within = made (none_outside fields value) (λ _. Ok (requests.Publish (message_of value))) r known.goes in
+    let none : first_failing (is_within value) publish_fields ≡ None = subst (λ (fs : List Field). first_failing (is_within value) fs ≡ None) same (none_found faults.Range _ within.value within.is) in
+    let is : requests.Publish (message_of value) ≡ r = cc in
+    subst IsWithinLimits is (message_within value none)
+
+request_in_within : (value : Data) (r : Request) → request_in value ≡ Ok r → IsWithinLimits r
+request_in_within value r found =
+    let members = made (members_in value) (λ members. op_in value >>= (λ op. fields_of op >>= (λ fields. request_with fields members value))) r found in
+    let op = made (op_in value) (λ op. fields_of op >>= (λ fields. request_with fields members.value value)) r members.goes in
+    let fields = made (fields_of op.value) (λ fields. request_with fields members.value value) r op.goes in
+    request_with_within fields.value members.value value r (fields_are (bytes_eq op.value (codes "publish")) fields.value fields.is) fields.goes
+
+-- a request that a value asks for is within the limits
+pub within_given : (value : Data) (found : Result Request LineFault) → Gives found (request_in value) → IfOk found IsWithinLimits
+within_given value (Ok r) gives = request_in_within value r gives
+within_given value (Err fault) gives = tt
