@@ -62,7 +62,8 @@ impl<D: Disk> Partition<D> {
 
     /// Opens the partition with this number over its log, which may have so many bytes. Every frame is read,
     /// and the log is refused where one can't be: at the first frame that spells no batch, that has an event
-    /// that doesn't apply, or that runs past the end of the file. No frame is changed.
+    /// that doesn't apply, or that runs past the end of the file. No frame is changed. It reads each byte of
+    /// the log twice, and takes a call of the disk for each frame and memory for the buffered messages.
     pub fn open(
         alloc: Global,
         disk: D,
