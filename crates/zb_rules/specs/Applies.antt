@@ -1,19 +1,89 @@
 -- Which events a log may have.
-use Rattle.std.specs.Prelude.{ℕ, ◌+◌, ◌^◌, ◌==◌, nat_lt, Bool, true, false, ◌&&◌, List, [], ◌∷◌, ◌++◌}
+use Rattle.std.specs.Prelude.{ℕ, ◌+◌, ◌^◌, ◌==◌, nat_lt, List, [], ◌∷◌, ◌++◌, Bool, true, false, ◌&&◌, if◌then◌else◌, Option, Some, None}
+use Rattle.std.specs.Option.{option_map_or}
+use Rattle.std.specs.List.{list_any}
+use Rattle.std.specs.Str.{bytes_eq}
+use Rattle.zb_instance_records.specs.declared.instance.ElementActivating.{ElementActivating}
+use Rattle.zb_instance_records.specs.declared.instance.Role.{Role}
+use Rattle.zb_instance_records.specs.declared.instance.Role.TheVariants as roles
 use Rattle.zb_model.specs.declared.record.Event.{Event}
 use Rattle.zb_model.specs.declared.record.Event.TheVariants as events
-use Rattle.zb_rules.specs.View.{greatest_counter, next_key}
 use Rattle.zb_rules.specs.Messages.{is_buffered}
+use Rattle.zb_rules.specs.View.{greatest_counter, next_key}
+use Rattle.zb_rules.specs.declared.board.Move.{Move}
+use Rattle.zb_rules.specs.Board.{Board, cell_at, model_at}
+use Rattle.zb_rules.specs.Game.{can}
+use Rattle.zb_rules.specs.Shown.{shown, board_of}
+use Rattle.zb_rules.specs.Create.{begun}
+use Rattle.zb_rules.specs.Definitions.{definitions}
+use Rattle.zb_rules.specs.Faults.{is_well_formed}
 
 -- the key is the next one that partition p draws, and there is one
 abbrev pub is_fresh : ℕ → List Event → ℕ → Bool
 is_fresh p before key = nat_lt (greatest_counter p before + 1) (2 ^ 51) && (key == next_key p before)
 
--- the event applies to those before it, at partition p; one that no command makes so far doesn't
+-- a definition with a key is there
+abbrev pub has_definition : ℕ → List Event → Bool
+has_definition key es = list_any (λ d. d.key == key) (definitions es)
+
+-- a plain cell
+abbrev pub is_plain : Role → Bool
+is_plain roles.Plain = true
+is_plain role = false
+
+-- on a board the process of a definition has this id
+abbrev pub is_process_of : ℕ → List ℕ → Board → Bool
+is_process_of definition id b = option_map_or (λ m. bytes_eq m.process id) (model_at b definition) false
+
+-- on a board a cell is of a definition
+abbrev pub is_definition_of : ℕ → ℕ → Board → Bool
+is_definition_of cell definition b = option_map_or (λ c. c.definition == definition) (cell_at b cell) false
+
+-- this holds of the game of the events
+abbrev pub holds_of_game : (Board → Bool) → List Event → Bool
+holds_of_game holds es = option_map_or holds (board_of es) false
+
+-- a root comes right behind its instance, with the process id as its node, and by no flow
+abbrev pub begins_instance : List Event → ElementActivating → Bool
+begins_instance before e = option_map_or (λ i. (i.key == e.key) && (i.definition == e.definition)) (begun before) false
+    && holds_of_game (is_process_of e.definition e.node) before && bytes_eq e.via []
+
+-- another cell has a fresh key, and the definition of its scope
+abbrev pub begins_cell : ℕ → List Event → ElementActivating → Bool
+begins_cell p before e = is_fresh p before e.key && holds_of_game (is_definition_of e.scope e.definition) before
+
+-- a cell that begins is plain, and no message started it
+abbrev pub begins_well : ℕ → List Event → ElementActivating → Bool
+begins_well p before e = is_plain e.role && bytes_eq e.started [] && (if e.scope == 0 then begins_instance before e else begins_cell p before e)
+
+-- there are none of these
+abbrev pub is_none_of : {A : Type 0} → List A → Bool
+is_none_of [] = true
+is_none_of (x ∷ xs) = false
+
+-- what holds of an event that applies, beside the move that it shows; one that no command makes so far doesn't apply
+abbrev pub holds_own : ℕ → List Event → Event → Bool
+holds_own p before (events.ProcessCreated e) = is_well_formed e.model
+holds_own p before (events.DeploymentCreated e) = is_fresh p before e.key && has_definition e.definition before
+holds_own p before (events.ProcessInstanceCreationCreated e) = is_fresh p before e.key && has_definition e.definition before
+holds_own p before (events.ElementActivating e) = begins_well p before e
+holds_own p before (events.ElementActivated e) = is_none_of e.items
+holds_own p before (events.ElementCompleting key) = true
+holds_own p before (events.ElementCompleted e) = true
+holds_own p before (events.SequenceFlowTaken e) = true
+holds_own p before (events.VariableCreated e) = true
+holds_own p before (events.MessagePublished m) = is_fresh p before m.key
+holds_own p before (events.MessageExpired key) = is_buffered key before
+holds_own p before _ = false
+
+-- a move may be made, if there is one
+abbrev pub may : Option Move → Board → Bool
+may None b = true
+may (Some move) b = can b move
+
+-- the event applies to those before it, at partition p: its own condition holds, and the move that it shows is legal
 abbrev pub applies : ℕ → List Event → Event → Bool
-applies p before (events.MessagePublished m) = is_fresh p before m.key
-applies p before (events.MessageExpired key) = is_buffered key before
-applies p before _ = false
+applies p before e = holds_own p before e && holds_of_game (may (shown e)) before
 
 -- each of the events applies to the ones before and those of the list in front of it
 abbrev pub all_apply : ℕ → List Event → List Event → Bool

@@ -12,7 +12,7 @@ has_expired_more key [] e = grind arith
 has_expired_more key (x ∷ es) e = rw (has_expired_more key es e) (grind arith)
 
 -- an event that tells of no expiry leaves a message as it was
-unexpired_kept : (told : Option MessagePublished) (es : List Event) (e : Event) → expiry_told e ≡ None → unexpired told (es ++ e ∷ []) ≡ unexpired told es
+pub unexpired_kept : (told : Option MessagePublished) (es : List Event) (e : Event) → expiry_told e ≡ None → unexpired told (es ++ e ∷ []) ≡ unexpired told es
 unexpired_kept None es e silent = refl
 unexpired_kept (Some m) es e silent = rw (has_expired_more m.key es e, silent) (grind arith)
 

@@ -1,33 +1,16 @@
--- Why a command is rejected.
-use Rattle.std.specs.Prelude.{ℕ, List, [], ◌++◌, codes, Bool, not, ◌&&◌, if◌then◌else◌, Option, Some, None}
-use Rattle.std.specs.List.{list_any}
-use Rattle.std.specs.Str.{bytes_eq}
-use Rattle.zb_exchange_records.specs.declared.message.MessagePublish.{MessagePublish}
-use Rattle.zb_exchange_records.specs.declared.message.MessagePublished.{MessagePublished}
+-- Why a command is rejected. Each command's own rule stands in a module of its name.
+use Rattle.std.specs.Prelude.{List, Option, None}
 use Rattle.zb_model.specs.declared.record.Command.{Command}
 use Rattle.zb_model.specs.declared.record.Command.TheVariants as commands
 use Rattle.zb_model.specs.declared.record.Event.{Event}
 use Rattle.zb_model.specs.declared.record.Rejection.{Rejection}
-use Rattle.zb_model.specs.declared.record.RejectionKind.TheVariants as kinds
-use Rattle.zb_rules.specs.Messages.{buffered}
-
--- the message has the name, the correlation key and the id that are to be published
-abbrev pub is_same : MessagePublish → MessagePublished → Bool
-is_same c m = bytes_eq m.name c.name && bytes_eq m.correlation_key c.correlation_key && bytes_eq m.id c.id
-
--- the id isn't empty, and a message with it, the name and the correlation key is buffered
-abbrev pub is_repeated : List Event → MessagePublish → Bool
-is_repeated before c = not (bytes_eq c.id []) && list_any (is_same c) (buffered before)
-
--- what the rejection of a repeated message says
-unfoldable pub buffered_text : MessagePublish → List ℕ
-buffered_text c = codes "message " ++ (c.name ++ (codes " " ++ (c.correlation_key ++ (codes " " ++ (c.id ++ codes " is buffered")))))
-
--- the rejection of a publish, if there is a reason for one
-abbrev pub reason_to_publish : List Event → MessagePublish → Option Rejection
-reason_to_publish before c = if is_repeated before c then Some (record { kind = kinds.AlreadyExists; reason = buffered_text c }) else None
+use Rattle.zb_rules.specs.Publish.{reason_to_publish}
+use Rattle.zb_rules.specs.Deploy.{reason_to_deploy}
+use Rattle.zb_rules.specs.Create.{reason_to_create}
 
 -- the rejection of a command by the events before it, if there is a reason for one
 abbrev pub reason_for : List Event → Command → Option Rejection
+reason_for before (commands.DeploymentCreate m) = reason_to_deploy m
+reason_for before (commands.ProcessInstanceCreationCreate c) = reason_to_create before c
 reason_for before (commands.MessagePublish c) = reason_to_publish before c
 reason_for before _ = None

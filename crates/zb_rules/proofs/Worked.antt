@@ -1,0 +1,103 @@
+-- The play of a process of one start event, one flow and one end event, worked out by hand.
+use Rattle.std.proofs.Common.{◌≡◌, ℕ, List, [], ◌∷◌, ◌++◌, Bool, true, false, ◌&&◌, Some, None, refl}
+use Rattle.std.specs.Prelude.{codes}
+use Rattle.zb_process.specs.declared.model.Model.{Model}
+use Rattle.zb_process.specs.declared.model.Node.{Node}
+use Rattle.zb_process.specs.declared.model.NodeKind.{NodeKind}
+use Rattle.zb_process.specs.declared.model.NodeKind.TheVariants as kinds
+use Rattle.zb_instance_records.specs.declared.instance.Role.TheVariants as roles
+use Rattle.zb_model.specs.declared.record.Event.{Event}
+use Rattle.zb_model.specs.declared.record.Event.TheVariants as events
+use Rattle.zb_model.specs.declared.record.RejectionKind.TheVariants as kinds_of
+use Rattle.zb_rules.specs.Settling.{turn}
+use Rattle.zb_rules.specs.Deploy.{deployed}
+use Rattle.zb_rules.specs.Applies.{applies}
+use Rattle.zb_rules.specs.Create.{created, reason_to_create}
+use Rattle.zb_rules.specs.Faults.{first_fault, fault_text}
+use Rattle.zb_rules.specs.declared.fault.Fault.TheVariants as faults
+
+abbrev node : List ℕ → NodeKind → Node
+node id kind = record { id = id; kind = kind; parent = []; attached = []; cancel = false; otherwise = []; name = []; expr = None; retries = 0; handler = false; multi = None; inputs = []; outputs = [] }
+
+abbrev process : Model
+process = record {
+  process = codes "p";
+  tag = [];
+  nodes = node (codes "s") kinds.StartEvent ∷ node (codes "e") kinds.EndEvent ∷ [];
+  flows = record { id = codes "f"; from = codes "s"; to = codes "e"; condition = None } ∷ [];
+}
+
+abbrev b : ℕ
+b = 2251799813685248
+
+abbrev activating : ℕ → ℕ → List ℕ → List ℕ → Event
+activating key scope id via = events.ElementActivating (record { key = key; scope = scope; definition = 2251799813685249; node = id; role = roles.Plain; via = via; started = [] })
+
+abbrev activated : ℕ → Event
+activated key = events.ElementActivated (record { key = key; items = [] })
+
+abbrev completed : ℕ → List (List ℕ) → Event
+completed key owed = events.ElementCompleted (record { key = key; owed = owed })
+
+-- the turns that follow, at most as many as the fuel has members
+abbrev turns : List Bool → List Event → List Event
+turns [] es = []
+turns (more ∷ fuel) es = elim (turn 1 es) [
+  | None ↦ []
+  | Some made ↦ made ++ turns fuel (es ++ made)
+]
+
+abbrev before : List Event
+before = events.ProcessCreated (record { key = 2251799813685249; version = 1; model = process }) ∷ events.DeploymentCreated (record { key = 2251799813685250; definition = 2251799813685249 }) ∷ events.ProcessInstanceCreationCreated (record { key = 2251799813685251; definition = 2251799813685249 }) ∷ activating 2251799813685251 0 (codes "p") [] ∷ []
+
+root_opens : turn 1 before ≡ Some (activated 2251799813685251 ∷ [])
+unfolding turn
+root_opens = refl
+
+fuel : List Bool
+fuel = true ∷ true ∷ true ∷ true ∷ true ∷ true ∷ true ∷ true ∷ true ∷ true ∷ true ∷ true ∷ true ∷ true ∷ []
+
+play : turns (true ∷ true ∷ true ∷ true ∷ true ∷ true ∷ true ∷ true ∷ true ∷ true ∷ true ∷ true ∷ true ∷ true ∷ []) before ≡
+    activated 2251799813685251
+    ∷ activating 2251799813685252 2251799813685251 (codes "s") [] ∷ activated 2251799813685252 ∷ events.ElementCompleting 2251799813685252 ∷ completed 2251799813685252 (codes "f" ∷ [])
+    ∷ events.SequenceFlowTaken (record { key = 2251799813685252; flow = codes "f" })
+    ∷ activating 2251799813685253 2251799813685251 (codes "e") (codes "f") ∷ activated 2251799813685253 ∷ events.ElementCompleting 2251799813685253 ∷ completed 2251799813685253 []
+    ∷ events.ElementCompleting 2251799813685251 ∷ completed 2251799813685251 []
+    ∷ []
+unfolding turn
+play = refl
+
+-- deploying it, and making an instance of it
+deploy : deployed 1 [] process ≡ events.ProcessCreated (record { key = 2251799813685249; version = 1; model = process }) ∷ events.DeploymentCreated (record { key = 2251799813685250; definition = 2251799813685249 }) ∷ []
+deploy = refl
+
+abbrev deployed_events : List Event
+deployed_events = events.ProcessCreated (record { key = 2251799813685249; version = 1; model = process }) ∷ events.DeploymentCreated (record { key = 2251799813685250; definition = 2251799813685249 }) ∷ []
+
+create : created 1 deployed_events (record { process = codes "p"; version = 0; variables = [] }) ≡ Some (events.ProcessInstanceCreationCreated (record { key = 2251799813685251; definition = 2251799813685249 }) ∷ activating 2251799813685251 0 (codes "p") [] ∷ [])
+create = refl
+
+good : first_fault process ≡ None
+good = refl
+
+no_start : first_fault (record { process = codes "p"; tag = []; nodes = []; flows = [] }) ≡ Some (faults.Start, codes "p")
+no_start = refl
+
+no_start_text : fault_text faults.Start (codes "p") ≡ codes "START: p"
+no_start_text = refl
+
+-- a process that isn't there
+unknown : reason_to_create [] (record { process = codes "q"; version = 0; variables = [] }) ≡ Some (record { kind = kinds_of.NotFound; reason = codes "no process q" })
+unknown = refl
+
+-- every event of the play applies to those before it
+all_apply : List Event → List Event → Bool
+all_apply done [] = true
+all_apply done (e ∷ es) = applies 1 done e && all_apply (done ++ e ∷ []) es
+
+abbrev whole_play : List Event
+whole_play = before ++ turns (true ∷ true ∷ true ∷ true ∷ true ∷ true ∷ true ∷ true ∷ true ∷ true ∷ true ∷ true ∷ true ∷ true ∷ []) before
+
+each_applies : all_apply [] whole_play ≡ true
+unfolding turn all_apply
+each_applies = refl

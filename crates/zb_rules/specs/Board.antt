@@ -1,0 +1,96 @@
+-- What stands on a board (BPMN 2.0.2, 13.1: tokens).
+use Rattle.std.specs.Prelude.{ℕ, ◌==◌, List, [], ◌∷◌, map, filter, Bool, true, false, ◌&&◌, not, Option, option_map, is_some}
+use Rattle.std.specs.Option.{option_map_or}
+use Rattle.std.specs.Str.{bytes_eq}
+use Rattle.zb_process.specs.declared.model.Model.{Model}
+use Rattle.zb_process.specs.declared.model.Node.{Node}
+use Rattle.zb_process.specs.declared.model.NodeKind.{NodeKind}
+use Rattle.zb_process.specs.declared.model.NodeKind.TheVariants as kinds
+use Rattle.zb_rules.specs.Edits.{first}
+use Rattle.zb_rules.specs.declared.board.Cell.{Cell}
+use Rattle.zb_rules.specs.declared.board.Token.{Token}
+use Rattle.zb_rules.specs.declared.board.Spot.{Spot}
+use Rattle.zb_rules.specs.declared.board.Spot.TheVariants as spots
+use Rattle.zb_rules.specs.declared.board.Deployed.{Deployed}
+use Rattle.zb_rules.specs.declared.board.Assigned.{Assigned}
+use Rattle.zb_rules.specs.declared.board.Phase.{Phase}
+use Rattle.zb_rules.specs.declared.board.Phase.TheVariants as phases
+
+-- a game of tokens: the models, the cells in the order of their keys, the tokens in the order in which they were made, the variables
+pub record Board : Type 0 where
+  pub models : List Deployed
+  pub cells : List Cell
+  pub tokens : List Token
+  pub variables : List Assigned
+
+-- the cell with a key
+abbrev pub cell_at : Board → ℕ → Option Cell
+cell_at b key = first (λ c. c.key == key) b.cells
+
+-- the model of a definition
+abbrev pub model_at : Board → ℕ → Option Model
+model_at b key = option_map (λ d. d.model) (first (λ d. d.key == key) b.models)
+
+-- the node with an id
+abbrev pub node_at : Model → List ℕ → Option Node
+node_at m id = first (λ n. bytes_eq n.id id) m.nodes
+
+-- the ids of the flows out of a node, in the order of the model
+abbrev pub flows_out : Model → List ℕ → List (List ℕ)
+flows_out m id = map (λ f. f.id) (filter (λ f. bytes_eq f.from id) m.flows)
+
+-- the flow with an id leads to a node
+abbrev pub leads_to : Model → List ℕ → List ℕ → Bool
+leads_to m flow id = option_map_or (λ f. bytes_eq f.to id) (first (λ f. bytes_eq f.id flow) m.flows) false
+
+-- a start event without a trigger (BPMN 2.0.2, 10.5.2)
+abbrev pub is_start : NodeKind → Bool
+is_start kinds.StartEvent = true
+is_start kind = false
+
+-- the start event of a scope with this id, empty at the top
+abbrev pub start_in : Model → List ℕ → Option Node
+start_in m scope = first (λ n. is_start n.kind && bytes_eq n.parent scope) m.nodes
+
+-- the cell has this phase
+abbrev pub is_phase : Phase → Phase → Bool
+is_phase phases.Activating phases.Activating = true
+is_phase phases.Active phases.Active = true
+is_phase phases.Completing phases.Completing = true
+is_phase phases.Leaving phases.Leaving = true
+is_phase phases.Terminating phases.Terminating = true
+is_phase a b = false
+
+-- a root: a cell in no other
+abbrev pub is_root : Cell → Bool
+is_root c = c.scope == 0
+
+-- nothing runs in a cell, and no token is in it
+abbrev pub is_empty : Board → ℕ → Bool
+is_empty b key = not (is_some (first (λ c. c.scope == key) b.cells)) && not (is_some (first (λ t. t.scope == key) b.tokens))
+
+-- the spot of a token that comes by a flow, or stands before a node where there is none
+abbrev pub spot_of : List ℕ → List ℕ → Spot
+spot_of [] node = spots.BeforeNode node
+spot_of (byte ∷ flow) node = spots.OnFlow (byte ∷ flow)
+
+-- two spots are the same
+abbrev pub is_spot : Spot → Spot → Bool
+is_spot (spots.OnFlow a) (spots.OnFlow b) = bytes_eq a b
+is_spot (spots.BeforeNode a) (spots.BeforeNode b) = bytes_eq a b
+is_spot a b = false
+
+-- the board with other cells, or other tokens
+abbrev pub with_cells : Board → List Cell → Board
+with_cells b cells = record { models = b.models; cells = cells; tokens = b.tokens; variables = b.variables }
+
+abbrev pub with_tokens : Board → List Token → Board
+with_tokens b tokens = record { models = b.models; cells = b.cells; tokens = tokens; variables = b.variables }
+
+-- the board with these cells, where the variables of the cell with a key are gone
+abbrev pub without_cell : Board → ℕ → List Cell → Board
+without_cell b key cells = record { models = b.models; cells = cells; tokens = b.tokens; variables = filter (λ v. not (v.scope == key)) b.variables }
+
+-- the cell in another phase, owing these flows
+abbrev pub in_phase : Phase → List (List ℕ) → Cell → Cell
+in_phase phase owed c = record { key = c.key; scope = c.scope; definition = c.definition; node = c.node; role = c.role; phase = phase; owed = owed }

@@ -1,0 +1,56 @@
+-- Making an instance of a process (BPMN 2.0.2, 13.2; the records as in Zeebe).
+use Rattle.std.specs.Prelude.{ℕ, List, [], ◌∷◌, ◌++◌, map, codes, Option, Some, None, option_map}
+use Rattle.std.specs.Fmt.{decimal}
+use Rattle.zb_base.specs.declared.vars.Variable.{Variable}
+use Rattle.zb_instance_records.specs.declared.instance.ProcessInstanceCreationCreate.{ProcessInstanceCreationCreate}
+use Rattle.zb_instance_records.specs.declared.instance.ProcessInstanceCreationCreated.{ProcessInstanceCreationCreated}
+use Rattle.zb_instance_records.specs.declared.instance.Role.TheVariants as roles
+use Rattle.zb_model.specs.declared.record.Event.{Event}
+use Rattle.zb_model.specs.declared.record.Event.TheVariants as events
+use Rattle.zb_model.specs.declared.record.Rejection.{Rejection}
+use Rattle.zb_model.specs.declared.record.RejectionKind.TheVariants as kinds
+use Rattle.zb_rules.specs.declared.definition.Definition.{Definition}
+use Rattle.zb_rules.specs.View.{next_key}
+use Rattle.zb_rules.specs.Definitions.{definition_for}
+
+-- what is told where there is no such process
+abbrev pub no_process : List ℕ → List ℕ
+no_process process = codes "no process " ++ process
+
+-- and where there is no such version of it
+abbrev pub no_version : List ℕ → ℕ → List ℕ
+no_version process version = codes "no version " ++ (decimal version ++ (codes " of process " ++ process))
+
+-- why it is rejected: there is no such process, or no such version of it
+abbrev pub reason_by : Option Definition → Option Definition → ProcessInstanceCreationCreate → Option Rejection
+reason_by None asked c = Some (record { kind = kinds.NotFound; reason = no_process c.process })
+reason_by (Some latest) None c = Some (record { kind = kinds.NotFound; reason = no_version c.process c.version })
+reason_by (Some latest) (Some asked) c = None
+
+abbrev pub reason_to_create : List Event → ProcessInstanceCreationCreate → Option Rejection
+reason_to_create before c = reason_by (definition_for c.process 0 before) (definition_for c.process c.version before) c
+
+-- the instance that an event makes
+abbrev pub instance_told : Event → Option ProcessInstanceCreationCreated
+instance_told (events.ProcessInstanceCreationCreated e) = Some e
+instance_told _ = None
+
+-- the instance that the last event makes
+abbrev pub begun : List Event → Option ProcessInstanceCreationCreated
+begun [] = None
+begun (e ∷ []) = instance_told e
+begun (e ∷ next ∷ es) = begun (next ∷ es)
+
+-- a variable of the instance
+abbrev pub variable_of : ℕ → Variable → Event
+variable_of root v = events.VariableCreated (record { scope = root; name = v.name; value = v.value })
+
+-- the instance of a process under a key: it is made, it is activated, and it has these variables
+abbrev pub instance_under : ℕ → ℕ → ProcessInstanceCreationCreate → List Event
+instance_under key definition c = events.ProcessInstanceCreationCreated (record { key = key; definition = definition })
+    ∷ events.ElementActivating (record { key = key; scope = 0; definition = definition; node = c.process; role = roles.Plain; via = []; started = [] })
+    ∷ map (variable_of key) c.variables
+
+-- what it makes
+abbrev pub created : ℕ → List Event → ProcessInstanceCreationCreate → Option (List Event)
+created p before c = option_map (λ d. instance_under (next_key p before) d.key c) (definition_for c.process c.version before)

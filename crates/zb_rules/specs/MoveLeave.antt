@@ -1,0 +1,32 @@
+-- A cell has completed, and a token is to go out on each of its flows (BPMN 2.0.2, 13.3.1).
+use Rattle.std.specs.Prelude.{ℕ, ◌==◌, List, [], ◌∷◌, Bool, true, false, ◌&&◌, if◌then◌else◌, Option, option_map}
+use Rattle.std.specs.Option.{option_map_or}
+use Rattle.std.specs.Str.{bytes_eq}
+use Rattle.zb_rules.specs.Edits.{edited, removed}
+use Rattle.zb_rules.specs.declared.board.Cell.{Cell}
+use Rattle.zb_rules.specs.declared.board.Leave.{Leave}
+use Rattle.zb_rules.specs.declared.board.Phase.TheVariants as phases
+use Rattle.zb_rules.specs.Board.{Board, cell_at, model_at, flows_out, is_phase, is_root, in_phase, with_cells, without_cell}
+
+-- the flows that it owes; a root owes none
+abbrev pub owed_by : Board → Cell → List (List ℕ)
+owed_by b c = if is_root c then [] else option_map_or (λ m. flows_out m c.node) (model_at b c.definition) []
+
+-- two lists of ids are the same
+abbrev pub ids_eq : List (List ℕ) → List (List ℕ) → Bool
+ids_eq [] [] = true
+ids_eq (x ∷ xs) (y ∷ ys) = bytes_eq x y && ids_eq xs ys
+ids_eq xs ys = false
+
+-- when: it is completing, and these are its flows
+abbrev pub can_leave : Board → Leave → Bool
+can_leave b l = option_map_or (λ c. is_phase c.phase phases.Completing && ids_eq l.owed (owed_by b c)) (cell_at b l.key) false
+
+-- the board where a cell owes these flows and is leaving; where there are none, it is gone with its variables
+abbrev pub leaving : List (List ℕ) → ℕ → Board → Option Board
+leaving [] key b = option_map (without_cell b key) (removed (λ c. c.key == key) b.cells)
+leaving (flow ∷ owed) key b = option_map (with_cells b) (edited (λ c. c.key == key) (in_phase phases.Leaving (flow ∷ owed)) b.cells)
+
+-- effect: it owes them and is leaving; it is gone where there are none
+abbrev pub play_leave : Board → Leave → Option Board
+play_leave b l = leaving l.owed l.key b

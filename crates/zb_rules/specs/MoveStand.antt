@@ -1,0 +1,12 @@
+-- A model stands under a key: a process is deployed.
+use Rattle.std.specs.Prelude.{[], ◌∷◌, ◌++◌, Bool, not, is_some, Option, Some}
+use Rattle.zb_rules.specs.declared.board.Deployed.{Deployed}
+use Rattle.zb_rules.specs.Board.{Board, model_at}
+
+-- when: no model stands under its key
+abbrev pub can_stand : Board → Deployed → Bool
+can_stand b d = not (is_some (model_at b d.key))
+
+-- effect: the model stands there
+abbrev pub play_stand : Board → Deployed → Option Board
+play_stand b d = Some (record { models = b.models ++ d ∷ []; cells = b.cells; tokens = b.tokens; variables = b.variables })

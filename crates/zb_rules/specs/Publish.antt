@@ -1,0 +1,47 @@
+-- Publishing a message (own; the records as in Zeebe).
+use Rattle.std.specs.Prelude.{ℕ, ◌+◌, ◌==◌, min, List, [], ◌∷◌, ◌++◌, codes, Bool, not, ◌&&◌, if◌then◌else◌, Option, Some, None}
+use Rattle.std.specs.List.{list_any}
+use Rattle.std.specs.Str.{bytes_eq}
+use Rattle.zb_base.specs.Moment as moments
+use Rattle.zb_exchange_records.specs.declared.message.MessagePublish.{MessagePublish}
+use Rattle.zb_exchange_records.specs.declared.message.MessagePublished.{MessagePublished}
+use Rattle.zb_model.specs.declared.record.Event.{Event}
+use Rattle.zb_model.specs.declared.record.Event.TheVariants as events
+use Rattle.zb_model.specs.declared.record.Rejection.{Rejection}
+use Rattle.zb_model.specs.declared.record.RejectionKind.TheVariants as kinds
+use Rattle.zb_rules.specs.Messages.{buffered}
+
+-- the message has the name, the correlation key and the id that are to be published
+abbrev pub is_same : MessagePublish → MessagePublished → Bool
+is_same c m = bytes_eq m.name c.name && bytes_eq m.correlation_key c.correlation_key && bytes_eq m.id c.id
+
+-- the id isn't empty, and a message with it, the name and the correlation key is buffered
+abbrev pub is_repeated : List Event → MessagePublish → Bool
+is_repeated before c = not (bytes_eq c.id []) && list_any (is_same c) (buffered before)
+
+-- what the rejection of a repeated message says
+unfoldable pub buffered_text : MessagePublish → List ℕ
+buffered_text c = codes "message " ++ (c.name ++ (codes " " ++ (c.correlation_key ++ (codes " " ++ (c.id ++ codes " is buffered")))))
+
+-- the rejection of a publish, if there is a reason for one
+abbrev pub reason_to_publish : List Event → MessagePublish → Option Rejection
+reason_to_publish before c = if is_repeated before c then Some (record { kind = kinds.AlreadyExists; reason = buffered_text c }) else None
+
+-- a message under a key, which waits from this moment for its time to live, at most up to the last moment
+abbrev pub message_under : ℕ → ℕ → MessagePublish → MessagePublished
+message_under key moment c = record {
+  key = key;
+  name = c.name;
+  correlation_key = c.correlation_key;
+  id = c.id;
+  deadline = min (moment + c.time_to_live) moments.last_moment;
+  variables = c.variables;
+}
+
+-- a message without time to live expires at once
+abbrev pub expiry_of : ℕ → MessagePublish → List Event
+expiry_of key c = if c.time_to_live == 0 then events.MessageExpired key ∷ [] else []
+
+-- the message is published under this key
+abbrev pub published_under : ℕ → ℕ → MessagePublish → List Event
+published_under key moment c = events.MessagePublished (message_under key moment c) ∷ expiry_of key c
