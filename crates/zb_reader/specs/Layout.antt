@@ -1,0 +1,130 @@
+-- The layout of a process model in JSON (own; the names of elements and attributes are those of BPMN 2.0.2, section 10).
+-- So far of start events and end events that stand for themselves, and flows without conditions.
+use Rattle.std.specs.Prelude.{ℕ, List, [], ◌∷◌, codes, false, is_some, if◌then◌else◌, Option, Some, None, option_and_then, unwrap_or, Result, Ok, Err}
+use Rattle.std.specs.Option.{option_map_or}
+use Rattle.std.specs.Str.{bytes_eq}
+use Rattle.serde_json.specs.Data.{Data, Items, no_items, item}
+use Rattle.serde_json.specs.Find.{get, as_str, as_array}
+use Rattle.zb_process.specs.declared.model.Model.{Model}
+use Rattle.zb_process.specs.declared.model.Node.{Node}
+use Rattle.zb_process.specs.declared.model.Flow.{Flow}
+use Rattle.zb_process.specs.declared.model.NodeKind.{NodeKind}
+use Rattle.zb_process.specs.declared.model.NodeKind.TheVariants as kinds
+use Rattle.zb_reader.specs.Place.{Field, must, may, here_unless, place_in_text, place_in_object, place_in_list}
+
+-- an id has at most so many bytes (own)
+abbrev pub longest_id : ℕ
+longest_id = 255
+
+-- and a version tag (own)
+abbrev pub longest_tag : ℕ
+longest_tag = 32768
+
+-- the kind of a node by its name (BPMN 2.0.2, 10.5.2 and 10.5.3)
+abbrev pub kind_named : List ℕ → Option NodeKind
+kind_named name = if bytes_eq name (codes "startEvent") then Some kinds.StartEvent else (if bytes_eq name (codes "endEvent") then Some kinds.EndEvent else None)
+
+-- the kind that a node names
+abbrev pub kind_at : Data → Option NodeKind
+kind_at d = option_and_then kind_named (option_and_then as_str (get (codes "kind") d))
+
+-- the name of a kind
+abbrev pub place_in_kind : Data → Option (List ℕ)
+place_in_kind d = here_unless (is_some (option_and_then kind_named (as_str d)))
+
+-- the id of a subprocess; so far a node stands in none
+abbrev pub place_in_parent : Data → Option (List ℕ)
+place_in_parent d = here_unless (option_map_or (λ s. bytes_eq s []) (as_str d) false)
+
+-- what isn't read so far
+abbrev pub unread : Data → Option (List ℕ)
+unread d = Some []
+
+-- the fields that a kind has of its own
+abbrev pub fields_of : Option NodeKind → List Field
+fields_of (Some kinds.StartEvent) = may (codes "messageEventDefinition") unread ∷ []
+fields_of (Some kinds.EndEvent) = may (codes "terminateEventDefinition") unread ∷ may (codes "compensateEventDefinition") unread ∷ []
+fields_of kind = []
+
+-- a node
+abbrev pub node_fields : Data → List Field
+node_fields d =
+    must (codes "id") (place_in_text longest_id)
+    ∷ must (codes "kind") place_in_kind
+    ∷ may (codes "parent") place_in_parent
+    ∷ fields_of (kind_at d)
+
+-- a flow
+abbrev pub flow_fields : Data → List Field
+flow_fields d =
+    must (codes "id") (place_in_text longest_id)
+    ∷ must (codes "sourceRef") (place_in_text longest_id)
+    ∷ must (codes "targetRef") (place_in_text longest_id)
+    ∷ may (codes "conditionExpression") unread
+    ∷ []
+
+-- a model
+abbrev pub model_fields : Data → List Field
+model_fields d =
+    must (codes "process") (place_in_text longest_id)
+    ∷ may (codes "versionTag") (place_in_text longest_tag)
+    ∷ must (codes "nodes") (place_in_list (place_in_object node_fields))
+    ∷ must (codes "flows") (place_in_list (place_in_object flow_fields))
+    ∷ []
+
+-- where a value fails to be a model: the first place in the order of the document; None where it is one
+abbrev pub place_in_model : Data → Option (List ℕ)
+place_in_model d = place_in_object model_fields d
+
+-- the text of a field, and the empty one where it isn't there
+abbrev pub text_at : List ℕ → Data → List ℕ
+text_at field d = unwrap_or (option_and_then as_str (get field d)) []
+
+-- the node that a value is; what its kind hasn't is empty
+abbrev pub node_in : Data → Node
+node_in d = record {
+  id = text_at (codes "id") d;
+  kind = unwrap_or (kind_at d) kinds.EndEvent;
+  parent = [];
+  attached = [];
+  cancel = false;
+  otherwise = [];
+  name = [];
+  expr = None;
+  retries = 0;
+  handler = false;
+  multi = None;
+  inputs = [];
+  outputs = [];
+}
+
+-- the flow that a value is
+abbrev pub flow_in : Data → Flow
+flow_in d = record { id = text_at (codes "id") d; from = text_at (codes "sourceRef") d; to = text_at (codes "targetRef") d; condition = None }
+
+-- what the items are, in order
+abbrev pub made_of : {A : Type 0} → (Data → A) → Items → List A
+made_of made no_items = []
+made_of made (item d ds) = made d ∷ made_of made ds
+
+-- the list of a field, and the empty one where it isn't there
+abbrev pub list_at : {A : Type 0} → (Data → A) → List ℕ → Data → List A
+list_at made field d = option_map_or (made_of made) (option_and_then as_array (get field d)) []
+
+-- the model that a value is
+abbrev pub model_in : Data → Model
+model_in d = record {
+  process = text_at (codes "process") d;
+  tag = text_at (codes "versionTag") d;
+  nodes = list_at node_in (codes "nodes") d;
+  flows = list_at flow_in (codes "flows") d;
+}
+
+-- the model, where no place fails
+abbrev pub unless_failed : Option (List ℕ) → Model → Result Model (List ℕ)
+unless_failed None m = Ok m
+unless_failed (Some path) m = Err path
+
+-- the model that a value is, or the first place that fails
+unfoldable pub model_of : Data → Result Model (List ℕ)
+model_of d = unless_failed (place_in_model d) (model_in d)

@@ -1,0 +1,15 @@
+//! Process models, as they are laid out in JSON.
+#![tactic(auto)]
+
+mod fields;
+mod flow;
+mod layout;
+mod model;
+mod node;
+mod place;
+mod reading;
+
+pub use reading::{ReadFault, read_model};
+
+#[cfg(test)]
+mod tests;
