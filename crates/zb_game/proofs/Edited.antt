@@ -1,0 +1,78 @@
+-- Edits at the first member that passes a test.
+use Rattle.std.proofs.Common.{◌≡◌, ℕ, suc, ◌+◌, ◌≤◌, ◌<◌, List, [], ◌∷◌, length, Bool, true, false, not, cond, if◌then◌else◌, Option, Some, None, option_map, slice_get, slice_set, get_or, remove, refl, ap, sym, ◌∙◌, arith}
+use Rattle.std.specs.List.{position, position_or_len}
+use Rattle.std.proofs.lemmas.Grind.{common_steps}
+use Rattle.std.proofs.lemmas.Option.{slice_get_read}
+use Rattle.zb_rules.specs.Edits.{edited, removed}
+
+module _ {A : Type 0} (passes : A → Bool) where
+  -- the place of a position
+  place_is : (xs : List A) (i : ℕ) → position passes xs ≡ Some i → position_or_len passes xs ≡ i
+  place_is xs i is = grind (arith, common_steps)
+
+  no_place : (xs : List A) → position passes xs ≡ None → length xs ≤ position_or_len passes xs
+  no_place xs is = grind (arith, common_steps)
+
+  edited_first : (edit : A → A) (xs : List A) (x : A) → slice_get xs (position_or_len passes xs) ≡ Some x → edited passes edit xs ≡ Some (slice_set xs (position_or_len passes xs) (edit x))
+  edited_first edit [] x at = absurd (cc)
+  edited_first edit (y ∷ ys) x at = by_test (edited_first edit ys x) (passes y) at
+    where
+      by_test : (slice_get ys (position_or_len passes ys) ≡ Some x → edited passes edit ys ≡ Some (slice_set ys (position_or_len passes ys) (edit x))) → (t : Bool) → slice_get (y ∷ ys) (cond (not t) (1 + position_or_len passes ys) 0) ≡ Some x
+          → (if t then Some (edit y ∷ ys) else option_map (λ zs. y ∷ zs) (edited passes edit ys)) ≡ Some (slice_set (y ∷ ys) (cond (not t) (1 + position_or_len passes ys) 0) (edit x))
+      by_test rest true at = let same : y ≡ x = cc in ap (λ z. Some (edit z ∷ ys)) same
+      by_test rest false at =
+          let n : 1 + position_or_len passes ys ≡ suc (position_or_len passes ys) = omega arith in
+          let later : slice_get ys (position_or_len passes ys) ≡ Some x = sym (ap (slice_get (y ∷ ys)) n) ∙ at in
+          rw n (ap (option_map (λ zs. y ∷ zs)) (rest later))
+
+  removed_within : (xs : List A) → position_or_len passes xs < length xs → removed passes xs ≡ Some (remove xs (position_or_len passes xs))
+  removed_within [] within = absurd (omega arith)
+  removed_within (y ∷ ys) within = by_test (removed_within ys) (passes y) within
+    where
+      by_test : (position_or_len passes ys < length ys → removed passes ys ≡ Some (remove ys (position_or_len passes ys))) → (t : Bool) → cond (not t) (1 + position_or_len passes ys) 0 < length (y ∷ ys)
+          → (if t then Some ys else option_map (λ zs. y ∷ zs) (removed passes ys)) ≡ Some (remove (y ∷ ys) (cond (not t) (1 + position_or_len passes ys) 0))
+      by_test rest true within = refl
+      by_test rest false within =
+          let n : 1 + position_or_len passes ys ≡ suc (position_or_len passes ys) = omega arith in
+          rw n (ap (option_map (λ zs. y ∷ zs)) (rest (omega arith)))
+
+  edited_nowhere : (edit : A → A) (xs : List A) → length xs ≤ position_or_len passes xs → edited passes edit xs ≡ None
+  edited_nowhere edit [] past = refl
+  edited_nowhere edit (y ∷ ys) past = by_test (edited_nowhere edit ys) (passes y) past
+    where
+      by_test : (length ys ≤ position_or_len passes ys → edited passes edit ys ≡ None) → (t : Bool) → length (y ∷ ys) ≤ cond (not t) (1 + position_or_len passes ys) 0 → (if t then Some (edit y ∷ ys) else option_map (λ zs. y ∷ zs) (edited passes edit ys)) ≡ None
+      by_test rest true past = absurd (omega arith)
+      by_test rest false past = ap (option_map (λ zs. y ∷ zs)) (rest (omega arith))
+
+  removed_nowhere : (xs : List A) → length xs ≤ position_or_len passes xs → removed passes xs ≡ None
+  removed_nowhere [] past = refl
+  removed_nowhere (y ∷ ys) past = by_test (removed_nowhere ys) (passes y) past
+    where
+      by_test : (length ys ≤ position_or_len passes ys → removed passes ys ≡ None) → (t : Bool) → length (y ∷ ys) ≤ cond (not t) (1 + position_or_len passes ys) 0 → (if t then Some ys else option_map (λ zs. y ∷ zs) (removed passes ys)) ≡ None
+      by_test rest true past = absurd (omega arith)
+      by_test rest false past = ap (option_map (λ zs. y ∷ zs)) (rest (omega arith))
+
+  -- the member at a position
+  at_place : (xs : List A) (i : ℕ) (x : A) → position passes xs ≡ Some i → x ≡ get_or xs i x → slice_get xs (position_or_len passes xs) ≡ Some x
+  at_place xs i x is at =
+      let place = place_is xs i is in
+      let within : i < length xs = grind (arith, common_steps) in
+      ap (slice_get xs) place ∙ slice_get_read xs (length xs) i x refl within at
+
+  -- at the place of the first member that passes
+  pub edited_at : (edit : A → A) (xs : List A) (i : ℕ) (x : A) → position passes xs ≡ Some i → x ≡ get_or xs i x → edited passes edit xs ≡ Some (slice_set xs i (edit x))
+  edited_at edit xs i x is at = edited_first edit xs x (at_place xs i x is at) ∙ ap (λ k. Some (slice_set xs k (edit x))) (place_is xs i is)
+
+  pub removed_at : (xs : List A) (i : ℕ) → position passes xs ≡ Some i → removed passes xs ≡ Some (remove xs i)
+  removed_at xs i is = removed_within xs (let within : position_or_len passes xs < length xs = grind (arith, common_steps) in within) ∙ ap (λ k. Some (remove xs k)) (place_is xs i is)
+
+  -- and where none passes
+  pub edited_none : (edit : A → A) (xs : List A) → position passes xs ≡ None → edited passes edit xs ≡ None
+  edited_none edit xs is = edited_nowhere edit xs (no_place xs is)
+
+  pub removed_none : (xs : List A) → position passes xs ≡ None → removed passes xs ≡ None
+  removed_none xs is = removed_nowhere xs (no_place xs is)
+
+  -- the place that was found
+  pub placed : (xs ys : List A) (o r : Option ℕ) → xs ≡ ys → o ≡ position passes xs → o ≡ r → position passes ys ≡ r
+  placed xs ys o r same is found = sym (ap (position passes) same) ∙ (sym is ∙ found)

@@ -1,0 +1,15 @@
+use Rattle.std.proofs.Common.{List, sym, ap, ◌∙◌, arith}
+use Rattle.std.proofs.lemmas.List.{drop_all}
+use Rattle.zb_process.specs.declared.model.Flow.{Flow}
+use Rattle.zb_rules.specs.MoveLeave.{ids_eq}
+use Rattle.zb_game.proofs.Outs.{ids_out, ids_eq-none}
+use Rattle.zb_game.proofs.flows.are_flows_out.Goals as goal
+
+pub returns : goal.returns
+returns c =
+    let rest = c.loop-flow.rest.now in
+    let node = c.args.node.now in
+    let items = c.as_slice-flow-items.result.now in
+    c.is_empty.ensures ∙ (sym (ids_eq-none rest)
+    ∙ (ap (λ (flows : List Flow). ids_eq rest (ids_out node flows)) (sym (drop_all c.loop-flow.flow-index items (omega arith)))
+    ∙ (c.loop-flow.invariant ∙ ap (λ (flows : List Flow). ids_eq c.args.ids.now (ids_out node flows)) c.as_slice-flow-items.ensures)))

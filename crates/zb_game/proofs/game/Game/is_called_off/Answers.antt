@@ -1,0 +1,18 @@
+use Rattle.std.proofs.Common.{◌≡◌, true, false, sym, ◌∙◌, rules}
+use Rattle.zb_rules.specs.declared.board.Phase.TheVariants as phases
+use Rattle.zb_rules.specs.Board.{is_phase}
+use Rattle.zb_game.proofs.Climbs.{called_off-at, called_off-above, called_off-none}
+use Rattle.zb_game.proofs.game.Game.is_called_off.Goals as goal
+
+pub returns-then-eq : goal.returns-then-eq
+returns-then-eq c =
+    let is : is_phase c.in-Some.cell.now.phase phases.Terminating ≡ true = search rules in
+    sym (called_off-at c.args.self.now c.loop-step.key c.loop-step._step c.in-Some.cell.now (search rules) (sym c.in-Some.ensures) is) ∙ c.loop-step.invariant
+
+pub returns-in-None : goal.returns-in-None
+returns-in-None c = sym (called_off-none c.args.self.now c.loop-step.key c.loop-step._step (sym c.in-None.ensures)) ∙ c.loop-step.invariant
+
+pub loop-step-preserved : goal.loop-step-preserved
+loop-step-preserved c =
+    let is : is_phase c.in-Some.cell.now.phase phases.Terminating ≡ false = search rules in
+    sym (called_off-above c.args.self.now c.loop-step.key c.loop-step._step c.in-Some.cell.now (search rules) (sym c.in-Some.ensures) is) ∙ c.loop-step.invariant

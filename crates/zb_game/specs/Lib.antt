@@ -1,0 +1,2 @@
+pub mod BoardCode
+pub mod Newest

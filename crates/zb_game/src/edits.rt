@@ -1,0 +1,92 @@
+// What moves change on a board.
+ghost use Rattle.std.specs.Prelude.{◌≡◌, ◌==◌, ◌++◌, ◌∷◌, [], Some, None, OnOk, IfOk, IsErrOf, filter, not};
+ghost use Rattle.std.specs.Option.{option_map_or};
+ghost use Rattle.zb_rules.specs.Board.{in_phase};
+ghost use Rattle.zb_rules.specs.Edits.{edited, removed};
+ghost use Rattle.zb_rules.specs.MoveEnter.{enters};
+
+use crate::GameFault;
+use crate::places::{place_of_cell, place_of_token};
+use std::alloc::{AllocError, Global};
+use zb_model::{Key, List, Text, TryCopy};
+use zb_rules::{Assigned, Cell, Enter, Phase, Token};
+
+/// Puts the first cell with this key in another phase, owing these flows. It goes through all before it.
+pub fn put_in_phase(
+    cells: &mut Vec<Cell>,
+    key: Key,
+    phase: Phase,
+    owed: List<Text>,
+) -> Result<(), GameFault>
+    ensures put { OnOk result (edited (λ c. c.key == key) (in_phase phase owed) cells.old.items ≡ Some cells.new.items) }
+    ensures none { IsErrOf result GameFault.Illegal → edited (λ c. c.key == key) (in_phase phase owed) cells.old.items ≡ None }
+{
+    match place_of_cell(key, cells) {
+        Some(place) => {
+            let cell = &mut cells[place];
+            cell.phase = phase;
+            cell.owed = owed;
+            Ok(())
+        }
+        None => Err(GameFault::Illegal),
+    }
+}
+
+/// Takes away the first cell with this key. It goes through all of them.
+pub fn take_away(cells: &mut Vec<Cell>, key: Key) -> Result<(), GameFault>
+    ensures gone { OnOk result (removed (λ c. c.key == key) cells.old.items ≡ Some cells.new.items) }
+    ensures none { IsErrOf result GameFault.Illegal → removed (λ c. c.key == key) cells.old.items ≡ None }
+{
+    match place_of_cell(key, cells) {
+        Some(place) => {
+            cells.remove(place);
+            Ok(())
+        }
+        None => Err(GameFault::Illegal),
+    }
+}
+
+/// Takes away the first token that enters. It goes through all of them.
+pub fn take_token(tokens: &mut Vec<Token>, entry: &Enter) -> Result<(), GameFault>
+    ensures gone { OnOk result (removed (enters entry.now) tokens.old.items ≡ Some tokens.new.items) }
+    ensures none { IsErrOf result GameFault.Illegal → removed (enters entry.now) tokens.old.items ≡ None }
+{
+    match place_of_token(entry, tokens) {
+        Some(place) => {
+            tokens.remove(place);
+            Ok(())
+        }
+        None => Err(GameFault::Illegal),
+    }
+}
+
+/// Takes away the variables of a cell. It goes through all of them.
+pub fn forget_variables(variables: &mut Vec<Assigned>, scope: Key)
+    ensures { variables.new.items ≡ filter (λ v. not (v.scope == scope)) variables.old.items }
+{
+    variables.retain(|variable| variable.scope != scope);
+}
+
+/// Adds a token at the end, if there is one.
+pub fn add_token(tokens: &mut Vec<Token>, token: Option<Token>) -> Result<(), AllocError>
+    ensures { OnOk result (tokens.new.items ≡ tokens.old.items ++ option_map_or (λ t. t ∷ []) token []) }
+{
+    match token {
+        Some(token) => {
+            tokens.push(token)?;
+            Ok(())
+        }
+        None => Ok(()),
+    }
+}
+
+/// A copy of these items. It takes a step for each part of them.
+pub fn copy_of<T: TryCopy>(alloc: Global, items: &[T]) -> Result<List<T>, AllocError>
+    ensures { IfOk result (λ copy. copy ≡ items.now) }
+{
+    let mut copy = List::empty(alloc);
+    for item in items {
+        copy.push(item.copy(alloc)?)?;
+    }
+    Ok(copy)
+}

@@ -1,0 +1,192 @@
+ghost use Rattle.std.specs.Prelude.{◌≡◌, Some, None, IsTrue, IsFalse, OnOk, IsErrOf, option_map};
+ghost use Rattle.std.specs.Option.{option_copied};
+ghost use Rattle.zb_rules.specs.Applies.{is_process_of};
+ghost use Rattle.zb_rules.specs.Board.{cell_at, model_at};
+ghost use Rattle.zb_rules.specs.Game.{empty_board, can, played};
+ghost use Rattle.zb_game.specs.declared.game.GameFault.TheVariants as faults;
+
+mod assign;
+mod doom;
+mod enter;
+mod finish;
+mod forced;
+mod leave;
+mod open;
+mod stand;
+mod start;
+mod take;
+
+use crate::edits::copy_of;
+use crate::lookups::{cell_among, deployed_among};
+use std::alloc::{AllocError, AllocFailed, Global};
+use std::marker::Model;
+use zb_model::{Key, Model as ProcessModel, TryCopy};
+use zb_rules::{Assigned, Cell, Deployed, Move, Token};
+
+/// Why a move was not made.
+#[derive(Clone, Copy, Debug, PartialEq, Eq)]
+pub enum GameFault {
+    /// It isn't legal, or its effect names a cell, a token or a model that isn't there.
+    Illegal,
+    Memory,
+}
+
+impl From<AllocError> for GameFault {
+    ghost from_gives = { λ _ fault. fault ≡ faults.Memory };
+
+    fn from(_: AllocError) -> Self {
+        GameFault::Memory
+    }
+}
+
+impl<T: Drop> From<AllocFailed<T>> for GameFault {
+    ghost from_gives = { λ _ fault. fault ≡ faults.Memory };
+
+    fn from(_: AllocFailed<T>) -> Self {
+        GameFault::Memory
+    }
+}
+
+/// A game of tokens: the models, the cells, the tokens and the variables on a board.
+#[derive(Drop)]
+pub struct Game {
+    models: Vec<Deployed>,
+    cells: Vec<Cell>,
+    tokens: Vec<Token>,
+    variables: Vec<Assigned>,
+}
+
+impl Model for Game {
+    ghost use Rattle.zb_rules.specs.Board.{Board};
+    ghost use Rattle.zb_rules.specs.contracts.board.Deployed as deployed;
+    ghost use Rattle.zb_rules.specs.contracts.board.Cell as cell;
+    ghost use Rattle.zb_rules.specs.contracts.board.Token as token;
+    ghost use Rattle.zb_rules.specs.contracts.board.Assigned as assigned;
+    ghost use Rattle.zb_game.specs.BoardCode.{board_code};
+
+    ghost Value = { Board };
+
+    ghost coded = { board_code deployed.the_row.coded cell.the_row.coded token.the_row.coded assigned.the_row.coded };
+
+    ghost view = { λ g. record {
+      models = g.models.items;
+      cells = g.cells.items;
+      tokens = g.tokens.items;
+      variables = g.variables.items;
+    } };
+}
+
+impl TryCopy for Game {
+    fn copy(&self, alloc: Global) -> Result<Game, AllocError> {
+        Ok(Game {
+            models: copy_of(alloc, &self.models)?.into_vec(),
+            cells: copy_of(alloc, &self.cells)?.into_vec(),
+            tokens: copy_of(alloc, &self.tokens)?.into_vec(),
+            variables: copy_of(alloc, &self.variables)?.into_vec(),
+        })
+    }
+}
+
+impl Game {
+    /// A game with nothing on the board. It takes no memory.
+    pub fn empty(alloc: Global) -> Game
+        ensures { result ≡ empty_board }
+    {
+        Game {
+            models: Vec::new(alloc),
+            cells: Vec::new(alloc),
+            tokens: Vec::new(alloc),
+            variables: Vec::new(alloc),
+        }
+    }
+
+    /// Whether a move is legal. It goes through the lists that the move looks at; for an entry, through the cells
+    /// once for each cell above the token.
+    pub fn can(&self, m: &Move) -> bool
+        ensures { result ≡ can self.now m.now }
+    {
+        match m {
+            Move::Stand(d) => self.can_stand(d),
+            Move::Start(s) => self.can_start(s),
+            Move::Enter(e) => self.can_enter(e),
+            Move::Open(key) => self.can_open(*key),
+            Move::Finish(key) => self.can_finish(*key),
+            Move::Leave(l) => self.can_leave(l),
+            Move::Take(t) => self.can_take(t),
+            Move::Assign(a) => self.can_assign(a),
+        }
+    }
+
+    /// Plays a move, legal or not. `Illegal` says that its effect names a cell, a token or a model that isn't
+    /// there; where all are there, only `Memory` is answered for a fault. After a fault the game is only dropped.
+    /// It goes through the lists that the move looks at or changes.
+    pub fn play(&mut self, alloc: Global, m: &Move) -> Result<(), GameFault>
+        ensures played { OnOk result (played self.old m.now ≡ Some self.new) }
+        ensures illegal { IsErrOf result GameFault.Illegal → played self.old m.now ≡ None }
+    {
+        match m {
+            Move::Stand(d) => self.stand(alloc, d),
+            Move::Start(s) => self.start(alloc, s),
+            Move::Enter(e) => self.enter(alloc, e),
+            Move::Open(key) => self.open(alloc, *key),
+            Move::Finish(key) => self.finish(alloc, *key),
+            Move::Leave(l) => self.leave(alloc, l),
+            Move::Take(t) => self.take(alloc, t),
+            Move::Assign(a) => self.assign(alloc, a),
+        }
+    }
+
+    /// Makes a legal move. At `Illegal`, exactly where it isn't legal, nothing has changed; after `Memory` the
+    /// game is only dropped. It goes through the lists that the move looks at or changes.
+    pub fn make(&mut self, alloc: Global, m: &Move) -> Result<(), GameFault>
+        ensures legal { OnOk result (IsTrue (can self.old m.now)) }
+        ensures played { OnOk result (played self.old m.now ≡ Some self.new) }
+        ensures illegal { IsErrOf result GameFault.Illegal → IsFalse (can self.old m.now) }
+        ensures kept { IsErrOf result GameFault.Illegal → self.new ≡ self.old }
+    {
+        if self.can(m) {
+            self.play(alloc, m)
+        } else {
+            Err(GameFault::Illegal)
+        }
+    }
+
+    /// The definition of a cell. It goes through the cells.
+    pub fn definition_of(&self, cell: Key) -> Option<Key>
+        ensures { result ≡ option_map (λ c. c.definition) (cell_at self.now cell) }
+    {
+        match self.cell(cell) {
+            Some(cell) => Some(cell.definition),
+            None => None,
+        }
+    }
+
+    /// Whether the process of a definition has this id. It goes through the models.
+    pub fn is_process_of(&self, definition: Key, id: &str) -> bool
+        ensures { result ≡ is_process_of definition id.now self.now }
+    {
+        match self.model(definition) {
+            Some(model) => model.process.as_str() == id,
+            None => false,
+        }
+    }
+
+    // The cell with a key. It goes through the cells.
+    #[tactic(auto, using(crate::proofs::Firsts::found_first))]
+    fn cell(&self, key: Key) -> Option<&Cell>
+        ensures { option_copied result ≡ cell_at self.now key }
+    {
+        cell_among(key, &self.cells)
+    }
+
+    // The model of a definition. It goes through the models.
+    #[tactic(auto, using(crate::proofs::Firsts::found_first))]
+    fn model(&self, definition: Key) -> Option<&ProcessModel>
+        ensures { option_copied result ≡ model_at self.now definition }
+    {
+        match deployed_among(definition, &self.models) {
+            Some(deployed) => Some(&deployed.model),
+            None => None,
+        }
+    }
+}

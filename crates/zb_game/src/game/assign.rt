@@ -1,0 +1,30 @@
+ghost use Rattle.std.specs.Prelude.{◌≡◌, Some, None, OnOk, IsErrOf};
+ghost use Rattle.zb_rules.specs.MoveAssign.{can_assign, play_assign};
+
+use crate::lookups::has_variable;
+use crate::{Game, GameFault};
+use std::alloc::Global;
+use zb_model::TryCopy;
+use zb_rules::Assigned;
+
+impl Game {
+    /// Whether a cell may get a variable. It goes through the cells and the variables.
+    #[tactic(auto, using(crate::proofs::Firsts::any_first))]
+    pub(super) fn can_assign(&self, a: &Assigned) -> bool
+        ensures { result ≡ can_assign self.now a.now }
+    {
+        self.cell(a.scope).is_some() && !has_variable(a.scope, a.name.as_str(), &self.variables)
+    }
+
+    /// Plays that a variable gets its first value. It goes through the cells.
+    pub(super) fn assign(&mut self, alloc: Global, a: &Assigned) -> Result<(), GameFault>
+        ensures played { OnOk result (play_assign self.old a.now ≡ Some self.new) }
+        ensures illegal { IsErrOf result GameFault.Illegal → play_assign self.old a.now ≡ None }
+    {
+        if self.cell(a.scope).is_none() {
+            return Err(GameFault::Illegal);
+        }
+        self.variables.push(a.copy(alloc)?)?;
+        Ok(())
+    }
+}

@@ -1,0 +1,72 @@
+ghost use Rattle.std.specs.Prelude.{◌≡◌, Some, None, IfOk, OnOk, IsErrOf};
+ghost use Rattle.zb_rules.specs.MoveLeave.{can_leave, ids_eq, leaving, owed_by, play_leave};
+
+use crate::edits::{copy_of, forget_variables, put_in_phase, take_away};
+use crate::flows::{are_flows_out, flows_out};
+use crate::{Game, GameFault};
+use std::alloc::{AllocError, Global};
+use zb_model::{Key, List, Text};
+use zb_rules::{Cell, Leave, Phase};
+
+impl Game {
+    /// Whether a cell has completed, and owes these flows. It goes through the cells, the models and the flows of
+    /// one.
+    pub(super) fn can_leave(&self, l: &Leave) -> bool
+        ensures { result ≡ can_leave self.now l.now }
+    {
+        match self.cell(l.key) {
+            Some(cell) => cell.phase == Phase::Completing && self.owes(cell, l.owed.as_slice()),
+            None => false,
+        }
+    }
+
+    // Whether these are the flows that a cell owes.
+    #[tactic(auto, using(crate::proofs::Outs::compared))]
+    fn owes(&self, cell: &Cell, ids: &[Text]) -> bool
+        ensures { result ≡ ids_eq ids.now (owed_by self.now cell.now) }
+    {
+        if cell.scope == Key::new(0) {
+            return ids.is_empty();
+        }
+        match self.model(cell.definition) {
+            Some(model) => are_flows_out(ids, model, cell.node.as_str()),
+            None => ids.is_empty(),
+        }
+    }
+
+    /// The flows that a cell owes. It goes through the models and the flows of one.
+    pub(super) fn owed_by(&self, alloc: Global, cell: &Cell) -> Result<List<Text>, AllocError>
+        ensures { IfOk result (λ ids. ids ≡ owed_by self.now cell.now) }
+    {
+        if cell.scope == Key::new(0) {
+            return Ok(List::empty(alloc));
+        }
+        match self.model(cell.definition) {
+            Some(model) => flows_out(alloc, model, cell.node.as_str()),
+            None => Ok(List::empty(alloc)),
+        }
+    }
+
+    /// Plays that a cell has completed. It goes through the cells and the variables.
+    pub(super) fn leave(&mut self, alloc: Global, l: &Leave) -> Result<(), GameFault>
+        ensures played { OnOk result (play_leave self.old l.now ≡ Some self.new) }
+        ensures illegal { IsErrOf result GameFault.Illegal → play_leave self.old l.now ≡ None }
+    {
+        let owed = copy_of(alloc, l.owed.as_slice())?;
+        self.leaving(l.key, owed)
+    }
+
+    /// A cell leaves and owes these flows; where there are none it is gone, and so are its variables. It goes
+    /// through the cells and the variables.
+    pub(super) fn leaving(&mut self, key: Key, owed: List<Text>) -> Result<(), GameFault>
+        ensures left { OnOk result (leaving owed key self.old ≡ Some self.new) }
+        ensures none { IsErrOf result GameFault.Illegal → leaving owed key self.old ≡ None }
+    {
+        if owed.as_slice().is_empty() {
+            forget_variables(&mut self.variables, key);
+            take_away(&mut self.cells, key)
+        } else {
+            put_in_phase(&mut self.cells, key, Phase::Leaving, owed)
+        }
+    }
+}

@@ -1,0 +1,56 @@
+ghost use Rattle.std.specs.Prelude.{◌≡◌, ◌∷◌, [], Some, None, IfOk, OnOk, IsErrOf};
+ghost use Rattle.std.specs.Option.{option_map_or};
+ghost use Rattle.zb_rules.specs.MoveOpen.{can_open, first_tokens, play_open};
+
+use crate::edits::{add_token, put_in_phase};
+use crate::lookups::start_among;
+use crate::{Game, GameFault};
+use std::alloc::{AllocError, Global};
+use zb_model::{Key, List, TryCopy};
+use zb_rules::{Cell, Phase, Spot, Token};
+
+impl Game {
+    /// Whether a cell may become active. It goes through the cells.
+    pub(super) fn can_open(&self, key: Key) -> bool
+        ensures { result ≡ can_open self.now key }
+    {
+        match self.cell(key) {
+            Some(cell) => cell.phase == Phase::Activating,
+            None => false,
+        }
+    }
+
+    /// Plays that a cell becomes active. It goes through the cells, the models and the nodes of one.
+    pub(super) fn open(&mut self, alloc: Global, key: Key) -> Result<(), GameFault>
+        ensures played { OnOk result (play_open self.old key ≡ Some self.new) }
+        ensures illegal { IsErrOf result GameFault.Illegal → play_open self.old key ≡ None }
+    {
+        let Some(cell) = self.cell(key) else {
+            return Err(GameFault::Illegal);
+        };
+        let token = self.first_token(alloc, cell)?;
+        add_token(&mut self.tokens, token)?;
+        put_in_phase(&mut self.cells, key, Phase::Active, List::empty(alloc))
+    }
+
+    // The token that this cell gets as it opens, if it gets one.
+    #[tactic(auto, using(crate::proofs::Firsts::found_first))]
+    fn first_token(&self, alloc: Global, cell: &Cell) -> Result<Option<Token>, AllocError>
+        ensures { IfOk result (λ token. first_tokens self.now cell.now ≡ option_map_or (λ t. t ∷ []) token []) }
+    {
+        if cell.scope != Key::new(0) {
+            return Ok(None);
+        }
+        let Some(model) = self.model(cell.definition) else {
+            return Ok(None);
+        };
+        let Some(start) = start_among(model.nodes.as_slice()) else {
+            return Ok(None);
+        };
+        let id = start.id.copy(alloc)?;
+        Ok(Some(Token {
+            scope: cell.key,
+            spot: Spot::BeforeNode(id),
+        }))
+    }
+}

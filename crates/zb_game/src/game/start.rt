@@ -1,0 +1,37 @@
+ghost use Rattle.std.specs.Prelude.{◌≡◌, Some, None, OnOk, IsErrOf};
+ghost use Rattle.zb_rules.specs.MoveStart.{can_start, play_start};
+
+use crate::{Game, GameFault};
+use std::alloc::Global;
+use zb_model::{Key, List, Role, TryCopy};
+use zb_rules::{Cell, Phase, Start};
+
+impl Game {
+    /// Whether a process may be instantiated. It goes through the models.
+    pub(super) fn can_start(&self, s: &Start) -> bool
+        ensures { result ≡ can_start self.now s.now }
+    {
+        self.model(s.definition).is_some()
+    }
+
+    /// Plays that a process is instantiated. It goes through the models.
+    pub(super) fn start(&mut self, alloc: Global, s: &Start) -> Result<(), GameFault>
+        ensures played { OnOk result (play_start self.old s.now ≡ Some self.new) }
+        ensures illegal { IsErrOf result GameFault.Illegal → play_start self.old s.now ≡ None }
+    {
+        let Some(model) = self.model(s.definition) else {
+            return Err(GameFault::Illegal);
+        };
+        let node = model.process.copy(alloc)?;
+        self.cells.push(Cell {
+            key: s.key,
+            scope: Key::new(0),
+            definition: s.definition,
+            node,
+            role: Role::Plain,
+            phase: Phase::Activating,
+            owed: List::empty(alloc),
+        })?;
+        Ok(())
+    }
+}

@@ -1,0 +1,60 @@
+ghost use Rattle.std.specs.Prelude.{◌≡◌, Some, None, IfOk, OnOk, IsErrOf};
+ghost use Rattle.zb_rules.specs.MoveTake.{can_take, is_first, play_take, rest_of};
+
+use crate::edits::copy_of;
+use crate::{Game, GameFault};
+use std::alloc::{AllocError, Global};
+use zb_model::{List, Text, TryCopy};
+use zb_rules::{Phase, Spot, Take, Token};
+
+impl Game {
+    /// Whether a cell leaves, and owes this flow first. It goes through the cells.
+    pub(super) fn can_take(&self, t: &Take) -> bool
+        ensures { result ≡ can_take self.now t.now }
+    {
+        match self.cell(t.key) {
+            Some(cell) => cell.phase == Phase::Leaving
+                && is_first(t.flow.as_str(), cell.owed.as_slice()),
+            None => false,
+        }
+    }
+
+    /// Plays that a cell takes the first flow that it owes. It goes through the cells and the variables.
+    pub(super) fn take(&mut self, alloc: Global, t: &Take) -> Result<(), GameFault>
+        ensures played { OnOk result (play_take self.old t.now ≡ Some self.new) }
+        ensures illegal { IsErrOf result GameFault.Illegal → play_take self.old t.now ≡ None }
+    {
+        let Some(cell) = self.cell(t.key) else {
+            return Err(GameFault::Illegal);
+        };
+        let scope = cell.scope;
+        let owed = rest_of(alloc, cell.owed.as_slice())?;
+        let flow = t.flow.copy(alloc)?;
+        self.leaving(t.key, owed)?;
+        self.tokens.push(Token {
+            scope,
+            spot: Spot::OnFlow(flow),
+        })?;
+        Ok(())
+    }
+}
+
+// Whether this flow is the first one owed.
+fn is_first(flow: &str, owed: &[Text]) -> bool
+    ensures { result ≡ is_first flow.now owed.now }
+{
+    match owed {
+        [first, ..] => flow == first.as_str(),
+        [] => false,
+    }
+}
+
+// A copy of the flows owed but the first.
+fn rest_of(alloc: Global, owed: &[Text]) -> Result<List<Text>, AllocError>
+    ensures { IfOk result (λ rest. rest ≡ rest_of owed.now) }
+{
+    match owed {
+        [_, rest @ ..] => copy_of(alloc, rest),
+        [] => Ok(List::empty(alloc)),
+    }
+}
