@@ -1,52 +1,66 @@
 -- A state with an event more.
-use Rattle.std.proofs.Common.{◌≡◌, ℕ, ◌+◌, ◌<◌, ◌≤◌, ◌^◌, ◌==◌, List, [], ◌∷◌, ◌++◌, remove, IsTrue, sym, ap, ◌∙◌, arith, subst}
-use Rattle.std.specs.List.{list_any}
+use Rattle.std.proofs.Common.{◌≡◌, ℕ, ◌+◌, ◌≤◌, max, Some, Result, Ok, Err, OnOk, OnErr, List, [], ◌∷◌, ◌++◌, IsTrue, refl, sym, ap, ◌∙◌, arith, subst, append-nil}
+use Rattle.std.specs.Prelude.{⊤}
+use Rattle.std.specs.declared.alloc.AllocError.{AllocError}
 use Rattle.zb_base.specs.Key.{key_of}
 use Rattle.zb_exchange_records.specs.declared.message.MessagePublished.{MessagePublished}
 use Rattle.zb_model.specs.declared.record.Event.{Event}
 use Rattle.zb_model.specs.declared.record.Event.TheVariants as events
-use Rattle.zb_rules.specs.View.{counter_at, greatest_counter}
-use Rattle.zb_rules.specs.Messages.{buffered, is_buffered}
-use Rattle.zb_rules.specs.MessageLaws.{buffered_published, buffered_expired, without}
+use Rattle.zb_rules.specs.View.{counter_at, keys_in, greatest_among, greatest_counter}
+use Rattle.zb_rules.specs.Messages.{buffered}
+use Rattle.zb_rules.specs.MessageLaws.{without, buffered_published, buffered_expired}
+use Rattle.zb_rules.specs.GrowthLaws.{definitions_more, begun_more, board_of_more, buffered_kept}
+use Rattle.zb_rules.specs.Definitions.{definition_told}
+use Rattle.zb_rules.specs.Create.{instance_told}
+use Rattle.zb_rules.specs.Shown.{shown, after_shown}
 use Rattle.zb_rules.specs.StepLaws.{greatest_counter_more}
 use Rattle.zb_rules.proofs.Counters.{counter_at-key_of}
-use Rattle.zb_state.specs.Messages.{are_between, HasKey}
-use Rattle.zb_state.proofs.Order.{any_at, below_end, between_more, between_without, counter_below, remove_at}
+use Rattle.zb_state.specs.Messages.{are_between, with_event, IsNext, HasNextKey}
+use Rattle.zb_state.specs.State.{IsStateOf}
+use Rattle.zb_state.specs.declared.state.State.{State}
+use Rattle.zb_state.proofs.Order.{between_higher, between_more, between_without}
 
 -- the greatest counter
-pub counter_published : (p n : ℕ) (es : List Event) (m : MessagePublished) → greatest_counter p es ≡ n → n + 1 < 2 ^ 51 → m.key ≡ key_of p (n + 1) → greatest_counter p (es ++ events.MessagePublished m ∷ []) ≡ n + 1
-counter_published p n es m is small key =
-    let drawn : counter_at p m.key ≡ n + 1 = ap (counter_at p) key ∙ counter_at-key_of p (n + 1) small in
-    omega (arith, greatest_counter_more p es (events.MessagePublished m ∷ []), is, drawn)
-
-counter_expired : (p n key : ℕ) (es : List Event) → greatest_counter p es ≡ n → counter_at p key ≤ n → greatest_counter p (es ++ events.MessageExpired key ∷ []) ≡ n
-counter_expired p n key es is low = omega (arith, greatest_counter_more p es (events.MessageExpired key ∷ []), is, low)
+pub counter_more : (p : ℕ) (es : List Event) (e : Event) → greatest_counter p (es ++ e ∷ []) ≡ max (greatest_counter p es) (greatest_among p (keys_in e))
+counter_more p es e =
+    greatest_counter_more p es (e ∷ []) ∙ ap (λ (keys : List ℕ). max (greatest_counter p es) (greatest_among p keys)) (append-nil (keys_in e))
 
 -- the messages
-pub messages_published : (es : List Event) (m : MessagePublished) (messages : List MessagePublished) → buffered es ≡ messages → buffered (es ++ events.MessagePublished m ∷ []) ≡ messages ++ m ∷ []
-messages_published es m messages is = buffered_published es m ∙ ap (λ ms. ms ++ m ∷ []) is
+pub messages_more : (es : List Event) (e : Event) → buffered (es ++ e ∷ []) ≡ with_event e (buffered es)
+messages_more es (events.MessagePublished m) = buffered_published es m
+messages_more es (events.MessageExpired key) = buffered_expired es key
+messages_more es e = buffered_kept es e refl refl
 
-pub order_published : (p n : ℕ) (messages : List MessagePublished) (m : MessagePublished) → IsTrue (are_between 0 (key_of p (n + 1)) messages) → m.key ≡ key_of p (n + 1) → IsTrue (are_between 0 (key_of p (n + 1 + 1)) (messages ++ m ∷ []))
-order_published p n messages m ordered key =
-    let next : key_of p (n + 1) + 1 ≡ key_of p (n + 1 + 1) = omega arith in
-    subst (λ (high : ℕ). IsTrue (are_between 0 high (messages ++ m ∷ []))) next (between_more (key_of p (n + 1)) messages m ordered key)
+-- their order, below the next key of a counter that isn't lower
+pub order_kept : (p n n' : ℕ) (messages : List MessagePublished) → n ≤ n' → IsTrue (are_between 0 (key_of p (n + 1)) messages) → IsTrue (are_between 0 (key_of p (n' + 1)) messages)
+order_kept p n n' messages le ordered = between_higher (key_of p (n + 1)) (key_of p (n' + 1)) messages (omega (arith, le)) ordered
 
-module _ (p n key place : ℕ) (messages : List MessagePublished) (small : n < 2 ^ 51) (ordered : IsTrue (are_between 0 (key_of p (n + 1)) messages)) (at : HasKey key messages place) where
-  removed : remove messages place ≡ without key messages
-  removed = remove_at (key_of p (n + 1)) messages place at.0 ordered at.1 ∙ ap (λ k. without k messages) at.2
+module _ (p n n' : ℕ) (messages : List MessagePublished) (ordered : IsTrue (are_between 0 (key_of p (n + 1)) messages)) where
+  order_published : (m : MessagePublished) → n' ≡ max n (max (counter_at p m.key) 0) → IsNext p n m.key → IsTrue (are_between 0 (key_of p (n' + 1)) (messages ++ m ∷ []))
+  order_published m is next =
+      let drawn : counter_at p m.key ≡ n + 1 = ap (counter_at p) next.1 ∙ counter_at-key_of p (n + 1) next.0 in
+      let end : key_of p (n + 1) + 1 ≡ key_of p (n' + 1) = omega (arith, is, drawn) in
+      subst (λ (high : ℕ). IsTrue (are_between 0 high (messages ++ m ∷ []))) end (between_more (key_of p (n + 1)) messages m ordered next.1)
 
-  pub order_expired : IsTrue (are_between 0 (key_of p (n + 1)) (remove messages place))
-  order_expired = subst (λ (ms : List MessagePublished). IsTrue (are_between 0 (key_of p (n + 1)) ms)) (sym removed) (between_without key (key_of p (n + 1)) messages ordered)
+  order_more : (e : Event) → n' ≡ max n (greatest_among p (keys_in e)) → HasNextKey p n e → IsTrue (are_between 0 (key_of p (n' + 1)) (with_event e messages))
+  order_more (events.MessagePublished m) is next = order_published m is next
+  order_more (events.MessageExpired key) is next = order_kept p n n' (without key messages) (omega (arith, is)) (between_without key (key_of p (n + 1)) messages ordered)
+  order_more e is next = order_kept p n n' messages (omega (arith, is)) ordered
 
-  pub was_buffered : (es : List Event) → buffered es ≡ messages → IsTrue (is_buffered key es)
-  was_buffered es is =
-      subst (λ (ms : List MessagePublished). IsTrue (list_any (λ m. m.key == key) ms)) (sym is)
-      (subst (λ (k : ℕ). IsTrue (list_any (λ m. m.key == k) messages)) at.2 (any_at messages place at.0 at.1))
+  -- whether or not there was memory
+  pub order_noted : (e : Event) (after : List MessagePublished) (result : Result ⊤ AllocError) → OnOk result (after ≡ with_event e messages) → OnErr result (after ≡ messages)
+      → n' ≡ max n (greatest_among p (keys_in e)) → HasNextKey p n e → IsTrue (are_between 0 (key_of p (n' + 1)) after)
+  order_noted e after (Ok done) noted err is next = rw noted (order_more e is next)
+  order_noted e after (Err fault) noted err is next = rw err (order_kept p n n' messages (omega (arith, is)) ordered)
 
-  pub messages_expired : (es : List Event) → buffered es ≡ messages → buffered (es ++ events.MessageExpired key ∷ []) ≡ remove messages place
-  messages_expired es is = buffered_expired es key ∙ (ap (without key) is ∙ sym removed)
-
-  pub counter_after : (es : List Event) → greatest_counter p es ≡ n → greatest_counter p (es ++ events.MessageExpired key ∷ []) ≡ n
-  counter_after es is =
-      let below : key < key_of p (n + 1) = subst (λ (k : ℕ). k < key_of p (n + 1)) at.2 (below_end (key_of p (n + 1)) messages place at.0 ordered at.1) in
-      counter_expired p n key es is (counter_below p n key small below)
+-- the state where each part grows
+pub state_more : (es : List Event) (e : Event) (old new : State) → IsStateOf es old → new.place ≡ old.place
+    → new.counter ≡ max old.counter (greatest_among old.place (keys_in e)) → new.messages.items ≡ with_event e old.messages.items
+    → new.definitions.items ≡ old.definitions.items ++ definition_told e → new.begun ≡ instance_told e → after_shown old.game (shown e) ≡ Some new.game → IsStateOf (es ++ e ∷ []) new
+state_more es e old new is place counter messages definitions begun game = record {
+  counter = rw (place, counter_more old.place es e, is.counter) (sym counter);
+  messages = rw (messages_more es e, is.messages) (sym messages);
+  definitions = rw (definitions_more es e, is.definitions) (sym definitions);
+  begun = begun_more es e ∙ sym begun;
+  game = rw (board_of_more es e, is.game) game;
+}

@@ -1,12 +1,10 @@
 -- Messages in the order of their keys.
-use Rattle.std.proofs.Common.{◌≡◌, ℕ, zero, suc, ◌+◌, ◌<◌, ◌≤◌, ◌/◌, ◌%◌, ◌^◌, ◌==◌, not, List, [], ◌∷◌, ◌++◌, remove, slice_get, Some, Bool, true, false, IsTrue, if◌then◌else◌, refl, ap, sym, arith}
+use Rattle.std.proofs.Common.{◌≡◌, ℕ, zero, suc, ◌+◌, ◌<◌, ◌≤◌, ◌==◌, not, List, [], ◌∷◌, ◌++◌, remove, slice_get, Option, Some, None, IfSome, IfNone, is_some, Bool, true, false, IsTrue, IsFalse, if◌then◌else◌, refl, ap, sym, ◌∙◌, subst, arith}
 use Rattle.std.specs.List.{list_any}
 use Rattle.std.proofs.lemmas.Bool.Decides.{nat_tests}
-use Rattle.zb_base.specs.Key.{key_of}
 use Rattle.zb_exchange_records.specs.declared.message.MessagePublished.{MessagePublished}
-use Rattle.zb_rules.specs.View.{counter_at}
 use Rattle.zb_rules.specs.MessageLaws.{without}
-use Rattle.zb_state.specs.Messages.{are_between}
+use Rattle.zb_state.specs.Messages.{are_between, Ascend, HasKey}
 
 -- the keys ascend, as a fact
 abbrev Between : ℕ → ℕ → List MessagePublished → Type 0
@@ -73,25 +71,14 @@ one_at low high (x ∷ ms) (suc i) m b at =
     let test : (x.key == m.key) ≡ false = grind (arith, nat_tests, later.0) in
     (omega (arith, b.0, later.0), rw test (ap (λ l. x ∷ l) later.1))
 
-pub remove_at : (high : ℕ) (ms : List MessagePublished) (i : ℕ) (m : MessagePublished) → IsTrue (are_between 0 high ms) → slice_get ms i ≡ Some m → remove ms i ≡ without m.key ms
+remove_at : (high : ℕ) (ms : List MessagePublished) (i : ℕ) (m : MessagePublished) → IsTrue (are_between 0 high ms) → slice_get ms i ≡ Some m → remove ms i ≡ without m.key ms
 remove_at high ms i m b at = (one_at 0 high ms i m (between_of 0 high ms b) at).1
 
--- the key of one of them is below the end
-below : (low high : ℕ) (ms : List MessagePublished) (i : ℕ) (m : MessagePublished) → Between low high ms → slice_get ms i ≡ Some m → m.key < high
-below low high [] i m b at = absurd (cc)
-below low high (x ∷ []) zero m b at =
-    let key : x.key ≡ m.key = ap (λ (y : MessagePublished). y.key) (let same : x ≡ m = cc in same) in
-    omega (arith, key, b.1)
-below low high (x ∷ y ∷ ms) zero m b at =
-    let key : x.key ≡ m.key = ap (λ (y : MessagePublished). y.key) (let same : x ≡ m = cc in same) in
-    omega (arith, key, b.1.0, below (x.key + 1) high (y ∷ ms) zero y b.1 refl)
-below low high (x ∷ ms) (suc i) m b at = below (x.key + 1) high ms i m b.1 at
-
-pub below_end : (high : ℕ) (ms : List MessagePublished) (i : ℕ) (m : MessagePublished) → IsTrue (are_between 0 high ms) → slice_get ms i ≡ Some m → m.key < high
-below_end high ms i m b at = below 0 high ms i m (between_of 0 high ms b) at
+pub removed : (key place : ℕ) (ms : List MessagePublished) → Ascend ms → HasKey key ms place → remove ms place ≡ without key ms
+removed key place ms b has = remove_at b.0 ms place has.0 b.1 has.1 ∙ ap (λ (k : ℕ). without k ms) has.2
 
 -- one of them has the key
-pub any_at : (ms : List MessagePublished) (i : ℕ) (m : MessagePublished) → slice_get ms i ≡ Some m → IsTrue (list_any (λ x. x.key == m.key) ms)
+any_at : (ms : List MessagePublished) (i : ℕ) (m : MessagePublished) → slice_get ms i ≡ Some m → IsTrue (list_any (λ x. x.key == m.key) ms)
 any_at [] i m at = absurd (cc)
 any_at (x ∷ ms) zero m at =
     let key : x.key ≡ m.key = ap (λ (y : MessagePublished). y.key) (let same : x ≡ m = cc in same) in
@@ -99,10 +86,22 @@ any_at (x ∷ ms) zero m at =
     rw test refl
 any_at (x ∷ ms) (suc i) m at = let later = any_at ms i m at in grind (arith, nat_tests)
 
--- a key below the next one adds nothing to the greatest counter
-pub counter_below : (p n key : ℕ) → n < 2 ^ 51 → key < key_of p (n + 1) → counter_at p key ≤ n
-counter_below p n key small low = by_test (key / 2 ^ 51 == p) refl
-  where
-    by_test : (t : Bool) → (key / 2 ^ 51 == p) ≡ t → (if t then key % 2 ^ 51 else 0) ≤ n
-    by_test true is = let home : key / 2 ^ 51 ≡ p = grind (arith, nat_tests) in omega (arith, home, low)
-    by_test false is = omega arith
+pub any_or_none : (key : ℕ) (ms : List MessagePublished) (found : Option ℕ) → IfSome found (HasKey key ms) → IfNone found (IsFalse (list_any (λ m. m.key == key) ms)) → is_some found ≡ list_any (λ m. m.key == key) ms
+any_or_none key ms None has none = sym none
+any_or_none key ms (Some i) has none = sym (subst (λ (k : ℕ). list_any (λ m. m.key == k) ms ≡ true) has.2 (any_at ms i has.0 has.1))
+
+-- none of them has it
+pub without_none : (key : ℕ) (ms : List MessagePublished) → list_any (λ m. m.key == key) ms ≡ false → without key ms ≡ ms
+without_none key [] none = refl
+without_none key (x ∷ ms) none =
+    let here : (x.key == key) ≡ false = grind (arith, nat_tests) in
+    let later : list_any (λ m. m.key == key) ms ≡ false = grind (arith, nat_tests) in
+    rw here (ap (λ l. x ∷ l) (without_none key ms later))
+
+-- below a higher end
+higher : (low high high' : ℕ) (ms : List MessagePublished) → high ≤ high' → Between low high ms → Between low high' ms
+higher low high high' [] le b = omega (arith, b, le)
+higher low high high' (x ∷ ms) le b = (b.0, higher (x.key + 1) high high' ms le b.1)
+
+pub between_higher : (high high' : ℕ) (ms : List MessagePublished) → high ≤ high' → IsTrue (are_between 0 high ms) → IsTrue (are_between 0 high' ms)
+between_higher high high' ms le b = of_between 0 high' ms (higher 0 high high' ms le (between_of 0 high ms b))

@@ -1,9 +1,12 @@
 -- What contracts see of a state.
-use Rattle.std.specs.Prelude.{◌≡◌, ℕ, List}
+use Rattle.std.specs.Prelude.{◌≡◌, ℕ, List, Some}
 use Rattle.zb_model.specs.declared.record.Event.{Event}
 use Rattle.zb_state.specs.declared.state.State.{State}
 use Rattle.zb_rules.specs.View.{greatest_counter}
 use Rattle.zb_rules.specs.Messages.{buffered}
+use Rattle.zb_rules.specs.Definitions.{definitions}
+use Rattle.zb_rules.specs.Create.{begun}
+use Rattle.zb_rules.specs.Shown.{board_of}
 
 -- the partition that the state is of
 abbrev pub place_of : State → ℕ
@@ -13,3 +16,6 @@ place_of state = state.place
 pub record IsStateOf (es : List Event) (state : State) : Type 0 where
   pub counter : greatest_counter state.place es ≡ state.counter
   pub messages : buffered es ≡ state.messages.items
+  pub definitions : definitions es ≡ state.definitions.items
+  pub begun : begun es ≡ state.begun
+  pub game : board_of es ≡ Some state.game

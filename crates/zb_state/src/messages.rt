@@ -1,10 +1,12 @@
 // The buffered messages, in a list.
 ghost use Rattle.std.specs.Prelude.{◌≡◌, ◌==◌, ◌++◌, ◌∷◌, [], slice_get, Some, IfSome, IfNone, IsFalse, OnOk, OnErr};
 ghost use Rattle.std.specs.List.{list_any};
-ghost use Rattle.zb_rules.specs.Reason.{is_same};
-ghost use Rattle.zb_state.specs.Messages.{HasKey};
+ghost use Rattle.zb_rules.specs.Publish.{is_same};
+ghost use Rattle.zb_rules.specs.MessageLaws.{without};
+ghost use Rattle.zb_state.specs.Messages.{Ascend, HasKey, with_event};
 
-use zb_model::{Key, MessagePublish, MessagePublished};
+use std::alloc::{AllocError, Global};
+use zb_model::{Event, Key, MessagePublish, MessagePublished, TryCopy};
 
 /// Whether the message has the name, the correlation key and the id that are to be published.
 pub fn is_same(command: &MessagePublish, message: &MessagePublished) -> bool
@@ -28,8 +30,8 @@ pub fn any_same(command: &MessagePublish, messages: &[MessagePublished]) -> bool
     false
 }
 
-/// Where the message with this key is. The last ones are looked at first.
-pub fn place_of(key: Key, messages: &[MessagePublished]) -> Option<usize>
+// Where the message with this key is. The last ones are looked at first.
+fn place_of(key: Key, messages: &[MessagePublished]) -> Option<usize>
     ensures found { IfSome result (HasKey key messages.now) }
     ensures none { IfNone result (IsFalse (list_any (λ m. m.key == key) messages.now)) }
 {
@@ -39,4 +41,56 @@ pub fn place_of(key: Key, messages: &[MessagePublished]) -> Option<usize>
         }
     }
     None
+}
+
+/// Whether one of the messages has the key. The last ones are looked at first.
+pub fn has_key(key: Key, messages: &[MessagePublished]) -> bool
+    ensures { result ≡ list_any (λ m. m.key == key) messages.now }
+{
+    place_of(key, messages).is_some()
+}
+
+/// What the event makes of the messages, which stand in the order of their keys. After a refusal nothing has
+/// changed. A message costs its copy; one that expires costs a step for each message behind it.
+pub fn note(
+    alloc: Global,
+    event: &Event,
+    messages: &mut Vec<MessagePublished>,
+) -> Result<(), AllocError>
+    requires { Ascend messages.old.items }
+    ensures noted { OnOk result (messages.new.items ≡ with_event event.now messages.old.items) }
+    ensures err { OnErr result (messages.new.items ≡ messages.old.items) }
+{
+    match event {
+        Event::MessagePublished(message) => publish(alloc, message, messages),
+        Event::MessageExpired(key) => {
+            expire(*key, messages);
+            Ok(())
+        }
+        _ => Ok(()),
+    }
+}
+
+// Puts a copy of the message behind the others.
+fn publish(
+    alloc: Global,
+    message: &MessagePublished,
+    messages: &mut Vec<MessagePublished>,
+) -> Result<(), AllocError>
+    ensures ok { OnOk result (messages.new.items ≡ messages.old.items ++ message.now ∷ []) }
+    ensures err { OnErr result (messages.new.items ≡ messages.old.items) }
+{
+    let message = message.copy(alloc)?;
+    messages.push(message)?;
+    Ok(())
+}
+
+// Takes out the message with this key, if there is one.
+fn expire(key: Key, messages: &mut Vec<MessagePublished>)
+    requires { Ascend messages.old.items }
+    ensures { messages.new.items ≡ without key messages.old.items }
+{
+    if let Some(place) = place_of(key, messages) {
+        messages.remove(place);
+    }
 }

@@ -1,18 +1,31 @@
-ghost use Rattle.std.specs.Prelude.{◌≡◌, ◌<◌, ◌+◌, ◌^◌, ℕ, List, [], ◌∷◌, ◌++◌, IsTrue, IsFalse, IsErrOf, OnOk};
+ghost use Rattle.std.specs.Prelude.{◌≡◌, ◌==◌, ◌&&◌, ◌<◌, ◌+◌, ◌^◌, max, false, List, [], ◌∷◌, ◌++◌, IsTrue, IsFalse, IsErrOf, IfOk, OnOk, Some, option_map};
 ghost use Rattle.std.specs.List.{list_any};
+ghost use Rattle.std.specs.Option.{option_map_or};
 ghost use Rattle.zb_base.specs.Key.{key_of};
-ghost use Rattle.zb_exchange_records.specs.declared.message.MessagePublished.{MessagePublished};
 ghost use Rattle.zb_model.specs.declared.record.Event.{Event};
-ghost use Rattle.zb_model.specs.declared.record.Event.TheVariants as events;
-ghost use Rattle.zb_rules.specs.View.{next_key};
+ghost use Rattle.zb_rules.specs.View.{next_key, greatest_among, keys_in};
 ghost use Rattle.zb_rules.specs.Messages.{buffered};
-ghost use Rattle.zb_rules.specs.Reason.{is_same};
-ghost use Rattle.zb_rules.specs.Applies.{applies};
-ghost use Rattle.zb_state.specs.Messages.{are_between};
+ghost use Rattle.zb_rules.specs.Publish.{is_same};
+ghost use Rattle.zb_rules.specs.Applies.{applies, holds_own, is_fresh, has_definition, begins_well, begins_instance, begins_cell, is_definition_of};
+ghost use Rattle.zb_rules.specs.Create.{instance_told};
+ghost use Rattle.zb_rules.specs.Definitions.{definition_told, definitions, definition_for, greatest_version};
+ghost use Rattle.zb_rules.specs.Faults.{is_well_formed};
+ghost use Rattle.zb_rules.specs.Settling.{turn};
+ghost use Rattle.zb_rules.specs.Shown.{board_of};
+ghost use Rattle.zb_state.specs.Messages.{are_between, with_event, IsNext, HasNextKey};
 
-use crate::messages::{any_same, place_of};
-use std::alloc::Global;
-use zb_model::{Event, Key, MessagePublish, MessagePublished, PartitionId, TableFault, TryCopy};
+use crate::definitions;
+use crate::keys::greatest_counter;
+use crate::messages::{self, any_same, has_key};
+use crate::moves::{event_of, play};
+use std::alloc::{AllocError, Global};
+use zb_check::{ModelFault, check};
+use zb_game::Game;
+use zb_model::{
+    ElementActivating, Event, Key, MessagePublish, MessagePublished, Model as ProcessModel,
+    PartitionId, ProcessInstanceCreationCreated, Role, TableFault, TryCopy,
+};
+use zb_rules::Definition;
 
 /// What the events of a partition's log come to. Its clauses hold for all lists of events of which it is
 /// the state.
@@ -23,6 +36,11 @@ pub struct State {
     counter: u64,
     // The buffered messages, in the order of their keys.
     messages: Vec<MessagePublished>,
+    // The definitions, in the order in which they were made.
+    definitions: Vec<Definition>,
+    // The instance that the last event made, if it made one.
+    begun: Option<ProcessInstanceCreationCreated>,
+    game: Game,
     ghost drawn: { counter < 2 ^ 51 },
     ghost in_order: { IsTrue (are_between 0 (key_of place (counter + 1)) messages.items) },
 }
@@ -39,12 +57,16 @@ impl State {
             place,
             counter: 0,
             messages: Vec::new(alloc),
+            definitions: Vec::new(alloc),
+            begun: None,
+            game: Game::empty(alloc),
         }
     }
 
     /// Takes in an event that applies to those before it. At `NotApplicable`, exactly where it doesn't,
     /// nothing has changed; after `Memory` the state is only dropped. A message costs its copy; one that
-    /// expires costs a step for each message that was published after it.
+    /// expires costs a step for each message that was published after it. An event of the game costs a walk
+    /// over the cells, the tokens and one model; a model costs its check and its copies.
     pub fn apply(&mut self, alloc: Global, event: &Event) -> Result<(), TableFault>
         ensures place { place_of self.new ≡ place_of self.old }
         ensures applied { (es : List Event) → IsStateOf es self.old → OnOk result (IsTrue (applies (place_of self.old) es event.now)) }
@@ -53,11 +75,12 @@ impl State {
             → IsErrOf result TableFault.NotApplicable → IsFalse (applies (place_of self.old) es event.now) }
         ensures kept { IsErrOf result TableFault.NotApplicable → self.new ≡ self.old }
     {
-        match event {
-            Event::MessagePublished(message) => self.publish(alloc, message),
-            Event::MessageExpired(key) => self.expire(*key),
-            _ => Err(TableFault::NotApplicable),
+        if !self.meets_own(alloc, event)? {
+            return Err(TableFault::NotApplicable);
         }
+        play(alloc, event, &mut self.game)?;
+        self.note(alloc, event)?;
+        Ok(())
     }
 
     /// The next key that the partition draws, as far as it has counters.
@@ -74,6 +97,41 @@ impl State {
         any_same(command, &self.messages)
     }
 
+    /// The key of the definition that is asked for: version 0 is the latest one. It goes through all
+    /// definitions.
+    pub fn definition_for(&self, process: &str, version: u32) -> Option<Key>
+        ensures { (es : List Event) → IsStateOf es self.now → result ≡ option_map (λ d. d.key) (definition_for process.now version es) }
+    {
+        definitions::definition_for(process, version, &self.definitions)
+    }
+
+    /// The greatest version of a process, or 0. It goes through all definitions.
+    pub fn greatest_version(&self, process: &str) -> u32
+        ensures { (es : List Event) → IsStateOf es self.now → result ≡ greatest_version process.now (definitions es) }
+    {
+        definitions::greatest_version(process, &self.definitions)
+    }
+
+    /// The game of the events: a copy of it, which costs as much as it has parts.
+    pub fn game(&self, alloc: Global) -> Result<Game, AllocError>
+        ensures { (es : List Event) → IsStateOf es self.now → IfOk result (λ game. board_of es ≡ Some game) }
+    {
+        self.game.copy(alloc)
+    }
+
+    /// The event of the next forced move; `None` where the game is quiet. It goes through the cells and the
+    /// tokens.
+    #[tactic(auto, unfolding(zb_rules::specs::Settling::turn))]
+    pub fn turn(&self, alloc: Global) -> Result<Option<Event>, AllocError>
+        ensures { (es : List Event) → IsStateOf es self.now
+            → IfOk result (λ event. turn (place_of self.now) es ≡ option_map (λ e. e ∷ []) event) }
+    {
+        match self.game.forced(alloc, self.next_key())? {
+            Some(forced) => Ok(event_of(alloc, forced, &self.game)),
+            None => Ok(None),
+        }
+    }
+
     // The key behind the greatest one so far.
     fn fresh(&self) -> Key
         ensures { result ≡ key_of (place_of self.now) (self.now.counter + 1) }
@@ -82,40 +140,133 @@ impl State {
         Key::new(place * Key::COUNTERS + self.counter + 1)
     }
 
-    // Takes in a published message.
-    fn publish(&mut self, alloc: Global, message: &MessagePublished) -> Result<(), TableFault>
-        ensures place { place_of self.new ≡ place_of self.old }
-        ensures applied { (es : List Event) → IsStateOf es self.old → OnOk result (IsTrue (applies (place_of self.old) es (events.MessagePublished message.now))) }
-        ensures state { (es : List Event) → IsStateOf es self.old → OnOk result (IsStateOf (es ++ events.MessagePublished message.now ∷ []) self.new) }
-        ensures refused { (es : List Event) → IsStateOf es self.old
-            → IsErrOf result TableFault.NotApplicable → IsFalse (applies (place_of self.old) es (events.MessagePublished message.now)) }
-        ensures kept { IsErrOf result TableFault.NotApplicable → self.new ≡ self.old }
+    // Whether the key is the next one that the partition draws, and there is one.
+    fn is_fresh(&self, key: Key) -> bool
+        ensures fresh { (es : List Event) → IsStateOf es self.now → result ≡ is_fresh (place_of self.now) es key }
+        ensures next { IsTrue result → IsNext (place_of self.now) self.now.counter key }
     {
-        let counter = self.counter + 1;
-        if counter >= Key::COUNTERS || message.key != self.fresh() {
-            return Err(TableFault::NotApplicable);
-        }
-        let message = message.copy(alloc)?;
-        self.messages.push(message)?;
-        self.counter = counter;
-        Ok(())
+        self.counter + 1 < Key::COUNTERS && key == self.fresh()
     }
 
-    // Takes in that the message with this key has expired.
-    fn expire(&mut self, key: Key) -> Result<(), TableFault>
-        ensures place { place_of self.new ≡ place_of self.old }
-        ensures applied { (es : List Event) → IsStateOf es self.old → OnOk result (IsTrue (applies (place_of self.old) es (events.MessageExpired key))) }
-        ensures state { (es : List Event) → IsStateOf es self.old → OnOk result (IsStateOf (es ++ events.MessageExpired key ∷ []) self.new) }
-        ensures refused { (es : List Event) → IsStateOf es self.old
-            → IsErrOf result TableFault.NotApplicable → IsFalse (applies (place_of self.old) es (events.MessageExpired key)) }
-        ensures kept { IsErrOf result TableFault.NotApplicable → self.new ≡ self.old }
+    // Whether the event meets its own condition, beside the move that it shows. The events of the last arm are
+    // made by no command so far.
+    fn meets_own(&self, alloc: Global, event: &Event) -> Result<bool, AllocError>
+        ensures own { (es : List Event) → IsStateOf es self.now → IfOk result (λ meets. meets ≡ holds_own (place_of self.now) es event.now) }
+        ensures next { IfOk result (λ meets. IsTrue meets → HasNextKey (place_of self.now) self.now.counter event.now) }
     {
-        match place_of(key, &self.messages) {
-            Some(place) => {
-                self.messages.remove(place);
-                Ok(())
+        match event {
+            Event::ProcessCreated(process) => is_well_formed(alloc, &process.model),
+            Event::DeploymentCreated(made) => Ok(self.names_definition(made.key, made.definition)),
+            Event::ProcessInstanceCreationCreated(made) => {
+                Ok(self.names_definition(made.key, made.definition))
             }
-            None => Err(TableFault::NotApplicable),
+            Event::ElementActivating(element) => Ok(self.begins_well(element)),
+            Event::ElementActivated(element) => Ok(element.items.as_slice().is_empty()),
+            Event::ElementCompleting(_)
+            | Event::ElementCompleted(_)
+            | Event::SequenceFlowTaken(_)
+            | Event::VariableCreated(_) => Ok(true),
+            Event::MessagePublished(message) => Ok(self.is_fresh(message.key)),
+            Event::MessageExpired(key) => Ok(has_key(*key, &self.messages)),
+            _ => Ok(false),
         }
+    }
+
+    // Whether the key is fresh, and the definition is there.
+    fn names_definition(&self, key: Key, definition: Key) -> bool
+        ensures { (es : List Event) → IsStateOf es self.now
+            → result ≡ (is_fresh (place_of self.now) es key && has_definition definition es) }
+    {
+        self.is_fresh(key) && definitions::has_key(definition, &self.definitions)
+    }
+
+    // Whether the cell that begins is plain, and begins an instance or stands in its scope.
+    fn begins_well(&self, element: &ElementActivating) -> bool
+        ensures { (es : List Event) → IsStateOf es self.now → result ≡ begins_well (place_of self.now) es element.now }
+    {
+        if element.role != Role::Plain || !element.started.as_str().is_empty() {
+            return false;
+        }
+        if element.scope == Key::new(0) {
+            self.begins_instance(element)
+        } else {
+            self.begins_cell(element)
+        }
+    }
+
+    // Whether the root is that of the instance that the last event made.
+    fn begins_instance(&self, element: &ElementActivating) -> bool
+        ensures { (es : List Event) → IsStateOf es self.now → result ≡ begins_instance es element.now }
+    {
+        self.has_begun(element.key, element.definition)
+            && self
+                .game
+                .is_process_of(element.definition, element.node.as_str())
+            && element.via.as_str().is_empty()
+    }
+
+    // Whether the last event made this instance of the definition.
+    fn has_begun(&self, key: Key, definition: Key) -> bool
+        ensures { result ≡ option_map_or (λ i. (i.key == key) && (i.definition == definition)) self.now.begun false }
+    {
+        match self.begun {
+            Some(instance) => instance.key == key && instance.definition == definition,
+            None => false,
+        }
+    }
+
+    // Whether the cell has a fresh key, and the definition of its scope.
+    fn begins_cell(&self, element: &ElementActivating) -> bool
+        ensures { (es : List Event) → IsStateOf es self.now → result ≡ begins_cell (place_of self.now) es element.now }
+    {
+        self.is_fresh(element.key) && self.is_definition_of(element.scope, element.definition)
+    }
+
+    // Whether the cell is there, and of this definition.
+    fn is_definition_of(&self, cell: Key, definition: Key) -> bool
+        ensures { result ≡ is_definition_of cell definition self.now.game }
+    {
+        match self.game.definition_of(cell) {
+            Some(found) => found == definition,
+            None => false,
+        }
+    }
+
+    // Takes in what the event changes beside the game. After a refusal the state is only dropped.
+    fn note(&mut self, alloc: Global, event: &Event) -> Result<(), AllocError>
+        requires { HasNextKey (place_of self.old) self.old.counter event.now }
+        ensures place { place_of self.new ≡ place_of self.old }
+        ensures counter { OnOk result (self.new.counter ≡ max self.old.counter (greatest_among (place_of self.old) (keys_in event.now))) }
+        ensures messages { OnOk result (self.new.messages.items ≡ with_event event.now self.old.messages.items) }
+        ensures definitions { OnOk result (self.new.definitions.items ≡ self.old.definitions.items ++ definition_told event.now) }
+        ensures begun { OnOk result (self.new.begun ≡ instance_told event.now) }
+        ensures game { self.new.game ≡ self.old.game }
+    {
+        self.counter = self.counter.max(greatest_counter(self.place, event));
+        self.begun = begun_by(event);
+        definitions::note(alloc, event, &mut self.definitions)?;
+        messages::note(alloc, event, &mut self.messages)?;
+        Ok(())
+    }
+}
+
+// Whether the model has no fault.
+fn is_well_formed(alloc: Global, model: &ProcessModel) -> Result<bool, AllocError>
+    ensures { IfOk result (λ good. good ≡ is_well_formed model.now) }
+{
+    match check(alloc, model) {
+        Ok(()) => Ok(true),
+        Err(ModelFault::Bad { .. }) => Ok(false),
+        Err(ModelFault::Memory) => Err(AllocError),
+    }
+}
+
+// The instance that the event makes, if it makes one.
+fn begun_by(event: &Event) -> Option<ProcessInstanceCreationCreated>
+    ensures { result ≡ instance_told event.now }
+{
+    match event {
+        Event::ProcessInstanceCreationCreated(instance) => Some(*instance),
+        _ => None,
     }
 }

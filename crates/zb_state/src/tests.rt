@@ -41,7 +41,9 @@ fn took(
     } else {
         Event::MessageExpired(Key::new(key))
     };
-    match state.apply(alloc, &event) {
+    let answer = state.apply(alloc, &event);
+    drop(event);
+    match answer {
         Ok(()) => Ok(true),
         Err(TableFault::NotApplicable) => Ok(false),
         Err(TableFault::Memory) => Err(AllocError),

@@ -1,6 +1,6 @@
 use Rattle.std.proofs.Common.{◌≡◌, drop}
 use Rattle.std.specs.List.{list_any}
-use Rattle.zb_rules.specs.Reason.{is_same}
+use Rattle.zb_rules.specs.Publish.{is_same}
 use Rattle.zb_state.proofs.messages.any_same.Given as goal
 
 -- the messages so far aren't the same

@@ -1,0 +1,113 @@
+// Process definitions, in a list.
+ghost use Rattle.std.specs.Prelude.{◌≡◌, ◌==◌, ◌&&◌, [], ◌∷◌, ◌++◌, max, OnOk, option_map, if◌then◌else◌};
+ghost use Rattle.std.specs.Option.{option_map_or};
+ghost use Rattle.std.specs.List.{list_any};
+ghost use Rattle.std.specs.Str.{bytes_eq};
+ghost use Rattle.zb_model.specs.declared.record.Event.TheVariants as events;
+ghost use Rattle.zb_rules.specs.Definitions.{definition_told, greatest_version, version_of};
+
+use std::alloc::{AllocError, Global};
+use zb_model::{Event, Key, ProcessCreated, TryCopy};
+use zb_rules::Definition;
+
+/// Whether a definition has this key. It goes through all of them.
+pub fn has_key(key: Key, definitions: &[Definition]) -> bool
+    ensures { result ≡ list_any (λ d. d.key == key) definitions.now }
+{
+    for definition in definitions {
+        if definition.key == key {
+            return true;
+        }
+    }
+    false
+}
+
+/// The greatest version of a process, or 0. It goes through all definitions.
+pub fn greatest_version(process: &str, definitions: &[Definition]) -> u32
+    ensures { result ≡ greatest_version process.now definitions.now }
+{
+    let mut greatest = 0;
+    for place in (0..definitions.len()).rev() {
+        let definition = &definitions[place];
+        if definition.process.as_str() == process {
+            greatest = definition.version.max(greatest);
+        }
+    }
+    greatest
+}
+
+/// The key of the definition that is asked for: version 0 is the latest one. It goes through all
+/// definitions.
+pub fn definition_for(process: &str, version: u32, definitions: &[Definition]) -> Option<Key>
+    ensures { result ≡ option_map (λ d. d.key) (version_of process.now (if version == 0 then greatest_version process.now definitions.now else version) definitions.now) }
+{
+    let version = if version == 0 {
+        greatest_version(process, definitions)
+    } else {
+        version
+    };
+    key_of_version(process, version, definitions)
+}
+
+/// The greatest key among the definitions of this version.
+fn key_of_version(process: &str, version: u32, definitions: &[Definition]) -> Option<Key>
+    ensures { result ≡ option_map (λ d. d.key) (version_of process.now version definitions.now) }
+{
+    let mut greatest = None;
+    for place in (0..definitions.len()).rev() {
+        let definition = &definitions[place];
+        if is_version(process, version, definition) {
+            greatest = Some(later_of(definition.key, greatest));
+        }
+    }
+    greatest
+}
+
+/// Whether it is this version of the process.
+fn is_version(process: &str, version: u32, definition: &Definition) -> bool
+    ensures { result ≡ (bytes_eq definition.now.process process.now && (definition.now.version == version)) }
+{
+    definition.process.as_str() == process && definition.version == version
+}
+
+/// The greater one of a key and another, if there is another.
+fn later_of(key: Key, found: Option<Key>) -> Key
+    ensures { result ≡ option_map_or (λ other. if max key other == other then other else key) found key }
+{
+    match found {
+        Some(found) if found >= key => found,
+        _ => key,
+    }
+}
+
+/// Puts the definition that the event makes behind the others, if it makes one. It costs a copy of the id of
+/// the process.
+pub fn note(
+    alloc: Global,
+    event: &Event,
+    definitions: &mut Vec<Definition>,
+) -> Result<(), AllocError>
+    ensures { OnOk result (definitions.new.items ≡ definitions.old.items ++ definition_told event.now) }
+{
+    match event {
+        Event::ProcessCreated(process) => define(alloc, process, definitions),
+        _ => Ok(()),
+    }
+}
+
+// Puts the definition of the process behind the others.
+fn define(
+    alloc: Global,
+    process: &ProcessCreated,
+    definitions: &mut Vec<Definition>,
+) -> Result<(), AllocError>
+    ensures { OnOk result (definitions.new.items ≡ definitions.old.items ++ definition_told (events.ProcessCreated process.now)) }
+{
+    let id = process.model.process.copy(alloc)?;
+    definitions.push(Definition {
+        key: process.key,
+        version: process.version,
+        process: id,
+    })?;
+    Ok(())
+}

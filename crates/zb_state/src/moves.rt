@@ -1,0 +1,153 @@
+// The moves that events show.
+ghost use Rattle.std.specs.Prelude.{◌≡◌, IsTrue, IsFalse, IsErrOf, IfOk, OnOk, Some};
+ghost use Rattle.zb_model.specs.declared.record.Event.TheVariants as events;
+ghost use Rattle.zb_rules.specs.Applies.{may};
+ghost use Rattle.zb_rules.specs.Game.{can, played};
+ghost use Rattle.zb_rules.specs.Shown.{shown, after_shown, event_of};
+ghost use Rattle.zb_rules.specs.declared.board.Move.TheVariants as moves;
+
+use std::alloc::{AllocError, Global};
+use zb_game::{Game, GameFault};
+use zb_model::{
+    ElementActivated, ElementActivating, ElementCompleted, Event, Key, List, ProcessCreated, Role,
+    SequenceFlowTaken, TableFault, Text, TryCopy, VariableCreated,
+};
+use zb_rules::{Assigned, Deployed, Enter, Leave, Move, Start, Take};
+
+/// Makes the move that the event shows, if it shows one. At `NotApplicable`, exactly where it isn't legal,
+/// nothing has changed; after `Memory` the game is only dropped. It costs a copy of the event's texts, its
+/// model and its value, and a walk over the lists that the move looks at or changes.
+pub fn play(alloc: Global, event: &Event, game: &mut Game) -> Result<(), TableFault>
+    ensures legal { OnOk result (IsTrue (may (shown event.now) game.old)) }
+    ensures played { OnOk result (after_shown game.old (shown event.now) ≡ Some game.new) }
+    ensures illegal { IsErrOf result TableFault.NotApplicable → IsFalse (may (shown event.now) game.old) }
+    ensures kept { IsErrOf result TableFault.NotApplicable → game.new ≡ game.old }
+{
+    match shown(alloc, event)? {
+        Some(step) => make(alloc, &step, game),
+        None => Ok(()),
+    }
+}
+
+// Makes a move, and answers as a table does.
+fn make(alloc: Global, shown: &Move, game: &mut Game) -> Result<(), TableFault>
+    ensures legal { OnOk result (IsTrue (can game.old shown.now)) }
+    ensures played { OnOk result (played game.old shown.now ≡ Some game.new) }
+    ensures illegal { IsErrOf result TableFault.NotApplicable → IsFalse (can game.old shown.now) }
+    ensures kept { IsErrOf result TableFault.NotApplicable → game.new ≡ game.old }
+{
+    match game.make(alloc, shown) {
+        Ok(()) => Ok(()),
+        Err(GameFault::Illegal) => Err(TableFault::NotApplicable),
+        Err(GameFault::Memory) => Err(TableFault::Memory),
+    }
+}
+
+// The move that the event shows, if it shows one.
+fn shown(alloc: Global, event: &Event) -> Result<Option<Move>, AllocError>
+    ensures { IfOk result (λ move. move ≡ shown event.now) }
+{
+    match event {
+        Event::ProcessCreated(process) => Ok(Some(stand_of(alloc, process)?)),
+        Event::ElementActivating(element) => Ok(Some(entry_of(alloc, element)?)),
+        Event::ElementActivated(element) => Ok(Some(Move::Open(element.key))),
+        Event::ElementCompleting(key) => Ok(Some(Move::Finish(*key))),
+        Event::ElementCompleted(element) => Ok(Some(leave_of(alloc, element)?)),
+        Event::SequenceFlowTaken(flow) => Ok(Some(take_of(alloc, flow)?)),
+        Event::VariableCreated(variable) => Ok(Some(assign_of(alloc, variable)?)),
+        _ => Ok(None),
+    }
+}
+
+fn stand_of(alloc: Global, process: &ProcessCreated) -> Result<Move, AllocError>
+    ensures { IfOk result (λ move. Some move ≡ shown (events.ProcessCreated process.now)) }
+{
+    Ok(Move::Stand(Deployed {
+        key: process.key,
+        model: process.model.copy(alloc)?,
+    }))
+}
+
+// A root starts, and another cell is entered.
+fn entry_of(alloc: Global, element: &ElementActivating) -> Result<Move, AllocError>
+    ensures { IfOk result (λ move. Some move ≡ shown (events.ElementActivating element.now)) }
+{
+    if element.scope == Key::new(0) {
+        return Ok(Move::Start(Start {
+            key: element.key,
+            definition: element.definition,
+        }));
+    }
+    Ok(Move::Enter(Enter {
+        key: element.key,
+        scope: element.scope,
+        node: element.node.copy(alloc)?,
+        via: element.via.copy(alloc)?,
+    }))
+}
+
+fn leave_of(alloc: Global, element: &ElementCompleted) -> Result<Move, AllocError>
+    ensures { IfOk result (λ move. Some move ≡ shown (events.ElementCompleted element.now)) }
+{
+    Ok(Move::Leave(Leave {
+        key: element.key,
+        owed: element.owed.copy(alloc)?,
+    }))
+}
+
+fn take_of(alloc: Global, taken: &SequenceFlowTaken) -> Result<Move, AllocError>
+    ensures { IfOk result (λ move. Some move ≡ shown (events.SequenceFlowTaken taken.now)) }
+{
+    Ok(Move::Take(Take {
+        key: taken.key,
+        flow: taken.flow.copy(alloc)?,
+    }))
+}
+
+fn assign_of(alloc: Global, variable: &VariableCreated) -> Result<Move, AllocError>
+    ensures { IfOk result (λ move. Some move ≡ shown (events.VariableCreated variable.now)) }
+{
+    Ok(Move::Assign(Assigned {
+        scope: variable.scope,
+        name: variable.name.copy(alloc)?,
+        value: variable.value.copy(alloc)?,
+    }))
+}
+
+/// The event that shows a forced move; `None` of a move that is never forced. It goes through the cells.
+pub fn event_of(alloc: Global, shown: Move, game: &Game) -> Option<Event>
+    ensures { result ≡ event_of game.now shown }
+{
+    match shown {
+        Move::Enter(entry) => entered(alloc, entry, game),
+        Move::Open(key) => Some(Event::ElementActivated(ElementActivated {
+            key,
+            items: List::empty(alloc),
+        })),
+        Move::Finish(key) => Some(Event::ElementCompleting(key)),
+        Move::Leave(leave) => Some(Event::ElementCompleted(ElementCompleted {
+            key: leave.key,
+            owed: leave.owed,
+        })),
+        Move::Take(take) => Some(Event::SequenceFlowTaken(SequenceFlowTaken {
+            key: take.key,
+            flow: take.flow,
+        })),
+        _ => None,
+    }
+}
+
+fn entered(alloc: Global, entry: Enter, game: &Game) -> Option<Event>
+    ensures { result ≡ event_of game.now (moves.Enter entry) }
+{
+    let definition = game.definition_of(entry.scope)?;
+    Some(Event::ElementActivating(ElementActivating {
+        key: entry.key,
+        scope: entry.scope,
+        definition,
+        node: entry.node,
+        role: Role::Plain,
+        via: entry.via,
+        started: Text::empty(alloc),
+    }))
+}

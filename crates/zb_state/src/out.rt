@@ -1,0 +1,71 @@
+ghost use Rattle.std.specs.Prelude.{◌≡◌, ◌++◌, ◌∷◌, List, [], length, IsTrue, OnOk};
+ghost use Rattle.zb_model.specs.declared.record.Event.{Event};
+ghost use Rattle.zb_rules.specs.Applies.{applies};
+ghost use Rattle.zb_state.specs.State.{place_of, IsStateOf};
+
+use crate::State;
+use std::alloc::{AllocError, Global};
+use std::marker::Model;
+use zb_model::{Event, List};
+
+/// The events that a command has made so far.
+#[derive(Drop)]
+pub struct Out {
+    events: List<Event>,
+}
+
+impl Model for Out {
+    ghost use Rattle.std.specs.Prelude.{List};
+    ghost use Rattle.std.specs.Coded.{coded_list};
+    ghost use Rattle.zb_model.specs.declared.record.Event.{Event};
+    ghost use Rattle.zb_model.specs.contracts.record.Event as event;
+
+    ghost Value = { List Event };
+
+    ghost coded = { coded_list event.the_row.coded };
+
+    ghost view = { λ out. out.events };
+}
+
+impl Out {
+    /// No events. It takes no memory.
+    pub fn new(alloc: Global) -> Out
+        ensures { result ≡ [] }
+    {
+        Out {
+            events: List::empty(alloc),
+        }
+    }
+
+    /// How many events there are.
+    pub fn len(&self) -> usize
+        ensures { result ≡ length self.now }
+    {
+        self.events.as_slice().len()
+    }
+
+    /// Takes an event into the state, and adds it. Where it doesn't apply it is answered as want of memory,
+    /// since no event that a command makes is such a one. After a refusal both are only dropped. It costs what
+    /// `State::apply` does.
+    pub fn put(&mut self, alloc: Global, state: &mut State, event: Event) -> Result<(), AllocError>
+        ensures put { OnOk result (self.new ≡ self.old ++ event ∷ []) }
+        ensures place { place_of state.new ≡ place_of state.old }
+        ensures applied { (es : List Event) → IsStateOf es state.old → OnOk result (IsTrue (applies (place_of state.old) es event)) }
+        ensures state { (es : List Event) → IsStateOf es state.old → OnOk result (IsStateOf (es ++ event ∷ []) state.new) }
+    {
+        match state.apply(alloc, &event) {
+            Ok(()) => {}
+            Err(_) => return Err(AllocError),
+        }
+        self.events.push(event)?;
+        Ok(())
+    }
+
+    /// The events.
+    pub fn events(self) -> List<Event>
+        ensures { result ≡ self }
+    {
+        let Out { events } = self;
+        events
+    }
+}
