@@ -1,0 +1,53 @@
+ghost use Rattle.std.specs.Prelude.{◌≡◌, ◌++◌, List, IfOk};
+ghost use Rattle.zb_model.specs.declared.record.Event.{Event};
+ghost use Rattle.zb_rules.specs.View.{events_in};
+ghost use Rattle.zb_rules.specs.Reason.{reason_for};
+ghost use Rattle.zb_rules.specs.Own.{IsRun, own_events};
+ghost use Rattle.zb_rules.specs.Step.{IsAcceptance, IsOutcome};
+ghost use Rattle.zb_state.specs.State.{place_of, IsStateOf};
+
+use crate::emitting::emit;
+use crate::reasons::reason;
+use std::alloc::{AllocError, Global};
+use zb_flow::settle;
+use zb_model::{Command, Moment, Outcome};
+use zb_state::{Out, State};
+
+/// What a command leads to at this moment: its rejection, exactly where there is a reason, or its own events
+/// and what they force. The state is then that of the events with these. After a refusal it is only dropped.
+pub fn outcome_of(
+    alloc: Global,
+    state: &mut State,
+    moment: Moment,
+    command: &Command,
+) -> Result<Outcome, AllocError>
+    requires { IsRun command.now }
+    ensures outcome { (es : List Event) → IsStateOf es state.old
+        → IfOk result (IsOutcome (place_of state.old) es (reason_for es command.now) (own_events (place_of state.old) es moment command.now)) }
+    ensures state { (es : List Event) → IsStateOf es state.old → IfOk result (λ outcome. IsStateOf (es ++ events_in outcome) state.new) }
+    ensures place { place_of state.new ≡ place_of state.old }
+{
+    match reason(alloc, state, command)? {
+        Some(rejection) => Ok(Outcome::Rejected(rejection)),
+        None => run(alloc, state, moment, command),
+    }
+}
+
+/// Runs a command: its outcome are its own events, and what they force.
+fn run(
+    alloc: Global,
+    state: &mut State,
+    moment: Moment,
+    command: &Command,
+) -> Result<Outcome, AllocError>
+    requires { IsRun command.now }
+    ensures acceptance { (es : List Event) → IsStateOf es state.old
+        → IfOk result (IsAcceptance (place_of state.old) es (own_events (place_of state.old) es moment command.now)) }
+    ensures state { (es : List Event) → IsStateOf es state.old → IfOk result (λ outcome. IsStateOf (es ++ events_in outcome) state.new) }
+    ensures place { place_of state.new ≡ place_of state.old }
+{
+    let mut out = Out::new(alloc);
+    emit(alloc, state, moment, command, &mut out)?;
+    settle(alloc, state, &mut out)?;
+    Ok(Outcome::Accepted(out.events()))
+}

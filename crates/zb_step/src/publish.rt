@@ -1,0 +1,100 @@
+// Publishing a message.
+ghost use Rattle.std.specs.Prelude.{◌≡◌, List, [], IfOk, OnOk, string_bytes};
+ghost use Rattle.zb_model.specs.declared.record.Event.{Event};
+ghost use Rattle.zb_rules.specs.View.{next_key};
+ghost use Rattle.zb_rules.specs.Publish.{reason_to_publish, is_repeated, buffered_text, message_under, published_under};
+ghost use Rattle.zb_state.specs.State.{place_of, IsStateOf};
+ghost use Rattle.zb_step.specs.Made.{IsMade};
+
+use crate::adding::add;
+use crate::rejection::rejection;
+use std::alloc::{AllocError, Global};
+use zb_model::{
+    Event, Key, MessagePublish, MessagePublished, Moment, Rejection, RejectionKind, TryCopy,
+};
+use zb_state::{Out, State};
+
+/// Why a message isn't published: one with its name, correlation key and id is buffered, and the id isn't
+/// empty. That costs a step for each buffered message, and only where the id isn't empty.
+pub fn reason(
+    alloc: Global,
+    state: &State,
+    command: &MessagePublish,
+) -> Result<Option<Rejection>, AllocError>
+    ensures { (es : List Event) → IsStateOf es state.now → IfOk result (λ rejection. rejection ≡ reason_to_publish es command.now) }
+{
+    if is_repeated(state, command) {
+        return Ok(Some(repeated(alloc, command)?));
+    }
+    Ok(None)
+}
+
+/// Whether the id isn't empty and such a message is buffered.
+fn is_repeated(state: &State, command: &MessagePublish) -> bool
+    ensures { (es : List Event) → IsStateOf es state.now → result ≡ is_repeated es command.now }
+{
+    !command.id.as_str().is_empty() && state.buffers(command)
+}
+
+/// The rejection of a message that is buffered.
+fn repeated(alloc: Global, command: &MessagePublish) -> Result<Rejection, AllocError>
+    ensures { IfOk result (λ rejection. rejection ≡ record { kind = RejectionKind.AlreadyExists; reason = buffered_text command.now }) }
+{
+    let text = text_of_repeated(alloc, command)?;
+    rejection(alloc, RejectionKind::AlreadyExists, text.as_str())
+}
+
+#[tactic(auto, unfolding(zb_rules::specs::Publish::buffered_text))]
+fn text_of_repeated(alloc: Global, command: &MessagePublish) -> Result<String, AllocError>
+    ensures { IfOk result (λ text. string_bytes text ≡ buffered_text command.now) }
+{
+    let mut text = String::from_str(alloc, "message ")?;
+    text.push_str(command.name.as_str())?;
+    text.push_str(" ")?;
+    text.push_str(command.correlation_key.as_str())?;
+    text.push_str(" ")?;
+    text.push_str(command.id.as_str())?;
+    text.push_str(" is buffered")?;
+    Ok(text)
+}
+
+/// Makes the events of a message that is published.
+pub fn emit(
+    alloc: Global,
+    state: &mut State,
+    moment: Moment,
+    command: &MessagePublish,
+    out: &mut Out,
+) -> Result<(), AllocError>
+    requires { out.old ≡ [] }
+    ensures own { (es : List Event) → IsStateOf es state.old → OnOk result (out.new ≡ published_under (next_key (place_of state.old) es) moment command.now) }
+    ensures made { (es : List Event) → IsStateOf es state.old → OnOk result (IsMade (place_of state.old) es out.new state.new) }
+    ensures place { place_of state.new ≡ place_of state.old }
+{
+    let key = state.next_key();
+    let message = message(alloc, key, moment, command)?;
+    add(alloc, state, Event::MessagePublished(message), out)?;
+    if command.time_to_live == 0 {
+        add(alloc, state, Event::MessageExpired(key), out)?;
+    }
+    Ok(())
+}
+
+/// The message under this key.
+fn message(
+    alloc: Global,
+    key: Key,
+    moment: Moment,
+    command: &MessagePublish,
+) -> Result<MessagePublished, AllocError>
+    ensures { IfOk result (λ message. message ≡ message_under key moment command.now) }
+{
+    Ok(MessagePublished {
+        key,
+        name: command.name.copy(alloc)?,
+        correlation_key: command.correlation_key.copy(alloc)?,
+        id: command.id.copy(alloc)?,
+        deadline: moment.plus(command.time_to_live),
+        variables: command.variables.copy(alloc)?,
+    })
+}
