@@ -4,7 +4,6 @@ use Rattle.zb_disk.specs.Disk.{DiskView}
 use Rattle.zb_disk.specs.Cause.{Rose}
 use Rattle.zb_model.specs.declared.record.Batch.{Batch}
 use Rattle.zb_model.specs.declared.record.Command.{Command}
-use Rattle.zb_model.specs.declared.record.Command.TheVariants as commands
 use Rattle.zb_model.specs.declared.stop.Stop.{Stop}
 use Rattle.zb_model.specs.declared.stop.Stop.TheVariants as stops
 use Rattle.zb_model.specs.Record.{bytes_of}
@@ -14,11 +13,6 @@ use Rattle.zb_store.specs.declared.fault.StoreFault.{StoreFault}
 use Rattle.zb_store.specs.declared.fault.StoreFault.TheVariants as store
 use Rattle.zb_rules.specs.Step.{IsStep}
 use Rattle.zb_partition.specs.Log.{bodies_of}
-
--- a command that is run so far
-abbrev pub IsRun : Command → Type 0
-IsRun (commands.MessagePublish c) = Unit {0}
-IsRun _ = ⊥
 
 -- at partition p the batch is the step of this command on the log
 pub record IsStepOf (p : ℕ) (log : List Batch) (at from : ℕ) (asked : Command) (batch : Batch) : Type 0 where

@@ -4,7 +4,6 @@
 mod fault;
 mod opening;
 mod partition;
-mod publish;
 mod record;
 
 pub use fault::OpenFault;

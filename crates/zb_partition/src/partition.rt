@@ -7,24 +7,22 @@ ghost use Rattle.zb_store.specs.Calls.{OnlyReads, OnlyOpens};
 ghost use Rattle.zb_store.specs.GateLog as gates;
 ghost use Rattle.zb_store.specs.Log.{framed, extent};
 ghost use Rattle.zb_rules.specs.View.{last_moment};
-ghost use Rattle.zb_rules.specs.Reason.{reason_for};
-ghost use Rattle.zb_rules.specs.Own.{own_events};
-ghost use Rattle.zb_rules.specs.Step.{IsOutcome};
+ghost use Rattle.zb_rules.specs.Own.{IsRun};
 ghost use Rattle.zb_state.specs.State as states;
 ghost use Rattle.zb_state.specs.State.{IsStateOf};
 ghost use Rattle.zb_partition.specs.Fault.{IsDiskCause};
 ghost use Rattle.zb_partition.specs.Reading.{IsRead, IsRefused};
 ghost use Rattle.zb_partition.specs.Log.{bodies_of};
-ghost use Rattle.zb_partition.specs.Stopping.{IsRun, IsStepOf, IsStopped, IsUnwritten, IsTooLong, stop_of};
+ghost use Rattle.zb_partition.specs.Stopping.{IsStepOf, IsStopped, IsUnwritten, IsTooLong, stop_of};
 
 use crate::fault::OpenFault;
 use crate::opening::{Known, read_frames};
-use crate::publish::publish;
-use crate::record::{put_frame, take_in};
+use crate::record::put_frame;
 use std::alloc::{AllocError, Global};
 use zb_disk::Disk;
-use zb_model::{Batch, Command, Moment, Outcome, PartitionId, Stop, TableFault};
+use zb_model::{Batch, Command, Moment, PartitionId, Stop};
 use zb_state::State;
+use zb_step::outcome_of;
 use zb_store::{GateLog, StoreFault};
 
 /// How many bytes a frame has beyond its body: the length in front, and the gate behind.
@@ -210,20 +208,14 @@ impl<D: Disk> Partition<D> {
         ensures in_writing { in_writing self.new ≡ in_writing self.old }
         ensures place { place_of self.new ≡ place_of self.old }
     {
-        let outcome = outcome_of(alloc, &self.state, moment, &command)?;
-        let batch = Batch {
+        let outcome = outcome_of(alloc, &mut self.state, moment, &command)?;
+        self.last_moment = moment;
+        Ok(Batch {
             moment,
             begin,
             command,
             outcome,
-        };
-        match take_in(alloc, &mut self.state, &batch) {
-            Ok(()) => {
-                self.last_moment = moment;
-                Ok(batch)
-            }
-            Err(_) => Err(Stop::Memory),
-        }
+        })
     }
 
     // Adds the batch that was made to the log.
@@ -281,23 +273,6 @@ impl<D: Disk> Partition<D> {
         }
         put_frame(&mut self.frame, batch, size)?;
         Ok(())
-    }
-}
-
-// What a command leads to at this moment.
-fn outcome_of(
-    alloc: Global,
-    state: &State,
-    moment: Moment,
-    command: &Command,
-) -> Result<Outcome, AllocError>
-    requires { IsRun command.now }
-    ensures { (es : List Event) → IsStateOf es state.now
-        → IfOk result (IsOutcome (reason_for es command.now) (own_events (states.place_of state.now) es moment command.now)) }
-{
-    match command {
-        Command::MessagePublish(message) => publish(alloc, state, moment, message),
-        _ => unreachable!(),
     }
 }
 
