@@ -1,3 +1,4 @@
-pub mod Values
+pub mod LineValues
+pub mod Names
 pub mod Members
 pub mod Within

@@ -1,19 +1,23 @@
 -- What a line asks for is within the limits.
-use Rattle.std.proofs.Common.{◌≡◌, ℕ, ◌≤◌, List, [], ◌∷◌, length, Bool, true, false, if◌then◌else◌, Option, Some, None, Result, Ok, Err, refl, subst, lit≤}
+use Rattle.std.proofs.Common.{◌≡◌, ℕ, ◌≤◌, ◌<◌, ◌^◌, List, [], ◌∷◌, length, Bool, true, false, if◌then◌else◌, Option, Some, None, Result, Ok, Err, refl, subst, lit≤, lit<, arith}
 use Rattle.std.proofs.lemmas.Bool.{leb-true}
 use Rattle.std.proofs.lemmas.List.Elements.{All-nil, All-from_recursion}
 use Rattle.std.specs.List.{AllByRecursion, All}
 use Rattle.std.specs.Option.{option_map_or}
-use Rattle.std.specs.Prelude.{option_map, option_and_then, unwrap_or, nat_le, codes, ⊤, IfOk}
+use Rattle.std.specs.Prelude.{option_map, option_and_then, unwrap_or, is_some, nat_le, codes, ⊤, IfOk}
 use Rattle.std.specs.Str.{bytes_eq}
 use Rattle.serde_json.specs.Data.{Data, null, boolean, number, string, array, object, Members, no_members, member}
 use Rattle.serde_json.specs.Find.{get, as_str, as_object, as_i64}
 use Rattle.zb_base.specs.declared.value.Value.{Value}
 use Rattle.zb_base.specs.declared.value.Value.TheVariants as values
 use Rattle.zb_base.specs.declared.vars.Variable.{Variable}
-use Rattle.zb_wire.specs.Fields.{Field, longest_duration, is_name, is_duration, are_within, variables_in, publish_fields, is_within, first_failing, message_of}
-use Rattle.zb_wire.specs.Limits.{text_length, IsShort, IsModest, IsWithinLimits}
-use Rattle.zb_wire.specs.Request.{members_in, op_in, fields_of, none_of, none_wrong, none_unknown, none_outside, request_with, request_in, Gives, ◌>>=◌}
+use Rattle.zb_wire.specs.Fields.{Field, is_name, are_within, variables_in, is_within, first_failing, names_of}
+use Rattle.zb_wire.specs.Op.{Op, none_of, none_wrong, none_unknown, none_outside, none_amiss, request_with, ◌>>=◌}
+use Rattle.zb_wire.specs.PublishFields.{longest_duration, is_duration, publish_fields, message_of, publish}
+use Rattle.zb_wire.specs.CreateFields.{greatest_version, version_in, is_version, create_fields, creation_of, create}
+use Rattle.zb_wire.specs.DeployFields.{deploy_names, model_at, right_model, deploy_with}
+use Rattle.zb_wire.specs.Limits.{text_length, IsShort, IsModest, IsModestCreation, IsWithinLimits}
+use Rattle.zb_wire.specs.Request.{members_in, op_in, request_for, request_in, Gives}
 use Rattle.zb_wire.specs.Variables.{longest_name, longest_text, unsigned_of, numbers_of, value_of, variable_of, variables_of}
 use Rattle.zb_wire.specs.declared.request.LineFault.{LineFault}
 use Rattle.zb_wire.specs.declared.request.LineFault.TheVariants as faults
@@ -89,51 +93,93 @@ variables_within (Some d) passes = short_of (as_object d) where
   short_of None = All-nil IsShort
   short_of (Some ms) = short_all (variables_of ms) (variables_short ms)
 
+-- a number that passes is below 2^32
+version_within : (o : Option Data) → option_map_or is_version o true ≡ true → unwrap_or (option_and_then version_in o) 0 < 2 ^ 32
+version_within None passes = lit< tt
+version_within (Some d) passes = number_within (unsigned_of d) passes where
+  short_number : (n : ℕ) (b : Bool) → nat_le n greatest_version ≡ b → is_some (if b then Some n else None) ≡ true → unwrap_or (if b then Some n else None) 0 < 2 ^ 32
+  short_number n true fits passes = let below : n ≤ greatest_version = leb-true _ _ fits in omega arith
+  short_number n false fits passes = absurd (cc)
+
+  number_within : (n : Option ℕ) → is_some (option_and_then (λ n. if nat_le n greatest_version then Some n else None) n) ≡ true → unwrap_or (option_and_then (λ n. if nat_le n greatest_version then Some n else None) n) 0 < 2 ^ 32
+  number_within None passes = absurd (cc)
+  number_within (Some n) passes = short_number n (nat_le n greatest_version) refl passes
+
 -- a message whose fields are within their limits
-message_within : (d : Data) → first_failing (is_within d) publish_fields ≡ None → IsModest (message_of d)
-message_within d none =
-    let each = all_pass (is_within d) publish_fields none in
-    record {
-      name = name_within (get (codes "name") d) each.0;
-      correlation_key = name_within (get (codes "correlationKey") d) each.1.0;
-      time_to_live = duration_within (get (codes "timeToLive") d) each.1.1.0;
-      id = name_within (get (codes "messageId") d) each.1.1.1.0;
-      variables = variables_within (get (codes "variables") d) each.1.1.1.1.0;
-    }
+message_within : (d : Data) → AllByRecursion (λ f. is_within d f ≡ true) publish_fields → IsModest (message_of d)
+message_within d each = record {
+  name = name_within (get (codes "name") d) each.0;
+  correlation_key = name_within (get (codes "correlationKey") d) each.1.0;
+  time_to_live = duration_within (get (codes "timeToLive") d) each.1.1.0;
+  id = name_within (get (codes "messageId") d) each.1.1.1.0;
+  variables = variables_within (get (codes "variables") d) each.1.1.1.1.0;
+}
+
+-- an instance that is asked for by fields within their limits
+creation_within : (d : Data) → AllByRecursion (λ f. is_within d f ≡ true) create_fields → IsModestCreation (creation_of d)
+creation_within d each = record {
+  process = name_within (get (codes "process") d) each.0;
+  version = version_within (get (codes "version") d) each.1.0;
+  variables = variables_within (get (codes "variables") d) each.1.1.0;
+}
 
 -- a step that was made, and what came of it
-record Made {A : Type 0} (x : Result A LineFault) (f : A → Result Request LineFault) (r : Request) : Type 0 where
+record Made {A B : Type 0} (x : Result A LineFault) (f : A → Result B LineFault) (b : B) : Type 0 where
   value : A
   is : x ≡ Ok value
-  goes : f value ≡ Ok r
+  goes : f value ≡ Ok b
 
-made : {A : Type 0} (x : Result A LineFault) (f : A → Result Request LineFault) (r : Request) → (x >>= f) ≡ Ok r → Made x f r
-made (Ok a) f r found = record { value = a; is = refl; goes = found }
-made (Err fault) f r found = absurd (cc)
+made : {A B : Type 0} (x : Result A LineFault) (f : A → Result B LineFault) (b : B) → (x >>= f) ≡ Ok b → Made x f b
+made (Ok a) f b found = record { value = a; is = refl; goes = found }
+made (Err fault) f b found = absurd (cc)
 
 none_found : (fault : List ℕ → LineFault) (o : Option (List ℕ)) (t : ⊤) → none_of fault o ≡ Ok t → o ≡ None
 none_found fault None t is = refl
 none_found fault (Some field) t is = absurd (cc)
 
-fields_are : (b : Bool) (fields : List Field) → (if b then Ok publish_fields else Err faults.UnknownOp) ≡ Ok fields → fields ≡ publish_fields
-fields_are true fields is = cc
-fields_are false fields is = absurd (cc)
+-- where a request of an op was found, its fields are within their limits
+record Asked (op : Op) (value : Data) (r : Request) : Type 0 where
+  each : AllByRecursion (λ f. is_within value f ≡ true) op.fields
+  is : op.request value ≡ r
 
-request_with_within : (fields : List Field) (members : Members) (value : Data) (r : Request) → fields ≡ publish_fields → request_with fields members value ≡ Ok r → IsWithinLimits r
-request_with_within fields members value r same found =
-    let right = made (none_wrong fields value) (λ _. none_unknown fields members >>= (λ _. none_outside fields value >>= (λ _. Ok (requests.Publish (message_of value))))) r found in
-    let known = made (none_unknown fields members) (λ _. none_outside fields value >>= (λ _. Ok (requests.Publish (message_of value)))) r right.goes in
-    let within = made (none_outside fields value) (λ _. Ok (requests.Publish (message_of value))) r known.goes in
-    let none : first_failing (is_within value) publish_fields ≡ None = subst (λ (fs : List Field). first_failing (is_within value) fs ≡ None) same (none_found faults.Range _ within.value within.is) in
-    let is : requests.Publish (message_of value) ≡ r = cc in
-    subst IsWithinLimits is (message_within value none)
+asked : (op : Op) (members : Members) (value : Data) (r : Request) → request_with op members value ≡ Ok r → Asked op value r
+asked op members value r found =
+    let fine = made (none_amiss op.fields members value) (λ _. Ok (op.request value)) r found in
+    let right = made (none_wrong op.fields value) (λ _. none_unknown (names_of op.fields) members >>= (λ _. none_outside op.fields value)) fine.value fine.is in
+    let known = made (none_unknown (names_of op.fields) members) (λ _. none_outside op.fields value) fine.value right.goes in
+    record { each = all_pass (is_within value) op.fields (none_found faults.Range _ fine.value known.goes); is = cc (fine.goes) }
+
+publish_within : (members : Members) (value : Data) (r : Request) → request_with publish members value ≡ Ok r → IsWithinLimits r
+publish_within members value r found =
+    let a = asked publish members value r found in
+    subst IsWithinLimits a.is (message_within value a.each)
+
+create_within : (members : Members) (value : Data) (r : Request) → request_with create members value ≡ Ok r → IsWithinLimits r
+create_within members value r found =
+    let a = asked create members value r found in
+    subst IsWithinLimits a.is (creation_within value a.each)
+
+deploy_within : (members : Members) (value : Data) (r : Request) → deploy_with members value ≡ Ok r → IsWithinLimits r
+deploy_within members value r found =
+    let right = made (right_model (model_at value)) (λ model. none_unknown deploy_names members >>= (λ _. Ok (requests.Deploy model))) r found in
+    let known = made (none_unknown deploy_names members) (λ _. Ok (requests.Deploy right.value)) r right.goes in
+    let is : requests.Deploy right.value ≡ r = cc (known.goes) in
+    subst IsWithinLimits is tt
+
+-- by whether it is a deploy, a create or a publish
+request_for_within : (deploys creates publishes : Bool) (ms : Members) (value : Data) (r : Request)
+    → (if deploys then deploy_with ms value else (if creates then request_with create ms value else (if publishes then request_with publish ms value else Err faults.UnknownOp))) ≡ Ok r
+    → IsWithinLimits r
+request_for_within true creates publishes ms value r found = deploy_within ms value r found
+request_for_within false true publishes ms value r found = create_within ms value r found
+request_for_within false false true ms value r found = publish_within ms value r found
+request_for_within false false false ms value r found = absurd (cc)
 
 request_in_within : (value : Data) (r : Request) → request_in value ≡ Ok r → IsWithinLimits r
 request_in_within value r found =
-    let members = made (members_in value) (λ members. op_in value >>= (λ op. fields_of op >>= (λ fields. request_with fields members value))) r found in
-    let op = made (op_in value) (λ op. fields_of op >>= (λ fields. request_with fields members.value value)) r members.goes in
-    let fields = made (fields_of op.value) (λ fields. request_with fields members.value value) r op.goes in
-    request_with_within fields.value members.value value r (fields_are (bytes_eq op.value (codes "publish")) fields.value fields.is) fields.goes
+    let members = made (members_in value) (λ members. op_in value >>= (λ op. request_for op members value)) r found in
+    let op = made (op_in value) (λ op. request_for op members.value value) r members.goes in
+    request_for_within (bytes_eq op.value (codes "deploy")) (bytes_eq op.value (codes "create")) (bytes_eq op.value (codes "publish")) members.value value r op.goes
 
 -- a request that a value asks for is within the limits
 pub within_given : (value : Data) (found : Result Request LineFault) → Gives found (request_in value) → IfOk found IsWithinLimits

@@ -1,17 +1,12 @@
 -- The fields of a request's line, and what each may hold.
-use Rattle.std.specs.Prelude.{ℕ, List, [], ◌∷◌, length, codes, Bool, true, false, ◌||◌, not, nat_le, is_some, if◌then◌else◌, Option, Some, None, option_and_then, unwrap_or}
+use Rattle.std.specs.Prelude.{ℕ, List, [], ◌∷◌, length, codes, map, Bool, true, false, ◌||◌, not, nat_le, is_some, if◌then◌else◌, Option, Some, None, option_and_then, unwrap_or}
 use Rattle.std.specs.Option.{option_map_or}
 use Rattle.std.specs.List.{list_any}
 use Rattle.std.specs.Str.{bytes_eq}
 use Rattle.serde_json.specs.Data.{Data, Members, no_members, member}
 use Rattle.serde_json.specs.Find.{get, as_str, as_object}
 use Rattle.zb_base.specs.declared.vars.Variable.{Variable}
-use Rattle.zb_exchange_records.specs.declared.message.MessagePublish.{MessagePublish}
 use Rattle.zb_wire.specs.Variables.{longest_name, unsigned_of, all_variables, variables_of}
-
--- the longest time to live, in milliseconds (own)
-abbrev pub longest_duration : ℕ
-longest_duration = 4000000000000
 
 -- a field: its name, whether a line must have it, the kind of its value, and the limits of a value of that kind
 pub record Field : Type 0 where
@@ -40,10 +35,6 @@ is_name d = option_map_or (λ s. nat_le (length s) longest_name) (as_str d) fals
 abbrev pub is_count : Data → Bool
 is_count d = is_some (unsigned_of d)
 
--- a whole number from 0 to the longest time (own)
-abbrev pub is_duration : Data → Bool
-is_duration d = option_map_or (λ n. nat_le n longest_duration) (unsigned_of d) false
-
 -- an object whose members are of the kinds that variables may have (own)
 abbrev pub are_variables : Data → Bool
 are_variables d = option_map_or all_variables (as_object d) false
@@ -55,16 +46,6 @@ variables_in d = option_and_then variables_of (as_object d)
 -- an object of variables within their limits (own)
 abbrev pub are_within : Data → Bool
 are_within d = is_some (variables_in d)
-
--- the fields of a publish beside op, in order
-abbrev pub publish_fields : List Field
-publish_fields =
-    must (codes "name") is_text is_name
-    ∷ must (codes "correlationKey") is_text is_name
-    ∷ must (codes "timeToLive") is_count is_duration
-    ∷ may (codes "messageId") is_text is_name
-    ∷ may (codes "variables") are_variables are_within
-    ∷ []
 
 -- a field is there and of its kind, or it isn't there and needn't be
 abbrev pub is_right : Data → Field → Bool
@@ -79,14 +60,18 @@ abbrev pub first_failing : (Field → Bool) → List Field → Option (List ℕ)
 first_failing passes [] = None
 first_failing passes (f ∷ fs) = if passes f then first_failing passes fs else Some f.name
 
--- op, or one of the fields
-abbrev pub is_known : List Field → List ℕ → Bool
-is_known fields name = bytes_eq name (codes "op") || list_any (λ f. bytes_eq name f.name) fields
+-- the names of the fields
+abbrev pub names_of : List Field → List (List ℕ)
+names_of fields = map (λ f. f.name) fields
 
--- the first member, in byte order of the names, that is neither op nor one of the fields
-abbrev pub first_unknown : List Field → Members → Option (List ℕ)
-first_unknown fields no_members = None
-first_unknown fields (member name d ms) = if is_known fields name then first_unknown fields ms else Some name
+-- op, or one of these names
+abbrev pub is_known : List (List ℕ) → List ℕ → Bool
+is_known names name = bytes_eq name (codes "op") || list_any (λ known. bytes_eq name known) names
+
+-- the first member, in byte order of the names, that is neither op nor one of these
+abbrev pub first_unknown : List (List ℕ) → Members → Option (List ℕ)
+first_unknown names no_members = None
+first_unknown names (member name d ms) = if is_known names name then first_unknown names ms else Some name
 
 -- the text of a field, and the empty one where it isn't there
 abbrev pub text_at : List ℕ → Data → List ℕ
@@ -99,11 +84,3 @@ count_at field d = unwrap_or (option_and_then unsigned_of (get field d)) 0
 -- the variables of a field, and none where it isn't there
 abbrev pub variables_at : List ℕ → Data → List Variable
 variables_at field d = unwrap_or (option_and_then variables_in (get field d)) []
-
--- the variables that a publish asks for, none where it says nothing of them; None where they are outside the limits
-abbrev pub found_variables : Data → Option (List Variable)
-found_variables d = option_map_or variables_in (get (codes "variables") d) (Some [])
-
--- the message that the fields ask to publish
-abbrev pub message_of : Data → MessagePublish
-message_of d = record { name = text_at (codes "name") d; correlation_key = text_at (codes "correlationKey") d; time_to_live = count_at (codes "timeToLive") d; id = text_at (codes "messageId") d; variables = variables_at (codes "variables") d }

@@ -1,6 +1,11 @@
 pub mod Variables
 pub mod Fields
+pub mod Op
+pub mod PublishFields
+pub mod CreateFields
+pub mod DeployFields
 pub mod Request
+pub mod Table
 pub mod Limits
 pub mod Reply
 pub mod Reading

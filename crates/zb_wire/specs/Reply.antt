@@ -3,6 +3,8 @@ use Rattle.std.specs.Prelude.{◌≡◌, ℕ, List, [], ◌∷◌, ◌++◌, cod
 use Rattle.std.specs.Fmt.{decimal}
 use Rattle.serde_json.specs.Data.{string}
 use Rattle.serde_json.specs.Written.{compact_text}
+use Rattle.zb_instance_records.specs.declared.deployment.ProcessCreated.{ProcessCreated}
+use Rattle.zb_instance_records.specs.declared.instance.ProcessInstanceCreationCreated.{ProcessInstanceCreationCreated}
 use Rattle.zb_model.specs.declared.record.Command.{Command}
 use Rattle.zb_model.specs.declared.record.Command.TheVariants as commands
 use Rattle.zb_model.specs.declared.record.Event.{Event}
@@ -16,12 +18,28 @@ use Rattle.zb_wire.specs.declared.request.Request.{Request}
 use Rattle.zb_wire.specs.declared.request.Request.TheVariants as requests
 use Rattle.zb_wire.specs.declared.request.LineFault.{LineFault}
 use Rattle.zb_wire.specs.declared.request.LineFault.TheVariants as faults
+use Rattle.zb_wire.specs.declared.reply.Deployed.{Deployed}
+use Rattle.zb_wire.specs.declared.reply.Created.{Created}
 use Rattle.zb_wire.specs.declared.reply.Reply.{Reply}
 use Rattle.zb_wire.specs.declared.reply.Reply.TheVariants as replies
 
 -- the command that a request asks of a partition
 abbrev pub command_of : Request → Command
+command_of (requests.Deploy m) = commands.DeploymentCreate m
+command_of (requests.Create c) = commands.ProcessInstanceCreationCreate c
 command_of (requests.Publish c) = commands.MessagePublish c
+
+-- the first definition that the events make; other events are passed over
+abbrev pub definition_in : List Event → Option ProcessCreated
+definition_in [] = None
+definition_in (events.ProcessCreated e ∷ es) = Some e
+definition_in (_ ∷ es) = definition_in es
+
+-- the first instance that the events make; other events are passed over
+abbrev pub instance_in : List Event → Option ProcessInstanceCreationCreated
+instance_in [] = None
+instance_in (events.ProcessInstanceCreationCreated e ∷ es) = Some e
+instance_in (_ ∷ es) = instance_in es
 
 -- the key of the first message that the events publish; other events are passed over
 abbrev pub message_in : List Event → Option ℕ
@@ -29,8 +47,20 @@ message_in [] = None
 message_in (events.MessagePublished e ∷ es) = Some e.key
 message_in (_ ∷ es) = message_in es
 
+-- what is told of a definition
+abbrev pub deployed_of : ProcessCreated → Deployed
+deployed_of e = record { definition = e.key; process = e.model.process; version = e.version }
+
+-- what is told of an instance
+abbrev pub created_of : ProcessInstanceCreationCreated → Created
+created_of e = record { definition = e.definition; instance = e.key }
+
 -- the reply to a command that had this outcome; None where no request asks for the command, or it has no reply
 abbrev pub answer_to : Command → Outcome → Option Reply
+answer_to (commands.DeploymentCreate m) (outcomes.Accepted es) = option_map (λ e. replies.Deploy (deployed_of e)) (definition_in es)
+answer_to (commands.DeploymentCreate m) (outcomes.Rejected r) = Some (replies.Rejected r)
+answer_to (commands.ProcessInstanceCreationCreate c) (outcomes.Accepted es) = option_map (λ e. replies.Create (created_of e)) (instance_in es)
+answer_to (commands.ProcessInstanceCreationCreate c) (outcomes.Rejected r) = Some (replies.Rejected r)
 answer_to (commands.MessagePublish c) (outcomes.Accepted es) = option_map replies.Publish (message_in es)
 answer_to (commands.MessagePublish c) (outcomes.Rejected r) = Some (replies.Rejected r)
 answer_to _ _ = None
@@ -62,24 +92,49 @@ fault_name faults.NotJson = codes "NOT_JSON"
 fault_name faults.NotObject = codes "NOT_OBJECT"
 fault_name faults.NoOp = codes "NO_OP"
 fault_name faults.UnknownOp = codes "UNKNOWN_OP"
-fault_name (faults.Field field) = codes "FIELD"
+fault_name (faults.Field field path) = codes "FIELD"
 fault_name (faults.Range field) = codes "RANGE"
 fault_name faults.Memory = []
 
 -- the field that a fault names
 abbrev pub fault_field : LineFault → List ℕ
-fault_field (faults.Field field) = codes ",\"field\":" ++ quoted field
+fault_field (faults.Field field path) = codes ",\"field\":" ++ quoted field
 fault_field (faults.Range field) = codes ",\"field\":" ++ quoted field
 fault_field _ = []
 
+-- the place in the field's value that a fault names
+abbrev pub fault_path : LineFault → List ℕ
+fault_path (faults.Field field (Some path)) = codes ",\"path\":" ++ quoted path
+fault_path _ = []
+
+-- what a line tells of a definition
+abbrev pub deployed_text : Deployed → List ℕ
+deployed_text d = codes "\"definition\":" ++ (decimal d.definition ++ (codes ",\"process\":" ++ (quoted d.process ++ (codes ",\"version\":" ++ decimal d.version))))
+
+-- what a line tells of an instance
+abbrev pub created_text : Created → List ℕ
+created_text c = codes "\"definition\":" ++ (decimal c.definition ++ (codes ",\"instance\":" ++ decimal c.instance))
+
+-- what a line tells of a message
+abbrev pub published_text : ℕ → List ℕ
+published_text key = codes "\"message\":" ++ decimal key
+
+-- the line of a request that was done, which tells this
+abbrev pub ok_line : List ℕ → Option ℕ → List ℕ
+ok_line told units = codes "{\"ok\":{" ++ (told ++ (codes "}" ++ (units_of units ++ codes "}\n")))
+
 -- the line of a reply
 unfoldable pub line_of : Reply → Option ℕ → List ℕ
-line_of (replies.Publish key) units = codes "{\"ok\":{\"message\":" ++ (decimal key ++ (codes "}" ++ (units_of units ++ codes "}\n")))
+line_of (replies.Deploy deployed) units = ok_line (deployed_text deployed) units
+line_of (replies.Create created) units = ok_line (created_text created) units
+line_of (replies.Publish key) units = ok_line (published_text key) units
 line_of (replies.Rejected r) units = codes "{\"reason\":" ++ (quoted r.reason ++ (codes ",\"rejected\":\"" ++ (kind_name r.kind ++ (codes "\"" ++ (units_of units ++ codes "}\n")))))
-line_of (replies.Fault line fault) units = codes "{\"fault\":\"" ++ (fault_name fault ++ (codes "\"" ++ (fault_field fault ++ (codes ",\"line\":" ++ (decimal line ++ codes "}\n")))))
+line_of (replies.Fault line fault) units = codes "{\"fault\":\"" ++ (fault_name fault ++ (codes "\"" ++ (fault_field fault ++ (codes ",\"line\":" ++ (decimal line ++ (fault_path fault ++ codes "}\n"))))))
 
 -- a reply that has a line: one that isn't want of memory
 abbrev pub IsSpoken : Reply → Type 0
+IsSpoken (replies.Deploy deployed) = Unit {0}
+IsSpoken (replies.Create created) = Unit {0}
 IsSpoken (replies.Publish key) = Unit {0}
 IsSpoken (replies.Rejected r) = Unit {0}
 IsSpoken (replies.Fault line fault) = ¬ (fault ≡ faults.Memory)

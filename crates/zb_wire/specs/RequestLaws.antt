@@ -35,6 +35,6 @@ Tells-fault faults.NotJson found tells spoken = tells
 Tells-fault faults.NotObject found tells spoken = tells
 Tells-fault faults.NoOp found tells spoken = tells
 Tells-fault faults.UnknownOp found tells spoken = tells
-Tells-fault (faults.Field field) found tells spoken = tells
+Tells-fault (faults.Field field path) found tells spoken = tells
 Tells-fault (faults.Range field) found tells spoken = tells
 Tells-fault faults.Memory found tells spoken = absurd (spoken refl)

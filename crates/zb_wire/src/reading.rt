@@ -1,14 +1,15 @@
-ghost use Rattle.std.specs.Prelude.{◌≡◌, ◌+◌, ℕ, List, take, Err, IfOk};
+ghost use Rattle.std.specs.Prelude.{◌≡◌, ◌+◌, ℕ, List, take, IfOk};
 ghost use Rattle.zb_wire.specs.Limits.{IsWithinLimits};
 ghost use Rattle.serde_json.specs.View.{view};
 ghost use Rattle.zb_wire.specs.Reading.{Reads, Blames};
-ghost use Rattle.zb_wire.specs.Request.{longest_line, value_in, request_in, request_of, Tells, Gives};
+ghost use Rattle.zb_wire.specs.Request.{longest_line, value_in, request_in, request_of, Gives};
 
+use crate::create::create_in;
+use crate::deploy::deploy_in;
 use crate::publish::publish_in;
 use crate::{LineFault, Request};
 use serde_json::{Category, Error, Value as Json};
 use std::alloc::Global;
-use zb_model::Text;
 
 /// A line has at most so many bytes, without its newline.
 pub const LONGEST_LINE: usize = 262_144;
@@ -39,7 +40,7 @@ pub fn read_line(alloc: Global, line: &[u8]) -> Result<Request, LineFault>
 }
 
 /// The JSON value that a text is.
-#[tactic(auto, using(crate::proofs::Values::value_laws))]
+#[tactic(auto, using(crate::proofs::LineValues::value_laws))]
 fn value_in(alloc: Global, text: &[u8]) -> Result<Json, LineFault>
     ensures { Reads result (value_in text.now) }
 {
@@ -69,28 +70,10 @@ fn request_in(alloc: Global, value: &Json) -> Result<Request, LineFault>
     let Some(op) = value.get("op").and_then(Json::as_str) else {
         return Err(LineFault::NoOp);
     };
-    if op != "publish" {
-        return Err(LineFault::UnknownOp);
-    }
-    publish_in(alloc, members, value)
-}
-
-/// The fault of a field that is missing, of the wrong kind or unknown.
-pub fn field_fault(alloc: Global, field: &str) -> LineFault
-    ensures { Tells result (Err (LineFault.Field field.now)) }
-{
-    match Text::of(alloc, field) {
-        Ok(field) => LineFault::Field { field },
-        Err(_) => LineFault::Memory,
-    }
-}
-
-/// The fault of a field that is outside its limits.
-pub fn range_fault(alloc: Global, field: &str) -> LineFault
-    ensures { Tells result (Err (LineFault.Range field.now)) }
-{
-    match Text::of(alloc, field) {
-        Ok(field) => LineFault::Range { field },
-        Err(_) => LineFault::Memory,
+    match op {
+        "deploy" => deploy_in(alloc, members, value),
+        "create" => create_in(alloc, members, value),
+        "publish" => publish_in(alloc, members, value),
+        _ => Err(LineFault::UnknownOp),
     }
 }

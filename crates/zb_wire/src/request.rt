@@ -1,10 +1,12 @@
 ghost use Rattle.std.specs.Prelude.{◌≡◌};
 
-use zb_model::{Command, MessagePublish, Text};
+use zb_model::{Command, MessagePublish, Model, ProcessInstanceCreationCreate, Text};
 
 /// What a line asks for.
 #[derive(Drop)]
 pub enum Request {
+    Deploy(Model),
+    Create(ProcessInstanceCreationCreate),
     Publish(MessagePublish),
 }
 
@@ -16,6 +18,8 @@ impl Request {
         ensures { result ≡ command_of self }
     {
         match self {
+            Request::Deploy(model) => Command::DeploymentCreate(model),
+            Request::Create(creation) => Command::ProcessInstanceCreationCreate(creation),
             Request::Publish(message) => Command::MessagePublish(message),
         }
     }
@@ -34,8 +38,9 @@ pub enum LineFault {
     NoOp,
     /// Its `op` is no request of this server.
     UnknownOp,
-    /// This field is missing, of the wrong kind or unknown.
-    Field { field: Text },
+    /// This field is missing, of the wrong kind or unknown. Where it is the model of a deploy, the path says
+    /// where in the model the fault is, as a JSON pointer (RFC 6901): the empty one where there is no model.
+    Field { field: Text, path: Option<Text> },
     /// This field is outside its limits.
     Range { field: Text },
     /// There was no memory.

@@ -1,12 +1,10 @@
-use crate::{
-    LONGEST_LINE, LineFault, Reply, Request, longest_shown, read_line, reply_of, reply_text,
-};
+mod create;
+mod replies;
+
+use crate::{LONGEST_LINE, LineFault, Reply, Request, longest_shown, read_line, reply_text};
 use std::alloc::{AllocError, Global};
 use std::test::Fail;
-use zb_model::{
-    Batch, Command, Event, Key, List, MessagePublish, MessagePublished, Moment, Outcome, Rejection,
-    RejectionKind, Text, Value, Vars,
-};
+use zb_model::{MessagePublish, Value};
 
 const PAID: &str = r#"{"op":"publish","name":"paid","correlationKey":"o-1","timeToLive":60000}"#;
 
@@ -43,6 +41,7 @@ fn fault_of(alloc: Global, line: &[u8]) -> Result<Vec<u8>, AllocError> {
 fn message_of(alloc: Global, line: &[u8]) -> Result<MessagePublish, LineFault> {
     match read_line(alloc, line) {
         Ok(Request::Publish(message)) => Ok(message),
+        Ok(_) => Err(LineFault::UnknownOp),
         Err(fault) => Err(fault),
     }
 }
@@ -273,6 +272,12 @@ fn refuses_variables(rt: HostRuntime) -> Result<(), Fail> {
 fn keeps_to_the_lengths(rt: HostRuntime) -> Result<(), Fail> {
     let rows = [
         (
+            r#"{"op":"create","process":""#,
+            r#""}"#,
+            255,
+            r#"{"fault":"RANGE","field":"process","line":1}"#,
+        ),
+        (
             r#"{"op":"publish","correlationKey":"k","timeToLive":1,"name":""#,
             r#""}"#,
             255,
@@ -348,162 +353,5 @@ fn keeps_to_the_longest_line(rt: HostRuntime) -> Result<(), Fail> {
             "at {depth}"
         );
     }
-    Ok(())
-}
-
-#[test]
-fn writes_replies(rt: HostRuntime) -> Result<(), Fail> {
-    let alloc = rt.alloc();
-    let mut bytes = Vec::from_slice(alloc, b"> ")?;
-    let key = Key::new(2_251_799_813_685_249);
-    reply_text(alloc, &Reply::Publish(key), Some(0), &mut bytes)?;
-    reply_text(alloc, &Reply::Publish(Key::new(7)), None, &mut bytes)?;
-    reply_text(
-        alloc,
-        &Reply::Fault(7, LineFault::NotJson),
-        Some(0),
-        &mut bytes,
-    )?;
-    let field = Text::of(alloc, "a\tb")?;
-    reply_text(
-        alloc,
-        &Reply::Fault(8, LineFault::Range { field }),
-        None,
-        &mut bytes,
-    )?;
-    let lines =
-        "> {\"ok\":{\"message\":2251799813685249},\"units\":0}\n{\"ok\":{\"message\":7}}\n{\"fault\":\"NOT_JSON\",\"line\":7}\n{\"fault\":\"RANGE\",\"field\":\"a\\tb\",\"line\":8}\n";
-    assert_eq!(rt; bytes.as_slice(), lines.as_bytes());
-    Ok(())
-}
-
-/// The line of a rejection.
-fn rejected_line(
-    alloc: Global,
-    kind: RejectionKind,
-    reason: &str,
-    units: Option<u64>,
-) -> Result<Vec<u8>, AllocError> {
-    let reason = Text::of(alloc, reason)?;
-    let mut bytes = Vec::new(alloc);
-    reply_text(
-        alloc,
-        &Reply::Rejected(Rejection { kind, reason }),
-        units,
-        &mut bytes,
-    )?;
-    Ok(bytes)
-}
-
-#[test]
-fn writes_rejections(rt: HostRuntime) -> Result<(), Fail> {
-    let rows = [
-        (
-            RejectionKind::AlreadyExists,
-            "message paid o-1 x is buffered",
-            Some(0),
-            "{\"reason\":\"message paid o-1 x is buffered\",\"rejected\":\"ALREADY_EXISTS\",\"units\":0}\n",
-        ),
-        (
-            RejectionKind::InvalidArgument,
-            "",
-            Some(1_000),
-            "{\"reason\":\"\",\"rejected\":\"INVALID_ARGUMENT\",\"units\":1000}\n",
-        ),
-        (
-            RejectionKind::NotFound,
-            "no job 7",
-            None,
-            "{\"reason\":\"no job 7\",\"rejected\":\"NOT_FOUND\"}\n",
-        ),
-        (
-            RejectionKind::InvalidState,
-            "\"\\/\u{8}\u{c}\n\r\t\u{0}\u{1f}\u{7f}\u{e9}",
-            None,
-            "{\"reason\":\"\\\"\\\\/\\b\\f\\n\\r\\t\\u0000\\u001f\u{7f}\u{e9}\",\"rejected\":\"INVALID_STATE\"}\n",
-        ),
-    ];
-    for (kind, reason, units, told) in rows {
-        let line = rejected_line(rt.alloc(), kind, reason, units)?;
-        assert_eq!(rt; line.as_slice(), told.as_bytes(), "at {told}");
-    }
-    Ok(())
-}
-
-fn message(alloc: Global) -> Result<MessagePublish, AllocError> {
-    Ok(MessagePublish {
-        name: Text::of(alloc, "paid")?,
-        correlation_key: Text::of(alloc, "o-1")?,
-        time_to_live: 60_000,
-        id: Text::empty(alloc),
-        variables: Vars::empty(alloc),
-    })
-}
-
-ghost use Rattle.std.specs.Prelude.{◌≡◌, Some, IfOk};
-ghost use Rattle.zb_wire.specs.Reply.{message_in};
-
-#[test]
-fn answers_a_publish_request(rt: HostRuntime) -> Result<(), Fail> {
-    let key = answered(rt.alloc())?;
-    assert_eq!(rt; key, Some(Key::new(2_251_799_813_685_249)));
-    Ok(())
-}
-
-/// The key that a publish is answered with.
-#[tactic(auto, unfolding(crate::specs::Reply::answer_of))]
-fn answered(alloc: Global) -> Result<Option<Key>, AllocError> {
-    let key = Key::new(2_251_799_813_685_249);
-    let command = message(alloc)?;
-    let batch = Batch {
-        moment: Moment::new(0),
-        begin: 0,
-        outcome: Outcome::Accepted(published_behind_another(alloc, key)?),
-        command: Command::MessagePublish(command),
-    };
-    let reply = reply_of(alloc, &batch);
-    drop(batch);
-    match reply? {
-        Reply::Publish(key) => Ok(Some(key)),
-        _ => Ok(None),
-    }
-}
-
-/// The events of a publish, behind another event.
-fn published_behind_another(alloc: Global, key: Key) -> Result<List<Event>, AllocError>
-    ensures { IfOk result (λ events. message_in events ≡ Some key) }
-{
-    let published = MessagePublished {
-        key,
-        name: Text::of(alloc, "paid")?,
-        correlation_key: Text::of(alloc, "o-1")?,
-        id: Text::empty(alloc),
-        deadline: Moment::new(60_000),
-        variables: Vars::empty(alloc),
-    };
-    let mut events = List::empty(alloc);
-    events.push(Event::MessageExpired(Key::new(7)))?;
-    events.push(Event::MessagePublished(published))?;
-    Ok(events)
-}
-
-#[test]
-#[tactic(auto, unfolding(crate::specs::Reply::answer_of))]
-fn answers_a_rejected_request(rt: HostRuntime) -> Result<(), Fail> {
-    let alloc = rt.alloc();
-    let rejection = Rejection {
-        kind: RejectionKind::AlreadyExists,
-        reason: Text::of(alloc, "message paid o-1 x is buffered")?,
-    };
-    let batch = Batch {
-        moment: Moment::new(0),
-        begin: 0,
-        command: Command::MessagePublish(message(alloc)?),
-        outcome: Outcome::Rejected(rejection),
-    };
-    let reply = reply_of(alloc, &batch)?;
-    assert!(rt;
-        matches!(&reply, Reply::Rejected(rejection) if rejection.reason.as_str() == "message paid o-1 x is buffered")
-    );
     Ok(())
 }

@@ -1,9 +1,9 @@
-ghost use Rattle.std.specs.Prelude.{◌≡◌, IfOk, option_map};
+ghost use Rattle.std.specs.Prelude.{◌≡◌, IfOk, is_some, option_map};
 ghost use Rattle.zb_base.specs.declared.value.Value.TheVariants as values;
 ghost use Rattle.serde_json.specs.View.{view, items_view, members_view};
 ghost use Rattle.zb_wire.specs.Variables as spec;
 
-use crate::fields::LONGEST_NAME;
+use crate::kind::LONGEST_NAME;
 use serde_json::{Map, Value as Json};
 use std::alloc::{AllocError, Global};
 use zb_model::{List, Text, Value, Variable, Vars};
@@ -52,6 +52,43 @@ fn is_whole(value: &Json) -> bool
     ensures { result ≡ spec.is_whole (view value.now) }
 {
     value.is_u64() || value.is_i64()
+}
+
+/// Whether each member is within the limits of a variable.
+pub fn all_within(members: &Map<String, Json>) -> bool
+    ensures { result ≡ is_some (spec.variables_of (members_view members.now.entries)) }
+{
+    for (name, value) in members.iter() {
+        if name.len() > LONGEST_NAME || !is_within(value) {
+            return false;
+        }
+    }
+    true
+}
+
+/// Whether the value is within the limits of what a variable may hold.
+fn is_within(value: &Json) -> bool
+    ensures { result ≡ is_some (spec.value_of (view value.now)) }
+{
+    match value {
+        Json::Null | Json::Object(_) => false,
+        Json::Bool(_) => true,
+        Json::Number(number) => number.is_i64(),
+        Json::String(text) => text.len() <= LONGEST_TEXT,
+        Json::Array(items) => are_signed(items.as_slice()),
+    }
+}
+
+/// Whether each item is a number of 64 bits with sign.
+fn are_signed(items: &[Json]) -> bool
+    ensures { result ≡ is_some (spec.numbers_of (items_view items.now)) }
+{
+    for item in items {
+        if !item.is_i64() {
+            return false;
+        }
+    }
+    true
 }
 
 /// The variables that the members are, if each is within its limits.

@@ -31,7 +31,7 @@ blamed line faults.TooLong e blames refused = absurd blames
 blamed line faults.NotObject e blames refused = absurd blames
 blamed line faults.NoOp e blames refused = absurd blames
 blamed line faults.UnknownOp e blames refused = absurd blames
-blamed line (faults.Field field) e blames refused = absurd blames
+blamed line (faults.Field field path) e blames refused = absurd blames
 blamed line (faults.Range field) e blames refused = absurd blames
 
 pub ruleset value_laws = (value_in-read, blamed)

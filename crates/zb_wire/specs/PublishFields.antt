@@ -1,0 +1,35 @@
+-- What a publish asks for.
+use Rattle.std.specs.Prelude.{ℕ, List, [], ◌∷◌, codes, Bool, false, nat_le}
+use Rattle.std.specs.Option.{option_map_or}
+use Rattle.serde_json.specs.Data.{Data}
+use Rattle.zb_exchange_records.specs.declared.message.MessagePublish.{MessagePublish}
+use Rattle.zb_wire.specs.Variables.{unsigned_of}
+use Rattle.zb_wire.specs.Fields.{Field, must, may, is_text, is_name, is_count, are_variables, are_within, text_at, count_at, variables_at}
+use Rattle.zb_wire.specs.Op.{Op}
+use Rattle.zb_wire.specs.declared.request.Request.TheVariants as requests
+
+-- the longest time to live, in milliseconds (own)
+abbrev pub longest_duration : ℕ
+longest_duration = 4000000000000
+
+-- a whole number from 0 to the longest time (own)
+abbrev pub is_duration : Data → Bool
+is_duration d = option_map_or (λ n. nat_le n longest_duration) (unsigned_of d) false
+
+-- its fields, in order (own)
+abbrev pub publish_fields : List Field
+publish_fields =
+    must (codes "name") is_text is_name
+    ∷ must (codes "correlationKey") is_text is_name
+    ∷ must (codes "timeToLive") is_count is_duration
+    ∷ may (codes "messageId") is_text is_name
+    ∷ may (codes "variables") are_variables are_within
+    ∷ []
+
+-- the message that the fields ask to publish
+abbrev pub message_of : Data → MessagePublish
+message_of d = record { name = text_at (codes "name") d; correlation_key = text_at (codes "correlationKey") d; time_to_live = count_at (codes "timeToLive") d; id = text_at (codes "messageId") d; variables = variables_at (codes "variables") d }
+
+-- a publish
+abbrev pub publish : Op
+publish = record { fields = publish_fields; request = λ d. requests.Publish (message_of d) }

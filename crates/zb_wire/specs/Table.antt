@@ -1,0 +1,40 @@
+-- What the tables of fields in the code say, and what the functions that read a line by them promise one another.
+use Rattle.std.specs.Prelude.{◌≡◌, List, Bool, Option, Some, None, Ok}
+use Rattle.serde_json.specs.Data.{Data, Members}
+use Rattle.zb_wire.specs.Fields as spec
+use Rattle.zb_wire.specs.Op.{none_amiss, request_with}
+use Rattle.zb_wire.specs.PublishFields.{is_duration}
+use Rattle.zb_wire.specs.CreateFields.{is_version, is_partition}
+use Rattle.zb_wire.specs.Request.{Tells}
+use Rattle.zb_wire.specs.declared.fields.Field.{Field}
+use Rattle.zb_wire.specs.declared.fields.Field.TheVariants as fields
+use Rattle.zb_wire.specs.declared.kind.Kind.{Kind}
+use Rattle.zb_wire.specs.declared.kind.Kind.TheVariants as kinds
+use Rattle.zb_wire.specs.declared.request.Request.{Request}
+use Rattle.zb_wire.specs.declared.request.LineFault.{LineFault}
+
+-- the values of a kind
+abbrev pub kind_of : Kind → Data → Bool
+kind_of kinds.Name = spec.is_text
+kind_of kinds.Duration = spec.is_count
+kind_of kinds.Version = spec.is_count
+kind_of kinds.Partition = spec.is_count
+kind_of kinds.Variables = spec.are_variables
+
+-- those within its limits
+abbrev pub limit_of : Kind → Data → Bool
+limit_of kinds.Name = spec.is_name
+limit_of kinds.Duration = is_duration
+limit_of kinds.Version = is_version
+limit_of kinds.Partition = is_partition
+limit_of kinds.Variables = spec.are_within
+
+-- the field that a row of a table is
+abbrev pub field_of : Field → spec.Field
+field_of (fields.Must name kind) = spec.must name.now (kind_of kind) (limit_of kind)
+field_of (fields.May name kind) = spec.may name.now (kind_of kind) (limit_of kind)
+
+-- a value has these fields, or it is no request of them by this fault, unless memory ran out
+abbrev pub Judges : Option LineFault → List spec.Field → Members → Data → Type 0
+Judges None fields members value = none_amiss fields members value ≡ Ok tt
+Judges (Some fault) fields members value = (request : Data → Request) → Tells fault (request_with (record { fields = fields; request = request }) members value)

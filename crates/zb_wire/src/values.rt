@@ -1,0 +1,61 @@
+ghost use Rattle.std.specs.Prelude.{◌≡◌, IfOk};
+ghost use Rattle.serde_json.specs.View.{view};
+ghost use Rattle.zb_wire.specs.Fields as spec;
+ghost use Rattle.zb_wire.specs.CreateFields.{version_in, version_at};
+
+use crate::variables::variables_of;
+use serde_json::Value as Json;
+use std::alloc::{AllocError, Global};
+use zb_model::Vars;
+
+/// The text of a field, and the empty one where it isn't there.
+pub fn text_at<'v>(value: &'v Json, field: &str) -> &'v str
+    ensures { result.now ≡ spec.text_at field.now (view value.now) }
+{
+    value.get(field).and_then(Json::as_str).unwrap_or("")
+}
+
+/// The number of a field, and 0 where it isn't there.
+pub fn count_at(value: &Json, field: &str) -> u64
+    ensures { result ≡ spec.count_at field.now (view value.now) }
+{
+    value.get(field).and_then(Json::as_u64).unwrap_or(0)
+}
+
+/// The version of a field, and 0 where it isn't there.
+pub fn version_at(value: &Json, field: &str) -> u32
+    ensures { result ≡ version_at field.now (view value.now) }
+{
+    value.get(field).and_then(version_in).unwrap_or(0)
+}
+
+/// The version that a value is, if it is a whole number from 0 to the greatest.
+pub fn version_in(value: &Json) -> Option<u32>
+    ensures { result ≡ version_in (view value.now) }
+{
+    match value.as_u64() {
+        Some(number) if number <= u64::from(u32::MAX) => Some(number as u32),
+        _ => None,
+    }
+}
+
+/// The variables of a field, and none where it isn't there.
+pub fn variables_at(alloc: Global, value: &Json, field: &str) -> Result<Vars, AllocError>
+    ensures { IfOk result (λ variables. variables ≡ spec.variables_at field.now (view value.now)) }
+{
+    let found = match value.get(field) {
+        Some(found) => variables_in(alloc, found)?,
+        None => None,
+    };
+    Ok(found.unwrap_or(Vars::empty(alloc)))
+}
+
+/// The variables that a value stands for, if each is within its limits.
+fn variables_in(alloc: Global, value: &Json) -> Result<Option<Vars>, AllocError>
+    ensures { IfOk result (λ variables. variables ≡ spec.variables_in (view value.now)) }
+{
+    match value.as_object() {
+        Some(members) => variables_of(alloc, members),
+        None => Ok(None),
+    }
+}
