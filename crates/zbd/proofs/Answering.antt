@@ -1,22 +1,27 @@
 -- What a batch that was committed is answered with.
-use Rattle.std.proofs.Common.{◌≡◌, ℕ, List, [], ◌∷◌, ◌++◌, Bool, IsTrue, IsSome, Option, Some, None, option_map, Ok, Err, refl, sym, ◌∙◌, ap, subst, inl, inr}
-use Rattle.zb_exchange_records.specs.declared.message.MessagePublish.{MessagePublish}
+use Rattle.std.proofs.Common.{◌≡◌, ℕ, List, [], ◌∷◌, ◌++◌, Bool, IsTrue, IsSome, Option, Some, None, option_map, Ok, Err, refl, ◌∙◌, ap, subst, inl, inr}
+use Rattle.zb_instance_records.specs.declared.instance.ProcessInstanceCreationCreate.{ProcessInstanceCreationCreate}
+use Rattle.zb_model.specs.declared.record.Event.{Event}
 use Rattle.zb_model.specs.declared.record.Batch.{Batch}
 use Rattle.zb_model.specs.declared.record.Command.{Command}
 use Rattle.zb_model.specs.declared.record.Command.TheVariants as commands
-use Rattle.zb_model.specs.declared.record.Outcome.{Outcome}
 use Rattle.zb_model.specs.declared.record.Outcome.TheVariants as outcomes
 use Rattle.zb_model.specs.declared.record.Rejection.{Rejection}
 use Rattle.zb_rules.specs.View.{events_of, next_key}
 use Rattle.zb_rules.specs.Reason.{reason_for}
-use Rattle.zb_rules.specs.Own.{own_events, published_under}
+use Rattle.zb_rules.specs.Own.{IsRun, own_events}
+use Rattle.zb_rules.specs.Publish.{message_under, published_under}
+use Rattle.zb_rules.specs.Deploy.{version_behind, deployed}
+use Rattle.zb_rules.specs.Create.{instance_under}
+use Rattle.zb_rules.specs.Definitions.{definitions, greatest_version, definition_for}
+use Rattle.zb_rules.specs.declared.definition.Definition.{Definition}
 use Rattle.zb_rules.specs.Step.{IsOutcome, IsStep}
 use Rattle.zb_disk.specs.Disk.{DiskView}
 use Rattle.zb_disk.specs.declared.disk.Disk.{Ghosts}
 use Rattle.zb_partition.specs.Partition.{disk_of}
-use Rattle.zb_partition.specs.Stopping.{IsRun}
 use Rattle.zb_partition.specs.declared.partition.Partition.{Partition}
-use Rattle.zb_wire.specs.Reply.{command_of, message_in, answer_to, answer_of, line_of, IsSpoken}
+use Rattle.zb_wire.specs.Reply.{command_of, answer_of, line_of}
+use Rattle.zb_wire.specs.ReplyLaws.{answer_of-deployed, answer_of-created, answer_of-published, answer_of-rejected}
 use Rattle.zb_wire.specs.Request.{request_of}
 use Rattle.zb_wire.specs.declared.request.LineFault.{LineFault}
 use Rattle.zb_wire.specs.declared.request.Request.{Request}
@@ -33,43 +38,47 @@ use Rattle.zbd.proofs.Logs.{has_stored}
 
 -- what a request asks for is run
 pub asked_run : (request : Request) → IsRun (command_of request)
+asked_run (requests.Deploy m) = tt
+asked_run (requests.Create c) = tt
 asked_run (requests.Publish c) = tt
 
--- what a publish led to has a reply
-published_answered : (reason : Option Rejection) (key moment : ℕ) (c : MessagePublish) (outcome : Outcome) → IsOutcome reason (Some (published_under key moment c)) outcome
-    → IsSome (answer_to (commands.MessagePublish c) outcome)
-published_answered (Some rejection) key moment c outcome is = rw is refl
-published_answered None key moment c outcome is =
-    let same : published_under key moment c ≡ is.0 = cc (is.1) in
-    rw (is.2, ← same) refl
+some_answer : (answer : Option Reply) (reply : Reply) → answer ≡ Some reply → IsSome answer
+some_answer answer reply is = rw is refl
 
--- the key of a message that was published is a reply with a line
-published_spoken : (key : Option ℕ) (reply : Reply) → option_map replies.Publish key ≡ Some reply → IsSpoken reply
-published_spoken None reply is = absurd (cc)
-published_spoken (Some key) reply is =
-    let same : replies.Publish key ≡ reply = cc (is) in
-    subst IsSpoken same tt
+-- what a command led to has a reply, if what it led to where it was accepted has one
+by_outcome : (p : ℕ) (before : List Event) (request : Request) (batch : Batch) (reason : Option Rejection) (own : Option (List Event)) → batch.command ≡ command_of request
+    → ((events rest : List Event) → own ≡ Some events → batch.outcome ≡ outcomes.Accepted (events ++ rest) → IsSome (answer_of batch))
+    → IsOutcome p before reason own batch.outcome → IsSome (answer_of batch)
+by_outcome p before request batch (Some rejection) own asked accepted is = some_answer (answer_of batch) (replies.Rejected rejection) (answer_of-rejected request rejection batch asked is)
+by_outcome p before request batch None own asked accepted is = accepted is.events is.rest is.are_own is.accepted
+
+-- events that are known, and then the rest
+known : (batch : Batch) (own events rest : List Event) → Some own ≡ Some events → batch.outcome ≡ outcomes.Accepted (events ++ rest) → batch.outcome ≡ outcomes.Accepted (own ++ rest)
+known batch own events rest is became =
+    let same : events ≡ own = cc (is) in
+    became ∙ ap (λ (es : List Event). outcomes.Accepted (es ++ rest)) same
+
+-- an instance, of the definition that was found
+created_answered : (before : List Event) (key : ℕ) (c : ProcessInstanceCreationCreate) (batch : Batch) (found : Option Definition) (events rest : List Event) → batch.command ≡ commands.ProcessInstanceCreationCreate c
+    → option_map (λ d. instance_under key d.key c) found ≡ Some events → batch.outcome ≡ outcomes.Accepted (events ++ rest) → IsSome (answer_of batch)
+created_answered before key c batch None events rest asked is became = absurd (cc (is))
+created_answered before key c batch (Some d) events rest asked is became =
+    some_answer (answer_of batch) _ (answer_of-created c (record { key = key; definition = d.key }) _ batch asked (known batch (instance_under key d.key c) events rest is became))
 
 -- a batch of a request's command that is a step has a reply
 pub step_answered : (p : ℕ) (log : List Batch) (batch : Batch) (request : Request) → batch.command ≡ command_of request → IsStep p log batch → IsSome (answer_of batch)
-unfolding answer_of
-step_answered p log batch (requests.Publish c) asked step =
-    let Answered : Command → Type 0 = λ command. IsSome (answer_to command batch.outcome) in
-    let Became : Command → Type 0 = λ command. IsOutcome (reason_for (events_of log) command) (own_events p (events_of log) batch.moment command) batch.outcome in
-    let became = subst Became asked step.outcome in
-    subst Answered (sym asked) (published_answered (reason_for (events_of log) (commands.MessagePublish c)) (next_key p (events_of log)) batch.moment c batch.outcome became)
-
-spoken_to : (command : Command) (outcome : Outcome) (reply : Reply) → answer_to command outcome ≡ Some reply → IsSpoken reply
-spoken_to (commands.MessagePublish c) (outcomes.Accepted es) reply is = published_spoken (message_in es) reply is
-spoken_to (commands.MessagePublish c) (outcomes.Rejected r) reply is =
-    let same : replies.Rejected r ≡ reply = cc (is) in
-    subst IsSpoken same tt
-spoken_to _ outcome reply is = absurd (cc)
-
--- what a batch is answered with has a line
-pub spoken_of : (batch : Batch) (reply : Reply) → answer_of batch ≡ Some reply → IsSpoken reply
-unfolding answer_of
-spoken_of batch reply is = spoken_to batch.command batch.outcome reply is
+step_answered p log batch request asked step =
+    let Became : Command → Type 0 = λ command. IsOutcome p (events_of log) (reason_for (events_of log) command) (own_events p (events_of log) batch.moment command) batch.outcome in
+    by_request p (events_of log) batch request asked (subst Became asked step.outcome)
+  where
+    by_request : (p : ℕ) (before : List Event) (batch : Batch) (request : Request) → batch.command ≡ command_of request
+        → IsOutcome p before (reason_for before (command_of request)) (own_events p before batch.moment (command_of request)) batch.outcome → IsSome (answer_of batch)
+    by_request p before batch (requests.Deploy m) asked is = by_outcome p before (requests.Deploy m) batch _ _ asked
+        (λ events rest own became. some_answer (answer_of batch) _ (answer_of-deployed m (record { key = next_key p before; version = version_behind (greatest_version m.process (definitions before)); model = m }) _ batch asked (known batch (deployed p before m) events rest own became))) is
+    by_request p before batch (requests.Create c) asked is = by_outcome p before (requests.Create c) batch _ _ asked
+        (λ events rest own became. created_answered before (next_key p before) c batch (definition_for c.process c.version before) events rest asked own became) is
+    by_request p before batch (requests.Publish c) asked is = by_outcome p before (requests.Publish c) batch _ _ asked
+        (λ events rest own became. some_answer (answer_of batch) _ (answer_of-published c (message_under (next_key p before) batch.moment c) _ batch asked (known batch (published_under (next_key p before) batch.moment c) events rest own became))) is
 
 -- a request is answered by its batch and the reply to it
 pub request_answered : (number : ℕ) (line reply old : List ℕ) (request : Request) (batch : Batch) (answer : Reply) → request_of line ≡ Ok request → batch.command ≡ command_of request

@@ -3,7 +3,8 @@ ghost use Rattle.zb_model.specs.declared.record.Batch.{Batch};
 ghost use Rattle.zb_rules.specs.View.{last_moment};
 ghost use Rattle.zb_rules.specs.Step.{IsStep};
 ghost use Rattle.zb_partition.specs.Partition.{disk_of, in_writing};
-ghost use Rattle.zb_partition.specs.Stopping.{IsRun, IsStopped};
+ghost use Rattle.zb_rules.specs.Own.{IsRun};
+ghost use Rattle.zb_partition.specs.Stopping.{IsStopped};
 ghost use Rattle.zbd.specs.Log.{log_limit};
 ghost use Rattle.zbd.specs.Ledger.{IsMade, IsOpen};
 

@@ -8,6 +8,8 @@ use std::test::Fail;
 use zb_disk::MemDisk;
 use zb_outside::{ListClock, MemSink, MemSource, OpenDoor};
 
+mod processes;
+
 type Ended = Closed<MemSource, MemSink, MemDisk>;
 
 /// The words of a server.
