@@ -2,3 +2,5 @@ pub mod Disk
 pub mod Cause
 pub mod Kept
 pub mod Moments
+pub mod Image
+pub mod MemDisk

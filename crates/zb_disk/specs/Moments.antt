@@ -59,6 +59,11 @@ pub image_push : (before : List ℕ → Type 0) (file : List ℕ) (calls : List 
 image_push before file [] call c image = image
 image_push before file (next ∷ calls) call c image = image_push (Leaves file next before) (after file next) calls call c image
 
+-- and whatever a call leaves of an image is one
+pub left_push : (before : List ℕ → Type 0) (file : List ℕ) (calls : List Call) (call : Call) (c : List ℕ) → Leaves (file_after file calls) call (LeavesAfter file calls before) c → LeavesAfter file (calls ++ call ∷ []) before c
+left_push before file [] call c left = left
+left_push before file (next ∷ calls) call c left = left_push (Leaves file next before) (after file next) calls call c left
+
 -- the laws
 pub counts_now : (file : List ℕ) (calls : List Call) (t : ℕ) (c : List ℕ) → t ≤ length calls → IsImage file calls c → WasImage file calls t c
 counts_now file calls t c le image =

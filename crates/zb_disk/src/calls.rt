@@ -15,6 +15,17 @@ pub enum Call {
     Other,
 }
 
+impl Call {
+    ghost use Rattle.zb_disk.specs.Image.{is_sync};
+
+    /// Whether it is a sync that succeeded.
+    pub fn is_sync(&self) -> bool
+        ensures { result ≡ is_sync self.now }
+    {
+        matches!(self, Call::Synced)
+    }
+}
+
 /// A write of bytes from an offset on.
 #[derive(Drop)]
 pub struct Write {

@@ -6,6 +6,7 @@ mod calls;
 mod disk;
 mod faults;
 mod file;
+mod image;
 mod memory;
 mod sound;
 #[cfg(test)]

@@ -11,6 +11,7 @@ use crate::bytes::{copy_out, overwrite};
 use crate::calls::{Call, CallLog, Write};
 use crate::disk::{Disk, Trouble};
 use crate::faults::count_fault;
+use crate::image::image_of;
 use std::alloc::{AllocError, Global};
 
 /// A file in memory that fails where it is told to. It keeps each call, so it knows what a crash at
@@ -27,6 +28,8 @@ pub struct MemDisk {
 }
 
 impl MemDisk {
+    ghost use Rattle.zb_disk.specs.MemDisk.{IsLeftAt, IsFilledAt, IsLongestAt};
+
     /// A disk with these bytes, all of them on the disk. The calls with these numbers, from 0, will fail.
     pub fn new(alloc: Global, bytes: Vec<u8>, fails: Vec<u64>) -> Result<MemDisk, AllocError>
         requires { vec_len bytes < 2 ^ 58 }
@@ -57,6 +60,20 @@ impl MemDisk {
         ensures { result.now ≡ (⟦<MemDisk as Disk>⟧.view self.now).contents }
     {
         &self.bytes
+    }
+
+    /// The longest of the images of a moment, in which the bytes that writes reached since the sync before
+    /// it are those of the fill, repeated. An empty fill stands for zeros.
+    pub fn image(&self, alloc: Global, moment: u64, fill: &[u8]) -> Result<Vec<u8>, AllocError>
+        requires { moment ≤ (⟦<MemDisk as Disk>⟧.view self.now).moment }
+        ensures left { IfOk result (λ image. IsLeftAt self.now moment image.items) }
+        ensures filled { IfOk result (λ image. IsFilledAt self.now moment fill.now image.items) }
+        ensures longest { IfOk result (λ image. IsLongestAt self.now moment image.items) }
+        ensures since { IfOk result (λ image. ⟦<MemDisk as Disk>⟧.since self.now moment image.items) }
+        ensures now { moment ≡ (⟦<MemDisk as Disk>⟧.view self.now).moment
+            → IfOk result (λ image. ⟦<MemDisk as Disk>⟧.images self.now image.items) }
+    {
+        image_of(alloc, &self.first, &self.log.calls[..moment as usize], fill)
     }
 }
 
