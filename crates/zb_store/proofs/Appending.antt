@@ -6,7 +6,7 @@ use Rattle.std.proofs.lemmas.Bool.{cases_eq}
 use Rattle.std.proofs.lemmas.List.{take_at, drop_at, get_or_at, take-take, drop-take, length-take-le}
 use Rattle.std.proofs.lemmas.Nat.{from_be_bytes-to_be_bytes_8}
 use Rattle.zb_disk.specs.Disk.{overwritten, Torn, Only}
-use Rattle.zb_store.specs.Calls.{LeavesOnly, LeftByWriting}
+use Rattle.zb_store.specs.Calls.{LeftByWriting}
 use Rattle.zb_store.specs.Log.{framed, framed_length}
 use Rattle.zb_store.specs.Stands.{next_gate, IsFrame, Leads, Stands, EndsAt, StandsWithOrWithout, closed_stands}
 use Rattle.zb_store.proofs.Leading.{next_behind}
@@ -214,11 +214,3 @@ left_behind file c bodies body gate n images ends only left =
 pub left_on : (file c body : List ℕ) (bodies : List (List ℕ)) (gate : ℕ) (images : List ℕ → Type 0) → AwaitsGate file bodies body gate → Only file images → LeftByWriting gate 1 images c → StandsWithOrWithout bodies body c
 left_on file c body bodies gate images ready only left =
     gate_torn file c body bodies gate ready (subst (λ (d : List ℕ). Torn gate 1 d c) (only left.0 left.1) left.2)
-
--- and at any moment since the first of them began
-pub since_behind : (before now : ℕ) (past since : ℕ → List ℕ → Type 0) (file c : List ℕ) (bodies : List (List ℕ)) (body : List ℕ) (gate n : ℕ) (images : List ℕ → Type 0) → LeavesOnly before now past since (LeftByWriting (gate + 1) n images) → (past before c → images c) → EndsAt file bodies gate → Only file images → since before c → StandsWithOrWithout bodies body c
-since_behind before now past since file c bodies body gate n images only_writes now_alone ends only was =
-    elim (only_writes.nothing_else before c (omega arith) was) [
-      | inl earlier ↦ inl (ends_standing c bodies gate (subst (λ (l : List ℕ). EndsAt l bodies gate) (sym (only c (now_alone earlier))) ends))
-      | inr left ↦ left_behind file c bodies body gate n images ends only left
-    ]

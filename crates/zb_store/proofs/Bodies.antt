@@ -78,21 +78,12 @@ last_behind at next bodies =
     ap (λ (n : ℕ). slice_index (at ∷ gates) n) place
 
 -- one more, behind the last
-gates_more : (at : ℕ) (bodies : List (List ℕ)) (body : List ℕ) → gates_from at (bodies ++ body ∷ []) ≡ gates_from at bodies ++ (last_of (gates_from at bodies) + 9 + length body) ∷ []
+pub gates_more : (at : ℕ) (bodies : List (List ℕ)) (body : List ℕ) → gates_from at (bodies ++ body ∷ []) ≡ gates_from at bodies ++ (last_of (gates_from at bodies) + 9 + length body) ∷ []
 gates_more at [] body = refl
 gates_more at (first ∷ bodies) body =
     let next = at + 9 + length first in
     ap (λ (l : List ℕ). at ∷ l) (gates_more next bodies body)
     ∙ ap (λ (n : ℕ). at ∷ (gates_from next bodies ++ (n + 9 + length body) ∷ [])) (sym (last_behind at next bodies))
-
--- the gates of a log with one frame more
-pub bodies_more : (file gates : List ℕ) (bodies : List (List ℕ)) (body : List ℕ) (next : ℕ) → gates ≡ gates_from 0 bodies → next ≡ last_of gates + 9 + length body → Leads file 0 (bodies ++ body ∷ []) next → HasBodies file (gates ++ next ∷ []) (bodies ++ body ∷ [])
-bodies_more file gates bodies body next are place leads =
-    let from_last : next ≡ last_of (gates_from 0 bodies) + 9 + length body = omega (arith, place, ap last_of are) in
-    record {
-      places = ap (λ (l : List ℕ). l ++ next ∷ []) are ∙ ap (λ (n : ℕ). gates_from 0 bodies ++ n ∷ []) from_last ∙ sym (gates_more 0 bodies body);
-      leads = subst (λ (n : ℕ). Leads file 0 (bodies ++ body ∷ []) n) (sym (last_push gates next)) leads;
-    }
 
 -- the last one is where the log ends
 pub gates_last : (at : ℕ) (bodies : List (List ℕ)) → last_of (gates_from at bodies) + 1 ≡ at + extent bodies

@@ -1,11 +1,11 @@
 -- What contracts see of an open log.
-use Rattle.std.specs.Prelude.{◌≡◌, ◌+◌, ◌-◌, ℕ, List, length, slice_index, Bool, Result, Ok, Err}
+use Rattle.std.specs.Prelude.{◌≡◌, ◌+◌, ℕ, List, length, take, slice_index, Bool, Result, Ok, Err}
 use Rattle.zb_disk.specs.declared.disk.Disk.{Ghosts}
 use Rattle.zb_store.specs.declared.fault.StoreFault.{StoreFault}
 use Rattle.zb_store.specs.declared.gate_log.GateLog.{GateLog}
-use Rattle.zb_store.specs.Gates.{last_of, HasBodies}
+use Rattle.zb_store.specs.Gates.{gates_from}
 use Rattle.zb_store.specs.Log.{extent}
-use Rattle.zb_store.specs.Stands.{Stands, closed_stands}
+use Rattle.zb_store.specs.Stands.{Leads, Stands, closed_stands}
 
 -- the disk that it lies on
 abbrev pub disk_of : {D : Type 0} {disks : Ghosts D} → GateLog D disks → D
@@ -17,42 +17,53 @@ limit_of log = log.limit
 
 -- how many frames it has
 abbrev pub count_of : {D : Type 0} {disks : Ghosts D} → GateLog D disks → ℕ
-count_of log = length log.gates - 1
+count_of log = log.count
+
+-- the place of its last gate in the file
+abbrev pub last_gate_of : {D : Type 0} {disks : Ghosts D} → GateLog D disks → ℕ
+last_gate_of log = log.last
 
 -- its length up to its last gate, this one included
 abbrev pub length_of : {D : Type 0} {disks : Ghosts D} → GateLog D disks → ℕ
-length_of log = last_of log.gates + 1
+length_of log = last_gate_of log + 1
 
--- the place of a gate in the file, by its number, from 0
+-- the place of a gate in the file by its number, from 0, where the log's index has it
 abbrev pub place_of : {D : Type 0} {disks : Ghosts D} → GateLog D disks → ℕ → ℕ
-place_of log k = slice_index log.gates k
+place_of log k = slice_index log.index k
 
 -- whether no frame runs past the end of the file
 abbrev pub is_whole : {D : Type 0} {disks : Ghosts D} → GateLog D disks → Bool
 is_whole log = log.whole
 
--- the log has frames of these bodies: its gates are those that they lead to in this file
+-- the index has the places of all gates
+pub record IsIndexed {D : Type 0} {disks : Ghosts D} (log : GateLog D disks) : Type 0 where
+  pub all : length log.index ≡ count_of log + 1
+  pub last : place_of log (count_of log) ≡ last_gate_of log
+
+-- the log has frames of these bodies: in this file they lead from the first gate to the last one, and the index has
+-- the places of the first gates
 pub record HasFrames {D : Type 0} {disks : Ghosts D} (file : List ℕ) (log : GateLog D disks) (bodies : List (List ℕ)) : Type 0 where
   pub count : count_of log ≡ length bodies
+  pub leads : Leads file 0 bodies (last_gate_of log)
+  pub index : log.index ≡ take (length log.index) (gates_from 0 bodies)
   pub length : length_of log ≡ extent bodies
-  pub gates : HasBodies file log.gates bodies
 
 -- and its last gate is closed in this file
 pub record HasLog {D : Type 0} {disks : Ghosts D} (file : List ℕ) (log : GateLog D disks) (bodies : List (List ℕ)) : Type 0 where
   pub frames : HasFrames file log bodies
-  pub closed : slice_index file (place_of log (count_of log)) ≡ 0
+  pub closed : slice_index file (last_gate_of log) ≡ 0
 
 -- the file of a log stands for its bodies
 pub log_stands : {D : Type 0} {disks : Ghosts D} (file : List ℕ) (log : GateLog D disks) (bodies : List (List ℕ)) → HasLog file log bodies → Stands file bodies
-log_stands file log bodies has = closed_stands file bodies (last_of log.gates) has.frames.gates.leads has.closed
+log_stands file log bodies has = closed_stands file bodies (last_gate_of log) has.frames.leads has.closed
 
 -- the log is the same but for what its disk did
 pub record IsSameLog {D : Type 0} {disks : Ghosts D} (old new : GateLog D disks) : Type 0 where
   pub limit : limit_of new ≡ limit_of old
   pub count : count_of new ≡ count_of old
-  pub length : length_of new ≡ length_of old
+  pub last_gate : last_gate_of new ≡ last_gate_of old
   pub whole : is_whole new ≡ is_whole old
-  pub gates : new.gates ≡ old.gates
+  pub index : new.index ≡ old.index
 
 -- the disk behind an opening, whether it was refused or not
 abbrev pub disk_after : {D : Type 0} {disks : Ghosts D} → Result (GateLog D disks) (StoreFault × D) → D

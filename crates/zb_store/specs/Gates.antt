@@ -1,5 +1,5 @@
 -- The gates of a log, as places in its file.
-use Rattle.std.specs.Prelude.{◌≡◌, ◌<◌, ◌≤◌, ◌+◌, ◌-◌, ◌^◌, ℕ, List, [], ◌∷◌, length, slice_index, Bool, IsTrue, IsFalse}
+use Rattle.std.specs.Prelude.{◌≡◌, ◌⊎◌, ◌++◌, ◌<◌, ◌≤◌, ◌+◌, ◌-◌, ◌^◌, ℕ, List, [], ◌∷◌, length, slice_index, Bool, IsTrue, IsFalse}
 use Rattle.zb_store.specs.Stands.{Leads, RunsPast, Stands, IsCutAfter}
 
 -- gates of frames: the first stands at 0, each lies behind the body's length of the one before, and all where a disk can have them
@@ -17,6 +17,10 @@ last_of gates = slice_index gates (length gates - 1)
 abbrev pub gates_from : ℕ → List (List ℕ) → List ℕ
 gates_from at [] = at ∷ []
 gates_from at (body ∷ bodies) = at ∷ gates_from (at + 9 + length body) bodies
+
+-- the index of a log with so many frames goes on to the next gate: it stays, or it had all gates and has this one more
+abbrev pub GoesOn : List ℕ → ℕ → ℕ → List ℕ → Type 0
+GoesOn old count next new = (new ≡ old) ⊎ ((length old ≡ count + 1) × (new ≡ old ++ next ∷ []))
 
 -- in the file, the frames of these bodies lead from the first gate to the last
 pub record HasBodies (file gates : List ℕ) (bodies : List (List ℕ)) : Type 0 where

@@ -3,6 +3,7 @@ pub mod Stands
 pub mod Step
 pub mod Cause
 pub mod Calls
+pub mod CallLaws
 pub mod Window
 pub mod Gates
 pub mod GateLog

@@ -2,8 +2,8 @@ ghost use Rattle.std.specs.Prelude.{◌≡◌, ◌⊎◌, ◌<◌, ◌≤◌, �
 ghost use Rattle.zb_disk.specs.Disk.{Only};
 ghost use Rattle.zb_disk.specs.Cause.{Rose};
 ghost use Rattle.zb_store.specs.Cause.{IsCaused, IsFullAt};
-ghost use Rattle.zb_store.specs.Calls.{OnlyReads, OnlyOpens};
-ghost use Rattle.zb_store.specs.Gates.{last_of};
+ghost use Rattle.zb_store.specs.Calls.{LeavesOnly, OnlyReads, OnlyOpens};
+ghost use Rattle.zb_store.specs.Gates.{last_of, GoesOn};
 ghost use Rattle.zb_store.specs.Log.{framed};
 ghost use Rattle.zb_store.specs.Stands.{Stands, IsCutAfter, StandsWithOrWithout};
 
@@ -15,19 +15,26 @@ use std::alloc::Global;
 use zb_disk::Disk;
 
 /// The log in a file of a disk: frames, each behind a gate, up to the first gate that is closed. Of each
-/// frame only the place is kept.
+/// frame only the place is kept, as far as there was memory for the places.
 #[derive(Drop)]
 pub struct GateLog<D: Disk> {
     disk: D,
     limit: u64,
-    gates: Gates,
+    count: u64,
+    // The place of the last gate.
+    last: u64,
+    index: Gates,
     whole: bool,
-    ghost inside: { IsTrue D.tells → last_of gates < length (D.view disk).contents },
+    ghost inside: { IsTrue D.tells → last < length (D.view disk).contents },
     ghost small: { limit ≤ 2 ^ 32 },
+    ghost close: { last < 2 ^ 58 },
+    ghost counted: { count ≤ last },
+    ghost indexed: { length index ≤ count + 1 },
+    ghost behind: { last_of index ≤ last },
 }
 
 impl<D: Disk> GateLog<D> {
-    ghost use Rattle.zb_store.specs.GateLog.{disk_of, limit_of, count_of, length_of, place_of, is_whole, HasFrames, HasLog, IsSameLog, disk_after};
+    ghost use Rattle.zb_store.specs.GateLog.{disk_of, limit_of, count_of, length_of, place_of, is_whole, IsIndexed, HasFrames, HasLog, IsSameLog, disk_after};
 
     /// Opens the log in a file, once all that was written to it is on the disk. It is read in one
     /// pass, in pieces of a fixed size. A file of at most one byte becomes a closed gate; no frame is changed.
@@ -41,6 +48,7 @@ impl<D: Disk> GateLog<D> {
             → (bodies : List (List ℕ)) × IsCutAfter (D.view disk).contents bodies × HasFrames (D.view (disk_of log)).contents log bodies) }
         ensures limit { IfOk result (λ log. limit_of log ≡ limit) }
         ensures first { IfOk result (λ log. place_of log 0 ≡ 0) }
+        ensures indexed { IfOk result IsIndexed }
 
         // No frame is changed: the file goes on to stand for the same bodies, and so does what a crash at any
         // moment since leaves, if all that one before might have left does.
@@ -62,7 +70,9 @@ impl<D: Disk> GateLog<D> {
             Ok(found) => Ok(GateLog {
                 disk,
                 limit,
-                gates: found.gates,
+                count: found.gates.count(),
+                last: found.gates.last(),
+                index: found.gates,
                 whole: found.whole,
             }),
             Err(fault) => Err((fault, disk)),
@@ -73,17 +83,15 @@ impl<D: Disk> GateLog<D> {
     pub fn count(&self) -> u64
         ensures { result ≡ count_of self.now }
     {
-        self.gates.count()
+        self.count
     }
 
     /// Its length in bytes up to the last gate, this one included.
     pub fn length(&self) -> u64
         ensures length { result ≡ length_of self.now }
-        ensures place { result ≡ place_of self.now (count_of self.now) + 1 }
-        ensures some { 1 ≤ result }
         ensures small { result ≤ 2 ^ 58 }
     {
-        self.gates.last() + 1
+        self.last + 1
     }
 
     /// How many bytes it may have.
@@ -100,7 +108,8 @@ impl<D: Disk> GateLog<D> {
         self.whole
     }
 
-    /// Reads the body of the frame with this number, from 0. After an `Err` any bytes may be in `body`.
+    /// Reads the body of the frame with this number, from 0. `Memory` is also told where there was no memory
+    /// for the place of the frame. After an `Err` any bytes may be in `body`.
     pub fn frame(&mut self, i: u64, body: &mut Vec<u8>) -> Result<(), StoreFault>
         requires { i < count_of self.old }
         ensures body { IsTrue D.tells → (bodies : List (List ℕ)) → HasFrames (D.view (disk_of self.old)).contents self.old bodies
@@ -114,13 +123,17 @@ impl<D: Disk> GateLog<D> {
         ensures reads { OnlyReads D.tells D.tells_images D.view D.images D.since (disk_of self.old) (disk_of self.new) }
         ensures cause { IfErr result (IsCaused (D.view (disk_of self.old)).faults (D.view (disk_of self.new)).faults) }
     {
-        let (start, end) = self.gates.body_range(i);
+        if i >= self.index.count() {
+            return Err(StoreFault::Memory);
+        }
+        let (start, end) = self.index.body_range(i);
         body.resize((end - start) as usize, 0)?;
         Ok(self.disk.read_at(start, body.as_mut_slice())?)
     }
 
     /// Adds a frame: the length of a body in eight bytes, the body and a closed gate. That is one write
-    /// behind the closed gate at the end, a sync, 1 on that gate, and a sync. It makes no copy of the bytes.
+    /// behind the closed gate at the end, a sync, 1 on that gate, and a sync. It makes no copy of the bytes, and
+    /// wants no memory where the disk takes none.
     pub fn append(&mut self, frame: &[u8]) -> Result<(), StoreFault>
         requires form { (body : List ℕ) × (frame.now ≡ framed body) }
         requires whole { IsTrue (is_whole self.old) }
@@ -130,7 +143,6 @@ impl<D: Disk> GateLog<D> {
             → OnOk result (HasLog (D.view (disk_of self.new)).contents self.new (bodies ++ body ∷ [])) }
         ensures count { OnOk result (count_of self.new ≡ count_of self.old + 1) }
         ensures length { OnOk result (length_of self.new ≡ length_of self.old + length frame.now) }
-        ensures places { OnOk result ((k : ℕ) → k ≤ count_of self.old → place_of self.new k ≡ place_of self.old k) }
         ensures fits { OnOk result (length_of self.old + length frame.now ≤ limit_of self.old) }
         ensures limit { limit_of self.new ≡ limit_of self.old }
         ensures whole { IsTrue (is_whole self.new) }
@@ -140,6 +152,11 @@ impl<D: Disk> GateLog<D> {
         ensures left { IsTrue D.tells → (bodies : List (List ℕ)) (body : List ℕ)
             → HasLog (D.view (disk_of self.old)).contents self.old bodies → frame.now ≡ framed body
             → StandsWithOrWithout bodies body (D.view (disk_of self.new)).contents }
+        ensures time { IsTrue D.tells_images → (bodies : List (List ℕ)) (body : List ℕ)
+            → HasLog (D.view (disk_of self.old)).contents self.old bodies
+            → Only (D.view (disk_of self.old)).contents (D.images (disk_of self.old)) → frame.now ≡ framed body
+            → LeavesOnly (D.view (disk_of self.old)).moment (D.view (disk_of self.new)).moment
+            (D.since (disk_of self.old)) (D.since (disk_of self.new)) (StandsWithOrWithout bodies body) }
         ensures since { IsTrue D.tells_images → (bodies : List (List ℕ)) (body : List ℕ)
             → HasLog (D.view (disk_of self.old)).contents self.old bodies
             → Only (D.view (disk_of self.old)).contents (D.images (disk_of self.old)) → frame.now ≡ framed body
@@ -150,7 +167,7 @@ impl<D: Disk> GateLog<D> {
             → (c : List ℕ) → D.images (disk_of self.new) c → StandsWithOrWithout bodies body c }
         ensures durable { IsTrue D.tells_images → OnOk result (Only (D.view (disk_of self.new)).contents (D.images (disk_of self.new))) }
 
-        // Why it is refused. A full log leaves the disk alone, and so does want of memory where the disk takes none.
+        // Why it is refused. A full log leaves the disk alone.
         ensures over { limit_of self.old < length_of self.old + length frame.now
             → result ≡ Err (StoreFault.LogFull (length_of self.old) (length frame.now) (limit_of self.old)) }
         ensures full { IfErr result (IsFullAt (length_of self.old) (length frame.now) (limit_of self.old)) }
@@ -158,9 +175,9 @@ impl<D: Disk> GateLog<D> {
         ensures later { (D.view (disk_of self.old)).faults ≤ (D.view (disk_of self.new)).faults }
         ensures failed { IsErrOf result StoreFault.DiskFault
             → Rose (D.view (disk_of self.old)).faults (D.view (disk_of self.new)).faults }
-        ensures memory { IsErrOf result StoreFault.Memory → IsTrue D.takes_memory ⊎ (disk_of self.new ≡ disk_of self.old) }
+        ensures memory { IsErrOf result StoreFault.Memory → IsTrue D.takes_memory }
     {
-        let gate = self.gates.last();
+        let gate = self.last;
         let size = frame.len() as u64;
         if gate + 1 + size > self.limit {
             return Err(StoreFault::LogFull {
@@ -169,13 +186,12 @@ impl<D: Disk> GateLog<D> {
                 limit: self.limit,
             });
         }
-        self.gates.push(gate + size)?;
         match write_frame(&mut self.disk, gate, frame) {
-            Ok(()) => Ok(()),
-            Err(trouble) => {
-                self.gates.pop();
-                Err(StoreFault::from(trouble))
+            Ok(()) => {
+                self.go_on(gate + size);
+                Ok(())
             }
+            Err(trouble) => Err(StoreFault::from(trouble)),
         }
     }
 
@@ -186,9 +202,30 @@ impl<D: Disk> GateLog<D> {
         let GateLog {
             disk,
             limit: _,
-            gates: _,
+            count: _,
+            last: _,
+            index: _,
             whole: _,
         } = self;
         disk
+    }
+
+    // Goes on to the gate behind one frame more. Where there is no memory for its place, the index stays behind.
+    fn go_on(&mut self, next: u64)
+        requires apart { self.old.last + 9 ≤ next }
+        requires small { next < 2 ^ 58 }
+        requires inside { IsTrue D.tells → next < length (D.view self.old.disk).contents }
+        ensures disk { self.new.disk ≡ self.old.disk }
+        ensures limit { self.new.limit ≡ self.old.limit }
+        ensures count { self.new.count ≡ self.old.count + 1 }
+        ensures last { self.new.last ≡ next }
+        ensures whole { self.new.whole ≡ self.old.whole }
+        ensures index { GoesOn self.old.index self.old.count self.new.last self.new.index }
+    {
+        if self.index.count() == self.count {
+            let _ = self.index.push(next);
+        }
+        self.count += 1;
+        self.last = next;
     }
 }

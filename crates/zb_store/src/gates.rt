@@ -1,4 +1,4 @@
-// Where the gates of an open log are.
+// Where the first gates of an open log are.
 ghost use Rattle.std.specs.Prelude.{◌≡◌, ◌<◌, ◌≤◌, ◌+◌, ◌-◌, ◌^◌, ℕ, List, [], ◌∷◌, ◌++◌, length, slice_index, IfOk, OnOk, OnErr};
 ghost use Rattle.zb_store.specs.Gates.{AreGates, last_of};
 
@@ -8,7 +8,8 @@ use std::marker::Model;
 /// How many bytes lie before a body: its gate, and eight that tell its length.
 pub const HEAD_BYTES: u64 = 9;
 
-/// The places of the gates of a log in its file, ascending: one before each frame and one behind the last.
+/// The places of the first gates of a log in its file, ascending: one before each frame and one behind the last
+/// of them.
 #[derive(Drop)]
 pub struct Gates {
     places: Vec<u64>,
@@ -32,9 +33,10 @@ impl Gates {
         Ok(Gates { places })
     }
 
-    /// How many frames there are: one fewer than gates.
+    /// How many frames lie between them: one fewer than gates.
     pub fn count(&self) -> u64
-        ensures { result + 1 ≡ length self.now }
+        ensures count { result + 1 ≡ length self.now }
+        ensures few { result ≤ last_of self.now }
     {
         self.places.len() as u64 - 1
     }
@@ -57,14 +59,6 @@ impl Gates {
     {
         self.places.push(next)?;
         Ok(())
-    }
-
-    /// Takes the last gate away again.
-    pub fn pop(&mut self)
-        requires { 1 < length self.old }
-        ensures { (gates : List ℕ) (next : ℕ) → self.old ≡ gates ++ next ∷ [] → self.new ≡ gates }
-    {
-        let _ = self.places.pop();
     }
 
     /// Where the body of a frame begins, and the gate behind it.

@@ -10,6 +10,7 @@ mod reading;
 mod step;
 #[cfg(test)]
 mod tests;
+mod volume;
 mod window;
 mod writing;
 
@@ -17,3 +18,4 @@ pub use fault::StoreFault;
 pub use framing::framed;
 pub use gate_log::GateLog;
 pub use reading::one_reading;
+pub use volume::Volume;

@@ -302,3 +302,65 @@ fn a_frame_of_forty_bytes(rt: HostRuntime) -> Result<(), Fail> {
     assert_eq!(rt; frame.len(), 49);
     Ok(())
 }
+
+/// Wants the image of a moment, with this byte in place of what wasn't on the disk yet, to be a whole log of so
+/// many frames.
+fn expect_image(
+    rt: &impl Abort,
+    alloc: Global,
+    disk: &MemDisk,
+    moment: u64,
+    fill: u8,
+    count: u64,
+) -> Result<(), Fail> {
+    assert!(rt; moment <= disk.moment());
+    let image = disk.image(alloc, moment, &[fill])?;
+    assert!(rt; image.len() < 1_000);
+    let log = opened(alloc, MemDisk::new(alloc, image, Vec::new(alloc))?)?;
+    assert!(rt; log.whole(), "at moment {moment}, filled with {fill}");
+    assert_eq!(rt;
+        log.count(),
+        count,
+        "at moment {moment}, filled with {fill}"
+    );
+    Ok(())
+}
+
+/// The disk of a new log to which these frames were added, and then one more.
+fn disk_of_additions(rt: &impl Abort, alloc: Global, bodies: &[&[u8]]) -> Result<MemDisk, Fail> {
+    let disk = MemDisk::new(alloc, Vec::new(alloc), Vec::new(alloc))?;
+    let mut log = opened(alloc, disk)?;
+    add_all(rt, alloc, &mut log, bodies)?;
+    add_all(rt, alloc, &mut log, &[&[5, 0, 5]])?;
+    Ok(log.into_disk())
+}
+
+#[test]
+fn a_crash_while_a_frame_is_added(rt: HostRuntime) -> Result<(), Fail> {
+    let alloc = rt.alloc();
+    // How many of the four calls weren't made yet, the fill, and how many frames more there are.
+    let table = [
+        (3, 0, 0),
+        (3, 1, 0),
+        (3, 255, 0),
+        (2, 0, 0),
+        (2, 1, 0),
+        (2, 255, 0),
+        (1, 0, 0),
+        (1, 1, 1),
+        (1, 255, 1),
+        (0, 0, 1),
+        (0, 1, 1),
+        (0, 255, 1),
+    ];
+    let logs: [&[&[u8]]; 2] = [&[], &[&[7, 8], &[9]]];
+    for bodies in logs {
+        let disk = disk_of_additions(&rt, alloc, bodies)?;
+        let end = disk.moment();
+        for (left, fill, more) in table {
+            let count = (bodies.len() as u64).saturating_add(more);
+            expect_image(&rt, alloc, &disk, end.saturating_sub(left), fill, count)?;
+        }
+    }
+    Ok(())
+}

@@ -30,9 +30,9 @@ pub fn write_frame<D: Disk>(disk: &mut D, gate: u64, frame: &[u8]) -> Result<(),
     ensures crash { IsTrue D.tells_images → (bodies : List (List ℕ)) (body : List ℕ)
         → EndsAt (D.view disk.old).contents bodies gate → Only (D.view disk.old).contents (D.images disk.old) → frame.now ≡ framed body
         → (c : List ℕ) → D.images disk.new c → StandsWithOrWithout bodies body c }
-    ensures since { IsTrue D.tells_images → (bodies : List (List ℕ)) (body : List ℕ)
+    ensures time { IsTrue D.tells_images → (bodies : List (List ℕ)) (body : List ℕ)
         → EndsAt (D.view disk.old).contents bodies gate → Only (D.view disk.old).contents (D.images disk.old) → frame.now ≡ framed body
-        → (c : List ℕ) → D.since disk.new (D.view disk.old).moment c → StandsWithOrWithout bodies body c }
+        → LeavesOnly (D.view disk.old).moment (D.view disk.new).moment (D.since disk.old) (D.since disk.new) (StandsWithOrWithout bodies body) }
 
     ensures cause { HasCause D.takes_memory (D.view disk.old).faults (D.view disk.new).faults result }
 {

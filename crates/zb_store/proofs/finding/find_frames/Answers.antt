@@ -1,7 +1,7 @@
 use Rattle.std.proofs.Common.{sym, ◌∙◌, ap, arith}
 use Rattle.zb_store.specs.Gates.{last_of}
 use Rattle.zb_store.proofs.Bodies.{last_push, step_push, step_on}
-use Rattle.zb_store.proofs.ReadingCalls.{reads_then}
+use Rattle.zb_store.specs.CallLaws.{reads_then}
 use Rattle.zb_store.proofs.finding.find_frames.Goals as goal
 
 pub loop-gates-preserved : goal.loop-gates-preserved
@@ -19,7 +19,7 @@ loop-gates-preserved g c =
       at = sym (ap last_of pushed ∙ last_push gates next);
       inside = omega (arith, on.1, c.loop-gates.invariant.end);
       end = c.step.ensures.end ∙ c.loop-gates.invariant.end;
-      reads = reads_then disks.tells disks.tells_images disks.view disks.images disks.since first before c.step.new.disk reads c.step.ensures.reads;
+      reads = reads_then disks first before c.step.new.disk reads c.step.ensures.reads;
       window = λ told. c.in_ok-step.ensures.bytes told;
       bodies = λ told.
           step_push file (disks.view before).contents gates c.push.new.self c.loop-gates.at next c.in_ok-step.field-0 (reads.same told)

@@ -1,6 +1,7 @@
 use Rattle.std.proofs.Common.{length, inl, inr}
 use Rattle.std.proofs.lemmas.Result.{on_ok_weaker}
-use Rattle.zb_store.proofs.Appending.{awaits, ends_standing, ends_kept, gate_torn, gate_opened, left_behind, left_on, since_behind}
+use Rattle.zb_store.specs.CallLaws.{leaves_weaker, leaves_then}
+use Rattle.zb_store.proofs.Appending.{awaits, ends_standing, ends_kept, gate_torn, gate_opened, left_behind, left_on}
 use Rattle.zb_store.proofs.writing.write_frame.Goals as goal
 
 pub returns-in_err-write_through-clause-left : goal.returns-in_err-write_through-clause-left
@@ -16,13 +17,14 @@ returns-in_err-write_through-clause-crash g c = λ told bodies body ends only fo
     let old = c.args.disk.now in
     left_behind (disks.view old).contents image bodies body c.args.gate (length c.args.frame.now) (disks.images old) ends only (c.write_through.ensures.crash told image left)
 
-pub returns-in_err-write_through-clause-since : goal.returns-in_err-write_through-clause-since
-returns-in_err-write_through-clause-since g c = λ told bodies body ends only form image was.
+pub returns-in_err-write_through-clause-time : goal.returns-in_err-write_through-clause-time
+returns-in_err-write_through-clause-time g c = λ told bodies body ends only form.
     let disks = g.D.Disk in
     let old = c.args.disk.now in
     let new = c.write_through.new.disk in
-    since_behind (disks.view old).moment (disks.view new).moment (disks.since old) (disks.since new) (disks.view old).contents image bodies body c.args.gate (length c.args.frame.now) (disks.images old)
-    (c.write_through.ensures.time told) (g.met.D.Disk.only_now old image told) ends only was
+    leaves_weaker (disks.view old).moment (disks.view new).moment (disks.since old) (disks.since new) _ _
+    (λ image left. left_behind (disks.view old).contents image bodies body c.args.gate (length c.args.frame.now) (disks.images old) ends only left)
+    (c.write_through.ensures.time told)
 
 pub returns-clause-written : goal.returns-clause-written
 returns-clause-written g c = λ told bodies body ends form.
@@ -56,20 +58,21 @@ returns-clause-crash g c = λ tells bodies body ends only form image left.
     let ready = awaits file mid frame body bodies c.args.gate ends form c.requires.fits (c.in_ok-write_through.ensures.written told) (c.write_through.ensures.torn told) in
     left_on mid image body bodies c.args.gate (g.D.Disk.images c.write_through.new.disk) ready (c.in_ok-write_through.ensures.durable tells) (c.write_through-2.ensures.crash tells image left)
 
-pub returns-clause-since : goal.returns-clause-since
-returns-clause-since g c = λ tells bodies body ends only form image was.
+pub returns-clause-time : goal.returns-clause-time
+returns-clause-time g c = λ tells bodies body ends only form.
     let disks = g.D.Disk in
     let told = g.met.D.Disk.images_told tells in
     let old = c.args.disk.now in
     let between = c.write_through.new.disk in
+    let new = c.write_through-2.new.disk in
     let file = (disks.view old).contents in
     let mid = (disks.view between).contents in
     let frame = c.args.frame.now in
     let ready = awaits file mid frame body bodies c.args.gate ends form c.requires.fits (c.in_ok-write_through.ensures.written told) (c.write_through.ensures.torn told) in
-    let first = c.write_through.ensures.time tells in
-    elim ((c.write_through-2.ensures.time tells).nothing_else (disks.view old).moment image first.later was) [
-      | inl earlier ↦
-          since_behind (disks.view old).moment (disks.view between).moment (disks.since old) (disks.since between) file image bodies body c.args.gate (length frame) (disks.images old)
-          first (g.met.D.Disk.only_now old image tells) ends only earlier
-      | inr left ↦ left_on mid image body bodies c.args.gate (disks.images between) ready (c.in_ok-write_through.ensures.durable tells) left
-    ]
+    leaves_weaker (disks.view old).moment (disks.view new).moment (disks.since old) (disks.since new) _ _
+    (λ image left. elim left [
+      | inl behind ↦ left_behind file image bodies body c.args.gate (length frame) (disks.images old) ends only behind
+      | inr on ↦ left_on mid image body bodies c.args.gate (disks.images between) ready (c.in_ok-write_through.ensures.durable tells) on
+    ])
+    (leaves_then (disks.view old).moment (disks.view between).moment (disks.view new).moment (disks.since old) (disks.since between) (disks.since new) _ _
+    (c.write_through.ensures.time tells) (c.write_through-2.ensures.time tells))

@@ -1,9 +1,9 @@
-use Rattle.std.proofs.Common.{◌≡◌, ◌+◌, ℕ, List, [], ◌∷◌, length, refl, ◌∙◌, ap, arith}
-use Rattle.std.specs.Prelude.{slice_index}
-use Rattle.std.proofs.lemmas.List.{length_push, get_or_append_left}
+use Rattle.std.proofs.Common.{◌≡◌, ◌+◌, ◌++◌, ◌∷◌, [], ℕ, length, refl, sym, ap, subst, arith}
+use Rattle.zb_store.specs.GateLog.{last_gate_of, HasLog}
+use Rattle.zb_store.specs.Stands.{EndsAt}
 use Rattle.zb_store.specs.Log.{framed, framed_length}
-use Rattle.zb_store.specs.Gates.{last_of}
-use Rattle.zb_store.proofs.Frames.{ends_at, stands_still, log_more}
+use Rattle.zb_store.specs.CallLaws.{leaves_none}
+use Rattle.zb_store.proofs.Frames.{ends_at, stands_still, stood_since, log_more}
 use Rattle.zb_store.proofs.gate_log.GateLog.append.Goals as goal
 
 pub returns-then-gate-size-clause-left : goal.returns-then-gate-size-clause-left
@@ -17,47 +17,45 @@ returns-then-gate-size-clause-crash g c = λ tells bodies body has only form ima
     let log = c.args.self.now in
     stands_still (g.D.Disk.view log.disk).contents log bodies body has image (only image left)
 
+pub returns-then-gate-size-clause-time : goal.returns-then-gate-size-clause-time
+returns-then-gate-size-clause-time g c = λ tells bodies body has only form.
+    let disk = c.args.self.now.disk in
+    leaves_none (g.D.Disk.view disk).moment (g.D.Disk.since disk) _
+
+pub go_on-requires-clause-apart : goal.go_on-requires-clause-apart
+go_on-requires-clause-apart g c = omega (arith, ap length c.requires.form.1, framed_length c.requires.form.0)
+
+pub returns-in-Ok-clause-appended : goal.returns-in-Ok-clause-appended
+returns-in-Ok-clause-appended g c = λ told bodies body has form.
+    let disks = g.D.Disk in
+    let log = c.args.self.now in
+    let new = c.go_on.new.self in
+    let was = (disks.view log.disk).contents in
+    let file = (disks.view c.write_frame.new.disk).contents in
+    let ends = c.in-Ok.ensures.written told bodies body (ends_at was log bodies has (log.inside told)) form in
+    let last : last_gate_of new ≡ last_gate_of log + length (framed body) = omega (arith, c.go_on.ensures.last, ap length form) in
+    let ends_there = subst (λ (n : ℕ). EndsAt file (bodies ++ body ∷ []) n) (sym c.go_on.ensures.last) ends in
+    let more = log_more file was log new bodies body has.frames log.indexed c.go_on.ensures.index c.go_on.ensures.count last ends_there in
+    subst (λ d. HasLog (disks.view d).contents new (bodies ++ body ∷ [])) (sym c.go_on.ensures.disk) more
+
 pub returns-then-gate-size-clause-since : goal.returns-then-gate-size-clause-since
 returns-then-gate-size-clause-since g c = λ tells bodies body has only form image was.
     let log = c.args.self.now in
     stands_still (g.D.Disk.view log.disk).contents log bodies body has image (only image (g.met.D.Disk.only_now log.disk image tells was))
 
-pub push-requires-clause-apart : goal.push-requires-clause-apart
-push-requires-clause-apart g c = omega (arith, c.last-gate.ensures.last, ap length c.requires.form.1, framed_length c.requires.form.0)
-
-pub returns-in_err-push-clause-left : goal.returns-in_err-push-clause-left
-returns-in_err-push-clause-left g c = λ told bodies body has form.
+pub returns-in-Ok-clause-since : goal.returns-in-Ok-clause-since
+returns-in-Ok-clause-since g c = λ tells bodies body has only form image was.
+    let disks = g.D.Disk in
     let log = c.args.self.now in
-    let file = (g.D.Disk.view log.disk).contents in
-    stands_still file log bodies body has file refl
+    let new = c.write_frame.new.disk in
+    let ends = ends_at (disks.view log.disk).contents log bodies has (log.inside (g.met.D.Disk.images_told tells)) in
+    stood_since log bodies body (disks.view new).moment (disks.since new) has only (λ e then. g.met.D.Disk.only_now log.disk e tells then) (c.write_frame.ensures.time tells bodies body ends only form)
+    image (subst (λ d. disks.since d (disks.view log.disk).moment image) c.go_on.ensures.disk was)
 
-pub returns-in_err-push-clause-crash : goal.returns-in_err-push-clause-crash
-returns-in_err-push-clause-crash g c = λ tells bodies body has only form image left.
+pub returns-in-Err-clause-since : goal.returns-in-Err-clause-since
+returns-in-Err-clause-since g c = λ tells bodies body has only form image was.
+    let disks = g.D.Disk in
     let log = c.args.self.now in
-    stands_still (g.D.Disk.view log.disk).contents log bodies body has image (only image left)
-
-pub returns-in_err-push-clause-since : goal.returns-in_err-push-clause-since
-returns-in_err-push-clause-since g c = λ tells bodies body has only form image was.
-    let log = c.args.self.now in
-    stands_still (g.D.Disk.view log.disk).contents log bodies body has image (only image (g.met.D.Disk.only_now log.disk image tells was))
-
-pub pop-requires : goal.pop-requires
-pop-requires g c = omega (arith, ap length c.in_ok-push.ensures.ok, length_push c.args.self.now.gates (c.last-gate.result + length c.args.frame.now), c.last-gate.ensures.some)
-
-pub returns-in-Ok-clause-appended : goal.returns-in-Ok-clause-appended
-returns-in-Ok-clause-appended g c = λ told bodies body has form.
-    let log = c.args.self.now in
-    let file = (g.D.Disk.view log.disk).contents in
-    let gate = c.last-gate.result in
-    let ends = c.in-Ok.ensures.written told bodies body (ends_at file log bodies gate c.last-gate.ensures.last has (log.inside told)) form in
-    let place : gate + length c.args.frame.now ≡ last_of log.gates + length (framed body) = omega (arith, c.last-gate.ensures.last, ap length form) in
-    log_more (g.D.Disk.view c.write_frame.new.disk).contents log.gates _ bodies body (gate + length c.args.frame.now) has.frames.gates.places c.in_ok-push.ensures.ok place ends
-
-pub returns-in-Ok-clause-count : goal.returns-in-Ok-clause-count
-returns-in-Ok-clause-count g c = omega (arith, ap length c.in_ok-push.ensures.ok, length_push c.args.self.now.gates (c.last-gate.result + length c.args.frame.now), c.last-gate.ensures.some)
-
-pub returns-in-Ok-clause-places : goal.returns-in-Ok-clause-places
-returns-in-Ok-clause-places g c = λ k le.
-    let gates = c.args.self.now.gates in
-    let next = c.last-gate.result + length c.args.frame.now in
-    ap (λ (l : List ℕ). slice_index l k) c.in_ok-push.ensures.ok ∙ get_or_append_left gates (next ∷ []) 0 k (omega (arith, le, c.last-gate.ensures.some))
+    let new = c.write_frame.new.disk in
+    let ends = ends_at (disks.view log.disk).contents log bodies has (log.inside (g.met.D.Disk.images_told tells)) in
+    stood_since log bodies body (disks.view new).moment (disks.since new) has only (λ e then. g.met.D.Disk.only_now log.disk e tells then) (c.write_frame.ensures.time tells bodies body ends only form) image was

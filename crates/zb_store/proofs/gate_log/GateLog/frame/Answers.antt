@@ -11,7 +11,7 @@ read_at-requires g c = λ told.
 pub returns-clause-body : goal.returns-clause-body
 returns-clause-body g c = λ told bodies has.
     let file = (g.D.Disk.view c.args.self.now.disk).contents in
-    let gates = c.args.self.now.gates in
+    let index = c.args.self.now.index in
     let start = c.body_range-start.result.0 in
     let end = c.body_range-start.result.1 in
     let items = c.resize.new.self.items in
@@ -22,5 +22,5 @@ returns-clause-body g c = λ told bodies has.
     let whole : length items ≡ c.resize.new.self.len = search rules in
     let same : length piece ≡ c.resize.new.self.len = search rules in
     let all : take c.resize.new.self.len (piece ++ drop (length piece) items) ≡ piece = written_over piece items c.resize.new.self.len same whole in
-    body_between file gates bodies c.args.i start end has.gates (omega (arith, c.requires)) c.body_range-start.ensures.start c.body_range-start.ensures.end
+    body_between file index bodies c.args.self.now.last c.args.i start end has.leads has.index (omega (arith, c.requires, has.count)) (omega (arith, c.count.ensures.count)) c.body_range-start.ensures.start c.body_range-start.ensures.end
     ∙ ap (λ (l : List ℕ). Some l) (sym read ∙ sym all)

@@ -6,12 +6,12 @@ pub returns-in-Ok-clause-whole : goal.returns-in-Ok-clause-whole
 returns-in-Ok-clause-whole g c = λ told whole.
     let opened = c.in-Ok.ensures.opened told in
     let from = opened.standing whole in
-    (from.0, from.1, has_log (g.D.Disk.view c.find.new.disk).contents _ from.0 from.2 (opened.closed whole))
+    (from.0, from.1, has_log (g.D.Disk.view c.find.new.disk).contents _ from.0 from.2 c.count.ensures.count c.last.ensures.last (opened.closed whole))
 
 pub returns-in-Ok-clause-cut : goal.returns-in-Ok-clause-cut
 returns-in-Ok-clause-cut g c = λ told cut.
     let from = (c.in-Ok.ensures.opened told).cut cut in
-    (from.0, from.1, has_frames (g.D.Disk.view c.find.new.disk).contents _ from.0 from.2)
+    (from.0, from.1, has_frames (g.D.Disk.view c.find.new.disk).contents _ from.0 from.2 c.count.ensures.count c.last.ensures.last)
 
 pub returns-in-Ok-clause-frames : goal.returns-in-Ok-clause-frames
 returns-in-Ok-clause-frames g c = λ told bodies.

@@ -1,0 +1,88 @@
+-- Laws of calls of a disk, one after another.
+use Rattle.std.proofs.Common.{◌≡◌, ◌⊎◌, inl, inr, ℕ, List, length, ◌∙◌, ap, refl, arith}
+use Rattle.zb_disk.specs.declared.disk.Disk.{Ghosts}
+use Rattle.zb_store.specs.Calls.{LeavesOnly, OnlyReads, OnlyOpens}
+
+-- no call leaves anything more
+pub leaves_none : (now : ℕ) (since : ℕ → List ℕ → Type 0) (P : List ℕ → Type 0) → LeavesOnly now now since since P
+leaves_none now since P = record { later = omega arith; nothing_else = λ t c le was. inl was }
+
+-- one call after another leaves what either of them leaves
+pub leaves_then : (before between now : ℕ) (past mid since : ℕ → List ℕ → Type 0) (P Q : List ℕ → Type 0) → LeavesOnly before between past mid P → LeavesOnly between now mid since Q → LeavesOnly before now past since (λ c. P c ⊎ Q c)
+leaves_then before between now past mid since P Q first second = record {
+  later = omega (arith, first.later, second.later);
+  nothing_else = λ t c le was. elim (second.nothing_else t c (omega (arith, first.later, le)) was) [
+    | inr left ↦ inr (inr left)
+    | inl earlier ↦ elim (first.nothing_else t c le earlier) [
+      | inl long_ago ↦ inl long_ago
+      | inr left ↦ inr (inl left)
+    ]
+  ];
+}
+
+-- what is left has whatever follows from P
+pub leaves_weaker : (before now : ℕ) (past since : ℕ → List ℕ → Type 0) (P Q : List ℕ → Type 0) → ((c : List ℕ) → P c → Q c) → LeavesOnly before now past since P → LeavesOnly before now past since Q
+leaves_weaker before now past since P Q so leaves = record {
+  later = leaves.later;
+  nothing_else = λ t c le was. elim (leaves.nothing_else t c le was) [
+    | inl earlier ↦ inl earlier
+    | inr left ↦ inr (so c left)
+  ];
+}
+
+-- a crash since the calls began leaves what one before them might have left, or what they leave
+pub leaves_since : (before now : ℕ) (past since : ℕ → List ℕ → Type 0) (P : List ℕ → Type 0) → LeavesOnly before now past since P → (c : List ℕ) → since before c → past before c ⊎ P c
+leaves_since before now past since P leaves c was = leaves.nothing_else before c (omega arith) was
+
+module _ {D : Type 0} (disks : Ghosts D) where
+  -- a disk, and what it became: a crash since leaves a file that has P
+  abbrev pub Leaves : D → D → (List ℕ → Type 0) → Type 0
+  Leaves old new P = LeavesOnly (disks.view old).moment (disks.view new).moment (disks.since old) (disks.since new) P
+
+  -- a disk, and what it became by reading alone
+  abbrev pub Reads : D → D → Type 0
+  Reads old new = OnlyReads disks.tells disks.tells_images disks.view disks.images disks.since old new
+
+  -- a disk, and what it became by an opening
+  abbrev pub Opens : D → D → Type 0
+  Opens old new = OnlyOpens disks.tells disks.tells_images disks.view disks.images disks.since old new
+
+  -- a disk that is as it was leaves nothing more
+  pub leaves_same : (old new : D) (P : List ℕ → Type 0) → new ≡ old → Leaves old new P
+  leaves_same old new P same = rw same (leaves_none (disks.view old).moment (disks.since old) P)
+
+  -- no call reads
+  pub reads_none : (disk : D) → Reads disk disk
+  reads_none disk = record {
+    later = omega arith;
+    same = λ told. refl;
+    crash = λ told c image. image;
+    time = λ told. leaves_none (disks.view disk).moment (disks.since disk) (disks.images disk);
+  }
+
+  -- what reading leaves after other calls that leave no more than P, P is left of it all
+  leaves_read : (old mid new : D) (P : List ℕ → Type 0) → ((c : List ℕ) → disks.images mid c → P c) → Leaves old mid P → Leaves mid new (disks.images mid) → Leaves old new P
+  leaves_read old mid new P within first second =
+      let was = disks.since old in
+      let is = disks.since new in
+      leaves_weaker (disks.view old).moment (disks.view new).moment was is (λ c. P c ⊎ disks.images mid c) P (λ c left. elim left [ inl first_left ↦ first_left | inr image ↦ within c image ])
+      (leaves_then (disks.view old).moment (disks.view mid).moment (disks.view new).moment was (disks.since mid) is P (disks.images mid) first second)
+
+  -- reading, and then more of it
+  pub reads_then : (old mid new : D) → Reads old mid → Reads mid new → Reads old new
+  reads_then old mid new first second = record {
+    later = omega (arith, first.later, second.later);
+    same = λ told. second.same told ∙ first.same told;
+    crash = λ told c image. first.crash told c (second.crash told c image);
+    time = λ told. leaves_read old mid new (disks.images old) (first.crash told) (first.time told) (second.time told);
+  }
+
+  -- an opening, and then reading
+  pub opens_then : (old mid new : D) → Opens old mid → Reads mid new → Opens old new
+  opens_then old mid new first second = record {
+    later = omega (arith, first.later, second.later);
+    same = λ told long. second.same told ∙ first.same told long;
+    short = λ told few. omega (arith, ap length (second.same told), first.short told few);
+    crash = λ told c image. first.crash told c (second.crash told c image);
+    time = λ told. leaves_read old mid new _ (first.crash told) (first.time told) (second.time told);
+  }
