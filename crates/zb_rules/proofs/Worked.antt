@@ -6,6 +6,7 @@ use Rattle.zb_process.specs.declared.model.Node.{Node}
 use Rattle.zb_process.specs.declared.model.NodeKind.{NodeKind}
 use Rattle.zb_process.specs.declared.model.NodeKind.TheVariants as kinds
 use Rattle.zb_instance_records.specs.declared.instance.Role.TheVariants as roles
+use Rattle.zb_model.specs.declared.record.Command.TheVariants as commands
 use Rattle.zb_model.specs.declared.record.Event.{Event}
 use Rattle.zb_model.specs.declared.record.Event.TheVariants as events
 use Rattle.zb_model.specs.declared.record.RejectionKind.TheVariants as kinds_of
@@ -13,6 +14,8 @@ use Rattle.zb_rules.specs.Settling.{turn}
 use Rattle.zb_rules.specs.Deploy.{deployed}
 use Rattle.zb_rules.specs.Applies.{applies}
 use Rattle.zb_rules.specs.Create.{created, reason_to_create}
+use Rattle.zb_rules.specs.Expire.{no_message, not_due, reason_to_expire}
+use Rattle.zb_rules.specs.Due.{due_command}
 use Rattle.zb_rules.specs.Faults.{first_fault, fault_text}
 use Rattle.zb_rules.specs.declared.fault.Fault.TheVariants as faults
 
@@ -89,6 +92,28 @@ no_start_text = refl
 -- a process that isn't there
 unknown : reason_to_create [] (record { process = codes "q"; version = 0; variables = [] }) ≡ Some (record { kind = kinds_of.NotFound; reason = codes "no process q" })
 unknown = refl
+
+-- messages that wait until their deadlines
+abbrev message : ℕ → ℕ → Event
+message key deadline = events.MessagePublished (record { key = key; name = codes "paid"; correlation_key = codes "o-1"; id = []; deadline = deadline; variables = [] })
+
+unknown_message : reason_to_expire (message 7 1000 ∷ []) 1000 8 ≡ Some (record { kind = kinds_of.NotFound; reason = no_message 8 })
+unknown_message = refl
+
+too_early : reason_to_expire (message 7 1000 ∷ []) 999 7 ≡ Some (record { kind = kinds_of.InvalidState; reason = not_due 7 })
+too_early = refl
+
+in_time : reason_to_expire (message 7 1000 ∷ []) 1000 7 ≡ None
+in_time = refl
+
+earlier_deadline_first : due_command 2000 (message 1 2000 ∷ message 2 1000 ∷ []) ≡ Some (commands.MessageExpire 2)
+earlier_deadline_first = refl
+
+lesser_key_first : due_command 1000 (message 2 1000 ∷ message 1 1000 ∷ []) ≡ Some (commands.MessageExpire 1)
+lesser_key_first = refl
+
+none_due : due_command 999 (message 1 2000 ∷ message 2 1000 ∷ []) ≡ None
+none_due = refl
 
 -- every event of the play applies to those before it
 all_apply : List Event → List Event → Bool

@@ -26,6 +26,9 @@ pub mod Definitions
 pub mod Faults
 pub mod Deploy
 pub mod Create
+pub mod Expire
+pub mod Due
 pub mod ForcedLaws
 pub mod GameLaws
 pub mod GrowthLaws
+pub mod DueLaws

@@ -1,10 +1,11 @@
 -- The messages of a log: queries over all its events.
-use Rattle.std.specs.Prelude.{ℕ, List, [], ◌∷◌, ◌++◌, Bool, false, ◌==◌, if◌then◌else◌, Option, Some, None}
+use Rattle.std.specs.Prelude.{ℕ, List, [], ◌∷◌, ◌++◌, Bool, false, ◌==◌, nat_le, if◌then◌else◌, Option, Some, None}
 use Rattle.std.specs.Option.{option_map_or}
 use Rattle.std.specs.List.{list_any}
 use Rattle.zb_exchange_records.specs.declared.message.MessagePublished.{MessagePublished}
 use Rattle.zb_model.specs.declared.record.Event.{Event}
 use Rattle.zb_model.specs.declared.record.Event.TheVariants as events
+use Rattle.zb_rules.specs.Edits.{first}
 
 -- the message that an event publishes
 abbrev pub message_told : Event → Option MessagePublished
@@ -33,3 +34,11 @@ buffered (e ∷ after) = unexpired (message_told e) after ++ buffered after
 -- the message with this key is buffered
 abbrev pub is_buffered : ℕ → List Event → Bool
 is_buffered key events = list_any (λ m. m.key == key) (buffered events)
+
+-- the first buffered message with this key
+abbrev pub message_at : ℕ → List Event → Option MessagePublished
+message_at key events = first (λ m. m.key == key) (buffered events)
+
+-- the deadline of a message has come
+abbrev pub is_due : ℕ → MessagePublished → Bool
+is_due now m = nat_le m.deadline now

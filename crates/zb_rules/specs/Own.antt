@@ -7,12 +7,14 @@ use Rattle.zb_rules.specs.View.{next_key}
 use Rattle.zb_rules.specs.Publish.{published_under}
 use Rattle.zb_rules.specs.Deploy.{deployed}
 use Rattle.zb_rules.specs.Create.{created}
+use Rattle.zb_rules.specs.Expire.{expired}
 
 -- a command that is run so far
 abbrev pub IsRun : Command → Type 0
 IsRun (commands.DeploymentCreate m) = Unit {0}
 IsRun (commands.ProcessInstanceCreationCreate c) = Unit {0}
 IsRun (commands.MessagePublish c) = Unit {0}
+IsRun (commands.MessageExpire key) = Unit {0}
 IsRun _ = ⊥
 
 -- the events that a command makes of those before it, at a moment of partition p; None of a command that isn't run
@@ -20,4 +22,5 @@ abbrev pub own_events : ℕ → List Event → ℕ → Command → Option (List 
 own_events p before moment (commands.DeploymentCreate m) = Some (deployed p before m)
 own_events p before moment (commands.ProcessInstanceCreationCreate c) = created p before c
 own_events p before moment (commands.MessagePublish c) = Some (published_under (next_key p before) moment c)
+own_events p before moment (commands.MessageExpire key) = Some (expired key)
 own_events p before moment _ = None

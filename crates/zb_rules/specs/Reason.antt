@@ -1,5 +1,5 @@
 -- Why a command is rejected. Each command's own rule stands in a module of its name.
-use Rattle.std.specs.Prelude.{List, Option, None}
+use Rattle.std.specs.Prelude.{ℕ, List, Option, None}
 use Rattle.zb_model.specs.declared.record.Command.{Command}
 use Rattle.zb_model.specs.declared.record.Command.TheVariants as commands
 use Rattle.zb_model.specs.declared.record.Event.{Event}
@@ -7,10 +7,12 @@ use Rattle.zb_model.specs.declared.record.Rejection.{Rejection}
 use Rattle.zb_rules.specs.Publish.{reason_to_publish}
 use Rattle.zb_rules.specs.Deploy.{reason_to_deploy}
 use Rattle.zb_rules.specs.Create.{reason_to_create}
+use Rattle.zb_rules.specs.Expire.{reason_to_expire}
 
--- the rejection of a command by the events before it, if there is a reason for one
-abbrev pub reason_for : List Event → Command → Option Rejection
-reason_for before (commands.DeploymentCreate m) = reason_to_deploy m
-reason_for before (commands.ProcessInstanceCreationCreate c) = reason_to_create before c
-reason_for before (commands.MessagePublish c) = reason_to_publish before c
-reason_for before _ = None
+-- the rejection of a command by the events before it and the moment, if there is a reason for one
+abbrev pub reason_for : List Event → ℕ → Command → Option Rejection
+reason_for before moment (commands.DeploymentCreate m) = reason_to_deploy m
+reason_for before moment (commands.ProcessInstanceCreationCreate c) = reason_to_create before c
+reason_for before moment (commands.MessagePublish c) = reason_to_publish before c
+reason_for before moment (commands.MessageExpire key) = reason_to_expire before moment key
+reason_for before moment _ = None

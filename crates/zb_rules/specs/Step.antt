@@ -31,8 +31,12 @@ pub record IsStep (p : ℕ) (log : List Batch) (batch : Batch) : Type 0 where
   -- time doesn't go back
   pub in_time : last_moment log ≤ batch.moment
   -- the command is rejected exactly where there is a reason; else it is run, and its batch settles
-  pub outcome : IsOutcome p (events_of log) (reason_for (events_of log) batch.command) (own_events p (events_of log) batch.moment batch.command) batch.outcome
+  pub outcome : IsOutcome p (events_of log) (reason_for (events_of log) batch.moment batch.command) (own_events p (events_of log) batch.moment batch.command) batch.outcome
+
+-- each of these batches has this relation to the log and those before it
+abbrev pub EachOn : (List Batch → Batch → Type 0) → List Batch → List Batch → Type 0
+EachOn R log more = (k : ℕ) (batch : Batch) → slice_get more k ≡ Some batch → R (log ++ take k more) batch
 
 -- each of these batches is a step on the log and those before it
 abbrev pub AreStepsOn : ℕ → List Batch → List Batch → Type 0
-AreStepsOn p log more = (k : ℕ) (batch : Batch) → slice_get more k ≡ Some batch → IsStep p (log ++ take k more) batch
+AreStepsOn p = EachOn (IsStep p)

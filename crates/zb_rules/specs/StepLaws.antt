@@ -8,7 +8,7 @@ use Rattle.std.proofs.Math.Seq.{take-append_seam, get_or-append_seam}
 use Rattle.zb_model.specs.declared.record.Event.{Event}
 use Rattle.zb_model.specs.declared.record.Batch.{Batch}
 use Rattle.zb_rules.specs.View.{events_in, events_of, keys_in, greatest_among, greatest_counter, last_moment}
-use Rattle.zb_rules.specs.Step.{IsStep, AreStepsOn}
+use Rattle.zb_rules.specs.Step.{IsStep, EachOn, AreStepsOn}
 use Rattle.zb_rules.specs.Applies.{applies, all_apply}
 
 -- the events of a log that grew are those before, and then the batch's
@@ -32,16 +32,15 @@ last_moment_more [] batch = refl
 last_moment_more (first ∷ []) batch = refl
 last_moment_more (first ∷ next ∷ log) batch = last_moment_more (next ∷ log) batch
 
--- no batches are steps
-pub are_steps_none : (p : ℕ) (log : List Batch) → AreStepsOn p log []
-are_steps_none p log k batch h = cc
+-- each of no batches
+pub each_on_none : (R : List Batch → Batch → Type 0) (log : List Batch) → EachOn R log []
+each_on_none R log k batch h = cc
 
--- steps, and a step on them
-pub are_steps_more : (p : ℕ) (log more : List Batch) (batch : Batch) → AreStepsOn p log more → IsStep p (log ++ more) batch → AreStepsOn p log (more ++ batch ∷ [])
-are_steps_more p log more batch before step k b h =
+-- each of some batches, and one on them
+pub each_on_more : (R : List Batch → Batch → Type 0) (log more : List Batch) (batch : Batch) → EachOn R log more → R (log ++ more) batch → EachOn R log (more ++ batch ∷ [])
+each_on_more R log more batch before is k b h =
     let within = slice_get_within (more ++ batch ∷ []) k b h in
     let here : get_or (more ++ batch ∷ []) k b ≡ b = get_or_from_slice_get (more ++ batch ∷ []) k b b h in
-    let Is : List Batch → Batch → Type 0 = λ l x. IsStep p l x in
     elim (cases_lt k (length more)) [
       | inl lt ↦
           let at : slice_get more k ≡ Some b = slice_get-get_or more k b lt ∙ ap Some (sym (get_or_append_left more (batch ∷ []) b k lt) ∙ here) in
@@ -50,8 +49,16 @@ are_steps_more p log more batch before step k b h =
           let end : k ≡ length more = omega (arith, length-append more (batch ∷ []), within) in
           let last : get_or (more ++ batch ∷ []) (length more) b ≡ batch = get_or-append_seam more batch [] b in
           let same : batch ≡ b = cc in
-          rw (end, take-append_seam more (batch ∷ [])) (subst (Is (log ++ more)) same step)
+          rw (end, take-append_seam more (batch ∷ [])) (subst (R (log ++ more)) same is)
     ]
+
+-- no batches are steps
+pub are_steps_none : (p : ℕ) (log : List Batch) → AreStepsOn p log []
+are_steps_none p log = each_on_none (IsStep p) log
+
+-- steps, and a step on them
+pub are_steps_more : (p : ℕ) (log more : List Batch) (batch : Batch) → AreStepsOn p log more → IsStep p (log ++ more) batch → AreStepsOn p log (more ++ batch ∷ [])
+are_steps_more p log more batch = each_on_more (IsStep p) log more batch
 
 -- each of some events applies, and one behind them
 pub all_apply_more : (p : ℕ) (before es : List Event) (e : Event) → all_apply p before (es ++ e ∷ []) ≡ (all_apply p before es && applies p (before ++ es) e)

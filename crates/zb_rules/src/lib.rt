@@ -11,6 +11,6 @@ pub use board::{Assigned, Cell, Deployed, Enter, Leave, Move, Phase, Spot, Start
 pub use definition::Definition;
 pub use fault::Fault;
 pub use laws::{
-    buffered_grows, doomed_cells_rest, forced_moves_are_legal, legal_moves_are_played,
-    quiet_games_rest, taken_flows_make_one_token,
+    buffered_grows, doomed_cells_rest, due_commands_come_first, due_commands_have_no_reason,
+    forced_moves_are_legal, legal_moves_are_played, quiet_games_rest, taken_flows_make_one_token,
 };
