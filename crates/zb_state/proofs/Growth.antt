@@ -15,7 +15,7 @@ use Rattle.zb_rules.specs.Create.{instance_told}
 use Rattle.zb_rules.specs.Shown.{shown, after_shown}
 use Rattle.zb_rules.specs.StepLaws.{greatest_counter_more}
 use Rattle.zb_rules.proofs.Counters.{counter_at-key_of}
-use Rattle.zb_state.specs.Messages.{are_between, with_event, IsNext, HasNextKey}
+use Rattle.zb_state.specs.Messages.{are_between, Ascend, with_event, IsNext, HasNextKey}
 use Rattle.zb_state.specs.State.{IsStateOf}
 use Rattle.zb_state.specs.declared.state.State.{State}
 use Rattle.zb_state.proofs.Order.{between_higher, between_more, between_without}
@@ -30,6 +30,10 @@ pub messages_more : (es : List Event) (e : Event) → buffered (es ++ e ∷ []) 
 messages_more es (events.MessagePublished m) = buffered_published es m
 messages_more es (events.MessageExpired key) = buffered_expired es key
 messages_more es e = buffered_kept es e refl refl
+
+-- they stand in the order of their keys
+pub ascending : (es : List Event) (state : State) → IsStateOf es state → Ascend (buffered es)
+ascending es state is = (key_of state.place (state.counter + 1), rw is.messages state.in_order)
 
 -- their order, below the next key of a counter that isn't lower
 pub order_kept : (p n n' : ℕ) (messages : List MessagePublished) → n ≤ n' → IsTrue (are_between 0 (key_of p (n + 1)) messages) → IsTrue (are_between 0 (key_of p (n' + 1)) messages)

@@ -1,2 +1,3 @@
 pub mod Order
 pub mod Growth
+pub mod Scans

@@ -1,17 +1,21 @@
 -- Messages in the order of their keys.
-use Rattle.std.proofs.Common.{◌≡◌, ℕ, zero, suc, ◌+◌, ◌<◌, ◌≤◌, ◌==◌, not, List, [], ◌∷◌, ◌++◌, remove, slice_get, Option, Some, None, IfSome, IfNone, is_some, Bool, true, false, IsTrue, IsFalse, if◌then◌else◌, refl, ap, sym, ◌∙◌, subst, arith}
+use Rattle.std.proofs.Common.{◌≡◌, ℕ, zero, suc, ◌+◌, ◌<◌, ◌≤◌, ◌==◌, nat_le, not, List, [], ◌∷◌, ◌++◌, remove, slice_get, Option, Some, None, IfSome, IfNone, is_some, option_map, Bool, ◌&&◌, ◌||◌, true, false, IsTrue, IsFalse, if◌then◌else◌, refl, ap, sym, ◌∙◌, subst, arith}
 use Rattle.std.specs.List.{list_any}
+use Rattle.std.specs.Option.{option_map_or}
 use Rattle.std.proofs.lemmas.Bool.Decides.{nat_tests}
 use Rattle.zb_exchange_records.specs.declared.message.MessagePublished.{MessagePublished}
+use Rattle.zb_rules.specs.Edits.{first}
+use Rattle.zb_rules.specs.Messages.{is_due}
 use Rattle.zb_rules.specs.MessageLaws.{without}
+use Rattle.zb_game.proofs.Firsts.{any_first}
 use Rattle.zb_state.specs.Messages.{are_between, Ascend, HasKey}
 
 -- the keys ascend, as a fact
-abbrev Between : ℕ → ℕ → List MessagePublished → Type 0
+abbrev pub Between : ℕ → ℕ → List MessagePublished → Type 0
 Between low high [] = low ≤ high
 Between low high (m ∷ ms) = (low ≤ m.key) × Between (m.key + 1) high ms
 
-between_of : (low high : ℕ) (ms : List MessagePublished) → IsTrue (are_between low high ms) → Between low high ms
+pub between_of : (low high : ℕ) (ms : List MessagePublished) → IsTrue (are_between low high ms) → Between low high ms
 between_of low high [] b = grind (arith, nat_tests)
 between_of low high (x ∷ ms) b =
     let here : low ≤ x.key = grind (arith, nat_tests) in
@@ -89,6 +93,62 @@ any_at (x ∷ ms) (suc i) m at = let later = any_at ms i m at in grind (arith, n
 pub any_or_none : (key : ℕ) (ms : List MessagePublished) (found : Option ℕ) → IfSome found (HasKey key ms) → IfNone found (IsFalse (list_any (λ m. m.key == key) ms)) → is_some found ≡ list_any (λ m. m.key == key) ms
 any_or_none key ms None has none = sym none
 any_or_none key ms (Some i) has none = sym (subst (λ (k : ℕ). list_any (λ m. m.key == k) ms ≡ true) has.2 (any_at ms i has.0 has.1))
+
+-- the first with a key of theirs is the one that has it
+first_at : (low high : ℕ) (ms : List MessagePublished) (i : ℕ) (m : MessagePublished) → Between low high ms → slice_get ms i ≡ Some m → first (λ x. x.key == m.key) ms ≡ Some m
+first_at low high [] i m b at = absurd (cc)
+first_at low high (x ∷ ms) zero m b at =
+    let same : x ≡ m = cc in
+    let key : x.key ≡ m.key = ap (λ (y : MessagePublished). y.key) same in
+    let test : (x.key == m.key) ≡ true = grind (arith, nat_tests) in
+    rw test (ap (λ (y : MessagePublished). Some y) same)
+first_at low high (x ∷ ms) (suc i) m b at =
+    let later = one_at (x.key + 1) high ms i m b.1 at in
+    let test : (x.key == m.key) ≡ false = grind (arith, nat_tests, later.0) in
+    rw test (first_at (x.key + 1) high ms i m b.1 at)
+
+pub first_has : (key place : ℕ) (ms : List MessagePublished) → Ascend ms → (has : HasKey key ms place) → first (λ m. m.key == key) ms ≡ Some has.0
+first_has key place ms up has = subst (λ (k : ℕ). first (λ m. m.key == k) ms ≡ Some has.0) has.2 (first_at 0 up.0 ms place has.0 (between_of 0 up.0 ms up.1) has.1)
+
+no_first : (found : Option MessagePublished) → is_some found ≡ false → found ≡ None
+no_first None none = refl
+no_first (Some m) none = absurd (cc)
+
+pub first_none : (key : ℕ) (ms : List MessagePublished) → list_any (λ m. m.key == key) ms ≡ false → first (λ m. m.key == key) ms ≡ None
+first_none key ms none = no_first (first (λ m. m.key == key) ms) (sym (any_first (λ (m : MessagePublished). m.key == key) ms) ∙ none)
+
+-- one has the key where there is a first one
+has_deadline : (found : Option MessagePublished) → is_some (option_map (λ m. m.deadline) found) ≡ is_some found
+has_deadline None = refl
+has_deadline (Some m) = refl
+
+pub has_by_deadline : (key : ℕ) (ms : List MessagePublished) → is_some (option_map (λ m. m.deadline) (first (λ m. m.key == key) ms)) ≡ list_any (λ m. m.key == key) ms
+has_by_deadline key ms = has_deadline (first (λ m. m.key == key) ms) ∙ sym (any_first (λ (m : MessagePublished). m.key == key) ms)
+
+-- one with the key is due where the first with it is
+none_lower : (moment key low high : ℕ) (ms : List MessagePublished) → Between low high ms → key < low → list_any (λ m. (m.key == key) && is_due moment m) ms ≡ false
+none_lower moment key low high [] b below = refl
+none_lower moment key low high (x ∷ ms) b below =
+    let other : (x.key == key) ≡ false = grind (arith, nat_tests) in
+    rw other (none_lower moment key (x.key + 1) high ms b.1 (omega (arith, b.0, below)))
+
+due_by_key : (moment key low high : ℕ) (ms : List MessagePublished) → Between low high ms
+    → list_any (λ m. (m.key == key) && is_due moment m) ms ≡ option_map_or (is_due moment) (first (λ m. m.key == key) ms) false
+due_by_key moment key low high [] b = refl
+due_by_key moment key low high (x ∷ ms) b = by_test (x.key == key) refl (due_by_key moment key (x.key + 1) high ms b.1)
+  where
+    by_test : (t : Bool) → (x.key == key) ≡ t → list_any (λ m. (m.key == key) && is_due moment m) ms ≡ option_map_or (is_due moment) (first (λ m. m.key == key) ms) false
+        → ((t && is_due moment x) || list_any (λ m. (m.key == key) && is_due moment m) ms) ≡ option_map_or (is_due moment) (if t then Some x else first (λ m. m.key == key) ms) false
+    by_test true same later = let none = none_lower moment key (x.key + 1) high ms b.1 (grind (arith, nat_tests)) in rw none (grind arith)
+    by_test false other later = later
+
+deadline_passed : (moment : ℕ) (found : Option MessagePublished) → option_map_or (λ deadline. nat_le deadline moment) (option_map (λ m. m.deadline) found) false ≡ option_map_or (is_due moment) found false
+deadline_passed moment None = refl
+deadline_passed moment (Some m) = refl
+
+pub due_by_deadline : (moment key : ℕ) (ms : List MessagePublished) → Ascend ms
+    → option_map_or (λ deadline. nat_le deadline moment) (option_map (λ m. m.deadline) (first (λ m. m.key == key) ms)) false ≡ list_any (λ m. (m.key == key) && is_due moment m) ms
+due_by_deadline moment key ms up = deadline_passed moment (first (λ m. m.key == key) ms) ∙ sym (due_by_key moment key 0 up.0 ms (between_of 0 up.0 ms up.1))
 
 -- none of them has it
 pub without_none : (key : ℕ) (ms : List MessagePublished) → list_any (λ m. m.key == key) ms ≡ false → without key ms ≡ ms

@@ -1,12 +1,16 @@
 // The buffered messages, in a list.
-ghost use Rattle.std.specs.Prelude.{◌≡◌, ◌==◌, ◌++◌, ◌∷◌, [], slice_get, Some, IfSome, IfNone, IsFalse, OnOk, OnErr};
+ghost use Rattle.std.specs.Prelude.{◌≡◌, ◌==◌, nat_lt, ◌++◌, ◌∷◌, [], slice_get, filter, Some, IfSome, IfNone, IsFalse, OnOk, OnErr, option_map, if◌then◌else◌};
 ghost use Rattle.std.specs.List.{list_any};
+ghost use Rattle.std.specs.Option.{option_map_or};
+ghost use Rattle.zb_rules.specs.Edits.{first};
 ghost use Rattle.zb_rules.specs.Publish.{is_same};
+ghost use Rattle.zb_rules.specs.Messages.{is_due};
+ghost use Rattle.zb_rules.specs.Due.{earliest, place_in_time};
 ghost use Rattle.zb_rules.specs.MessageLaws.{without};
 ghost use Rattle.zb_state.specs.Messages.{Ascend, HasKey, with_event};
 
 use std::alloc::{AllocError, Global};
-use zb_model::{Event, Key, MessagePublish, MessagePublished, TryCopy};
+use zb_model::{Event, Key, MessagePublish, MessagePublished, Moment, TryCopy};
 
 /// Whether the message has the name, the correlation key and the id that are to be published.
 pub fn is_same(command: &MessagePublish, message: &MessagePublished) -> bool
@@ -48,6 +52,48 @@ pub fn has_key(key: Key, messages: &[MessagePublished]) -> bool
     ensures { result ≡ list_any (λ m. m.key == key) messages.now }
 {
     place_of(key, messages).is_some()
+}
+
+/// The deadline of the message with this key. They stand in the order of their keys; the last ones are looked
+/// at first.
+pub fn deadline_of(key: Key, messages: &[MessagePublished]) -> Option<Moment>
+    requires { Ascend messages.now }
+    ensures { result ≡ option_map (λ m. m.deadline) (first (λ m. m.key == key) messages.now) }
+{
+    match place_of(key, messages) {
+        Some(place) => Some(messages[place].deadline),
+        None => None,
+    }
+}
+
+/// The key of the message that is due first: of those whose deadline has come the one with the earliest
+/// deadline, and of those with the same one the one with the least key. It goes once through all messages,
+/// which stand in the order of their keys.
+pub fn due(now: Moment, messages: &[MessagePublished]) -> Option<Key>
+    requires { Ascend messages.now }
+    ensures { result ≡ option_map (λ m. m.key) (earliest place_in_time (filter (is_due now) messages.now)) }
+{
+    let mut first = None;
+    for place in (0..messages.len()).rev() {
+        let message = &messages[place];
+        if message.deadline <= now {
+            first = Some(earlier_of(message, first));
+        }
+    }
+    match first {
+        Some((_, key)) => Some(key),
+        None => None,
+    }
+}
+
+// The deadline and the key of the message, or those found behind it where that deadline is earlier.
+fn earlier_of(message: &MessagePublished, found: Option<(Moment, Key)>) -> (Moment, Key)
+    ensures { result ≡ option_map_or (λ other. if nat_lt other.0 message.now.deadline then other else place_in_time message.now) found (place_in_time message.now) }
+{
+    match found {
+        Some(other) if other.0 < message.deadline => other,
+        _ => (message.deadline, message.key),
+    }
 }
 
 /// What the event makes of the messages, which stand in the order of their keys. After a refusal nothing has

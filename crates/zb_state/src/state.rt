@@ -1,11 +1,13 @@
-ghost use Rattle.std.specs.Prelude.{◌≡◌, ◌==◌, ◌&&◌, ◌<◌, ◌+◌, ◌^◌, max, false, List, [], ◌∷◌, ◌++◌, IsTrue, IsFalse, IsErrOf, IfOk, OnOk, Some, option_map};
+ghost use Rattle.std.specs.Prelude.{◌≡◌, ◌==◌, nat_le, ◌&&◌, ◌<◌, ◌+◌, ◌^◌, max, false, ℕ, List, [], ◌∷◌, ◌++◌, IsTrue, IsFalse, IsErrOf, IfOk, OnOk, Some, is_some, option_map};
 ghost use Rattle.std.specs.List.{list_any};
 ghost use Rattle.std.specs.Option.{option_map_or};
 ghost use Rattle.zb_base.specs.Key.{key_of};
 ghost use Rattle.zb_model.specs.declared.record.Event.{Event};
 ghost use Rattle.zb_rules.specs.View.{next_key, greatest_among, keys_in};
-ghost use Rattle.zb_rules.specs.Messages.{buffered};
+ghost use Rattle.zb_rules.specs.Messages.{buffered, is_buffered, message_at};
 ghost use Rattle.zb_rules.specs.Publish.{is_same};
+ghost use Rattle.zb_rules.specs.Expire.{is_due_at};
+ghost use Rattle.zb_rules.specs.Due.{due_message};
 ghost use Rattle.zb_rules.specs.Applies.{applies, holds_own, is_fresh, has_definition, begins_well, begins_instance, begins_cell, is_definition_of};
 ghost use Rattle.zb_rules.specs.Create.{instance_told};
 ghost use Rattle.zb_rules.specs.Definitions.{definition_told, definitions, definition_for, greatest_version};
@@ -22,7 +24,7 @@ use std::alloc::{AllocError, Global};
 use zb_check::{ModelFault, check};
 use zb_game::Game;
 use zb_model::{
-    ElementActivating, Event, Key, MessagePublish, MessagePublished, Model as ProcessModel,
+    ElementActivating, Event, Key, MessagePublish, MessagePublished, Model as ProcessModel, Moment,
     PartitionId, ProcessInstanceCreationCreated, Role, TableFault, TryCopy,
 };
 use zb_rules::Definition;
@@ -95,6 +97,24 @@ impl State {
         ensures { (es : List Event) → IsStateOf es self.now → result ≡ list_any (is_same command.now) (buffered es) }
     {
         any_same(command, &self.messages)
+    }
+
+    /// The deadline of the buffered message with this key, if there is one. The last ones are looked at first.
+    pub fn deadline_of(&self, key: Key) -> Option<Moment>
+        ensures deadline { (es : List Event) → IsStateOf es self.now → result ≡ option_map (λ m. m.deadline) (message_at key es) }
+        ensures buffered { (es : List Event) → IsStateOf es self.now → is_some result ≡ is_buffered key es }
+        ensures due { (es : List Event) (moment : ℕ) → IsStateOf es self.now → option_map_or (λ deadline. nat_le deadline moment) result false ≡ is_due_at moment key es }
+    {
+        messages::deadline_of(key, &self.messages)
+    }
+
+    /// The key of the buffered message that is due first, if one is due now: the one with the earliest deadline,
+    /// and of those with the same one the one with the least key. It goes once through the buffered messages,
+    /// which stand in the order of their keys.
+    pub fn due(&self, now: Moment) -> Option<Key>
+        ensures { (es : List Event) → IsStateOf es self.now → result ≡ option_map (λ m. m.key) (due_message now es) }
+    {
+        messages::due(now, &self.messages)
     }
 
     /// The key of the definition that is asked for: version 0 is the latest one. It goes through all
