@@ -4,7 +4,7 @@ ghost use Rattle.zb_rules.specs.Own.{IsRun, own_events};
 ghost use Rattle.zb_rules.specs.Applies.{all_apply};
 ghost use Rattle.zb_state.specs.State.{place_of, IsStateOf};
 
-use crate::{create, deploy, publish};
+use crate::{create, deploy, expire, publish};
 use std::alloc::{AllocError, Global};
 use zb_model::{Command, Moment};
 use zb_state::{Out, State};
@@ -31,6 +31,7 @@ pub fn emit(
             alloc, state, instance, out,
         ),
         Command::MessagePublish(message) => publish::emit(alloc, state, moment, message, out),
+        Command::MessageExpire(key) => expire::emit(alloc, state, *key, out),
         _ => unreachable!(),
     }
 }

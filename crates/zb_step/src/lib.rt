@@ -5,6 +5,7 @@ mod adding;
 mod create;
 mod deploy;
 mod emitting;
+mod expire;
 mod outcome;
 mod publish;
 mod reasons;

@@ -23,11 +23,11 @@ pub fn outcome_of(
 ) -> Result<Outcome, AllocError>
     requires { IsRun command.now }
     ensures outcome { (es : List Event) → IsStateOf es state.old
-        → IfOk result (IsOutcome (place_of state.old) es (reason_for es command.now) (own_events (place_of state.old) es moment command.now)) }
+        → IfOk result (IsOutcome (place_of state.old) es (reason_for es moment command.now) (own_events (place_of state.old) es moment command.now)) }
     ensures state { (es : List Event) → IsStateOf es state.old → IfOk result (λ outcome. IsStateOf (es ++ events_in outcome) state.new) }
     ensures place { place_of state.new ≡ place_of state.old }
 {
-    match reason(alloc, state, command)? {
+    match reason(alloc, state, moment, command)? {
         Some(rejection) => Ok(Outcome::Rejected(rejection)),
         None => run(alloc, state, moment, command),
     }

@@ -3,24 +3,26 @@ ghost use Rattle.zb_model.specs.declared.record.Event.{Event};
 ghost use Rattle.zb_rules.specs.Reason.{reason_for};
 ghost use Rattle.zb_state.specs.State.{IsStateOf};
 
-use crate::{create, deploy, publish};
+use crate::{create, deploy, expire, publish};
 use std::alloc::{AllocError, Global};
-use zb_model::{Command, Rejection};
+use zb_model::{Command, Moment, Rejection};
 use zb_state::State;
 
-/// Why a command is rejected, if there is a reason. A model costs its check, an instance a walk over the
-/// definitions, and a message with an id one over those that are buffered.
+/// Why a command is rejected at this moment, if there is a reason. A model costs its check, an instance a walk
+/// over the definitions, and an expiry or a message with an id one over those that are buffered.
 pub fn reason(
     alloc: Global,
     state: &State,
+    moment: Moment,
     command: &Command,
 ) -> Result<Option<Rejection>, AllocError>
-    ensures { (es : List Event) → IsStateOf es state.now → IfOk result (λ rejection. rejection ≡ reason_for es command.now) }
+    ensures { (es : List Event) → IsStateOf es state.now → IfOk result (λ rejection. rejection ≡ reason_for es moment command.now) }
 {
     match command {
         Command::DeploymentCreate(model) => deploy::reason(alloc, model),
         Command::ProcessInstanceCreationCreate(instance) => create::reason(alloc, state, instance),
         Command::MessagePublish(message) => publish::reason(alloc, state, message),
+        Command::MessageExpire(key) => expire::reason(alloc, state, moment, *key),
         _ => Ok(None),
     }
 }

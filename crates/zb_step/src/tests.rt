@@ -2,7 +2,7 @@ use crate::outcome_of;
 use std::alloc::{AllocError, Global};
 use std::test::Fail;
 use zb_model::{
-    Command, Event, Flow, List, MessagePublish, Model, Moment, Node, NodeKind, Outcome,
+    Command, Event, Flow, Key, List, MessagePublish, Model, Moment, Node, NodeKind, Outcome,
     PartitionId, ProcessInstanceCreationCreate, Text, Value, Vars,
 };
 use zb_state::State;
@@ -123,12 +123,22 @@ fn publish(
     )
 }
 
+/// Lets a message expire, so many milliseconds after the others were asked for.
+fn expire(alloc: Global, state: &mut State, key: u64, later: u64) -> Result<String, AllocError> {
+    let command = Command::MessageExpire(Key::new(key));
+    summary(
+        alloc,
+        &outcome_of(alloc, state, Moment::new(NOW).plus(later), &command)?,
+    )
+}
+
 /// What a command of the table asks for.
 #[derive(Clone, Copy)]
 enum Asked {
     Deploy(NodeKind),
     Create(&'static str, u32),
     Publish(&'static str, u64),
+    Expire(u64, u64),
 }
 
 fn answer(alloc: Global, state: &mut State, asked: Asked) -> Result<String, AllocError> {
@@ -136,6 +146,7 @@ fn answer(alloc: Global, state: &mut State, asked: Asked) -> Result<String, Allo
         Asked::Deploy(kind) => deploy(alloc, state, kind),
         Asked::Create(process, version) => create(alloc, state, process, version),
         Asked::Publish(id, time_to_live) => publish(alloc, state, id, time_to_live),
+        Asked::Expire(key, later) => expire(alloc, state, key, later),
     }
 }
 
@@ -169,6 +180,18 @@ fn commands_in_turn(rt: HostRuntime) -> Result<(), Fail> {
             "AlreadyExists: message paid o-1 x is buffered",
         ),
         (Asked::Publish("", 0), "2 from message 12 to expiry 12"),
+        (
+            Asked::Expire(2_251_799_813_685_259, 999),
+            "InvalidState: message 2251799813685259 isn't due",
+        ),
+        (
+            Asked::Expire(2_251_799_813_685_259, 1_000),
+            "1 from expiry 11 to expiry 11",
+        ),
+        (
+            Asked::Expire(2_251_799_813_685_259, 1_000),
+            "NotFound: no message 2251799813685259",
+        ),
     ];
     for (asked, expected) in table {
         let found = answer(rt.alloc(), &mut state, asked)?;
