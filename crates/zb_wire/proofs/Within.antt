@@ -1,5 +1,5 @@
 -- What a line asks for is within the limits.
-use Rattle.std.proofs.Common.{◌≡◌, ℕ, ◌≤◌, ◌<◌, ◌^◌, List, [], ◌∷◌, length, Bool, true, false, if◌then◌else◌, Option, Some, None, Result, Ok, Err, refl, subst, lit≤, lit<, arith}
+use Rattle.std.proofs.Common.{◌≡◌, ℕ, ◌≤◌, ◌<◌, ◌^◌, List, [], ◌∷◌, length, Bool, true, false, ◌&&◌, if◌then◌else◌, Option, Some, None, Result, Ok, Err, refl, subst, lit≤, lit<, arith}
 use Rattle.std.proofs.lemmas.Bool.{leb-true}
 use Rattle.std.proofs.lemmas.List.Elements.{All-nil, All-from_recursion}
 use Rattle.std.specs.List.{AllByRecursion, All}
@@ -11,10 +11,11 @@ use Rattle.serde_json.specs.Find.{get, as_str, as_object, as_i64}
 use Rattle.zb_base.specs.declared.value.Value.{Value}
 use Rattle.zb_base.specs.declared.value.Value.TheVariants as values
 use Rattle.zb_base.specs.declared.vars.Variable.{Variable}
-use Rattle.zb_wire.specs.Fields.{Field, is_name, are_within, variables_in, is_within, first_failing, names_of}
+use Rattle.zb_wire.specs.Fields.{Field, is_name, longest_duration, is_duration, are_within, variables_in, is_within, first_failing, names_of}
 use Rattle.zb_wire.specs.Op.{Op, none_of, none_wrong, none_unknown, none_outside, none_amiss, request_with, ◌>>=◌}
-use Rattle.zb_wire.specs.PublishFields.{longest_duration, is_duration, publish_fields, message_of, publish}
+use Rattle.zb_wire.specs.PublishFields.{publish_fields, message_of, publish}
 use Rattle.zb_wire.specs.CreateFields.{greatest_version, version_in, is_version, create_fields, creation_of, create}
+use Rattle.zb_wire.specs.ClockFields.{tick, advance}
 use Rattle.zb_wire.specs.DeployFields.{deploy_names, model_at, right_model, deploy_with}
 use Rattle.zb_wire.specs.Limits.{text_length, IsShort, IsModest, IsModestCreation, IsWithinLimits}
 use Rattle.zb_wire.specs.Request.{members_in, op_in, request_for, request_in, Gives}
@@ -166,22 +167,42 @@ deploy_within members value r found =
     let is : requests.Deploy right.value ≡ r = cc (known.goes) in
     subst IsWithinLimits is tt
 
--- by whether it is a deploy, a create or a publish
-request_for_within : (deploys creates publishes : Bool) (ms : Members) (value : Data) (r : Request)
-    → (if deploys then deploy_with ms value else (if creates then request_with create ms value else (if publishes then request_with publish ms value else Err faults.UnknownOp))) ≡ Ok r
-    → IsWithinLimits r
-request_for_within true creates publishes ms value r found = deploy_within ms value r found
-request_for_within false true publishes ms value r found = create_within ms value r found
-request_for_within false false true ms value r found = publish_within ms value r found
-request_for_within false false false ms value r found = absurd (cc)
+tick_within : (members : Members) (value : Data) (r : Request) → request_with tick members value ≡ Ok r → IsWithinLimits r
+tick_within members value r found =
+    let a = asked tick members value r found in
+    subst IsWithinLimits a.is tt
 
-request_in_within : (value : Data) (r : Request) → request_in value ≡ Ok r → IsWithinLimits r
-request_in_within value r found =
-    let members = made (members_in value) (λ members. op_in value >>= (λ op. request_for op members value)) r found in
-    let op = made (op_in value) (λ op. request_for op members.value value) r members.goes in
-    request_for_within (bytes_eq op.value (codes "deploy")) (bytes_eq op.value (codes "create")) (bytes_eq op.value (codes "publish")) members.value value r op.goes
+advance_within : (members : Members) (value : Data) (r : Request) → request_with advance members value ≡ Ok r → IsWithinLimits r
+advance_within members value r found =
+    let a = asked advance members value r found in
+    subst IsWithinLimits a.is (duration_within (get (codes "ms") value) a.each.0)
+
+-- by whether it is a tick, an advance, or neither
+clock_within : (ticks advances : Bool) (ms : Members) (value : Data) (r : Request)
+    → (if ticks then request_with tick ms value else (if advances then request_with advance ms value else Err faults.UnknownOp)) ≡ Ok r
+    → IsWithinLimits r
+clock_within true advances ms value r found = tick_within ms value r found
+clock_within false true ms value r found = advance_within ms value r found
+clock_within false false ms value r found = absurd (cc)
+
+-- by whether it is a deploy, a create, a publish, or what is left then
+request_for_within : (deploys creates publishes : Bool) (rest : Result Request LineFault) (ms : Members) (value : Data) (r : Request)
+    → (rest ≡ Ok r → IsWithinLimits r)
+    → (if deploys then deploy_with ms value else (if creates then request_with create ms value else (if publishes then request_with publish ms value else rest))) ≡ Ok r
+    → IsWithinLimits r
+request_for_within true creates publishes rest ms value r others found = deploy_within ms value r found
+request_for_within false true publishes rest ms value r others found = create_within ms value r found
+request_for_within false false true rest ms value r others found = publish_within ms value r found
+request_for_within false false false rest ms value r others found = others found
+
+request_in_within : (manual : Bool) (value : Data) (r : Request) → request_in manual value ≡ Ok r → IsWithinLimits r
+request_in_within manual value r found =
+    let members = made (members_in value) (λ members. op_in value >>= (λ op. request_for manual op members value)) r found in
+    let op = made (op_in value) (λ op. request_for manual op members.value value) r members.goes in
+    request_for_within (bytes_eq op.value (codes "deploy")) (bytes_eq op.value (codes "create")) (bytes_eq op.value (codes "publish")) _ members.value value r
+    (clock_within (bytes_eq op.value (codes "tick")) (bytes_eq op.value (codes "advance") && manual) members.value value r) op.goes
 
 -- a request that a value asks for is within the limits
-pub within_given : (value : Data) (found : Result Request LineFault) → Gives found (request_in value) → IfOk found IsWithinLimits
-within_given value (Ok r) gives = request_in_within value r gives
-within_given value (Err fault) gives = tt
+pub within_given : (manual : Bool) (value : Data) (found : Result Request LineFault) → Gives found (request_in manual value) → IfOk found IsWithinLimits
+within_given manual value (Ok r) gives = request_in_within manual value r gives
+within_given manual value (Err fault) gives = tt

@@ -35,6 +35,14 @@ is_name d = option_map_or (λ s. nat_le (length s) longest_name) (as_str d) fals
 abbrev pub is_count : Data → Bool
 is_count d = is_some (unsigned_of d)
 
+-- the longest time, in milliseconds (own)
+abbrev pub longest_duration : ℕ
+longest_duration = 4000000000000
+
+-- a whole number from 0 to the longest time (own)
+abbrev pub is_duration : Data → Bool
+is_duration d = option_map_or (λ n. nat_le n longest_duration) (unsigned_of d) false
+
 -- an object whose members are of the kinds that variables may have (own)
 abbrev pub are_variables : Data → Bool
 are_variables d = option_map_or all_variables (as_object d) false

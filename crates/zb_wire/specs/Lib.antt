@@ -1,13 +1,13 @@
 pub mod Variables
 pub mod Fields
 pub mod Op
+pub mod Asked
 pub mod PublishFields
 pub mod CreateFields
 pub mod DeployFields
+pub mod ClockFields
 pub mod Request
 pub mod Table
 pub mod Limits
-pub mod Reply
 pub mod Reading
 pub mod RequestLaws
-pub mod ReplyLaws

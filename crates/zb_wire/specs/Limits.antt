@@ -6,7 +6,7 @@ use Rattle.zb_base.specs.declared.vars.Variable.{Variable}
 use Rattle.zb_exchange_records.specs.declared.message.MessagePublish.{MessagePublish}
 use Rattle.zb_instance_records.specs.declared.instance.ProcessInstanceCreationCreate.{ProcessInstanceCreationCreate}
 use Rattle.zb_wire.specs.Variables.{longest_name, longest_text}
-use Rattle.zb_wire.specs.PublishFields.{longest_duration}
+use Rattle.zb_wire.specs.Fields.{longest_duration}
 use Rattle.zb_wire.specs.declared.request.Request.{Request}
 use Rattle.zb_wire.specs.declared.request.Request.TheVariants as requests
 
@@ -39,3 +39,5 @@ abbrev pub IsWithinLimits : Request → Type 0
 IsWithinLimits (requests.Deploy m) = Unit {0}
 IsWithinLimits (requests.Create c) = IsModestCreation c
 IsWithinLimits (requests.Publish m) = IsModest m
+IsWithinLimits requests.Tick = Unit {0}
+IsWithinLimits (requests.Advance ms) = ms ≤ longest_duration

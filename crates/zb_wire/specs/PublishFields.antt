@@ -1,20 +1,10 @@
 -- What a publish asks for.
-use Rattle.std.specs.Prelude.{ℕ, List, [], ◌∷◌, codes, Bool, false, nat_le}
-use Rattle.std.specs.Option.{option_map_or}
+use Rattle.std.specs.Prelude.{List, [], ◌∷◌, codes}
 use Rattle.serde_json.specs.Data.{Data}
 use Rattle.zb_exchange_records.specs.declared.message.MessagePublish.{MessagePublish}
-use Rattle.zb_wire.specs.Variables.{unsigned_of}
-use Rattle.zb_wire.specs.Fields.{Field, must, may, is_text, is_name, is_count, are_variables, are_within, text_at, count_at, variables_at}
+use Rattle.zb_wire.specs.Fields.{Field, must, may, is_text, is_name, is_count, is_duration, are_variables, are_within, text_at, count_at, variables_at}
 use Rattle.zb_wire.specs.Op.{Op}
 use Rattle.zb_wire.specs.declared.request.Request.TheVariants as requests
-
--- the longest time to live, in milliseconds (own)
-abbrev pub longest_duration : ℕ
-longest_duration = 4000000000000
-
--- a whole number from 0 to the longest time (own)
-abbrev pub is_duration : Data → Bool
-is_duration d = option_map_or (λ n. nat_le n longest_duration) (unsigned_of d) false
 
 -- its fields, in order (own)
 abbrev pub publish_fields : List Field

@@ -1,6 +1,6 @@
 -- Which request a line is, or what is wrong with it: the first fault, in the order in which they stand here.
 -- What each op asks for stands in a module of its name. What no standard says is marked as this project's own.
-use Rattle.std.specs.Prelude.{◌≡◌, ℕ, List, length, codes, nat_le, if◌then◌else◌, Option, Some, None, option_and_then, Result, Ok, Err}
+use Rattle.std.specs.Prelude.{◌≡◌, ℕ, List, length, codes, Bool, ◌&&◌, nat_le, if◌then◌else◌, Option, Some, None, option_and_then, Result, Ok, Err}
 use Rattle.std.specs.Str.{bytes_eq, is_utf8}
 use Rattle.serde_json.specs.Data.{Data, Members}
 use Rattle.serde_json.specs.Read.{read}
@@ -9,6 +9,7 @@ use Rattle.zb_wire.specs.Op.{request_with, ◌>>=◌}
 use Rattle.zb_wire.specs.DeployFields.{deploy_with}
 use Rattle.zb_wire.specs.CreateFields.{create}
 use Rattle.zb_wire.specs.PublishFields.{publish}
+use Rattle.zb_wire.specs.ClockFields.{tick, advance}
 use Rattle.zb_wire.specs.declared.request.Request.{Request}
 use Rattle.zb_wire.specs.declared.request.LineFault.{LineFault}
 use Rattle.zb_wire.specs.declared.request.LineFault.TheVariants as faults
@@ -38,27 +39,29 @@ members_in value = or_fault faults.NotObject (as_object value)
 abbrev pub op_in : Data → Result (List ℕ) LineFault
 op_in value = or_fault faults.NoOp (option_and_then as_str (get (codes "op") value))
 
--- UNKNOWN_OP (own): no request is called so; FIELD and RANGE, by the fields of the op
-abbrev pub request_for : List ℕ → Members → Data → Result Request LineFault
-request_for op members value =
+-- UNKNOWN_OP (own): no request is called so, or it is an advance and the clock isn't the manual one; FIELD and RANGE, by the fields of the op
+abbrev pub request_for : Bool → List ℕ → Members → Data → Result Request LineFault
+request_for manual op members value =
     if bytes_eq op (codes "deploy") then deploy_with members value
     else (if bytes_eq op (codes "create") then request_with create members value
     else (if bytes_eq op (codes "publish") then request_with publish members value
-    else Err faults.UnknownOp))
+    else (if bytes_eq op (codes "tick") then request_with tick members value
+    else (if bytes_eq op (codes "advance") && manual then request_with advance members value
+    else Err faults.UnknownOp))))
 
--- the request that a value is
-abbrev pub request_in : Data → Result Request LineFault
-request_in value = do
+-- the request that a value is, under the manual clock or not
+abbrev pub request_in : Bool → Data → Result Request LineFault
+request_in manual value = do
   members ← members_in value
   op ← op_in value
-  request_for op members value
+  request_for manual op members value
 
--- the request that a line is, or its fault
-unfoldable pub request_of : List ℕ → Result Request LineFault
-request_of line = do
+-- the request that a line is, under the manual clock or not, or its fault
+unfoldable pub request_of : Bool → List ℕ → Result Request LineFault
+request_of manual line = do
   text ← short_line line
   value ← value_in text
-  request_in value
+  request_in manual value
 
 -- this fault was found, unless memory ran out
 abbrev pub Tells : LineFault → Result Request LineFault → Type 0

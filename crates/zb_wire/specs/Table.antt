@@ -3,7 +3,6 @@ use Rattle.std.specs.Prelude.{◌≡◌, List, Bool, Option, Some, None, Ok}
 use Rattle.serde_json.specs.Data.{Data, Members}
 use Rattle.zb_wire.specs.Fields as spec
 use Rattle.zb_wire.specs.Op.{none_amiss, request_with}
-use Rattle.zb_wire.specs.PublishFields.{is_duration}
 use Rattle.zb_wire.specs.CreateFields.{is_version, is_partition}
 use Rattle.zb_wire.specs.Request.{Tells}
 use Rattle.zb_wire.specs.declared.fields.Field.{Field}
@@ -24,7 +23,7 @@ kind_of kinds.Variables = spec.are_variables
 -- those within its limits
 abbrev pub limit_of : Kind → Data → Bool
 limit_of kinds.Name = spec.is_name
-limit_of kinds.Duration = is_duration
+limit_of kinds.Duration = spec.is_duration
 limit_of kinds.Version = is_version
 limit_of kinds.Partition = is_partition
 limit_of kinds.Variables = spec.are_within

@@ -1,7 +1,6 @@
 ghost use Rattle.std.specs.Prelude.{◌≡◌, is_some};
 ghost use Rattle.serde_json.specs.View.{view};
 ghost use Rattle.zb_wire.specs.Fields as spec;
-ghost use Rattle.zb_wire.specs.PublishFields.{is_duration};
 ghost use Rattle.zb_wire.specs.CreateFields.{is_version, is_partition};
 ghost use Rattle.zb_wire.specs.Table.{kind_of, limit_of};
 
@@ -12,7 +11,7 @@ use serde_json::Value as Json;
 /// A name or an id has at most so many bytes.
 pub const LONGEST_NAME: usize = 255;
 
-/// The longest time to live, in milliseconds.
+/// The longest time, in milliseconds.
 const LONGEST_DURATION: u64 = 4_000_000_000_000;
 
 /// The only partition so far.
@@ -68,7 +67,7 @@ fn is_name(value: &Json) -> bool
 }
 
 fn is_duration(value: &Json) -> bool
-    ensures { result ≡ is_duration (view value.now) }
+    ensures { result ≡ spec.is_duration (view value.now) }
 {
     value.as_u64().is_some_and(|ms| ms <= LONGEST_DURATION)
 }

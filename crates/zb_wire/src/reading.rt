@@ -1,9 +1,10 @@
-ghost use Rattle.std.specs.Prelude.{◌≡◌, ◌+◌, ℕ, List, take, IfOk};
+ghost use Rattle.std.specs.Prelude.{◌≡◌, ◌+◌, ℕ, Bool, List, take, IfOk};
 ghost use Rattle.zb_wire.specs.Limits.{IsWithinLimits};
 ghost use Rattle.serde_json.specs.View.{view};
 ghost use Rattle.zb_wire.specs.Reading.{Reads, Blames};
 ghost use Rattle.zb_wire.specs.Request.{longest_line, value_in, request_in, request_of, Gives};
 
+use crate::clock::{advance_in, tick_in};
 use crate::create::create_in;
 use crate::deploy::deploy_in;
 use crate::publish::publish_in;
@@ -18,23 +19,24 @@ pub const LONGEST_LINE: usize = 262_144;
 #[tactic(auto, unfolding(crate::specs::Request::longest_line))]
 pub fn longest_shown() -> usize
     ensures number { result ≡ longest_line + 1 }
-    ensures decides { (line : List ℕ) → request_of (take result line) ≡ request_of line }
+    ensures decides { (manual : Bool) (line : List ℕ)
+        → request_of manual (take result line) ≡ request_of manual line }
 {
     LONGEST_LINE + 1
 }
 
-/// The request that a line, without its newline, asks for, or its fault. It takes time and memory in
-/// proportion to the line.
+/// The request that a line, without its newline, asks for, or its fault; advance is an op where the clock is
+/// moved by hand. It takes time and memory in proportion to the line.
 #[tactic(auto, unfolding(crate::specs::Request::request_of, crate::specs::Request::short_line, crate::specs::Request::longest_line))]
-pub fn read_line(alloc: Global, line: &[u8]) -> Result<Request, LineFault>
-    ensures found { Gives result (request_of line.now) }
+pub fn read_line(alloc: Global, line: &[u8], manual: bool) -> Result<Request, LineFault>
+    ensures found { Gives result (request_of manual line.now) }
     ensures within { IfOk result IsWithinLimits }
 {
     if line.len() > LONGEST_LINE {
         return Err(LineFault::TooLong);
     }
     match value_in(alloc, line) {
-        Ok(value) => request_in(alloc, &value),
+        Ok(value) => request_in(alloc, &value, manual),
         Err(fault) => Err(fault),
     }
 }
@@ -61,8 +63,8 @@ fn fault_of(error: &Error) -> LineFault
 }
 
 /// The request that a value is.
-fn request_in(alloc: Global, value: &Json) -> Result<Request, LineFault>
-    ensures { Gives result (request_in (view value.now)) }
+fn request_in(alloc: Global, value: &Json, manual: bool) -> Result<Request, LineFault>
+    ensures { Gives result (request_in manual (view value.now)) }
 {
     let Some(members) = value.as_object() else {
         return Err(LineFault::NotObject);
@@ -74,6 +76,8 @@ fn request_in(alloc: Global, value: &Json) -> Result<Request, LineFault>
         "deploy" => deploy_in(alloc, members, value),
         "create" => create_in(alloc, members, value),
         "publish" => publish_in(alloc, members, value),
+        "tick" => tick_in(alloc, members, value),
+        "advance" if manual => advance_in(alloc, members, value),
         _ => Err(LineFault::UnknownOp),
     }
 }

@@ -8,19 +8,24 @@ pub enum Request {
     Deploy(Model),
     Create(ProcessInstanceCreationCreate),
     Publish(MessagePublish),
+    /// To go on with what is due.
+    Tick,
+    /// To move the manual clock on by so many milliseconds.
+    Advance(u64),
 }
 
 impl Request {
-    ghost use Rattle.zb_wire.specs.Reply.{command_of};
+    ghost use Rattle.zb_wire.specs.Asked.{command_of};
 
-    /// The command that the request asks of a partition.
-    pub fn into_command(self) -> Command
+    /// The command of a client that the request asks for, if it asks for one.
+    pub fn into_command(self) -> Option<Command>
         ensures { result ≡ command_of self }
     {
         match self {
-            Request::Deploy(model) => Command::DeploymentCreate(model),
-            Request::Create(creation) => Command::ProcessInstanceCreationCreate(creation),
-            Request::Publish(message) => Command::MessagePublish(message),
+            Request::Deploy(model) => Some(Command::DeploymentCreate(model)),
+            Request::Create(creation) => Some(Command::ProcessInstanceCreationCreate(creation)),
+            Request::Publish(message) => Some(Command::MessagePublish(message)),
+            Request::Tick | Request::Advance(_) => None,
         }
     }
 }

@@ -1,7 +1,7 @@
+mod clock;
 mod create;
-mod replies;
 
-use crate::{LONGEST_LINE, LineFault, Reply, Request, longest_shown, read_line, reply_text};
+use crate::{LONGEST_LINE, LineFault, Request, longest_shown, read_line};
 use std::alloc::{AllocError, Global};
 use std::test::Fail;
 use zb_model::{MessagePublish, Value};
@@ -24,22 +24,34 @@ fn filled(
     Ok(line)
 }
 
-/// The line of the reply to a line that is no request, and nothing for one that is.
-fn fault_of(alloc: Global, line: &[u8]) -> Result<Vec<u8>, AllocError> {
-    let mut reply = Vec::new(alloc);
-    match read_line(alloc, line) {
-        Ok(_) => Ok(reply),
-        Err(LineFault::Memory) => Err(AllocError),
-        Err(fault) => {
-            reply_text(alloc, &Reply::Fault(1, fault), None, &mut reply)?;
-            Ok(reply)
-        }
+/// The fault of a line, with its field and its path, and nothing for a line that is a request.
+fn fault_of(alloc: Global, line: &[u8], manual: bool) -> Result<String, AllocError> {
+    match read_line(alloc, line, manual) {
+        Ok(_) => Ok(String::new(alloc)),
+        Err(fault) => told_of(alloc, &fault),
+    }
+}
+
+fn told_of(alloc: Global, fault: &LineFault) -> Result<String, AllocError> {
+    match fault {
+        LineFault::TooLong => String::from_str(alloc, "TOO_LONG"),
+        LineFault::NotJson => String::from_str(alloc, "NOT_JSON"),
+        LineFault::NotObject => String::from_str(alloc, "NOT_OBJECT"),
+        LineFault::NoOp => String::from_str(alloc, "NO_OP"),
+        LineFault::UnknownOp => String::from_str(alloc, "UNKNOWN_OP"),
+        LineFault::Field { field, path: None } => format!(in alloc; "FIELD {}", field.as_str()),
+        LineFault::Field {
+            field,
+            path: Some(path),
+        } => format!(in alloc; "FIELD {} at '{}'", field.as_str(), path.as_str()),
+        LineFault::Range { field } => format!(in alloc; "RANGE {}", field.as_str()),
+        LineFault::Memory => Err(AllocError),
     }
 }
 
 /// What the line asks to publish.
 fn message_of(alloc: Global, line: &[u8]) -> Result<MessagePublish, LineFault> {
-    match read_line(alloc, line) {
+    match read_line(alloc, line, false) {
         Ok(Request::Publish(message)) => Ok(message),
         Ok(_) => Err(LineFault::UnknownOp),
         Err(fault) => Err(fault),
@@ -140,10 +152,9 @@ fn names_what_is_wrong(rt: HostRuntime) -> Result<(), Fail> {
         (br#"{"op":7,"name":"paid"}"#, "NO_OP"),
         (br#"{"op":"fly"}"#, "UNKNOWN_OP"),
     ];
-    for (line, name) in rows {
-        let reply = fault_of(rt.alloc(), line)?;
-        let told = format!(in rt.alloc(); "{{\"fault\":\"{name}\",\"line\":1}}\n")?;
-        assert_eq!(rt; reply.as_slice(), told.as_bytes(), "at {line:?}");
+    for (line, told) in rows {
+        let fault = fault_of(rt.alloc(), line, false)?;
+        assert_eq!(rt; fault.as_str(), told, "at {line:?}");
     }
     Ok(())
 }
@@ -151,86 +162,69 @@ fn names_what_is_wrong(rt: HostRuntime) -> Result<(), Fail> {
 #[test]
 fn names_the_field(rt: HostRuntime) -> Result<(), Fail> {
     let rows = [
-        (r#""correlationKey":7,"timeToLive":1"#, "FIELD", "name"),
+        (r#""correlationKey":7,"timeToLive":1"#, "FIELD name"),
         (
             r#""name":null,"correlationKey":"k","timeToLive":1"#,
-            "FIELD",
-            "name",
+            "FIELD name",
         ),
         (
             r#""name":"n","timeToLive":1,"more":1"#,
-            "FIELD",
-            "correlationKey",
+            "FIELD correlationKey",
         ),
         (
             r#""name":"n","correlationKey":7,"timeToLive":1"#,
-            "FIELD",
-            "correlationKey",
+            "FIELD correlationKey",
         ),
-        (r#""name":"n","correlationKey":"k""#, "FIELD", "timeToLive"),
+        (r#""name":"n","correlationKey":"k""#, "FIELD timeToLive"),
         (
             r#""name":"n","correlationKey":"k","timeToLive":-1"#,
-            "FIELD",
-            "timeToLive",
+            "FIELD timeToLive",
         ),
         (
             r#""name":"n","correlationKey":"k","timeToLive":1.5"#,
-            "FIELD",
-            "timeToLive",
+            "FIELD timeToLive",
         ),
         (
             r#""name":"n","correlationKey":"k","timeToLive":1e0"#,
-            "FIELD",
-            "timeToLive",
+            "FIELD timeToLive",
         ),
         (
             r#""name":"n","correlationKey":"k","timeToLive":-0"#,
-            "FIELD",
-            "timeToLive",
+            "FIELD timeToLive",
         ),
         (
             r#""name":"n","correlationKey":"k","timeToLive":"1""#,
-            "FIELD",
-            "timeToLive",
+            "FIELD timeToLive",
         ),
         (
             r#""name":"n","correlationKey":"k","timeToLive":18446744073709551616"#,
-            "FIELD",
-            "timeToLive",
+            "FIELD timeToLive",
         ),
         (
             r#""name":"n","correlationKey":"k","timeToLive":4000000000001,"messageId":null"#,
-            "FIELD",
-            "messageId",
+            "FIELD messageId",
         ),
         (
             r#""name":"n","correlationKey":"k","timeToLive":4000000000001,"more":1,"less":1"#,
-            "FIELD",
-            "less",
+            "FIELD less",
         ),
         (
             r#""name":"n","correlationKey":"k","timeToLive":1,"a\"\\\n\u0001\u00e9":1"#,
-            "FIELD",
-            "a\\\"\\\\\\n\\u0001\u{e9}",
+            "FIELD a\"\\\n\u{1}\u{e9}",
         ),
         (
             r#""name":"n","correlationKey":"k","timeToLive":4000000000001"#,
-            "RANGE",
-            "timeToLive",
+            "RANGE timeToLive",
         ),
         (
             r#""name":"n","correlationKey":"k","timeToLive":18446744073709551615,"variables":{"a":9223372036854775808}"#,
-            "RANGE",
-            "timeToLive",
+            "RANGE timeToLive",
         ),
     ];
-    for (fields, fault, field) in rows {
+    for (fields, told) in rows {
         let line = format!(in rt.alloc(); "{{\"op\":\"publish\",{fields}}}")?;
-        let reply = fault_of(rt.alloc(), line.as_bytes())?;
-        let told = format!(in rt.alloc();
-            "{{\"fault\":\"{fault}\",\"field\":\"{field}\",\"line\":1}}\n"
-        )?;
-        assert_eq!(rt; reply.as_slice(), told.as_bytes(), "at {fields}");
+        let fault = fault_of(rt.alloc(), line.as_bytes(), false)?;
+        assert_eq!(rt; fault.as_str(), told, "at {fields}");
     }
     Ok(())
 }
@@ -238,32 +232,29 @@ fn names_the_field(rt: HostRuntime) -> Result<(), Fail> {
 #[test]
 fn refuses_variables(rt: HostRuntime) -> Result<(), Fail> {
     let rows = [
-        ("[]", "FIELD"),
-        ("null", "FIELD"),
-        (r#"{"a":null}"#, "FIELD"),
-        (r#"{"a":{}}"#, "FIELD"),
-        (r#"{"a":1.0}"#, "FIELD"),
-        (r#"{"a":-0}"#, "FIELD"),
-        (r#"{"a":18446744073709551616}"#, "FIELD"),
-        (r#"{"a":-9223372036854775809}"#, "FIELD"),
-        (r#"{"a":[1,"2"]}"#, "FIELD"),
-        (r#"{"a":[1,[2]]}"#, "FIELD"),
-        (r#"{"a":[18446744073709551616]}"#, "FIELD"),
-        (r#"{"a":9223372036854775808,"b":null}"#, "FIELD"),
-        (r#"{"a":9223372036854775808}"#, "RANGE"),
-        (r#"{"a":18446744073709551615}"#, "RANGE"),
-        (r#"{"a":[0,9223372036854775808]}"#, "RANGE"),
-        (r#"{"a":[18446744073709551615,0]}"#, "RANGE"),
+        ("[]", "FIELD variables"),
+        ("null", "FIELD variables"),
+        (r#"{"a":null}"#, "FIELD variables"),
+        (r#"{"a":{}}"#, "FIELD variables"),
+        (r#"{"a":1.0}"#, "FIELD variables"),
+        (r#"{"a":-0}"#, "FIELD variables"),
+        (r#"{"a":18446744073709551616}"#, "FIELD variables"),
+        (r#"{"a":-9223372036854775809}"#, "FIELD variables"),
+        (r#"{"a":[1,"2"]}"#, "FIELD variables"),
+        (r#"{"a":[1,[2]]}"#, "FIELD variables"),
+        (r#"{"a":[18446744073709551616]}"#, "FIELD variables"),
+        (r#"{"a":9223372036854775808,"b":null}"#, "FIELD variables"),
+        (r#"{"a":9223372036854775808}"#, "RANGE variables"),
+        (r#"{"a":18446744073709551615}"#, "RANGE variables"),
+        (r#"{"a":[0,9223372036854775808]}"#, "RANGE variables"),
+        (r#"{"a":[18446744073709551615,0]}"#, "RANGE variables"),
     ];
-    for (variables, fault) in rows {
+    for (variables, told) in rows {
         let line = format!(in rt.alloc();
             "{{\"op\":\"publish\",\"name\":\"n\",\"correlationKey\":\"k\",\"timeToLive\":1,\"variables\":{variables}}}"
         )?;
-        let reply = fault_of(rt.alloc(), line.as_bytes())?;
-        let told = format!(in rt.alloc();
-            "{{\"fault\":\"{fault}\",\"field\":\"variables\",\"line\":1}}\n"
-        )?;
-        assert_eq!(rt; reply.as_slice(), told.as_bytes(), "at {variables}");
+        let fault = fault_of(rt.alloc(), line.as_bytes(), false)?;
+        assert_eq!(rt; fault.as_str(), told, "at {variables}");
     }
     Ok(())
 }
@@ -275,53 +266,46 @@ fn keeps_to_the_lengths(rt: HostRuntime) -> Result<(), Fail> {
             r#"{"op":"create","process":""#,
             r#""}"#,
             255,
-            r#"{"fault":"RANGE","field":"process","line":1}"#,
+            "RANGE process",
         ),
         (
             r#"{"op":"publish","correlationKey":"k","timeToLive":1,"name":""#,
             r#""}"#,
             255,
-            r#"{"fault":"RANGE","field":"name","line":1}"#,
+            "RANGE name",
         ),
         (
             r#"{"op":"publish","name":"n","timeToLive":1,"correlationKey":""#,
             r#""}"#,
             255,
-            r#"{"fault":"RANGE","field":"correlationKey","line":1}"#,
+            "RANGE correlationKey",
         ),
         (
             r#"{"op":"publish","name":"n","correlationKey":"k","timeToLive":1,"messageId":""#,
             r#""}"#,
             255,
-            r#"{"fault":"RANGE","field":"messageId","line":1}"#,
+            "RANGE messageId",
         ),
         (
             r#"{"op":"publish","name":"n","correlationKey":"k","timeToLive":1,"variables":{""#,
             r#"":1}}"#,
             255,
-            r#"{"fault":"RANGE","field":"variables","line":1}"#,
+            "RANGE variables",
         ),
         (
             r#"{"op":"publish","name":"n","correlationKey":"k","timeToLive":1,"variables":{"a":""#,
             r#""}}"#,
             32_768,
-            r#"{"fault":"RANGE","field":"variables","line":1}"#,
+            "RANGE variables",
         ),
     ];
     for (head, tail, most, told) in rows {
         let longest = filled(rt.alloc(), head, b'n', most, tail)?;
-        assert_eq!(rt;
-            fault_of(rt.alloc(), longest.as_slice())?.as_slice(),
-            b"".as_slice(),
-            "at {head}"
-        );
+        let none = fault_of(rt.alloc(), longest.as_slice(), false)?;
+        assert_eq!(rt; none.as_str(), "", "at {head}");
         let longer = filled(rt.alloc(), head, b'n', most + 1, tail)?;
-        let reply = fault_of(rt.alloc(), longer.as_slice())?;
-        assert_eq!(rt;
-            reply.as_slice().strip_suffix(b"\n"),
-            Some(told.as_bytes()),
-            "at {head}"
-        );
+        let fault = fault_of(rt.alloc(), longer.as_slice(), false)?;
+        assert_eq!(rt; fault.as_str(), told, "at {head}");
     }
     Ok(())
 }
@@ -331,27 +315,21 @@ fn keeps_to_the_longest_line(rt: HostRuntime) -> Result<(), Fail> {
     assert_eq!(rt; (LONGEST_LINE, longest_shown()), (262_144, 262_145));
     let rows = [
         (PAID, 262_144, ""),
-        (PAID, 262_145, "{\"fault\":\"TOO_LONG\",\"line\":1}\n"),
-        (PAID, 600_000, "{\"fault\":\"TOO_LONG\",\"line\":1}\n"),
-        ("<bpmn>", 262_144, "{\"fault\":\"NOT_JSON\",\"line\":1}\n"),
-        ("<bpmn>", 262_145, "{\"fault\":\"TOO_LONG\",\"line\":1}\n"),
+        (PAID, 262_145, "TOO_LONG"),
+        (PAID, 600_000, "TOO_LONG"),
+        ("<bpmn>", 262_144, "NOT_JSON"),
+        ("<bpmn>", 262_145, "TOO_LONG"),
     ];
     for (text, length, told) in rows {
         let line = filled(rt.alloc(), text, b' ', length - text.len(), "")?;
-        let reply = fault_of(rt.alloc(), line.as_slice())?;
-        assert_eq!(rt; reply.as_slice(), told.as_bytes(), "at {text} of {length}");
+        let fault = fault_of(rt.alloc(), line.as_slice(), false)?;
+        assert_eq!(rt; fault.as_str(), told, "at {text} of {length}");
     }
-    for (depth, told) in [
-        (127, "{\"fault\":\"NOT_OBJECT\",\"line\":1}\n"),
-        (128, "{\"fault\":\"NOT_JSON\",\"line\":1}\n"),
-    ] {
+    for (depth, told) in [(127, "NOT_OBJECT"), (128, "NOT_JSON")] {
         let mut line = filled(rt.alloc(), "", b'[', depth, "")?;
         line.resize(2 * depth, b']')?;
-        assert_eq!(rt;
-            fault_of(rt.alloc(), line.as_slice())?.as_slice(),
-            told.as_bytes(),
-            "at {depth}"
-        );
+        let fault = fault_of(rt.alloc(), line.as_slice(), false)?;
+        assert_eq!(rt; fault.as_str(), told, "at {depth}");
     }
     Ok(())
 }

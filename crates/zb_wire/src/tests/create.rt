@@ -6,7 +6,7 @@ use zb_model::{ProcessInstanceCreationCreate, Value};
 
 /// The instance that the line asks for.
 fn creation_of(alloc: Global, line: &str) -> Result<ProcessInstanceCreationCreate, LineFault> {
-    match read_line(alloc, line.as_bytes()) {
+    match read_line(alloc, line.as_bytes(), false) {
         Ok(Request::Create(creation)) => Ok(creation),
         Ok(_) => Err(LineFault::UnknownOp),
         Err(fault) => Err(fault),
@@ -55,59 +55,46 @@ fn reads_the_variables_of_a_create(rt: HostRuntime) -> Result<(), Fail> {
 #[test]
 fn names_the_field_of_a_create(rt: HostRuntime) -> Result<(), Fail> {
     let rows = [
-        (r#""version":-1,"more":1"#, "FIELD", "process"),
-        (r#""process":7"#, "FIELD", "process"),
-        (r#""process":"p","version":-1"#, "FIELD", "version"),
-        (r#""process":"p","version":1.0"#, "FIELD", "version"),
-        (r#""process":"p","version":"1""#, "FIELD", "version"),
+        (r#""version":-1,"more":1"#, "FIELD process"),
+        (r#""process":7"#, "FIELD process"),
+        (r#""process":"p","version":-1"#, "FIELD version"),
+        (r#""process":"p","version":1.0"#, "FIELD version"),
+        (r#""process":"p","version":"1""#, "FIELD version"),
         (
             r#""process":"p","version":18446744073709551616"#,
-            "FIELD",
-            "version",
+            "FIELD version",
         ),
         (
             r#""process":"p","variables":[],"partition":"1""#,
-            "FIELD",
-            "variables",
+            "FIELD variables",
         ),
-        (
-            r#""process":"p","variables":{"a":null}"#,
-            "FIELD",
-            "variables",
-        ),
-        (r#""process":"p","partition":-1"#, "FIELD", "partition"),
+        (r#""process":"p","variables":{"a":null}"#, "FIELD variables"),
+        (r#""process":"p","partition":-1"#, "FIELD partition"),
         (
             r#""process":"p","version":4294967296,"partition":null"#,
-            "FIELD",
-            "partition",
+            "FIELD partition",
         ),
         (
             r#""process":"p","version":4294967296,"more":1,"less":1"#,
-            "FIELD",
-            "less",
+            "FIELD less",
         ),
-        (r#""process":"p","name":"n""#, "FIELD", "name"),
-        (r#""process":"p","version":4294967296"#, "RANGE", "version"),
+        (r#""process":"p","name":"n""#, "FIELD name"),
+        (r#""process":"p","version":4294967296"#, "RANGE version"),
         (
             r#""process":"p","version":18446744073709551615,"partition":2"#,
-            "RANGE",
-            "version",
+            "RANGE version",
         ),
         (
             r#""process":"p","variables":{"a":9223372036854775808},"partition":2"#,
-            "RANGE",
-            "variables",
+            "RANGE variables",
         ),
-        (r#""process":"p","partition":0"#, "RANGE", "partition"),
-        (r#""process":"p","partition":2"#, "RANGE", "partition"),
+        (r#""process":"p","partition":0"#, "RANGE partition"),
+        (r#""process":"p","partition":2"#, "RANGE partition"),
     ];
-    for (fields, fault, field) in rows {
+    for (fields, told) in rows {
         let line = format!(in rt.alloc(); "{{\"op\":\"create\",{fields}}}")?;
-        let reply = fault_of(rt.alloc(), line.as_bytes())?;
-        let told = format!(in rt.alloc();
-            "{{\"fault\":\"{fault}\",\"field\":\"{field}\",\"line\":1}}\n"
-        )?;
-        assert_eq!(rt; reply.as_slice(), told.as_bytes(), "at {fields}");
+        let fault = fault_of(rt.alloc(), line.as_bytes(), false)?;
+        assert_eq!(rt; fault.as_str(), told, "at {fields}");
     }
     Ok(())
 }
@@ -115,9 +102,8 @@ fn names_the_field_of_a_create(rt: HostRuntime) -> Result<(), Fail> {
 #[test]
 fn names_a_missing_model(rt: HostRuntime) -> Result<(), Fail> {
     for line in [r#"{"op":"deploy"}"#, r#"{"op":"deploy","more":1}"#] {
-        let reply = fault_of(rt.alloc(), line.as_bytes())?;
-        let told = "{\"fault\":\"FIELD\",\"field\":\"model\",\"line\":1,\"path\":\"\"}\n";
-        assert_eq!(rt; reply.as_slice(), told.as_bytes(), "at {line}");
+        let fault = fault_of(rt.alloc(), line.as_bytes(), false)?;
+        assert_eq!(rt; fault.as_str(), "FIELD model at ''", "at {line}");
     }
     Ok(())
 }

@@ -1,0 +1,10 @@
+//! Replies to requests, and their text.
+#![tactic(auto)]
+
+mod line;
+mod reply;
+#[cfg(test)]
+mod tests;
+
+pub use line::reply_text;
+pub use reply::{Created, Deployed, Reply, reply_of};

@@ -1,0 +1,5 @@
+mod Spellings
+mod Options
+mod Adding
+mod Plans
+pub mod Laws

@@ -1,0 +1,10 @@
+//! The words of the server's command line.
+#![tactic(auto)]
+
+mod asked;
+mod plan;
+mod setting;
+#[cfg(test)]
+mod tests;
+
+pub use plan::{ClockKind, Plan, plan_of};
