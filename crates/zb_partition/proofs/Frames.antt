@@ -1,13 +1,13 @@
 -- The frames of a log that is only read.
 use Rattle.std.proofs.Common.{◌≡◌, ◌∷◌, ◌++◌, ◌+◌, ◌≤◌, List, [], ℕ, length, take, IsTrue, refl, sym, ap, ◌∙◌, arith}
-use Rattle.std.specs.Prelude.{Some, slice_get}
+use Rattle.std.specs.Prelude.{Some, slice_get, slice_index}
 use Rattle.std.proofs.lemmas.List.{map-append, take_more, length_push}
 use Rattle.std.proofs.lemmas.Option.{slice_get_within, get_or_from_slice_get}
 use Rattle.zb_disk.specs.declared.disk.Disk.{Ghosts}
 use Rattle.zb_model.specs.declared.record.Batch.{Batch}
 use Rattle.zb_model.specs.Record.{bytes_of}
 use Rattle.zb_store.specs.Cause.{IsCaused}
-use Rattle.zb_store.specs.GateLog.{place_of, HasFrames, IsSameLog}
+use Rattle.zb_store.specs.GateLog.{count_of, place_of, HasFrames, IsIndexed, IsSameLog}
 use Rattle.zb_store.specs.Log.{extent, extent_more}
 use Rattle.zb_store.specs.declared.fault.StoreFault.{StoreFault}
 use Rattle.zb_store.specs.declared.fault.StoreFault.TheVariants as store
@@ -21,28 +21,40 @@ use Rattle.zb_partition.specs.declared.fault.OpenFault.TheVariants.{DiskFault, B
 
 -- a log is the same as itself
 pub same_already : {D : Type 0} {disks : Ghosts D} (log : GateLog D disks) → IsSameLog log log
-same_already log = record { limit = refl; count = refl; length = refl; whole = refl; gates = refl }
+same_already log = record { limit = refl; count = refl; last_gate = refl; whole = refl; index = refl }
 
 -- the other way round
 pub same_back : {D : Type 0} {disks : Ghosts D} (old new : GateLog D disks) → IsSameLog old new → IsSameLog new old
-same_back old new same = record { limit = sym same.limit; count = sym same.count; length = sym same.length; whole = sym same.whole; gates = sym same.gates }
+same_back old new same = record { limit = sym same.limit; count = sym same.count; last_gate = sym same.last_gate; whole = sym same.whole; index = sym same.index }
 
 -- one call after another
 pub same_then : {D : Type 0} {disks : Ghosts D} (old mid new : GateLog D disks) → IsSameLog old mid → IsSameLog mid new → IsSameLog old new
 same_then old mid new first second = record {
   limit = second.limit ∙ first.limit;
   count = second.count ∙ first.count;
-  length = second.length ∙ first.length;
+  last_gate = second.last_gate ∙ first.last_gate;
   whole = second.whole ∙ first.whole;
-  gates = second.gates ∙ first.gates;
+  index = second.index ∙ first.index;
 }
 
 -- a log that is the same, in a file that is, has the same frames
 pub frames_stay : {D : Type 0} {disks : Ghosts D} (old new : GateLog D disks) (was now : List ℕ) (bodies : List (List ℕ)) → IsSameLog old new → now ≡ was → HasFrames was old bodies → HasFrames now new bodies
 frames_stay old new was now bodies same file has = record {
   count = same.count ∙ has.count;
-  length = same.length ∙ has.length;
-  gates = rw (same.gates, file) has.gates;
+  leads = rw (same.last_gate, file) has.leads;
+  index = rw same.index has.index;
+  length = ap (λ (n : ℕ). n + 1) same.last_gate ∙ has.length;
+}
+
+-- and an index of as many gates
+pub index_stays : {D : Type 0} {disks : Ghosts D} (old new : GateLog D disks) → IsSameLog old new → IsIndexed old → IsIndexed new
+index_stays old new same is = record {
+  all = omega (arith, ap length same.index, is.all, same.count);
+  last =
+      ap (λ (l : List ℕ). slice_index l (count_of new)) same.index
+      ∙ ap (λ (n : ℕ). slice_index old.index n) same.count
+      ∙ is.last
+      ∙ sym same.last_gate;
 }
 
 -- what was read of it is of the same batches
@@ -50,7 +62,7 @@ pub read_stays : {D : Type 0} {disks : Ghosts D} (p : ℕ) (old new : GateLog D 
 read_stays p old new was now n m batches known same file at read = record {
   knows = read.knows;
   count = read.count ∙ at;
-  extent = rw (same.gates, ← at) read.extent;
+  extent = rw (same.index, ← at) read.extent;
   front = λ told bodies has. rw (← at) (read.front told bodies (frames_stay new old now was bodies (same_back old new same) (sym (file told)) has));
 }
 

@@ -1,11 +1,12 @@
 -- Opening a partition.
-use Rattle.std.proofs.Common.{◌≡◌, ◌≤◌, ◌⊎◌, List, ℕ, length, IsTrue, IsFalse, inl, inr, sym, ◌∙◌, subst, arith}
+use Rattle.std.proofs.Common.{◌≡◌, ◌+◌, ◌≤◌, ◌⊎◌, List, ℕ, length, IsTrue, IsFalse, inl, inr, sym, ◌∙◌, ap, subst, arith}
 use Rattle.std.specs.Prelude.{None}
 use Rattle.std.proofs.lemmas.Bool.{cases_Bool}
 use Rattle.std.proofs.lemmas.List.{take_all}
 use Rattle.zb_disk.specs.Disk.{Only}
 use Rattle.zb_disk.specs.declared.disk.Disk.{Ghosts}
 use Rattle.zb_model.specs.declared.record.Batch.{Batch}
+use Rattle.zb_store.specs.CallLaws.{Reads}
 use Rattle.zb_store.specs.GateLog as gates
 use Rattle.zb_store.specs.Stands.{Stands, IsCutAfter}
 use Rattle.zb_store.specs.declared.fault.StoreFault.{StoreFault}
@@ -20,8 +21,7 @@ use Rattle.zb_partition.specs.declared.fault.OpenFault.{OpenFault}
 use Rattle.zb_partition.specs.declared.fault.OpenFault.TheVariants.{DiskFault, BadLog, Memory}
 use Rattle.zb_partition.specs.declared.opening.Known.{Known}
 use Rattle.zb_partition.specs.declared.partition.Partition.{Partition}
-use Rattle.zb_partition.proofs.Calls.{Reads}
-use Rattle.zb_partition.proofs.Frames.{frames_stay}
+use Rattle.zb_partition.proofs.Frames.{frames_stay, index_stays}
 
 -- what was read of a disk that leaves one thing alone
 only_stays : {D : Type 0} (disks : Ghosts D) (old new : D) → IsTrue disks.tells → IsTrue disks.tells_images → Reads disks old new → Only (disks.view old).contents (disks.images old) → Only (disks.view new).contents (disks.images new)
@@ -29,12 +29,12 @@ only_stays disks old new told images reads only = λ c image. only c (reads.cras
 
 -- all frames of a log were read, and the partition keeps what is known of them
 pub read_whole : {D : Type 0} {disks : Ghosts D} (p : ℕ) (log : GateLog D disks) (batches : List Batch) (known : Known) (partition : Partition D disks)
-    → IsTrue (gates.is_whole log) → gates.IsSameLog log partition.log → Reads disks (gates.disk_of log) (disk_of partition)
+    → IsTrue (gates.is_whole log) → gates.IsIndexed log → gates.IsSameLog log partition.log → Reads disks (gates.disk_of log) (disk_of partition)
     → (IsTrue disks.tells_images → IsTrue disks.tells) → (IsTrue disks.tells_images → Only (disks.view (gates.disk_of log)).contents (disks.images (gates.disk_of log)))
     → ((bodies : List (List ℕ)) → IsTrue disks.tells → gates.HasLog (disks.view (gates.disk_of log)).contents log bodies → gates.HasLog (disks.view (disk_of partition)).contents partition.log bodies)
     → IsRead p partition.log (disks.view (disk_of partition)).contents (gates.count_of partition.log) batches known
     → known.state ≡ partition.state → known.last_moment ≡ partition.last_moment → partition.in_writing ≡ None → IsReadWhole p log batches partition
-read_whole {disks = disks} p log batches known partition whole same reads told_both durable kept read state moment resting = record {
+read_whole {disks = disks} p log batches known partition whole indexed same reads told_both durable kept read state moment resting = record {
   whole = whole;
   applied = read.knows.applied;
   spelled = λ told bodies has.
@@ -44,7 +44,7 @@ read_whole {disks = disks} p log batches known partition whole same reads told_b
     file = λ told. kept (bodies_of batches) told (before told);
     durable = λ images. only_stays disks (gates.disk_of log) (disk_of partition) (told_both images) images reads (durable images);
     count = sym read.count;
-    extent = read.extent;
+    extent = ap (λ (n : ℕ). n + 1) (sym (index_stays log partition.log same indexed).last) ∙ read.extent;
     state = rw (sym state) read.knows.state;
     moment = read.knows.moment ∙ moment;
     resting = resting;

@@ -1,5 +1,5 @@
 -- A batch more in a log, or one that could not be added.
-use Rattle.std.proofs.Common.{◌≡◌, ◌⊎◌, ℕ, ◌+◌, ◌≤◌, List, [], ◌∷◌, ◌++◌, length, Bool, IsTrue, Option, Some, None, refl, sym, ap, ◌∙◌, subst, inl, inr, ⊎_elim, arith, length-append}
+use Rattle.std.proofs.Common.{◌≡◌, ℕ, ◌+◌, ◌≤◌, List, [], ◌∷◌, ◌++◌, length, Bool, IsTrue, Option, Some, None, refl, sym, ap, ◌∙◌, subst, inl, inr, ⊎_elim, arith, length-append}
 use Rattle.zb_disk.specs.Cause.{Rose}
 use Rattle.zb_disk.specs.Disk.{DiskView, Only}
 use Rattle.zb_disk.specs.declared.disk.Disk.{Ghosts}
@@ -7,6 +7,8 @@ use Rattle.zb_model.specs.declared.record.Batch.{Batch}
 use Rattle.zb_model.specs.declared.stop.Stop.{Stop}
 use Rattle.zb_model.specs.declared.stop.Stop.TheVariants as stops
 use Rattle.zb_model.specs.Record.{bytes_of}
+use Rattle.zb_store.specs.Calls.{LeavesOnly}
+use Rattle.zb_store.specs.CallLaws.{leaves_none, leaves_weaker}
 use Rattle.zb_store.specs.Log.{extent, framed, extent_more, framed_length}
 use Rattle.zb_store.specs.Stands.{Stands, StandsWithOrWithout}
 use Rattle.zb_store.specs.Cause.{IsFullAt}
@@ -20,7 +22,7 @@ use Rattle.zb_state.specs.State.{IsStateOf}
 use Rattle.zb_state.specs.declared.state.State.{State}
 use Rattle.zb_partition.specs.Log.{bodies_of}
 use Rattle.zb_partition.specs.Partition.{disk_of, HasLog, IsAhead}
-use Rattle.zb_partition.specs.Stopping.{IsLeft, IsHurt, IsStopCause, IsUnwritten, IsTooLong, stop_of}
+use Rattle.zb_partition.specs.Stopping.{IsLeft, IsLogOrMore, IsHurt, IsStopCause, IsUnwritten, IsTooLong, stop_of}
 use Rattle.zb_partition.specs.declared.partition.Partition.{Partition}
 use Rattle.zb_partition.proofs.Frames.{bodies_of_more}
 
@@ -40,52 +42,55 @@ module _ {D : Type 0} {disks : Ghosts D} (partition : Partition D disks) (log : 
       subst (λ (c : List ℕ). Stands c (bodies_of log)) (sym (durable t image left)) (file_stands (told t))
 
 -- nothing was written
-pub unwritten_none : (tells tells_images takes_memory : Bool) (view : DiskView) (images : List ℕ → Type 0) (limit : ℕ) (log : List Batch) (refused writing : Option Batch) (stop : Stop)
+pub unwritten_none : (tells tells_images takes_memory : Bool) (view : DiskView) (images : List ℕ → Type 0) (since : ℕ → List ℕ → Type 0) (limit : ℕ) (log : List Batch) (refused writing : Option Batch) (stop : Stop)
     → writing ≡ None → IsStopCause view.faults view.faults limit log refused writing stop
     → (IsTrue tells → Stands view.contents (bodies_of log)) → (IsTrue tells_images → (image : List ℕ) → images image → Stands image (bodies_of log))
-    → IsUnwritten tells tells_images takes_memory view view images limit log refused writing stop
-unwritten_none tells tells_images takes_memory view images limit log refused writing stop none cause file crash =
+    → IsUnwritten tells tells_images takes_memory view view images since since limit log refused writing stop
+unwritten_none tells tells_images takes_memory view images since limit log refused writing stop none cause file crash =
     let hurt = IsHurt takes_memory view.faults view.faults in
     record {
       cause = cause;
       file = λ t. subst (λ (w : Option Batch). IsLeft hurt log w view.contents) (sym none) (file t);
       crash = λ t image left. subst (λ (w : Option Batch). IsLeft hurt log w image) (sym none) (crash t image left);
+      time = λ t. leaves_none view.moment since (IsLeft hurt log writing);
     }
 
+-- with or without the bytes of a batch, it is the log or one batch more
+pub log_or_more : (log : List Batch) (batch : Batch) (file : List ℕ) → StandsWithOrWithout (bodies_of log) (bytes_of batch) file → IsLogOrMore log batch file
+log_or_more log batch file (inl without) = inl without
+log_or_more log batch file (inr with_it) = inr (subst (λ (bodies : List (List ℕ)). Stands file bodies) (sym (bodies_of_more log batch)) with_it)
+
 -- the batch was in writing as the log refused it
-module _ (tells tells_images takes_memory : Bool) (old new : DiskView) (images images' : List ℕ → Type 0) (limit before frame : ℕ) (log : List Batch) (batch : Batch)
-    (stood : IsTrue tells → Stands old.contents (bodies_of log)) (stood_images : IsTrue tells_images → (image : List ℕ) → images image → Stands image (bodies_of log))
+module _ (tells tells_images takes_memory : Bool) (old new : DiskView) (images : List ℕ → Type 0) (past since : ℕ → List ℕ → Type 0) (limit before frame : ℕ) (log : List Batch) (batch : Batch)
     (left : IsTrue tells → StandsWithOrWithout (bodies_of log) (bytes_of batch) new.contents)
-    (crash : IsTrue tells_images → (image : List ℕ) → images' image → StandsWithOrWithout (bodies_of log) (bytes_of batch) image)
+    (crash : IsTrue tells_images → (image : List ℕ) → images image → StandsWithOrWithout (bodies_of log) (bytes_of batch) image)
+    (time : IsTrue tells_images → LeavesOnly old.moment new.moment past since (StandsWithOrWithout (bodies_of log) (bytes_of batch)))
     (room : before + frame ≤ limit) where
   abbrev Hurt : Type 0
   Hurt = IsHurt takes_memory old.faults new.faults
 
   may_have : Hurt → (file : List ℕ) → StandsWithOrWithout (bodies_of log) (bytes_of batch) file → IsLeft Hurt log (Some batch) file
-  may_have hurt file (inl without) = inl without
-  may_have hurt file (inr with_it) = inr (hurt, subst (λ (bodies : List (List ℕ)). Stands file bodies) (sym (bodies_of_more log batch)) with_it)
+  may_have hurt file either = ⊎_elim (λ without. inl without) (λ with_it. inr (hurt, with_it)) (log_or_more log batch file either)
 
-  by_hurt : (stop : Stop) → IsStopCause old.faults new.faults limit log (Some batch) (Some batch) stop → Hurt → IsUnwritten tells tells_images takes_memory old new images' limit log (Some batch) (Some batch) stop
+  by_hurt : (stop : Stop) → IsStopCause old.faults new.faults limit log (Some batch) (Some batch) stop → Hurt → IsUnwritten tells tells_images takes_memory old new images past since limit log (Some batch) (Some batch) stop
   by_hurt stop cause hurt = record {
     cause = cause;
     file = λ t. may_have hurt new.contents (left t);
     crash = λ t image is. may_have hurt image (crash t image is);
+    time = λ t. leaves_weaker old.moment new.moment past since _ _ (may_have hurt) (time t);
   }
 
-  pub unwritten_some : (fault : StoreFault) → IsFullAt before frame limit fault → (fault ≡ store.DiskFault → Rose old.faults new.faults)
-      → (fault ≡ store.Memory → IsTrue takes_memory ⊎ ((new ≡ old) × ((image : List ℕ) → images' image → images image)))
-      → IsUnwritten tells tells_images takes_memory old new images' limit log (Some batch) (Some batch) (stop_of fault)
+  pub unwritten_some : (fault : StoreFault) → IsFullAt before frame limit fault → (fault ≡ store.DiskFault → Rose old.faults new.faults) → (fault ≡ store.Memory → IsTrue takes_memory)
+      → IsUnwritten tells tells_images takes_memory old new images past since limit log (Some batch) (Some batch) (stop_of fault)
   unwritten_some store.DiskFault full rose memory = by_hurt stops.DiskFault (rose refl, refl, refl) (inl (rose refl))
   unwritten_some (store.LogFull n m k) full rose memory = absurd (omega (arith, full, room))
-  unwritten_some store.Memory full rose memory =
-      ⊎_elim
-      (λ takes. by_hurt stops.Memory (inr refl) (inr takes))
-      (λ same. record {
-        cause = inr refl;
-        file = λ t. inl (subst (λ (v : DiskView). Stands v.contents (bodies_of log)) (sym same.0) (stood t));
-        crash = λ t image is. inl (stood_images t image (same.1 image is));
-      })
-      (memory refl)
+  unwritten_some store.Memory full rose memory = by_hurt stops.Memory (inr refl) (inr (memory refl))
+
+-- a log that stops for want of memory had none on its disk
+pub memory_told : (takes_memory : Bool) (fault : StoreFault) → (fault ≡ store.Memory → IsTrue takes_memory) → stop_of fault ≡ stops.Memory → IsTrue takes_memory
+memory_told takes_memory store.DiskFault takes is = absurd cc
+memory_told takes_memory (store.LogFull n m k) takes is = absurd cc
+memory_told takes_memory store.Memory takes is = takes refl
 
 -- a partition that has the same log and knows the same
 module _ {D : Type 0} {disks : Ghosts D} (log : List Batch) (old new : Partition D disks) (same_log : new.log ≡ old.log) (same_writing : new.in_writing ≡ old.in_writing) where

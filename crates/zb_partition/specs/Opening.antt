@@ -5,8 +5,9 @@ use Rattle.zb_model.specs.declared.record.Batch.{Batch}
 use Rattle.zb_store.specs.Stands.{Stands}
 use Rattle.zb_store.specs.GateLog as gates
 use Rattle.zb_store.specs.declared.gate_log.GateLog.{GateLog}
+use Rattle.zb_store.specs.declared.volume.Volume.{Volume}
 use Rattle.zb_partition.specs.Log.{bodies_of, IsApplied}
-use Rattle.zb_partition.specs.Partition.{disk_of, HasLog}
+use Rattle.zb_partition.specs.Partition.{disk_of, slots_of, HasLog}
 use Rattle.zb_partition.specs.declared.fault.OpenFault.{OpenFault}
 use Rattle.zb_partition.specs.declared.partition.Partition.{Partition}
 
@@ -16,10 +17,15 @@ pub record IsOpened {D : Type 0} {disks : Ghosts D} (place : ℕ) (file : List �
   pub applied : IsApplied place log
   pub has : HasLog log partition
 
--- the disk behind an opening, whether it was refused or not
-abbrev pub disk_after : {D : Type 0} {disks : Ghosts D} → Result (Partition D disks) (OpenFault × D) → D
+-- the log's disk behind an opening, whether it was refused or not
+abbrev pub disk_after : {D : Type 0} {disks : Ghosts D} → Result (Partition D disks) (OpenFault × Volume D) → D
 disk_after (Ok partition) = disk_of partition
-disk_after (Err refused) = refused.1
+disk_after (Err refused) = refused.1.log
+
+-- the slots behind an opening
+abbrev pub slots_after : {D : Type 0} {disks : Ghosts D} → Result (Partition D disks) (OpenFault × Volume D) → D × D
+slots_after (Ok partition) = slots_of partition
+slots_after (Err refused) = (refused.1.snap_a, refused.1.snap_b)
 
 -- all frames of the log, which is whole, were read: they are of these batches
 pub record IsReadWhole {D : Type 0} {disks : Ghosts D} (place : ℕ) (log : GateLog D disks) (batches : List Batch) (partition : Partition D disks) : Type 0 where

@@ -19,6 +19,10 @@ place_of partition = states.place_of partition.state
 abbrev pub disk_of : {D : Type 0} {disks : Ghosts D} → Partition D disks → D
 disk_of partition = gates.disk_of partition.log
 
+-- its slots for snapshots
+abbrev pub slots_of : {D : Type 0} {disks : Ghosts D} → Partition D disks → D × D
+slots_of partition = (partition.snap_a, partition.snap_b)
+
 -- how many bytes its log may have
 abbrev pub limit_of : {D : Type 0} {disks : Ghosts D} → Partition D disks → ℕ
 limit_of partition = gates.limit_of partition.log

@@ -8,6 +8,7 @@ use Rattle.zb_model.specs.declared.stop.Stop.{Stop}
 use Rattle.zb_model.specs.declared.stop.Stop.TheVariants as stops
 use Rattle.zb_model.specs.Record.{bytes_of}
 use Rattle.zb_store.specs.Log.{extent}
+use Rattle.zb_store.specs.Calls.{LeavesOnly}
 use Rattle.zb_store.specs.Stands.{Stands}
 use Rattle.zb_store.specs.declared.fault.StoreFault.{StoreFault}
 use Rattle.zb_store.specs.declared.fault.StoreFault.TheVariants as store
@@ -24,6 +25,10 @@ pub record IsStepOf (p : ℕ) (log : List Batch) (at from : ℕ) (asked : Comman
 -- the frame of a batch: nine bytes more than the batch has, at most the greatest number of 64 bits
 abbrev pub frame_of : Batch → ℕ
 frame_of batch = min (length (bytes_of batch) + 9) (2 ^ 64 - 1)
+
+-- a file stands for the log, or for it with this batch
+abbrev pub IsLogOrMore : List Batch → Batch → List ℕ → Type 0
+IsLogOrMore log batch file = Stands file (bodies_of log) ⊎ Stands file (bodies_of (log ++ batch ∷ []))
 
 -- a file stands for the log, or, where the disk was hurt, for it with the batch that was in writing
 abbrev pub IsLeft : Type 0 → List Batch → Option Batch → List ℕ → Type 0
@@ -43,20 +48,22 @@ IsStopCause before after limit log refused in_writing (stops.LogFull length_told
 abbrev pub IsHurt : (takes_memory : Bool) (before after : ℕ) → Type 0
 IsHurt takes_memory before after = Rose before after ⊎ IsTrue takes_memory
 
--- a batch was not added to the log, for this reason: what the file holds, and what a crash now leaves of it
-pub record IsUnwritten (tells tells_images takes_memory : Bool) (old new : DiskView) (images : List ℕ → Type 0) (limit : ℕ)
+-- a batch was not added to the log, for this reason: what the file holds, and what a crash leaves of it, now and at
+-- any moment since
+pub record IsUnwritten (tells tells_images takes_memory : Bool) (old new : DiskView) (images : List ℕ → Type 0) (past since : ℕ → List ℕ → Type 0) (limit : ℕ)
     (log : List Batch) (refused in_writing : Option Batch) (stop : Stop) : Type 0 where
   pub cause : IsStopCause old.faults new.faults limit log refused in_writing stop
   pub file : IsTrue tells → IsLeft (IsHurt takes_memory old.faults new.faults) log in_writing new.contents
   pub crash : IsTrue tells_images → (image : List ℕ) → images image → IsLeft (IsHurt takes_memory old.faults new.faults) log in_writing image
+  pub time : IsTrue tells_images → LeavesOnly old.moment new.moment past since (IsLeft (IsHurt takes_memory old.faults new.faults) log in_writing)
 
 -- a command stopped the partition
-pub record IsStopped (tells tells_images takes_memory : Bool) (old new : DiskView) (images : List ℕ → Type 0) (place limit : ℕ)
+pub record IsStopped (tells tells_images takes_memory : Bool) (old new : DiskView) (images : List ℕ → Type 0) (past since : ℕ → List ℕ → Type 0) (place limit : ℕ)
     (log : List Batch) (moment begin : ℕ) (command : Command) (in_writing : Option Batch) (stop : Stop) : Type 0 where
   -- the batch that was made and isn't in the log, if there was one
   pub refused : Option Batch
   pub next : (batch : Batch) → refused ≡ Some batch → IsStepOf place log moment begin command batch
-  pub unwritten : IsUnwritten tells tells_images takes_memory old new images limit log refused in_writing stop
+  pub unwritten : IsUnwritten tells tells_images takes_memory old new images past since limit log refused in_writing stop
 
 -- the frame of the batch doesn't fit into a log of this length, or there was no memory for it
 abbrev pub IsTooLong : (length_is limit : ℕ) → Batch → Stop → Type 0

@@ -5,6 +5,8 @@ mod fault;
 mod opening;
 mod partition;
 mod record;
+#[cfg(test)]
+mod tests;
 
 pub use fault::OpenFault;
 pub use partition::{Partition, Stopped};

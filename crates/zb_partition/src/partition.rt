@@ -1,19 +1,20 @@
-ghost use Rattle.std.specs.Prelude.{◌≡◌, ◌<◌, ◌≤◌, ◌+◌, ◌++◌, ◌∷◌, ◌^◌, ℕ, List, [], length, IsTrue, IsFalse, IsOk, IfErr, IfOk, OnErr, OnOk, IsErrOf, Some, None, Err};
+ghost use Rattle.std.specs.Prelude.{◌≡◌, ◌⊎◌, ◌<◌, ◌≤◌, ◌+◌, ◌++◌, ◌∷◌, ◌^◌, ℕ, List, [], length, IsTrue, IsFalse, IsOk, IfErr, IfOk, OnErr, OnOk, IsErrOf, Some, None, Err};
 ghost use Rattle.zb_disk.specs.Disk.{Only};
 ghost use Rattle.zb_model.specs.declared.record.Event.{Event};
 ghost use Rattle.zb_model.specs.declared.record.Batch.{Batch};
 ghost use Rattle.zb_model.specs.Record.{bytes_of};
-ghost use Rattle.zb_store.specs.Calls.{OnlyReads, OnlyOpens};
+ghost use Rattle.zb_store.specs.Calls.{OnlyReads, OnlyOpens, LeavesOnly};
 ghost use Rattle.zb_store.specs.GateLog as gates;
 ghost use Rattle.zb_store.specs.Log.{framed, extent};
-ghost use Rattle.zb_rules.specs.View.{last_moment};
+ghost use Rattle.zb_rules.specs.View.{last_moment, events_of};
+ghost use Rattle.zb_rules.specs.Due.{due_command};
 ghost use Rattle.zb_rules.specs.Own.{IsRun};
 ghost use Rattle.zb_state.specs.State as states;
 ghost use Rattle.zb_state.specs.State.{IsStateOf};
 ghost use Rattle.zb_partition.specs.Fault.{IsDiskCause};
 ghost use Rattle.zb_partition.specs.Reading.{IsRead, IsRefused};
 ghost use Rattle.zb_partition.specs.Log.{bodies_of};
-ghost use Rattle.zb_partition.specs.Stopping.{IsStepOf, IsStopped, IsUnwritten, IsTooLong, stop_of};
+ghost use Rattle.zb_partition.specs.Stopping.{IsStepOf, IsStopped, IsLogOrMore, IsUnwritten, IsTooLong, stop_of};
 
 use crate::fault::OpenFault;
 use crate::opening::{Known, read_frames};
@@ -23,16 +24,18 @@ use zb_disk::Disk;
 use zb_model::{Batch, Command, Moment, PartitionId, Stop};
 use zb_state::State;
 use zb_step::outcome_of;
-use zb_store::{GateLog, StoreFault};
+use zb_store::{GateLog, StoreFault, Volume};
 
 /// How many bytes a frame has beyond its body: the length in front, and the gate behind.
 const FRAME_BYTES: u64 = 9;
 
-/// A partition: its log on a disk, and what the log's events come to. Its clauses hold for all lists of
-/// batches that its log may be.
+/// A partition: its volume, and what the events of its log come to. Its clauses hold for all lists of batches
+/// that its log may be.
 #[derive(Drop)]
 pub struct Partition<D: Disk> {
     log: GateLog<D>,
+    snap_a: D,
+    snap_b: D,
     state: State,
     last_moment: Moment,
     live: bool,
@@ -47,41 +50,55 @@ pub struct Partition<D: Disk> {
 /// What is left of a partition.
 #[derive(Drop)]
 pub struct Stopped<D> {
-    /// The disk of its log.
-    pub log: D,
-    /// The batch that was being written when it stopped. At the next opening the log has it or hasn't it.
+    /// Its files.
+    pub volume: Volume<D>,
+    /// The batch for which calls of the disk were made when it stopped. At the next opening the log has it or
+    /// hasn't it.
     pub in_writing: Option<Batch>,
 }
 
 impl<D: Disk> Partition<D> {
     ghost use Rattle.zb_partition.specs.Log.{IsBadAt};
-    ghost use Rattle.zb_partition.specs.Partition.{place_of, disk_of, limit_of, frames_of, last_moment_of, is_live, in_writing, HasLog, IsAhead};
-    ghost use Rattle.zb_partition.specs.Opening.{IsOpened, IsReadWhole, disk_after};
+    ghost use Rattle.zb_partition.specs.Partition.{place_of, disk_of, slots_of, limit_of, frames_of, last_moment_of, is_live, in_writing, HasLog, IsAhead};
+    ghost use Rattle.zb_partition.specs.Opening.{IsOpened, IsReadWhole, disk_after, slots_after};
 
-    /// Opens the partition with this number over its log, which may have so many bytes. Every frame is read,
-    /// and the log is refused where one can't be: at the first frame that spells no batch, that has an event
-    /// that doesn't apply, or that runs past the end of the file. No frame is changed. It reads each byte of
-    /// the log twice, and takes a call of the disk for each frame and memory for the buffered messages.
+    /// Opens the partition with this number over its volume, whose log may have so many bytes. Every frame is
+    /// read, and the log is refused where one can't be: at the first frame that spells no batch, that has an
+    /// event that doesn't apply, or that runs past the end of the file. No frame is changed. It reads each byte
+    /// of the log twice, and takes a call of the disk for each frame and memory for the buffered messages.
     pub fn open(
         alloc: Global,
-        disk: D,
+        volume: Volume<D>,
         place: PartitionId,
         limit: u64,
-    ) -> Result<Partition<D>, (OpenFault, D)>
+    ) -> Result<Partition<D>, (OpenFault, Volume<D>)>
         requires { limit ≤ 2 ^ 32 }
-        ensures opened { IfOk result (λ partition. (log : List Batch) × IsOpened place (D.view disk).contents log partition) }
+        ensures opened { IfOk result (λ partition. (log : List Batch) × IsOpened place (D.view volume.log).contents log partition) }
         ensures place { IfOk result (λ partition. place_of partition ≡ place) }
         ensures limit { IfOk result (λ partition. limit_of partition ≡ limit) }
         ensures live { IfOk result (λ partition. IsTrue (is_live partition)) }
-        ensures bad { IsTrue D.tells → (frame : ℕ) → IfErr result (λ refused. refused.0 ≡ OpenFault.BadLog frame → IsBadAt place (D.view disk).contents frame) }
+        ensures bad { IsTrue D.tells → (frame : ℕ) → IfErr result (λ refused. refused.0 ≡ OpenFault.BadLog frame → IsBadAt place (D.view volume.log).contents frame) }
 
-        // What becomes of the file, and what a crash may leave of it at any moment.
-        ensures opens { OnlyOpens D.tells D.tells_images D.view D.images D.since disk (disk_after result) }
-        ensures cause { IfErr result (λ refused. IsDiskCause (D.view disk).faults (D.view refused.1).faults refused.0) }
+        // What becomes of the file, and what a crash may leave of it at any moment. The slots stay as they are.
+        ensures opens { OnlyOpens D.tells D.tells_images D.view D.images D.since volume.log (disk_after result) }
+        ensures slots { slots_after result ≡ (volume.snap_a, volume.snap_b) }
+        ensures cause { IfErr result (λ refused. IsDiskCause (D.view volume.log).faults (D.view refused.1.log).faults refused.0) }
     {
-        match GateLog::open(alloc, disk, limit) {
-            Ok(log) => Partition::over(alloc, log, place),
-            Err((fault, disk)) => Err((OpenFault::from(fault), disk)),
+        let Volume {
+            log,
+            snap_a,
+            snap_b,
+        } = volume;
+        match GateLog::open(alloc, log, limit) {
+            Ok(log) => Partition::over(alloc, log, snap_a, snap_b, place),
+            Err((fault, log)) => Err((
+                OpenFault::from(fault),
+                Volume {
+                    log,
+                    snap_a,
+                    snap_b,
+                },
+            )),
         }
     }
 
@@ -124,7 +141,18 @@ impl<D: Disk> Partition<D> {
             → IfOk result (λ batch. extent (bodies_of (log ++ batch ∷ [])) ≤ limit_of self.old) }
         ensures stopped { (log : List Batch) → HasLog log self.old → last_moment log ≤ moment
             → IfErr result (IsStopped D.tells D.tells_images D.takes_memory (D.view (disk_of self.old)) (D.view (disk_of self.new))
-            (D.images (disk_of self.new)) (place_of self.old) (limit_of self.old) log moment begin command (in_writing self.new)) }
+            (D.images (disk_of self.new)) (D.since (disk_of self.old)) (D.since (disk_of self.new))
+            (place_of self.old) (limit_of self.old) log moment begin command (in_writing self.new)) }
+
+        // A crash at any moment since leaves the log, or the log with this batch.
+        ensures time { IsTrue D.tells_images → (log : List Batch) → HasLog log self.old
+            → IfOk result (λ batch. LeavesOnly (D.view (disk_of self.old)).moment (D.view (disk_of self.new)).moment
+            (D.since (disk_of self.old)) (D.since (disk_of self.new)) (IsLogOrMore log batch)) }
+
+        // A batch is in writing only where the disk was called for it, and for want of memory only on a disk that takes some.
+        ensures untouched { IfErr result (λ stop. in_writing self.new ≡ None → disk_of self.new ≡ disk_of self.old) }
+        ensures memory { IsErrOf result Stop.Memory → (in_writing self.new ≡ None) ⊎ IsTrue D.takes_memory }
+        ensures slots { slots_of self.new ≡ slots_of self.old }
         ensures live { IsOk result → IsTrue (is_live self.new) }
         ensures place { place_of self.new ≡ place_of self.old }
         ensures limit { limit_of self.new ≡ limit_of self.old }
@@ -144,18 +172,32 @@ impl<D: Disk> Partition<D> {
         }
     }
 
-    /// The disk of its log, and the batch that it was writing when it stopped, if it did.
+    /// The command that is due first at this moment, if one is. It goes once through the buffered messages.
+    pub fn due(&self, now: Moment) -> Option<Command>
+        ensures { (log : List Batch) → HasLog log self.now → result ≡ due_command now (events_of log) }
+    {
+        self.state.due(now).map(Command::MessageExpire)
+    }
+
+    /// Its files, and the batch that it was writing when it stopped, if it did.
     pub fn stopped(self) -> Stopped<D>
-        ensures log { result.log ≡ disk_of self }
+        ensures log { result.volume.log ≡ disk_of self }
+        ensures slots { (result.volume.snap_a, result.volume.snap_b) ≡ slots_of self }
         ensures in_writing { result.in_writing ≡ in_writing self }
     {
         let Partition {
             log,
+            snap_a,
+            snap_b,
             in_writing,
             ..
         } = self;
         Stopped {
-            log: log.into_disk(),
+            volume: Volume {
+                log: log.into_disk(),
+                snap_a,
+                snap_b,
+            },
             in_writing,
         }
     }
@@ -164,9 +206,12 @@ impl<D: Disk> Partition<D> {
     fn over(
         alloc: Global,
         mut log: GateLog<D>,
+        snap_a: D,
+        snap_b: D,
         place: PartitionId,
-    ) -> Result<Partition<D>, (OpenFault, D)>
+    ) -> Result<Partition<D>, (OpenFault, Volume<D>)>
         requires first { gates.place_of log 0 ≡ 0 }
+        requires indexed { gates.IsIndexed log }
         requires limit { gates.limit_of log ≤ 2 ^ 32 }
         requires durable { IsTrue D.tells_images → Only (D.view (gates.disk_of log)).contents (D.images (gates.disk_of log)) }
         ensures read { IfOk result (λ partition. (batches : List Batch) × IsReadWhole place log batches partition) }
@@ -175,18 +220,28 @@ impl<D: Disk> Partition<D> {
         ensures live { IfOk result (λ partition. IsTrue (is_live partition)) }
         ensures bad { IsTrue D.tells → IfErr result (λ refused. IsRefused place log refused.0) }
         ensures reads { OnlyReads D.tells D.tells_images D.view D.images D.since (gates.disk_of log) (disk_after result) }
-        ensures cause { IfErr result (λ refused. IsDiskCause (D.view (gates.disk_of log)).faults (D.view refused.1).faults refused.0) }
+        ensures slots { slots_after result ≡ (snap_a, snap_b) }
+        ensures cause { IfErr result (λ refused. IsDiskCause (D.view (gates.disk_of log)).faults (D.view refused.1.log).faults refused.0) }
     {
         match read_log(alloc, &mut log, place) {
             Ok(known) => Ok(Partition {
                 log,
+                snap_a,
+                snap_b,
                 state: known.state,
                 last_moment: known.last_moment,
                 live: true,
                 in_writing: None,
                 frame: Vec::new(alloc),
             }),
-            Err(fault) => Err((fault, log.into_disk())),
+            Err(fault) => Err((
+                fault,
+                Volume {
+                    log: log.into_disk(),
+                    snap_a,
+                    snap_b,
+                },
+            )),
         }
     }
 
@@ -204,6 +259,7 @@ impl<D: Disk> Partition<D> {
         ensures ahead { (log : List Batch) → HasLog log self.old → IfOk result (λ batch. IsAhead log batch self.new) }
         ensures memory { OnErr result (result ≡ Err Stop.Memory) }
         ensures log { self.new.log ≡ self.old.log }
+        ensures slots { slots_of self.new ≡ slots_of self.old }
         ensures live { is_live self.new ≡ is_live self.old }
         ensures in_writing { in_writing self.new ≡ in_writing self.old }
         ensures place { place_of self.new ≡ place_of self.old }
@@ -226,7 +282,14 @@ impl<D: Disk> Partition<D> {
         ensures log { (log : List Batch) → IsAhead log batch self.old → OnOk result (HasLog (log ++ batch ∷ []) self.new) }
         ensures stopped { (log : List Batch) → IsAhead log batch self.old → in_writing self.old ≡ None
             → IfErr result (IsUnwritten D.tells D.tells_images D.takes_memory (D.view (disk_of self.old)) (D.view (disk_of self.new))
-            (D.images (disk_of self.new)) (limit_of self.old) log (Some batch) (in_writing self.new)) }
+            (D.images (disk_of self.new)) (D.since (disk_of self.old)) (D.since (disk_of self.new))
+            (limit_of self.old) log (Some batch) (in_writing self.new)) }
+        ensures time { IsTrue D.tells_images → (log : List Batch) → IsAhead log batch self.old
+            → OnOk result (LeavesOnly (D.view (disk_of self.old)).moment (D.view (disk_of self.new)).moment
+            (D.since (disk_of self.old)) (D.since (disk_of self.new)) (IsLogOrMore log batch)) }
+        ensures untouched { OnErr result (in_writing self.new ≡ None → disk_of self.new ≡ disk_of self.old) }
+        ensures memory { in_writing self.old ≡ None → IsErrOf result Stop.Memory → (in_writing self.new ≡ None) ⊎ IsTrue D.takes_memory }
+        ensures slots { slots_of self.new ≡ slots_of self.old }
         ensures fits { (log : List Batch) → IsAhead log batch self.old
             → OnOk result (extent (bodies_of (log ++ batch ∷ [])) ≤ limit_of self.old) }
         ensures whole { OnOk result (IsTrue (gates.is_whole self.new.log)) }
@@ -255,6 +318,7 @@ impl<D: Disk> Partition<D> {
         ensures fits { OnOk result (gates.length_of self.new.log + length self.new.frame.items ≤ limit_of self.new) }
         ensures full { IfErr result (IsTooLong (gates.length_of self.old.log) (limit_of self.old) batch.now) }
         ensures log { self.new.log ≡ self.old.log }
+        ensures slots { slots_of self.new ≡ slots_of self.old }
         ensures state { self.new.state ≡ self.old.state }
         ensures last_moment { self.new.last_moment ≡ self.old.last_moment }
         ensures live { is_live self.new ≡ is_live self.old }

@@ -2,7 +2,7 @@ use Rattle.std.proofs.Common.{◌≡◌, ◌∷◌, ◌++◌, ◌+◌, ◌∙◌
 use Rattle.std.specs.Prelude.{Err}
 use Rattle.std.proofs.lemmas.Result.{err_from_is_err_and}
 use Rattle.zb_store.specs.GateLog as gates
-use Rattle.zb_partition.proofs.Calls.{reads_none, reads_then}
+use Rattle.zb_store.specs.CallLaws.{reads_none, reads_then}
 use Rattle.zb_partition.proofs.Frames.{same_already, same_then, frames_stay, read_none, read_more, read_stays, first_bad, blames_by, cause_then}
 use Rattle.zb_partition.proofs.opening.read_frames.Goals as goal
 
@@ -82,7 +82,7 @@ loop-frame-preserved g c =
     let read = c.loop-frame.invariant.read in
     let body = c.frame.new.body.items in
     let batch = c.in-Ok.ensures.read c.args.place read.0 read.1.knows in
-    let size : gates.place_of first (i + 1) ≡ gates.place_of first i + 9 + length body = rw (sym so_far.gates) c.in_ok-frame.ensures.size in
+    let size : gates.place_of first (i + 1) ≡ gates.place_of first i + 9 + length body = rw (sym so_far.index) c.in_ok-frame.ensures.size in
     record {
       read = (
         read.0 ++ batch.0 ∷ [],

@@ -6,6 +6,6 @@ pub returns-in-Ok-clause-read : goal.returns-in-Ok-clause-read
 returns-in-Ok-clause-read g c =
     let read = c.in-Ok.ensures.read in (
       read.0,
-      read_whole c.args.place c.args.log read.0 c.in-Ok.known _ c.in-Ok.ensures.whole c.read_log.ensures.same c.read_log.ensures.reads
+      read_whole c.args.place c.args.log read.0 c.in-Ok.known _ c.in-Ok.ensures.whole c.requires.indexed c.read_log.ensures.same c.read_log.ensures.reads
           g.met.D.Disk.images_told c.requires.durable (λ bodies told. c.read_log.ensures.kept told bodies) read.1 refl refl refl,
     )
