@@ -1,4 +1,5 @@
 pub mod Answering
+pub mod Clocks
 pub mod Halts
 pub mod Handing
 pub mod Lists
@@ -8,4 +9,5 @@ pub mod Over
 pub mod Single
 pub mod Stops
 pub mod Streams
+pub mod Ticking
 pub mod Turns

@@ -1,9 +1,11 @@
 -- How a run begins, or ends at once.
-use Rattle.std.proofs.Common.{◌≡◌, ℕ, ◌≤◌, List, [], ◌∷◌, IsTrue, refl, subst, arith, inl}
+use Rattle.std.proofs.Common.{◌≡◌, ℕ, ◌≤◌, List, [], ◌∷◌, IsTrue, refl, subst, arith, inl, ⊎_elim}
 use Rattle.zb_disk.specs.Disk.{DiskView}
+use Rattle.zb_disk.specs.declared.disk.Disk.{Ghosts}
 use Rattle.zb_lines.specs.Taken.{takes_nothing}
 use Rattle.zb_model.specs.declared.record.Batch.{Batch}
 use Rattle.zb_rules.specs.StepLaws.{are_steps_none}
+use Rattle.zb_store.specs.Calls.{OnlyOpens, LeftByOpening}
 use Rattle.zb_store.specs.Stands.{Stands}
 use Rattle.zb_partition.specs.Log.{bodies_of, IsApplied, IsBadAt}
 use Rattle.zb_partition.specs.Fault.{IsDiskCause}
@@ -12,7 +14,8 @@ use Rattle.zb_partition.specs.declared.fault.OpenFault.TheVariants as faults
 use Rattle.zbd.specs.Ends.{Told, LogEnds}
 use Rattle.zbd.specs.Ledger.{IsMade, IsStored}
 use Rattle.zbd.specs.Served.{FailsToOpen}
-use Rattle.zbd.specs.Serving.{Start, now_of, IsServing, open_cause_of}
+use Rattle.zbd.specs.Hours.{Setting}
+use Rattle.zbd.specs.Serving.{Start, now_of, Clocks, AreAt, IsServing, open_cause_of}
 use Rattle.zbd.specs.Session.{most_taken}
 use Rattle.zbd.proofs.Lists.{append_none}
 
@@ -26,21 +29,22 @@ fails_to_open told ends (faults.BadLog frame) bad rose = (ends, omega arith, ref
 fails_to_open told ends faults.Memory bad rose = tt
 
 -- nothing was made yet
-pub made_none : (opened : List Batch) → IsMade opened [] []
-made_none opened = record {
+pub made_none : (limit : ℕ) (opened : List Batch) → IsMade limit opened [] []
+made_none limit opened = record {
   stamps = refl;
   stamped = tt;
   steps = are_steps_none 1 opened;
-  moments = tt;
   fits = inl refl;
 }
 
 -- nothing was read yet
-pub serving_first : (told : Told) (start : Start) (disk : DiskView) (images : List ℕ → Type 0) (Has : List Batch → Type 0) (opened : List Batch)
-    → Has opened → IsStored told.disk told.images disk images opened → (IsTrue told.disk → Stands start.disk.contents (bodies_of opened)) → IsApplied 1 opened → start.disk.faults ≤ disk.faults
-    → IsServing told start (now_of start.source start.sink disk) images Has [] [] most_taken 1
+pub serving_first : (told : Told) (setting : Setting) (start : Start) (disk : DiskView) (before images : List ℕ → Type 0) (since : ℕ → List ℕ → Type 0) (Has : List Batch → Type 0) (clocks : Clocks) (opened : List Batch)
+    → Has opened → IsStored told.disk told.images disk images opened → (IsTrue told.disk → Stands start.disk.contents (bodies_of opened)) → IsApplied 1 opened → AreAt setting.hours [] clocks
+    → start.disk.faults ≤ disk.faults → (IsTrue told.images → start.disk.moment ≤ disk.moment)
+    → (IsTrue told.images → (image : List ℕ) → since start.disk.moment image → LeftByOpening start.disk.contents before image)
+    → IsServing told setting start (now_of start.source start.sink disk) before images since Has [] clocks [] most_taken 1
 unfolding most_taken
-serving_first told start disk images Has opened has stored stood applied later = record {
+serving_first told setting start disk before images since Has clocks opened has stored stood applied at later moment ever = record {
   opened = opened;
   taken = [];
   lines = [];
@@ -50,14 +54,24 @@ serving_first told start disk images Has opened has stored stood applied later =
   whole = refl;
   each = tt;
   count = refl;
+  clock = at;
   are = tt;
   sent = λ t. append_none start.sink.written;
   stood = stood;
   applied = applied;
-  made = made_none opened;
+  made = made_none setting.limit opened;
   has = subst Has (append_none opened) has;
   stored = subst (IsStored told.disk told.images disk images) (append_none opened) stored;
+  later = moment;
+  ever = λ t image was. inl (ever t image was);
   source_later = omega arith;
   sink_later = omega arith;
   disk_later = later;
 }
+
+-- what an opening may have left, at any moment since
+module _ {D : Type 0} (disks : Ghosts D) where
+  pub opened_ever : (old new : D) → OnlyOpens disks.tells disks.tells_images disks.view disks.images disks.since old new
+      → ((c : List ℕ) → disks.since old (disks.view old).moment c → disks.images old c)
+      → IsTrue disks.tells_images → (image : List ℕ) → disks.since new (disks.view old).moment image → LeftByOpening (disks.view old).contents (disks.images old) image
+  opened_ever old new opens now t image was = ⊎_elim (λ earlier. inl (now image earlier)) (λ left. left) ((opens.time t).nothing_else (disks.view old).moment image (omega arith) was)

@@ -1,5 +1,5 @@
 -- How a run ends.
-use Rattle.std.proofs.Common.{◌≡◌, ◌⊎◌, ℕ, zero, suc, ◌+◌, ◌<◌, List, [], ◌∷◌, ◌++◌, length, Bool, false, IsTrue, Option, Some, refl, sym, ◌∙◌, ap, subst, inl, inr, ⊎_elim, arith, IsSome}
+use Rattle.std.proofs.Common.{◌≡◌, ◌⊎◌, ℕ, zero, suc, ◌+◌, ◌<◌, List, [], ◌∷◌, ◌++◌, length, Bool, false, IsTrue, Option, Some, None, Ok, refl, sym, ◌∙◌, ap, subst, inl, inr, ⊎_elim, arith, IsSome}
 use Rattle.std.proofs.lemmas.List.{append-nil}
 use Rattle.std.proofs.lemmas.List.Sorted.{IsPermutation-refl}
 use Rattle.std.proofs.lemmas.List.FromFn.{get_or-range_with_len, length-range_with_len}
@@ -14,12 +14,17 @@ use Rattle.zb_partition.specs.Log.{bodies_of, IsApplied}
 use Rattle.zb_partition.specs.Stopping.{frame_of}
 use Rattle.zbd.specs.Ends.{Told, LogEnds}
 use Rattle.zbd.specs.Ledger.{IsStored, IsMade}
-use Rattle.zbd.specs.Log.{Growth, whole_of, IsKept, log_limit}
-use Rattle.zbd.specs.Served.{MayEnd, IsNext}
-use Rattle.zbd.specs.Serving.{Start, Now, IsOver, Asks, session_ends, log_ends}
+use Rattle.zb_wire.specs.declared.request.Request.{Request}
+use Rattle.zb_wire.specs.Request.{request_of}
+use Rattle.zbd.specs.Hours.{Hours, is_manual, IsReadingOf, Setting}
+use Rattle.zbd.specs.Made.{AreMadeFor, IsMadeNext}
+use Rattle.zbd.specs.Log.{Growth, whole_of, IsKept, WasLeft}
+use Rattle.zbd.specs.Served.{MayEnd, IsUndone}
+use Rattle.zbd.specs.Serving.{Start, Now, IsOver, session_ends, log_ends}
 use Rattle.zbd.specs.Session.{SessionRun, IsSent, Answer, AreAnswers, batches_of, replies_of, most_taken}
 use Rattle.zbd.specs.declared.run.Cause.{Cause}
 use Rattle.zbd.specs.declared.run.Cause.TheVariants as causes
+use Rattle.zbd.proofs.Lists.{append_none}
 use Rattle.zbd.proofs.Streams.{IsStream}
 
 -- the file stands for the log, whatever a crash leaves, or the disk was hurt
@@ -34,32 +39,37 @@ held_stored told ends images cause unlogged log stored = record {
 }
 
 -- what a cause says
-pub record IsNamed (told : Told) (start : Start) (now : Now) (log : List Batch) (unlogged : Option Batch) (unserved : List (List ℕ)) (at_end : Bool) (cause : Cause) : Type 0 where
+pub record IsNamed (told : Told) (limit : ℕ) (start : Start) (now : Now) (log : List Batch) (unlogged : Option Batch) (unserved : List (List ℕ)) (at_end : Bool) (cause : Cause) : Type 0 where
   pub status : MayEnd 1 1 cause
   pub done : cause ≡ causes.Done → IsTrue at_end × (unserved ≡ [])
   pub source_fault : cause ≡ causes.SourceFault 1 → Rose start.source.faults now.source.faults × (unserved ≡ [])
   pub sink_fault : cause ≡ causes.SinkFault 1 → Rose start.sink.faults now.sink.faults
   pub input_full : cause ≡ causes.InputFull 1 → (now.source.given ≡ start.source.given + most_taken) × (at_end ≡ false) × (unserved ≡ [])
   pub disk_fault : (batch : Option Batch) → cause ≡ causes.DiskFault 1 batch → Rose start.disk.faults now.disk.faults × (batch ≡ unlogged) × IsSome batch
-  pub log_full : (length_told frame limit : ℕ) → cause ≡ causes.LogFull 1 length_told frame limit
-      → (length_told ≡ extent (bodies_of log)) × (limit ≡ log_limit) × (limit < length_told + frame)
+  pub log_full : (length_told frame most : ℕ) → cause ≡ causes.LogFull 1 length_told frame most
+      → (length_told ≡ extent (bodies_of log)) × (most ≡ limit) × (most < length_told + frame)
       × ((batch : Batch) × (unlogged ≡ Some batch) × (frame ≡ frame_of batch))
 
--- the first line that wasn't served asked for this batch
-pub record IsFirst (unserved : List (List ℕ)) (batch : Batch) : Type 0 where
+-- a batch that isn't in the log is a step on it, and begins behind it
+abbrev pub IsLeftOver : List Batch → Batch → Type 0
+IsLeftOver log batch = IsStep 1 log batch × (batch.begin ≡ length log)
+
+-- the first line that wasn't served made these batches and the one that isn't in the log, or memory ran out
+pub record IsFirst (hours : Hours) (log : List Batch) (served unserved : List (List ℕ)) (cause : Cause) (silent : List Batch) (unlogged : Option Batch) : Type 0 where
   pub line : List ℕ
   pub lines : List (List ℕ)
   pub first : unserved ≡ line ∷ lines
-  pub asks : Asks line batch
+  pub request : Request
+  pub asks : request_of (is_manual hours) line ≡ Ok request
+  pub reading : ℕ
+  pub read : IsReadingOf hours (served ++ line ∷ []) reading
+  pub made : AreMadeFor request reading log silent
+  pub next : (batch : Batch) → unlogged ≡ Some batch → IsMadeNext request reading log silent batch
+  pub why : (cause ≡ causes.Memory) ⊎ IsSome unlogged
 
--- a batch that isn't in the log is the next one, and the first line that wasn't served asked for it
-pub record IsAsked (log : List Batch) (unserved : List (List ℕ)) (batch : Batch) : Type 0 where
-  pub step : IsStep 1 log batch
-  pub asked : IsFirst unserved batch
-
--- the batches of a line that was not answered
-abbrev pub AreForgotten : List (List ℕ) → Cause → List Batch → Type 0
-AreForgotten unserved cause silent = (silent ≡ []) ⊎ ((batch : Batch) × (silent ≡ batch ∷ []) × IsFirst unserved batch × (cause ≡ causes.Memory))
+-- nothing was left undone, or the first line that wasn't served
+abbrev pub IsLeftUndone : Hours → List Batch → List (List ℕ) → List (List ℕ) → Cause → List Batch → Option Batch → Type 0
+IsLeftUndone hours log served unserved cause silent unlogged = ((silent ≡ []) × (unlogged ≡ None)) ⊎ IsFirst hours log served unserved cause silent unlogged
 
 increasing : (a n : ℕ) → IsStrictlyIncreasing (range_with_len a n)
 increasing a n = λ k within.
@@ -80,41 +90,61 @@ crash_at told first images cause unlogged growth held tells zero listed ends ima
     (subst (λ (e : LogEnds). IsKept told e cause unlogged (whole_of growth) image) same_ends (held.crash tells image left))
 crash_at told first images cause unlogged growth held tells (suc place) listed ends image is_log is_ends left = absurd (cc)
 
-next_of : (run : SessionRun) (batch : Batch) → IsFirst run.unserved batch → IsNext (run ∷ []) batch
-next_of run batch first = record {
+ever_at : (told : Told) (first : LogEnds) (before since : List ℕ → Type 0) (cause : Cause) (unlogged : Option Batch) (growth : Growth)
+    → (IsTrue told.images → (image : List ℕ) → since image → WasLeft told first before cause unlogged growth image)
+    → IsTrue told.images → (place : ℕ) (listed : Growth) (ends : LogEnds) (image : List ℕ)
+    → slice_get (growth ∷ []) place ≡ Some listed → slice_get (first ∷ []) place ≡ Some ends → since image
+    → WasLeft told ends before cause unlogged listed image
+ever_at told first before since cause unlogged growth ever tells zero listed ends image is_log is_ends left =
+    let same_log : growth ≡ listed = some_same _ _ is_log in
+    let same_ends : first ≡ ends = some_same _ _ is_ends in
+    subst (λ (g : Growth). WasLeft told ends before cause unlogged g image) same_log
+    (subst (λ (e : LogEnds). WasLeft told e before cause unlogged growth image) same_ends (ever tells image left))
+ever_at told first before since cause unlogged growth ever tells (suc place) listed ends image is_log is_ends left = absurd (cc)
+
+undone_of : (hours : Hours) (run : SessionRun) (cause : Cause) (silent : List Batch) (unlogged : Option Batch)
+    → IsLeftUndone hours (run.log ++ batches_of run.answers) run.served run.unserved cause silent unlogged → IsUndone hours (run ∷ []) cause silent unlogged
+undone_of hours run cause silent unlogged (inl none) = inl none
+undone_of hours run cause silent unlogged (inr first) = inr (record {
   place = 0;
   run = run;
   is = refl;
   line = first.line;
   lines = first.lines;
   unserved = first.first;
-  request = first.asks.request;
-  asked = first.asks.is;
-  command = first.asks.command;
-}
+  request = first.request;
+  asks = first.asks;
+  reading = first.reading;
+  read = first.read;
+  made = first.made;
+  next = first.next;
+  why = first.why;
+})
 
 -- a run is over
-pub over : (told : Told) (start : Start) (now : Now) (images : List ℕ → Type 0) (places : List ℕ) (cause : Cause)
+pub over : (told : Told) (setting : Setting) (start : Start) (now : Now) (before images : List ℕ → Type 0) (since : ℕ → List ℕ → Type 0) (places : List ℕ) (cause : Cause)
     (served unserved : List (List ℕ)) (at_end : Bool) (answers : List Answer) (opened made silent : List Batch) (unlogged : Option Batch)
     → made ≡ batches_of answers ++ silent
     → IsStream told.source start.source now.source served unserved at_end
-    → AreAnswers 1 served answers
+    → AreAnswers setting.hours opened [] served answers
     → (IsTrue told.sink → IsSent told (session_ends start now) cause (replies_of answers))
     → (IsTrue told.disk → Stands start.disk.contents (bodies_of opened))
     → IsApplied 1 opened
-    → IsMade opened made places
+    → IsMade setting.limit opened made places
     → IsHeld told (log_ends start now) images cause unlogged (opened ++ made)
-    → IsNamed told start now (opened ++ made) unlogged unserved at_end cause
-    → AreForgotten unserved cause silent
-    → ((batch : Batch) → unlogged ≡ Some batch → IsAsked (opened ++ made) unserved batch)
-    → IsOver told start now images places cause
-over told start now images places cause served unserved at_end answers opened made silent unlogged split stream are sent stood applied are_made held named forgotten left =
+    → (IsTrue told.images → (image : List ℕ) → since start.disk.moment image → WasLeft told (log_ends start now) before cause unlogged (record { opened = opened; made = made }) image)
+    → IsNamed told setting.limit start now (opened ++ made) unlogged unserved at_end cause
+    → IsLeftUndone setting.hours (opened ++ batches_of answers) served unserved cause silent unlogged
+    → ((batch : Batch) → unlogged ≡ Some batch → IsLeftOver (opened ++ made) batch)
+    → IsOver told setting start now before images since places cause
+over told setting start now before images since places cause served unserved at_end answers opened made silent unlogged split stream are sent stood applied are_made held ever named undone left =
     let growth : Growth = record { opened = opened; made = made } in
     let run : SessionRun = record {
       taken = stream.taken;
       lines = stream.lines;
       rest = stream.rest;
       ended = at_end;
+      log = opened;
       served = served;
       answers = answers;
       unserved = unserved;
@@ -130,12 +160,11 @@ over told start now images places cause served unserved at_end answers opened ma
           opened = stood;
           applied = applied;
           steps = are_made.steps;
-          moments = are_made.moments;
           contents = held.file;
           disk_fault = named.disk_fault;
           fits = are_made.fits;
           log_full = named.log_full;
-          next = λ batch is. (left batch is).step;
+          next = left;
         },
         tt,
       );
@@ -162,8 +191,9 @@ over told start now images places cause served unserved at_end answers opened ma
         },
         tt,
       );
+      in_turn = (append_none opened, tt);
       batches = append-nil made ∙ split ∙ ap (λ bs. bs ++ silent) (sym (append-nil (batches_of answers)));
-      are_silent = ⊎_elim (λ none. inl none) (λ some. inr (some.0, some.1, next_of run some.0 some.2, some.3)) forgotten;
-      next = λ batch is. next_of run batch (left batch is).asked;
+      undone = undone_of setting.hours run cause silent unlogged undone;
       crash_now = λ tells place listed ends image is_log is_ends left. crash_at told (log_ends start now) images cause unlogged growth held tells place listed ends image is_log is_ends left;
+      crash_ever = λ tells place listed ends image is_log is_ends was. ever_at told (log_ends start now) before (since start.disk.moment) cause unlogged growth ever tells place listed ends image is_log is_ends was;
     }

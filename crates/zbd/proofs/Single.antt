@@ -1,13 +1,17 @@
 -- A run of one session and one volume, as a run of lists of them.
-use Rattle.std.proofs.Common.{◌≡◌, ℕ, zero, suc, ◌<◌, List, [], ◌∷◌, ◌++◌, length, get_or, refl, sym, ap, subst, arith, length-append}
+use Rattle.std.proofs.Common.{◌≡◌, ℕ, zero, suc, ◌<◌, List, [], ◌∷◌, ◌++◌, length, get_or, slice_get, IsTrue, Option, Some, refl, sym, ap, subst, inl, inr, arith, length-append}
 use Rattle.std.proofs.Math.ListN.{set}
+use Rattle.std.specs.List.{AllZip}
 use Rattle.zb_disk.specs.Disk.{DiskView}
 use Rattle.zb_outside.specs.Stream.{SourceView, SinkView}
-use Rattle.zbd.specs.Ends.{Told, SessionEnds, LogEnds, sessions_ends, logs_ends, images_at, AreSpared}
-use Rattle.zbd.specs.Served.{Serves, IsRun}
+use Rattle.zb_model.specs.declared.record.Batch.{Batch}
+use Rattle.zb_store.specs.declared.volume.Volume.{Volume}
+use Rattle.zbd.specs.Ends.{Told, SessionEnds, LogEnds, sessions_ends, logs_ends, images_at, since_at, IsSafe}
+use Rattle.zbd.specs.Hours.{Setting}
+use Rattle.zbd.specs.Log.{Growth, WasLeft}
+use Rattle.zbd.specs.Served.{Serves, IsRun, slots_in, slots_of}
 use Rattle.zbd.specs.Serving.{start_of, now_of, session_ends, log_ends}
 use Rattle.zbd.specs.declared.run.Session.{Session}
-use Rattle.zbd.specs.declared.run.Volume.{Volume}
 use Rattle.zbd.specs.declared.run.Cause.{Cause}
 
 -- a list of one member
@@ -35,20 +39,43 @@ image_of {D} images volume zero image at =
     subst (λ (v : Volume D). images v.log image) (sym same) at.2
 image_of images volume (suc place) image at = absurd (let e = at.1 in cc)
 
+-- what a crash might have left of it since the run began
+since_of : {D : Type 0} (view : D → DiskView) (since : D → ℕ → List ℕ → Type 0) (volume volume' : Volume D) (place : ℕ) (image : List ℕ)
+    → since_at view since (volume ∷ []) (volume' ∷ []) place image → since volume'.log (view volume.log).moment image
+since_of {D} view since volume volume' zero image at =
+    let same_old : volume ≡ at.0 = cc (at.2) in
+    let same_new : volume' ≡ at.1 = cc (at.3) in
+    subst (λ (v : Volume D). since v.log (view volume.log).moment image) (sym same_new) (subst (λ (v : Volume D). since at.1.log (view v.log).moment image) (sym same_old) at.4)
+since_of view since volume volume' (suc place) image at = absurd (let e = at.2 in cc)
+
 -- nothing was done
-pub spared_same : {D : Type 0} (view : D → DiskView) (images : D → List ℕ → Type 0) (volumes : List (Volume D)) → AreSpared view images volumes volumes
-spared_same view images [] = tt
-spared_same view images (volume ∷ volumes) = (λ long image left. left, spared_same view images volumes)
+pub safe_same : {D : Type 0} (view : D → DiskView) (images : D → List ℕ → Type 0) (since : D → ℕ → List ℕ → Type 0) (volumes : List (Volume D))
+    → ((disk : D) (c : List ℕ) → since disk (view disk).moment c → images disk c) → AllZip (IsSafe view images since) volumes volumes
+safe_same view images since [] now = tt
+safe_same view images since (volume ∷ volumes) now =
+    (record { now = λ long image left. left; ever = λ image was. inl (now volume.log image was) }, safe_same view images since volumes now)
 
-pub spared_single : {D : Type 0} (view : D → DiskView) (images : D → List ℕ → Type 0) (volume volume' : Volume D) (volumes volumes' : List (Volume D))
-    → volumes ≡ volume ∷ [] → volumes' ≡ volume' ∷ [] → (1 < length (view volume.log).contents → (image : List ℕ) → images volume'.log image → images volume.log image)
-    → AreSpared view images volumes volumes'
-spared_single view images volume volume' volumes volumes' e1 e2 spared = rw (e1, e2) (spared, tt)
+pub safe_single : {D : Type 0} (view : D → DiskView) (images : D → List ℕ → Type 0) (since : D → ℕ → List ℕ → Type 0) (volume volume' : Volume D) (volumes volumes' : List (Volume D))
+    → volumes ≡ volume ∷ [] → volumes' ≡ volume' ∷ [] → IsSafe view images since volume volume' → AllZip (IsSafe view images since) volumes volumes'
+safe_single view images since volume volume' volumes volumes' e1 e2 safe = rw (e1, e2) (safe, tt)
 
--- fewer images
-serves_fewer : (told : Told) (streams : List SessionEnds) (volumes : List LogEnds) (images fewer : ℕ → List ℕ → Type 0) (cause : Cause) (stamps : List (List ℕ))
-    → ((place : ℕ) (image : List ℕ) → fewer place image → images place image) → Serves told streams volumes images cause stamps → Serves told streams volumes fewer cause stamps
-serves_fewer told streams volumes images fewer cause stamps less s = record {
+-- the slots of the one volume
+pub slots_single : {D : Type 0} (volume volume' : Volume D) (volumes volumes' : List (Volume D)) → volumes ≡ volume ∷ [] → volumes' ≡ volume' ∷ []
+    → slots_in volume' ≡ slots_in volume → slots_of volumes' ≡ slots_of volumes
+slots_single volume volume' volumes volumes' e1 e2 same = rw (e1, e2) (ap (λ slots. slots ∷ []) same)
+
+-- what a crash might have left, where one before the run might have left more
+wider : (told : Told) (ends : LogEnds) (before more : List ℕ → Type 0) (cause : Cause) (unlogged : Option Batch) (growth : Growth) (image : List ℕ) → (before image → more image)
+    → WasLeft told ends before cause unlogged growth image → WasLeft told ends more cause unlogged growth image
+wider told ends before more cause unlogged growth image so (inl (inl was)) = inl (inl (so was))
+wider told ends before more cause unlogged growth image so (inl (inr few)) = inl (inr few)
+wider told ends before more cause unlogged growth image so (inr left) = inr left
+
+-- the same run of one volume, where a crash may leave fewer images, and one before the run might have left more
+serves_fewer : (told : Told) (setting : Setting) (streams : List SessionEnds) (first : LogEnds) (before : List ℕ → Type 0) (more images fewer since later : ℕ → List ℕ → Type 0) (cause : Cause) (stamps : List (List ℕ))
+    → ((image : List ℕ) → before image → more 0 image) → ((place : ℕ) (image : List ℕ) → fewer place image → images place image) → ((place : ℕ) (image : List ℕ) → later place image → since place image)
+    → Serves told setting streams (first ∷ []) (λ place. before) images since cause stamps → Serves told setting streams (first ∷ []) more fewer later cause stamps
+serves_fewer told setting streams first before more images fewer since later cause stamps so less gone s = record {
   runs = s.runs;
   logs = s.logs;
   silent = s.silent;
@@ -59,25 +86,35 @@ serves_fewer told streams volumes images fewer cause stamps less s = record {
   ascending = s.ascending;
   each_once = s.each_once;
   sessions = s.sessions;
+  in_turn = s.in_turn;
   batches = s.batches;
-  are_silent = s.are_silent;
-  next = s.next;
+  undone = s.undone;
   crash_now = λ told place log ends image is_log is_ends left. s.crash_now told place log ends image is_log is_ends (less place image left);
+  crash_ever = ever;
 }
+  where
+    ever : IsTrue told.images → (place : ℕ) (growth : Growth) (ends : LogEnds) (image : List ℕ) → slice_get s.logs place ≡ Some growth → slice_get (first ∷ []) place ≡ Some ends
+        → later place image → WasLeft told ends (more place) cause s.unlogged growth image
+    ever tells zero growth ends image is_log is_ends was = wider told ends before (more 0) cause s.unlogged growth image (so image) (s.crash_ever tells 0 growth ends image is_log is_ends (gone 0 image was))
+    ever tells (suc place) growth ends image is_log is_ends was = absurd (cc)
 
-run_fewer : (told : Told) (streams : List SessionEnds) (volumes : List LogEnds) (images fewer : ℕ → List ℕ → Type 0) (cause : Cause) (stamps : List (List ℕ))
-    → ((place : ℕ) (image : List ℕ) → fewer place image → images place image) → IsRun told streams volumes images cause stamps → IsRun told streams volumes fewer cause stamps
-run_fewer told streams volumes images fewer cause [] less run = run
-run_fewer told streams volumes images fewer cause (first ∷ more) less run = serves_fewer told streams volumes images fewer cause (first ∷ more) less run
+run_fewer : (told : Told) (setting : Setting) (streams : List SessionEnds) (first : LogEnds) (before : List ℕ → Type 0) (more images fewer since later : ℕ → List ℕ → Type 0) (cause : Cause) (stamps : List (List ℕ))
+    → ((image : List ℕ) → before image → more 0 image) → ((place : ℕ) (image : List ℕ) → fewer place image → images place image) → ((place : ℕ) (image : List ℕ) → later place image → since place image)
+    → IsRun told setting streams (first ∷ []) (λ place. before) images since cause stamps → IsRun told setting streams (first ∷ []) more fewer later cause stamps
+run_fewer told setting streams first before more images fewer since later cause [] so less gone run = run
+run_fewer told setting streams first before more images fewer since later cause (stamp ∷ stamps) so less gone run = serves_fewer told setting streams first before more images fewer since later cause (stamp ∷ stamps) so less gone run
 
 -- the run of the one session over the one volume is the run
-pub run_single : {S K D : Type 0} (told : Told) (source : S → SourceView) (sink : K → SinkView) (view : D → DiskView) (images : D → List ℕ → Type 0)
+pub run_single : {S K D : Type 0} (told : Told) (setting : Setting) (source : S → SourceView) (sink : K → SinkView) (view : D → DiskView) (images : D → List ℕ → Type 0) (since : D → ℕ → List ℕ → Type 0)
     (old new : Session S K) (olds news : List (Session S K)) (volume volume' : Volume D) (volumes volumes' : List (Volume D)) (cause : Cause) (stamps : List (List ℕ))
     → olds ≡ old ∷ [] → news ≡ new ∷ [] → volumes ≡ volume ∷ [] → volumes' ≡ volume' ∷ []
-    → IsRun told (session_ends (start_of (source old.source) (sink old.sink) (view volume.log)) (now_of (source new.source) (sink new.sink) (view volume'.log)) ∷ [])
+    → IsRun told setting (session_ends (start_of (source old.source) (sink old.sink) (view volume.log)) (now_of (source new.source) (sink new.sink) (view volume'.log)) ∷ [])
     (log_ends (start_of (source old.source) (sink old.sink) (view volume.log)) (now_of (source new.source) (sink new.sink) (view volume'.log)) ∷ [])
-    (λ place image. images volume'.log image) cause stamps
-    → IsRun told (sessions_ends source sink olds news) (logs_ends view volumes volumes') (images_at images volumes') cause stamps
-run_single told source sink view images old new olds news volume volume' volumes volumes' cause stamps e1 e2 e3 e4 run =
-    rw (e1, e2, e3, e4) (run_fewer told (session_ends (start_of (source old.source) (sink old.sink) (view volume.log)) (now_of (source new.source) (sink new.sink) (view volume'.log)) ∷ [])
-    (log_ends (start_of (source old.source) (sink old.sink) (view volume.log)) (now_of (source new.source) (sink new.sink) (view volume'.log)) ∷ []) (λ place image. images volume'.log image) (images_at images (volume' ∷ [])) cause stamps (image_of images volume') run)
+    (λ place. images volume.log) (λ place. images volume'.log) (λ place. since volume'.log (view volume.log).moment) cause stamps
+    → IsRun told setting (sessions_ends source sink olds news) (logs_ends view volumes volumes') (images_at images volumes) (images_at images volumes') (since_at view since volumes volumes') cause stamps
+run_single told setting source sink view images since old new olds news volume volume' volumes volumes' cause stamps e1 e2 e3 e4 run =
+    let start = start_of (source old.source) (sink old.sink) (view volume.log) in
+    let now = now_of (source new.source) (sink new.sink) (view volume'.log) in
+    rw (e1, e2, e3, e4) (run_fewer told setting (session_ends start now ∷ []) (log_ends start now)
+    (images volume.log) (images_at images (volume ∷ [])) (λ place. images volume'.log) (images_at images (volume' ∷ [])) (λ place. since volume'.log (view volume.log).moment) (since_at view since (volume ∷ []) (volume' ∷ [])) cause stamps
+    (λ image was. (volume, refl, was)) (image_of images volume') (since_of view since volume volume') run)

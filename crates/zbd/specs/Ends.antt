@@ -1,9 +1,10 @@
 -- What was handed to a run and what it handed back, as plain data.
 use Rattle.std.specs.Prelude.{◌≡◌, ◌<◌, ℕ, suc, List, [], ◌∷◌, length, Bool, slice_get, Some}
 use Rattle.zb_disk.specs.Disk.{DiskView}
+use Rattle.zb_store.specs.Calls.{LeftByOpening}
 use Rattle.zb_outside.specs.Stream.{SourceView, SinkView}
 use Rattle.zbd.specs.declared.run.Session.{Session}
-use Rattle.zbd.specs.declared.run.Volume.{Volume}
+use Rattle.zb_store.specs.declared.volume.Volume.{Volume}
 
 -- one session's streams, as the run began and as it ended
 pub record SessionEnds : Type 0 where
@@ -57,12 +58,17 @@ logs_ends view (old ∷ olds) [] = []
 abbrev pub images_at : {D : Type 0} → (D → List ℕ → Type 0) → List (Volume D) → ℕ → List ℕ → Type 0
 images_at {D} images volumes place image = (volume : Volume D) × (slice_get volumes place ≡ Some volume) × images volume.log image
 
--- a crash leaves of a log that was longer than one byte no more than what it might have left before
-abbrev pub AreSpared : {D : Type 0} → (D → DiskView) → (D → List ℕ → Type 0) → List (Volume D) → List (Volume D) → Type 0
-AreSpared view images (old ∷ olds) (new ∷ news) =
-    (1 < length (view old.log).contents → (image : List ℕ) → images new.log image → images old.log image) × AreSpared view images olds news
-AreSpared view images [] news = Unit {0}
-AreSpared view images (old ∷ olds) [] = Unit {0}
+-- a crash at some moment since the run began might have left this of the log of the volume at a place, which it began
+-- and ended with
+abbrev pub since_at : {D : Type 0} → (D → DiskView) → (D → ℕ → List ℕ → Type 0) → List (Volume D) → List (Volume D) → ℕ → List ℕ → Type 0
+since_at {D} view since olds news place image = (old new : Volume D) × (slice_get olds place ≡ Some old) × (slice_get news place ≡ Some new)
+    × since new.log (view old.log).moment image
+
+-- the log of a volume was not put at risk: a crash now, or at any moment since the run began, leaves no more of it than
+-- what one before might have left, or an opening
+pub record IsSafe {D : Type 0} (view : D → DiskView) (images : D → List ℕ → Type 0) (since : D → ℕ → List ℕ → Type 0) (old new : Volume D) : Type 0 where
+  pub now : 1 < length (view old.log).contents → (image : List ℕ) → images new.log image → images old.log image
+  pub ever : (image : List ℕ) → since new.log (view old.log).moment image → LeftByOpening (view old.log).contents (images old.log) image
 
 -- R holds of the members at each place, and of the place's number, where the first has the number n
 abbrev pub EachFrom : {A B : Type 0} → (ℕ → A → B → Type 0) → ℕ → List A → List B → Type 0

@@ -1,4 +1,6 @@
 pub mod Words
+pub mod Hours
+pub mod Made
 pub mod Ends
 pub mod Session
 pub mod Log

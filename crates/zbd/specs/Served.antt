@@ -1,17 +1,18 @@
 -- What a run of the server is.
-use Rattle.std.specs.Prelude.{◌≡◌, ◌⊎◌, ◌<◌, ◌≤◌, ◌-◌, ℕ, List, [], ◌∷◌, ◌++◌, length, slice_get, IsTrue, Option, Some, None, Ok}
+use Rattle.std.specs.Prelude.{◌≡◌, ◌⊎◌, ◌<◌, ◌≤◌, ◌-◌, ℕ, List, [], ◌∷◌, ◌++◌, length, slice_get, IsTrue, IsSome, Option, Some, None, Ok}
 use Rattle.std.specs.List.{flat_map, AllByRecursion, AllZip, range_with_len}
 use Rattle.std.specs.List.Sorted.{IsPermutation, IsStrictlyIncreasing}
 use Rattle.zb_disk.specs.Cause.{Rose}
 use Rattle.zb_model.specs.declared.record.Batch.{Batch}
 use Rattle.zb_wire.specs.declared.request.Request.{Request}
 use Rattle.zb_wire.specs.Request.{request_of}
-use Rattle.zb_wire.specs.Reply.{command_of}
 use Rattle.zbd.specs.Ends.{SessionEnds, LogEnds, Told, EachFrom}
 use Rattle.zbd.specs.Session.{SessionRun, IsSession, batches_of}
 use Rattle.zb_partition.specs.Log.{IsBadAt}
-use Rattle.zbd.specs.Log.{Growth, whole_of, IsLog, IsKept}
-use Rattle.zbd.specs.declared.run.Volume.{Volume}
+use Rattle.zbd.specs.Hours.{Hours, is_manual, IsReadingOf, Setting}
+use Rattle.zbd.specs.Made.{AreMadeFor, IsMadeNext}
+use Rattle.zbd.specs.Log.{Growth, whole_of, IsLog, IsKept, WasLeft}
+use Rattle.zb_store.specs.declared.volume.Volume.{Volume}
 use Rattle.zbd.specs.declared.run.Cause.{Cause}
 use Rattle.zbd.specs.declared.run.Cause.TheVariants as causes
 
@@ -43,18 +44,6 @@ MayEnd sessions partitions causes.Memory = Unit {0}
 MayEnd sessions partitions (causes.LogFull partition length_told frame limit) = IsOneOf partitions partition
 MayEnd sessions partitions (causes.InputFull session) = IsOneOf sessions session
 
--- a batch is made of the next line of a session
-pub record IsNext (runs : List SessionRun) (batch : Batch) : Type 0 where
-  pub place : ℕ
-  pub run : SessionRun
-  pub is : slice_get runs place ≡ Some run
-  pub line : List ℕ
-  pub lines : List (List ℕ)
-  pub unserved : run.unserved ≡ line ∷ lines
-  pub request : Request
-  pub asked : request_of line ≡ Ok request
-  pub command : batch.command ≡ command_of request
-
 -- a batch has this number as its begin
 abbrev pub IsStamped : ℕ → Batch → Type 0
 IsStamped stamp batch = batch.begin ≡ stamp
@@ -66,12 +55,35 @@ all_opened growths = flat_map (λ growth. growth.opened) growths
 abbrev pub all_made : List Growth → List Batch
 all_made growths = flat_map (λ growth. growth.made) growths
 
--- the batches of a line that was not answered: none, or that of the next line of a session where memory ran out behind it
-abbrev pub AreSilent : List SessionRun → Cause → List Batch → Type 0
-AreSilent runs cause silent = (silent ≡ []) ⊎ ((batch : Batch) × (silent ≡ batch ∷ []) × IsNext runs batch × (cause ≡ causes.Memory))
+-- the log as each session began: all batches that were there at opening, and those of the sessions before it
+abbrev pub AreInTurn : List Batch → List SessionRun → Type 0
+AreInTurn log [] = Unit {0}
+AreInTurn log (run ∷ runs) = (run.log ≡ log) × AreInTurn (log ++ batches_of run.answers) runs
 
--- a run whose logs were opened: its sessions, its logs, and its cause
-pub record Serves (told : Told) (streams : List SessionEnds) (volumes : List LogEnds) (images : ℕ → List ℕ → Type 0)
+-- a line was read and not answered, the first one that a session has not served: its request, at a reading of the
+-- clock, made the silent batches, and the one that isn't in its log, if there is one; else memory ran out
+pub record IsUnfinished (hours : Hours) (runs : List SessionRun) (cause : Cause) (silent : List Batch) (unlogged : Option Batch) : Type 0 where
+  pub place : ℕ
+  pub run : SessionRun
+  pub is : slice_get runs place ≡ Some run
+  pub line : List ℕ
+  pub lines : List (List ℕ)
+  pub unserved : run.unserved ≡ line ∷ lines
+  pub request : Request
+  pub asks : request_of (is_manual hours) line ≡ Ok request
+  pub reading : ℕ
+  pub read : IsReadingOf hours (run.served ++ line ∷ []) reading
+  pub made : AreMadeFor request reading (run.log ++ batches_of run.answers) silent
+  pub next : (batch : Batch) → unlogged ≡ Some batch → IsMadeNext request reading (run.log ++ batches_of run.answers) silent batch
+  pub why : (cause ≡ causes.Memory) ⊎ IsSome unlogged
+
+-- nothing was left undone, or one line
+abbrev pub IsUndone : Hours → List SessionRun → Cause → List Batch → Option Batch → Type 0
+IsUndone hours runs cause silent unlogged = ((silent ≡ []) × (unlogged ≡ None)) ⊎ IsUnfinished hours runs cause silent unlogged
+
+-- a run whose logs were opened: its sessions, its logs, and its cause, and what a crash might have left of each log
+-- before the run, may leave now, and might have left at some moment since the run began
+pub record Serves (told : Told) (setting : Setting) (streams : List SessionEnds) (volumes : List LogEnds) (before images since : ℕ → List ℕ → Type 0)
     (cause : Cause) (stamps : List (List ℕ)) : Type 0 where
   -- each session's part, the batches of each partition, the batches of a line that was not answered, and the batch
   -- that was made last and isn't in its log
@@ -83,20 +95,24 @@ pub record Serves (told : Told) (streams : List SessionEnds) (volumes : List Log
   pub status : MayEnd (length streams) (length volumes) cause
   -- each log has as many new batches as stamps; the stamps are the numbers from the count of all opened batches on,
   -- each once, and ascend in each log
-  pub are_logs : EachFrom (IsLog told cause unlogged) 1 volumes logs
+  pub are_logs : EachFrom (IsLog told setting.limit cause unlogged) 1 volumes logs
   pub stamped : AllZip (λ list growth. AllZip IsStamped list growth.made) stamps logs
   pub ascending : AllZip (λ list growth. IsStrictlyIncreasing list) stamps logs
   pub each_once : IsPermutation (range_with_len (length (all_opened logs)) (length (all_made logs))) (flat_map (λ list. list) stamps)
   -- the lines that were served, and what each led to
-  pub sessions : EachFrom (IsSession told cause) 1 streams runs
+  pub sessions : EachFrom (IsSession told setting.hours cause) 1 streams runs
+  pub in_turn : AreInTurn (all_opened logs) runs
   -- the new batches are those of the served lines, and of one that was not answered, and no others
   pub batches : all_made logs ≡ flat_map (λ run. batches_of run.answers) runs ++ silent
-  pub are_silent : AreSilent runs cause silent
-  pub next : (batch : Batch) → unlogged ≡ Some batch → IsNext runs batch
+  pub undone : IsUndone setting.hours runs cause silent unlogged
   -- what a crash now leaves stands for the log
   pub crash_now : IsTrue told.images → (place : ℕ) (growth : Growth) (ends : LogEnds) (image : List ℕ)
       → slice_get logs place ≡ Some growth → slice_get volumes place ≡ Some ends → images place image
       → IsKept told ends cause unlogged (whole_of growth) image
+  -- and a crash at any moment since the run began left no more than that, a front of the log, or what opening leaves
+  pub crash_ever : IsTrue told.images → (place : ℕ) (growth : Growth) (ends : LogEnds) (image : List ℕ)
+      → slice_get logs place ≡ Some growth → slice_get volumes place ≡ Some ends → since place image
+      → WasLeft told ends (before place) cause unlogged growth image
 
 -- the member with this number, from 1, has P
 abbrev pub OfNumber : {A : Type 0} → List A → ℕ → (A → Type 0) → Type 0
@@ -119,11 +135,14 @@ abbrev pub IsSpared : Told → LogEnds → Type 0
 IsSpared told ends = IsTrue told.disk → 1 < length ends.disk.contents → ends.disk_after.contents ≡ ends.disk.contents
 
 -- a run of planned words: its logs were opened, and then it has stamps for each of them, or they weren't
-abbrev pub IsRun : Told → List SessionEnds → List LogEnds → (ℕ → List ℕ → Type 0) → Cause → List (List ℕ) → Type 0
-IsRun told streams volumes images cause [] = FailsToOpen told volumes cause × AllByRecursion (IsSpared told) volumes
-IsRun told streams volumes images cause (first ∷ more) = Serves told streams volumes images cause (first ∷ more)
+abbrev pub IsRun : Told → Setting → List SessionEnds → List LogEnds → (before images since : ℕ → List ℕ → Type 0) → Cause → List (List ℕ) → Type 0
+IsRun told setting streams volumes before images since cause [] = FailsToOpen told volumes cause × AllByRecursion (IsSpared told) volumes
+IsRun told setting streams volumes before images since cause (first ∷ more) = Serves told setting streams volumes before images since cause (first ∷ more)
 
--- the slots for snapshots of each volume
+-- the slots for snapshots of a volume, and of each one
+abbrev pub slots_in : {D : Type 0} → Volume D → D × D
+slots_in volume = (volume.snap_a, volume.snap_b)
+
 abbrev pub slots_of : {D : Type 0} → List (Volume D) → List (D × D)
 slots_of [] = []
-slots_of (volume ∷ volumes) = (volume.snap_a, volume.snap_b) ∷ slots_of volumes
+slots_of (volume ∷ volumes) = slots_in volume ∷ slots_of volumes

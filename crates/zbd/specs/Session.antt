@@ -1,5 +1,5 @@
 -- A session: the lines of a source, what each led to, and the replies.
-use Rattle.std.specs.Prelude.{◌≡◌, ◌⊎◌, ◌≤◌, ◌^◌, ℕ, suc, List, [], ◌∷◌, ◌++◌, length, take, Bool, true, false, IsTrue, Some, None, Result, Ok, Err}
+use Rattle.std.specs.Prelude.{◌≡◌, ◌⊎◌, ◌≤◌, ◌+◌, ◌^◌, ℕ, List, [], ◌∷◌, ◌++◌, length, take, Bool, true, false, IsTrue, Some, None, Result, Ok, Err}
 use Rattle.std.specs.List.{flat_map}
 use Rattle.zb_disk.specs.Cause.{Rose}
 use Rattle.zb_model.specs.declared.record.Batch.{Batch}
@@ -7,10 +7,11 @@ use Rattle.zb_lines.specs.Taken.{Takes}
 use Rattle.zb_lines.specs.Line.{AreLines}
 use Rattle.zb_wire.specs.declared.request.Request.{Request}
 use Rattle.zb_wire.specs.declared.request.LineFault.{LineFault}
-use Rattle.zb_wire.specs.declared.reply.Reply.{Reply}
-use Rattle.zb_wire.specs.declared.reply.Reply.TheVariants as replies
 use Rattle.zb_wire.specs.Request.{request_of}
-use Rattle.zb_wire.specs.Reply.{command_of, answer_of, line_of}
+use Rattle.zb_reply.specs.declared.reply.Reply.TheVariants as replies
+use Rattle.zb_reply.specs.Reply.{line_of}
+use Rattle.zbd.specs.Hours.{Hours, is_manual, IsReadingOf}
+use Rattle.zbd.specs.Made.{IsServed}
 use Rattle.zbd.specs.Ends.{SessionEnds, Told}
 use Rattle.zbd.specs.declared.run.Cause.{Cause}
 use Rattle.zbd.specs.declared.run.Cause.TheVariants as causes
@@ -19,28 +20,31 @@ use Rattle.zbd.specs.declared.run.Cause.TheVariants as causes
 unfoldable pub most_taken : ℕ
 most_taken = 2 ^ 40
 
--- what a line led to: the batches that its request made, and the line of its reply
+-- what a line led to: the reading of the clock that its request was served at, the batches that it made, and the line
+-- of its reply
 pub record Answer : Type 0 where
+  pub reading : ℕ
   pub batches : List Batch
   pub reply : List ℕ
 
--- a line that is no request is answered by its fault, and makes no batch; a request makes the batch of its
--- command, and its reply is the batch's
-abbrev pub IsAnswerTo : ℕ → Result Request LineFault → Answer → Type 0
-IsAnswerTo number (Err fault) answer = (answer.batches ≡ []) × (answer.reply ≡ line_of (replies.Fault number fault) None)
-IsAnswerTo number (Ok request) answer = (batch : Batch) × (answer.batches ≡ batch ∷ []) × (batch.command ≡ command_of request)
-    × (reply : Reply) × (answer_of batch ≡ Some reply) × (answer.reply ≡ line_of reply (Some 0))
+-- a line that is no request, behind so many others, is answered by its fault, and makes no batch; a request is served
+-- at a reading
+abbrev pub IsAnswerTo : Hours → List Batch → List (List ℕ) → List ℕ → Result Request LineFault → Answer → Type 0
+IsAnswerTo hours log before line (Err fault) answer = (answer.batches ≡ []) × (answer.reply ≡ line_of (replies.Fault (length before + 1) fault) None)
+IsAnswerTo hours log before line (Ok request) answer = IsReadingOf hours (before ++ line ∷ []) answer.reading
+    × IsServed request answer.reading log answer.batches answer.reply
 
--- this is what the line with this number led to
-abbrev pub IsAnswer : ℕ → List ℕ → Answer → Type 0
-IsAnswer number line answer = IsAnswerTo number (request_of line) answer
+-- this is what a line led to, behind this log and the lines before it
+abbrev pub IsAnswer : Hours → List Batch → List (List ℕ) → List ℕ → Answer → Type 0
+IsAnswer hours log before line answer = IsAnswerTo hours log before line (request_of (is_manual hours) line) answer
 
--- this is what the lines led to, one after the other; the first has this number
-abbrev pub AreAnswers : ℕ → List (List ℕ) → List Answer → Type 0
-AreAnswers number [] [] = Unit {0}
-AreAnswers number (line ∷ lines) (answer ∷ answers) = IsAnswer number line answer × AreAnswers (suc number) lines answers
-AreAnswers number [] (answer ∷ answers) = ⊥
-AreAnswers number (line ∷ lines) [] = ⊥
+-- this is what the lines led to, one after the other, behind this log and the lines before them
+abbrev pub AreAnswers : Hours → List Batch → List (List ℕ) → List (List ℕ) → List Answer → Type 0
+AreAnswers hours log before [] [] = Unit {0}
+AreAnswers hours log before (line ∷ lines) (answer ∷ answers) = IsAnswer hours log before line answer
+    × AreAnswers hours (log ++ answer.batches) (before ++ line ∷ []) lines answers
+AreAnswers hours log before [] (answer ∷ answers) = ⊥
+AreAnswers hours log before (line ∷ lines) [] = ⊥
 
 -- the batches of the answers, in order
 abbrev pub batches_of : List Answer → List Batch
@@ -64,6 +68,8 @@ pub record SessionRun : Type 0 where
   pub rest : List ℕ
   -- whether the source was read to its end
   pub ended : Bool
+  -- the log as the session began
+  pub log : List Batch
   -- the lines that were served, what each led to, and the lines that were not
   pub served : List (List ℕ)
   pub answers : List Answer
@@ -76,7 +82,7 @@ IsSent told ends cause bytes = (ends.sink_after.written ≡ ends.sink.written ++
     × (Rose ends.sink.faults ends.sink_after.faults ⊎ (IsTrue told.sink_memory × (cause ≡ causes.Memory))))
 
 -- the session with this number, in a run that ended by this cause
-pub record IsSession (told : Told) (cause : Cause) (number : ℕ) (ends : SessionEnds) (run : SessionRun) : Type 0 where
+pub record IsSession (told : Told) (hours : Hours) (cause : Cause) (number : ℕ) (ends : SessionEnds) (run : SessionRun) : Type 0 where
   -- the bytes that were taken, and the lines that they are
   pub takes : Takes told.source ends.source ends.source_after run.taken
   pub lines : AreLines run.taken run.lines run.rest
@@ -84,7 +90,7 @@ pub record IsSession (told : Told) (cause : Cause) (number : ℕ) (ends : Sessio
   pub to_end : IsTrue run.ended → IsTrue told.source → ends.source_after.left ≡ []
   -- the served lines are the first ones, each with its answer, and the replies were written in order
   pub first : run.lines ++ last_line run.ended run.rest ≡ run.served ++ run.unserved
-  pub answers : AreAnswers 1 run.served run.answers
+  pub answers : AreAnswers hours run.log [] run.served run.answers
   pub sent : IsTrue told.sink → IsSent told ends cause (replies_of run.answers)
   -- the run is done only where every source was read to its end and every line is served
   pub done : cause ≡ causes.Done → IsTrue run.ended × (run.unserved ≡ [])

@@ -1,9 +1,9 @@
-use crate::run::Volume;
 use std::alloc::{AllocError, Global};
 use std::fs::{self, File, OpenOptions};
 use std::io;
 use std::rt::Files;
 use zb_disk::FileDisk;
+use zb_store::Volume;
 
 /// The directory of the volumes.
 const DIRECTORY: &str = "zb";

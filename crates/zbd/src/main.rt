@@ -5,50 +5,53 @@
 ghost use Rattle.std.specs.Prelude.{◌≡◌, length, IfOk};
 
 mod answer;
+mod dial;
 mod files;
 mod ledger;
 mod line;
 mod run;
+mod running;
 mod session;
 #[cfg(test)]
 mod tests;
 mod top;
 
 use files::open_volumes;
-use run::{Cause, Session, Volume};
+use run::{Cause, Session};
 use std::env;
 use std::io::{self, Stdin, Stdout};
 use std::process::ExitCode;
-use top::{is_planned, serve};
+use top::{plan_for, serve};
 use zb_disk::FileDisk;
 use zb_outside::{OpenDoor, StdClock, StdSink, StdSource};
+use zb_store::Volume;
 
 /// How the program is called, as it is told where other words were given.
-const USAGE: &str = "usage: zbd serve --clock manual";
+const USAGE: &str = "usage: zbd serve [--clock real|manual] [--limit n]";
 
 /// A session over standard input and output.
 type Terminal = Session<StdSource<Stdin>, StdSink<Stdout>>;
 
 /// What is served: the words, the sessions and the volumes.
-struct Plan {
+struct Real {
     words: Vec<String>,
     sessions: Vec<Terminal>,
     volumes: Vec<Volume<FileDisk>>,
 }
 
 fn main(rt: HostRuntime) -> ExitCode {
-    let plan = match make_plan(&rt) {
-        Ok(plan) => plan,
+    let real = match make_real(&rt) {
+        Ok(real) => real,
         Err(error) => {
             let _ = eprintln!(rt; "zbd: {error}");
             return ExitCode::FAILURE;
         }
     };
-    let Plan {
+    let Real {
         words,
         sessions,
         volumes,
-    } = plan;
+    } = real;
     let mut clock = StdClock::new(&rt);
     let closed = serve(
         &rt,
@@ -64,8 +67,8 @@ fn main(rt: HostRuntime) -> ExitCode {
 }
 
 // Makes the real objects. Files are opened only where the words are those of a server.
-fn make_plan(rt: &HostRuntime) -> io::Result<Plan>
-    ensures { IfOk result (λ plan. length plan.sessions.items ≡ 1) }
+fn make_real(rt: &HostRuntime) -> io::Result<Real>
+    ensures { IfOk result (λ real. length real.sessions.items ≡ 1) }
 {
     let alloc = rt.alloc();
     let mut words = Vec::new(alloc);
@@ -77,12 +80,11 @@ fn make_plan(rt: &HostRuntime) -> io::Result<Plan>
         source: StdSource::new(rt.stdin()),
         sink: StdSink::new(rt.stdout()),
     })?;
-    let volumes = if is_planned(&words, 1, 1) {
-        open_volumes(rt, alloc, 1)?
-    } else {
-        Vec::new(alloc)
+    let volumes = match plan_for(&words, 1, 1) {
+        Some(_) => open_volumes(rt, alloc, 1)?,
+        None => Vec::new(alloc),
     };
-    Ok(Plan {
+    Ok(Real {
         words,
         sessions,
         volumes,

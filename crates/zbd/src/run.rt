@@ -1,5 +1,6 @@
 use std::fmt;
 use zb_model::{Batch, Stop};
+use zb_store::Volume;
 
 /// The number of the one session that is served so far.
 pub const SESSION: u32 = 1;
@@ -29,14 +30,6 @@ pub enum End {
 pub struct Session<S, K> {
     pub source: S,
     pub sink: K,
-}
-
-/// The files of a partition: its log, and two slots for snapshots.
-#[derive(Drop)]
-pub struct Volume<D> {
-    pub log: D,
-    pub snap_a: D,
-    pub snap_b: D,
 }
 
 /// Why a run ended. Sessions and partitions are numbered from 1.

@@ -1,17 +1,19 @@
-ghost use Rattle.std.specs.Prelude.{◌≡◌, [], IfOk};
-ghost use Rattle.zb_partition.specs.Partition.{disk_of, in_writing};
+ghost use Rattle.std.specs.Prelude.{◌≡◌, [], IsTrue, is_some, IfOk};
+ghost use Rattle.zb_partition.specs.Partition.{disk_of, slots_of, in_writing};
 ghost use Rattle.zbd.specs.Ends.{told};
+ghost use Rattle.zbd.specs.Hours.{Setting};
 ghost use Rattle.zbd.specs.Ledger.{IsOpen};
 ghost use Rattle.zbd.specs.Session.{most_taken};
-ghost use Rattle.zbd.specs.Serving.{now_of, Start, IsServing, IsOver, GoesOn, cause_of, goes_on, source_end_of};
+ghost use Rattle.zbd.specs.Serving.{now_of, clocks_of, Start, IsServing, IsOver, GoesOn, cause_of, goes_on, source_end_of};
 
+use crate::dial::Dial;
 use crate::ledger::Ledger;
 use crate::line::serve_line;
 use crate::run::{End, Session};
 use std::alloc::{AllocError, Global};
 use zb_disk::Disk;
 use zb_lines::{LineReader, Next};
-use zb_outside::{Sink, Source, Trouble};
+use zb_outside::{Clock, Sink, Source, Trouble};
 use zb_wire::longest_shown;
 
 /// A session takes at most so many bytes.
@@ -44,30 +46,40 @@ impl Desk {
 
 /// Serves the lines of a session one after the other, up to the end of its source or to what ends the run
 /// before. It takes one step for each byte of the lines, and the partition's calls for each batch.
-pub fn serve_session<S: Source, K: Sink, D: Disk>(
+pub fn serve_session<S: Source, K: Sink, D: Disk, C: Clock>(
     alloc: Global,
     session: &mut Session<S, K>,
     ledger: &mut Ledger<D>,
+    dial: &mut Dial,
+    clock: &mut C,
 ) -> End
-    requires { (start : Start) × IsServing
+    requires { (setting : Setting) × (start : Start) × (first : D) × IsServing
         (told S.tells K.tells D.tells D.tells_images K.takes_memory D.takes_memory)
-        start (now_of (S.view session.old.source) (K.view session.old.sink) (D.view (disk_of ledger.old.partition)))
-        (D.images (disk_of ledger.old.partition)) (IsOpen ledger.old.partition) ledger.old.stamps.items [] most_taken 1 }
-    ensures { (start : Start) → IsServing
+        setting start (now_of (S.view session.old.source) (K.view session.old.sink) (D.view (disk_of ledger.old.partition)))
+        (D.images first) (D.images (disk_of ledger.old.partition)) (D.since (disk_of ledger.old.partition)) (IsOpen setting.limit ledger.old.partition) ledger.old.stamps.items
+        (clocks_of dial.old C.tells (C.moments clock.old)) [] most_taken 1 }
+
+    // For all that the run may have begun with, and go by.
+    ensures over { (setting : Setting) (start : Start) (first : D) → IsServing
         (told S.tells K.tells D.tells D.tells_images K.takes_memory D.takes_memory)
-        start (now_of (S.view session.old.source) (K.view session.old.sink) (D.view (disk_of ledger.old.partition)))
-        (D.images (disk_of ledger.old.partition)) (IsOpen ledger.old.partition) ledger.old.stamps.items [] most_taken 1
+        setting start (now_of (S.view session.old.source) (K.view session.old.sink) (D.view (disk_of ledger.old.partition)))
+        (D.images first) (D.images (disk_of ledger.old.partition)) (D.since (disk_of ledger.old.partition)) (IsOpen setting.limit ledger.old.partition) ledger.old.stamps.items
+        (clocks_of dial.old C.tells (C.moments clock.old)) [] most_taken 1
         → IsOver
         (told S.tells K.tells D.tells D.tells_images K.takes_memory D.takes_memory)
-        start (now_of (S.view session.new.source) (K.view session.new.sink) (D.view (disk_of ledger.new.partition)))
-        (D.images (disk_of ledger.new.partition)) ledger.new.stamps.items (cause_of (in_writing ledger.new.partition) result) }
+        setting start (now_of (S.view session.new.source) (K.view session.new.sink) (D.view (disk_of ledger.new.partition)))
+        (D.images first) (D.images (disk_of ledger.new.partition)) (D.since (disk_of ledger.new.partition)) ledger.new.stamps.items
+        (cause_of (in_writing ledger.new.partition) result) }
+    ensures slots { slots_of ledger.new.partition ≡ slots_of ledger.old.partition }
+    ensures moments { C.moments clock.new ≡ C.moments clock.old }
+    ensures untouched { IsTrue (is_some dial.old) → clock.new ≡ clock.old }
 {
     let mut desk = match Desk::new(alloc) {
         Ok(desk) => desk,
         Err(AllocError) => return End::Memory,
     };
     for number in 1..u64::MAX {
-        match serve_next(alloc, number, &mut desk, session, ledger) {
+        match serve_next(alloc, number, &mut desk, session, ledger, dial, clock) {
             Ok(true) => {}
             Ok(false) => return End::Done,
             Err(end) => return end,
@@ -77,26 +89,35 @@ pub fn serve_session<S: Source, K: Sink, D: Disk>(
 }
 
 // Serves the line with this number, and tells whether more may come.
-fn serve_next<S: Source, K: Sink, D: Disk>(
+fn serve_next<S: Source, K: Sink, D: Disk, C: Clock>(
     alloc: Global,
     number: u64,
     desk: &mut Desk,
     session: &mut Session<S, K>,
     ledger: &mut Ledger<D>,
+    dial: &mut Dial,
+    clock: &mut C,
 ) -> Result<bool, End>
-    requires { (start : Start) × IsServing
+    requires { (setting : Setting) × (start : Start) × (first : D) × IsServing
         (told S.tells K.tells D.tells D.tells_images K.takes_memory D.takes_memory)
-        start (now_of (S.view session.old.source) (K.view session.old.sink) (D.view (disk_of ledger.old.partition)))
-        (D.images (disk_of ledger.old.partition)) (IsOpen ledger.old.partition) ledger.old.stamps.items desk.old.reader desk.old.budget number }
-    ensures { (start : Start) → IsServing
+        setting start (now_of (S.view session.old.source) (K.view session.old.sink) (D.view (disk_of ledger.old.partition)))
+        (D.images first) (D.images (disk_of ledger.old.partition)) (D.since (disk_of ledger.old.partition)) (IsOpen setting.limit ledger.old.partition) ledger.old.stamps.items
+        (clocks_of dial.old C.tells (C.moments clock.old)) desk.old.reader desk.old.budget number }
+    ensures goes_on { (setting : Setting) (start : Start) (first : D) → IsServing
         (told S.tells K.tells D.tells D.tells_images K.takes_memory D.takes_memory)
-        start (now_of (S.view session.old.source) (K.view session.old.sink) (D.view (disk_of ledger.old.partition)))
-        (D.images (disk_of ledger.old.partition)) (IsOpen ledger.old.partition) ledger.old.stamps.items desk.old.reader desk.old.budget number
+        setting start (now_of (S.view session.old.source) (K.view session.old.sink) (D.view (disk_of ledger.old.partition)))
+        (D.images first) (D.images (disk_of ledger.old.partition)) (D.since (disk_of ledger.old.partition)) (IsOpen setting.limit ledger.old.partition) ledger.old.stamps.items
+        (clocks_of dial.old C.tells (C.moments clock.old)) desk.old.reader desk.old.budget number
         → GoesOn
         (told S.tells K.tells D.tells D.tells_images K.takes_memory D.takes_memory)
-        start (now_of (S.view session.new.source) (K.view session.new.sink) (D.view (disk_of ledger.new.partition)))
-        (D.images (disk_of ledger.new.partition)) (IsOpen ledger.new.partition) ledger.new.stamps.items desk.new.reader desk.new.budget number
+        setting start (now_of (S.view session.new.source) (K.view session.new.sink) (D.view (disk_of ledger.new.partition)))
+        (D.images first) (D.images (disk_of ledger.new.partition)) (D.since (disk_of ledger.new.partition)) (IsOpen setting.limit ledger.new.partition) ledger.new.stamps.items
+        (clocks_of dial.new C.tells (C.moments clock.new)) desk.new.reader desk.new.budget number
         (in_writing ledger.new.partition) result }
+    ensures slots { slots_of ledger.new.partition ≡ slots_of ledger.old.partition }
+    ensures kind { is_some dial.new ≡ is_some dial.old }
+    ensures moments { C.moments clock.new ≡ C.moments clock.old }
+    ensures untouched { IsTrue (is_some dial.old) → clock.new ≡ clock.old }
 {
     let next = match desk.reader.next(
         &mut session.source,
@@ -119,6 +140,8 @@ fn serve_next<S: Source, K: Sink, D: Disk>(
         &mut desk.reply,
         &mut session.sink,
         ledger,
+        dial,
+        clock,
     ) {
         Ok(()) => Ok(may_go_on(next)),
         Err(end) => Err(end),

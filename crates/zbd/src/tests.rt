@@ -1,18 +1,22 @@
 ghost use Rattle.std.specs.Prelude.{◌≤◌, length, IfOk};
 
-use crate::run::{Cause, Closed, Session, Volume};
+use crate::run::{Cause, Closed, Session};
 use crate::top::{serve, serve_alone};
 use std::alloc::{AllocError, Global};
 use std::process::Abort;
 use std::test::Fail;
 use zb_disk::MemDisk;
+use zb_model::Moment;
 use zb_outside::{ListClock, MemSink, MemSource, OpenDoor};
+use zb_store::Volume;
 
+mod crashes;
+mod hours;
 mod processes;
 
 type Ended = Closed<MemSource, MemSink, MemDisk>;
 
-/// The words of a server.
+/// The words of a server whose clock is moved by hand.
 const WORDS: [&str; 3] = ["serve", "--clock", "manual"];
 
 /// A publish.
@@ -44,6 +48,8 @@ const PAID_LOG: [u8; 104] = [
 #[derive(Clone, Copy)]
 struct Script<'a> {
     words: &'a [&'a str],
+    /// What the clock at hand reads, one moment after the other.
+    moments: &'a [u64],
     /// Whether there is a session, and how many volumes there are.
     is_attended: bool,
     volumes: u32,
@@ -61,6 +67,7 @@ struct Script<'a> {
 /// One session that says this over one empty volume, where nothing fails.
 const PLAIN: Script<'static> = Script {
     words: &WORDS,
+    moments: &[],
     is_attended: true,
     volumes: 1,
     input: b"",
@@ -133,12 +140,20 @@ fn volumes_of(alloc: Global, script: &Script<'_>) -> Result<Vec<Volume<MemDisk>>
     Ok(volumes)
 }
 
+fn clock_of(alloc: Global, moments: &[u64]) -> Result<ListClock, AllocError> {
+    let mut list = Vec::new(alloc);
+    for ms in moments {
+        list.push(Moment::new(*ms))?;
+    }
+    Ok(ListClock::new(list))
+}
+
 /// Serves what the script says.
 fn served(alloc: Global, script: &Script<'_>) -> Result<Ended, AllocError> {
     let words = words_of(alloc, script.words)?;
     let sessions = sessions_of(alloc, script)?;
     let volumes = volumes_of(alloc, script)?;
-    let mut clock = ListClock::new(Vec::new(alloc));
+    let mut clock = clock_of(alloc, script.moments)?;
     Ok(serve_alone(alloc, &words, sessions, volumes, &mut clock))
 }
 
@@ -534,60 +549,77 @@ fn what_can_not_be_served_is_refused(rt: HostRuntime) -> Result<(), Fail> {
         input: PAID.as_bytes(),
         ..PLAIN
     };
-    let table: [(Script<'_>, u8, Option<&[u8]>); 8] = [
-        (Script { words: &[], ..paid }, 2, Some(&[])),
+    let table: [(Script<'_>, Option<&[u8]>); 6] = [
+        (Script { words: &[], ..paid }, Some(&[])),
         (
             Script {
-                words: &["serve"],
+                words: &["serve", "--limit", "63"],
                 ..paid
             },
-            2,
             Some(&[]),
         ),
         (
             Script {
-                words: &["serve", "--clock", "real"],
+                words: &["serve", "file"],
                 ..paid
             },
-            2,
             Some(&[]),
         ),
-        (
-            Script {
-                words: &["serve", "--clock", "manual", "x"],
-                ..paid
-            },
-            2,
-            Some(&[]),
-        ),
-        (
-            Script {
-                words: &["check", "--clock", "manual"],
-                ..paid
-            },
-            2,
-            Some(&[]),
-        ),
-        (Script { volumes: 2, ..paid }, 2, None),
+        (Script { volumes: 2, ..paid }, None),
         (
             Script {
                 is_attended: false,
                 ..paid
             },
-            2,
             Some(&[]),
         ),
-        (Script { volumes: 0, ..paid }, 2, None),
+        (Script { volumes: 0, ..paid }, None),
     ];
-    for (script, status, log) in &table {
+    for (script, log) in &table {
         let want = Want {
-            status: *status,
+            status: 2,
             output: b"",
             log: *log,
             stamps: None,
             bad_frame: None,
         };
         expect(&rt, rt.alloc(), script, &want)?;
+    }
+    Ok(())
+}
+
+/// What a run of this script tells of a full log, and its status.
+fn told_full(
+    alloc: Global,
+    script: &Script<'_>,
+) -> Result<(u8, Option<(u32, u64, u64, u64)>), AllocError> {
+    let ended = served(alloc, script)?;
+    let full = match &ended.cause {
+        Cause::LogFull {
+            partition,
+            length,
+            frame,
+            limit,
+        } => Some((*partition, *length, *frame, *limit)),
+        _ => None,
+    };
+    Ok((ended.status, full))
+}
+
+#[test]
+fn a_log_is_full_at_the_limit_of_the_words(rt: HostRuntime) -> Result<(), Fail> {
+    let table: [(&str, u8, Option<(u32, u64, u64, u64)>); 2] = [
+        ("--limit=103", 8, Some((1, 1, 103, 103))),
+        ("--limit=104", 0, None),
+    ];
+    for (limit, status, full) in table {
+        let script = Script {
+            words: &["serve", "--clock", "manual", limit],
+            input: PAID.as_bytes(),
+            ..PLAIN
+        };
+        let told = told_full(rt.alloc(), &script)?;
+        assert_eq!(rt; told, (status, full));
     }
     Ok(())
 }

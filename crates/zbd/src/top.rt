@@ -1,30 +1,26 @@
-ghost use Rattle.std.specs.Prelude.{◌≡◌, ◌<◌, ◌≤◌, ◌^◌, ◌↔◌, List, ℕ, [], ◌∷◌, length, map, MatchOption, Option, IsTrue, string_bytes, vec_len, vec_capacity};
-ghost use Rattle.zb_disk.specs.Disk.{DiskView};
-ghost use Rattle.zb_model.specs.declared.record.Batch.{Batch};
-ghost use Rattle.zb_store.specs.Stands.{Stands};
-ghost use Rattle.zb_partition.specs.Log.{bodies_of, IsApplied};
-ghost use Rattle.zb_partition.specs.Partition.{disk_of};
-ghost use Rattle.zbd.specs.Ledger.{IsOpen};
+ghost use Rattle.std.specs.Prelude.{◌≡◌, ◌<◌, ◌≤◌, ◌^◌, length, map, IfSome, IfNone, string_bytes};
+ghost use Rattle.zb_words.specs.Plan.{IsPlan};
+ghost use Rattle.zb_words.specs.declared.plan.ClockKind.TheVariants as kinds;
+ghost use Rattle.zb_words.specs.declared.plan.Plan.{Plan};
 ghost use Rattle.zbd.specs.Words.{IsPlanned};
 ghost use Rattle.zbd.specs.Ends.{told};
-ghost use Rattle.zbd.specs.Served.{IsRun, status_of};
+ghost use Rattle.zbd.specs.Served.{status_of};
 ghost use Rattle.zbd.specs.Closing.{Closes};
-ghost use Rattle.zbd.specs.Serving.{now_of, start_of, session_ends, log_ends, cause_of, open_cause_of};
 
-use crate::ledger::{LOG_LIMIT, Ledger};
-use crate::run::{Cause, Closed, End, PARTITION, SESSION, Session, Volume};
-use crate::session::serve_session;
-use std::alloc::{AllocError, Global};
+use crate::run::{Cause, Closed, Session};
+use crate::running::{Ran, run};
+use std::alloc::Global;
 use std::sync::Wait;
 use std::thread::Threads;
 use zb_disk::Disk;
-use zb_model::{Batch, PartitionId, Stop};
 use zb_outside::{Clock, Door, Sink, Source};
-use zb_partition::{OpenFault, Partition};
+use zb_store::Volume;
+use zb_words::{Plan, plan_of};
 
 /// Serves sessions over volumes by the words of a command line, and hands everything back with why it
-/// ended. It takes one step for each byte of the lines, and a write and a sync of a disk for each batch.
-/// So far one session over one volume can be served, and this thread does all of it: see `serve_alone`.
+/// ended. It takes one step for each byte of the lines, four calls of a disk for each batch, and for each
+/// batch of a tick a walk over the buffered messages. So far one session over one volume can be served, and
+/// this thread does all of it: see `serve_alone`.
 pub fn serve<R, S, K, D, C, G>(
     rt: &R,
     alloc: Global,
@@ -44,9 +40,12 @@ where
     requires { length sessions.items < 2 ^ 32 }
     ensures closed { Closes
         (told S.tells K.tells D.tells D.tells_images K.takes_memory D.takes_memory)
-        S.view K.view D.view D.images
+        S.view K.view D.view D.images D.since C.tells (C.moments clock.old)
         (map string_bytes words.now) sessions.items volumes.items result }
-    ensures clock { clock.new ≡ clock.old }
+
+    // The clock is read under a plan that goes by it alone.
+    ensures untouched { (plan : Plan) → IsPlan (map string_bytes words.now) plan → plan.clock ≡ kinds.Manual → clock.new ≡ clock.old }
+    ensures moments { C.moments clock.new ≡ C.moments clock.old }
 {
     let _ = rt;
     let _ = door;
@@ -64,52 +63,38 @@ pub fn serve_alone<S: Source, K: Sink, D: Disk, C: Clock>(
     requires { length sessions.items < 2 ^ 32 }
     ensures closed { Closes
         (told S.tells K.tells D.tells D.tells_images K.takes_memory D.takes_memory)
-        S.view K.view D.view D.images
+        S.view K.view D.view D.images D.since C.tells (C.moments clock.old)
         (map string_bytes words.now) sessions.items volumes.items result }
-    // The manual clock stands at 0, and the one handed in isn't read.
-    ensures clock { clock.new ≡ clock.old }
+
+    // The clock is read under a plan that goes by it alone.
+    ensures untouched { (plan : Plan) → IsPlan (map string_bytes words.now) plan → plan.clock ≡ kinds.Manual → clock.new ≡ clock.old }
+    ensures moments { C.moments clock.new ≡ C.moments clock.old }
 {
-    let _ = clock;
-    if !is_planned(words, sessions.len(), volumes.len()) {
+    let Some(plan) = plan_for(words, sessions.len(), volumes.len()) else {
         return closed(Cause::Usage, Vec::new(alloc), sessions, volumes);
-    }
+    };
     let Some(volume) = volumes.pop() else {
         return closed(Cause::Usage, Vec::new(alloc), sessions, volumes);
     };
-    let Volume {
-        log,
-        snap_a,
-        snap_b,
-    } = volume;
-    let Ran { cause, log, stamps } = run(alloc, &mut sessions[0], log);
-    volumes.push_reserved(Volume {
-        log,
-        snap_a,
-        snap_b,
-    });
+    let Ran {
+        cause,
+        volume,
+        stamps,
+    } = run(alloc, plan, &mut sessions[0], volume, clock);
+    volumes.push_reserved(volume);
     closed(cause, stamps, sessions, volumes)
 }
 
-/// Whether these words, and so many sessions and volumes, can be served.
-pub fn is_planned(words: &[String], sessions: usize, volumes: usize) -> bool
-    ensures { IsTrue result ↔ IsPlanned (map string_bytes words.now) sessions volumes }
+/// The plan of these words, where so many sessions and volumes can be served by it.
+pub fn plan_for(words: &[String], sessions: usize, volumes: usize) -> Option<Plan>
+    ensures planned { IfSome result (IsPlanned (map string_bytes words.now) sessions volumes) }
+    ensures unplanned { IfNone result ((plan : Plan) → IsPlanned (map string_bytes words.now) sessions volumes plan → ⊥) }
+    ensures limit { IfSome result (λ plan. plan.limit ≤ 2 ^ 32) }
 {
     if sessions != 1 || volumes != 1 {
-        return false;
+        return None;
     }
-    match words {
-        [verb, option, value] => {
-            is_text(verb, "serve") && is_text(option, "--clock") && is_text(value, "manual")
-        }
-        _ => false,
-    }
-}
-
-// Whether the word is this text.
-fn is_text(word: &String, text: &str) -> bool
-    ensures { IsTrue result ↔ (string_bytes word.now ≡ text.now) }
-{
-    word.as_str() == text
+    plan_of(words)
 }
 
 // The end of a run, with its status.
@@ -151,141 +136,5 @@ fn status(cause: &Cause) -> u8
         Cause::Memory => 7,
         Cause::LogFull { .. } => 8,
         Cause::InputFull { .. } => 9,
-    }
-}
-
-// How a run of one session over one partition ended.
-struct Ran<D> {
-    cause: Cause,
-    // The disk of the partition's log.
-    log: D,
-    // The stamps of each log that was opened.
-    stamps: Vec<Vec<u64>>,
-}
-
-// Runs one session over the log on one disk.
-fn run<S: Source, K: Sink, D: Disk>(alloc: Global, session: &mut Session<S, K>, disk: D) -> Ran<D>
-    ensures unread { result.stamps.items ≡ [] → session.new ≡ session.old }
-    ensures spared { result.stamps.items ≡ [] → IsTrue D.tells_images → 1 < length (D.view disk).contents
-        → (image : List ℕ) → D.images result.log image → D.images disk image }
-    ensures run { IsRun
-        (told S.tells K.tells D.tells D.tells_images K.takes_memory D.takes_memory)
-        (session_ends
-        (start_of (S.view session.old.source) (K.view session.old.sink) (D.view disk))
-        (now_of (S.view session.new.source) (K.view session.new.sink) (D.view result.log)) ∷ [])
-        (log_ends
-        (start_of (S.view session.old.source) (K.view session.old.sink) (D.view disk))
-        (now_of (S.view session.new.source) (K.view session.new.sink) (D.view result.log)) ∷ [])
-        (λ place image. D.images result.log image) result.cause (map (λ list. list.items) result.stamps.items) }
-{
-    let mut stamps = Vec::new(alloc);
-    match stamps.reserve(1) {
-        Ok(()) => {}
-        Err(AllocError) => return Ran {
-            cause: Cause::Memory,
-            log: disk,
-            stamps,
-        },
-    }
-    match Partition::open(alloc, disk, PartitionId::new(PARTITION), LOG_LIMIT) {
-        Ok(partition) => serve_partition(alloc, session, partition, stamps),
-        Err((fault, log)) => Ran {
-            cause: open_cause(fault),
-            log,
-            stamps,
-        },
-    }
-}
-
-// Runs one session over a partition that was opened, with room for its stamps.
-fn serve_partition<S: Source, K: Sink, D: Disk>(
-    alloc: Global,
-    session: &mut Session<S, K>,
-    partition: Partition<D>,
-    mut stamps: Vec<Vec<u64>>,
-) -> Ran<D>
-    requires room { vec_len stamps < vec_capacity stamps }
-    requires none { stamps.items ≡ [] }
-    requires opened { (opened : List Batch) × IsOpen partition opened × IsApplied 1 opened }
-    ensures some { ¬ (result.stamps.items ≡ []) }
-    ensures run { (disk : DiskView) (opened : List Batch) → IsOpen partition opened → IsApplied 1 opened
-        → (IsTrue D.tells → Stands disk.contents (bodies_of opened)) → disk.faults ≤ (D.view (disk_of partition)).faults
-        → IsRun
-        (told S.tells K.tells D.tells D.tells_images K.takes_memory D.takes_memory)
-        (session_ends
-        (start_of (S.view session.old.source) (K.view session.old.sink) disk)
-        (now_of (S.view session.new.source) (K.view session.new.sink) (D.view result.log)) ∷ [])
-        (log_ends
-        (start_of (S.view session.old.source) (K.view session.old.sink) disk)
-        (now_of (S.view session.new.source) (K.view session.new.sink) (D.view result.log)) ∷ [])
-        (λ place image. D.images result.log image) result.cause (map (λ list. list.items) result.stamps.items) }
-{
-    let mut ledger = Ledger {
-        partition,
-        stamps: Vec::new(alloc),
-    };
-    let end = serve_session(alloc, session, &mut ledger);
-    let (stopped, places) = ledger.close();
-    stamps.push_reserved(places);
-    Ran {
-        cause: cause(end, stopped.in_writing),
-        log: stopped.log,
-        stamps,
-    }
-}
-
-// Why a run ends whose one session ended so, with the batch that was in writing.
-fn cause(end: End, in_writing: Option<Batch>) -> Cause
-    ensures { result ≡ cause_of in_writing end }
-{
-    match cause_but_disk(end) {
-        Some(cause) => cause,
-        None => Cause::DiskFault {
-            partition: PARTITION,
-            in_writing,
-        },
-    }
-}
-
-// Why a run ends whose one session ended so; `None` where the disk failed.
-fn cause_but_disk(end: End) -> Option<Cause>
-    ensures { MatchOption result (end ≡ End.Stopped Stop.DiskFault) (λ cause. (in_writing : Option Batch) → cause ≡ cause_of in_writing end) }
-{
-    match end {
-        End::Done => Some(Cause::Done),
-        End::SourceFault => Some(Cause::SourceFault { session: SESSION }),
-        End::SinkFault => Some(Cause::SinkFault { session: SESSION }),
-        End::InputFull => Some(Cause::InputFull { session: SESSION }),
-        End::Memory | End::Stopped(Stop::Memory) => Some(Cause::Memory),
-        End::Stopped(Stop::DiskFault) => None,
-        End::Stopped(
-            Stop::LogFull {
-                length,
-                frame,
-                limit,
-            },
-        ) => Some(Cause::LogFull {
-            partition: PARTITION,
-            length,
-            frame,
-            limit,
-        }),
-    }
-}
-
-// Why an opening of the one log ends the run.
-fn open_cause(fault: OpenFault) -> Cause
-    ensures { result ≡ open_cause_of fault }
-{
-    match fault {
-        OpenFault::DiskFault => Cause::DiskFault {
-            partition: PARTITION,
-            in_writing: None,
-        },
-        OpenFault::BadLog { frame } => Cause::BadLog {
-            partition: PARTITION,
-            frame,
-        },
-        OpenFault::Memory => Cause::Memory,
     }
 }

@@ -1,32 +1,28 @@
-use Rattle.std.proofs.Common.{◌++◌, ◌∷◌, [], ◌∙◌}
+use Rattle.std.proofs.Common.{[]}
 use Rattle.std.proofs.lemmas.Result.{on_ok_weaker}
-use Rattle.zbd.proofs.Answering.{step_answered, request_answered, may_ask, unanswered_memory}
+use Rattle.zbd.proofs.Answering.{advance_served, made_for_none, unserved_memory}
 use Rattle.zbd.proofs.Handing.{if_err_as}
-use Rattle.zbd.proofs.Logs.{has_stored}
+use Rattle.zbd.proofs.Logs.{grown_none}
 use Rattle.zbd.proofs.answer.answer_request.Goals as goal
 
-pub put_reply-requires : goal.put_reply-requires
-put_reply-requires g c =
-    let k = c.requires.known in
-    step_answered 1 (k.0 ++ k.1) c.in-Ok.batch c.args.request (c.in-Ok.ensures.command ∙ c.into_command.ensures) (c.in-Ok.ensures.step k.0 k.1 k.2 k.3)
+pub returns-in-Tick-clause-done : goal.returns-in-Tick-clause-done
+returns-in-Tick-clause-done g c = λ limit opened before made is_open. rw c.in-Tick.is (c.answer_tick.ensures.done limit opened before made is_open)
 
-pub returns-in-Ok-clause-answered : goal.returns-in-Ok-clause-answered
-returns-in-Ok-clause-answered g c = λ number line opened before is made is_open.
-    let more = c.in-Ok.ensures.open opened before made is_open in
-    on_ok_weaker c.put_reply.result (λ put. record {
-      batches = c.in-Ok.batch ∷ [];
-      is = request_answered number line _ _ c.args.request c.in-Ok.batch put.0 is (c.in-Ok.ensures.command ∙ c.into_command.ensures) c.requires.empty put.1 put.2;
-      made = c.in-Ok.ensures.made opened before made is_open;
-      has = more;
-      stored = has_stored _ _ g.met.D.Disk.images_told more.has;
-    }) c.put_reply.ensures.put
+pub returns-in-Tick-clause-unserved : goal.returns-in-Tick-clause-unserved
+returns-in-Tick-clause-unserved g c = λ limit opened before made is_open. rw c.in-Tick.is (c.answer_tick.ensures.unserved limit opened before made is_open)
 
-pub returns-in-Ok-clause-unanswered : goal.returns-in-Ok-clause-unanswered
-returns-in-Ok-clause-unanswered g c = λ line opened before is made is_open.
-    let more = c.in-Ok.ensures.open opened before made is_open in
-    if_err_as c.put_reply.result _ _ (λ end memory. unanswered_memory _ _ _ line _ _ _ _ opened before _ end memory (record {
-      batches = c.in-Ok.batch ∷ [];
-      asked = may_ask line c.args.request c.in-Ok.batch is (c.in-Ok.ensures.command ∙ c.into_command.ensures);
-      made = c.in-Ok.ensures.made opened before made is_open;
-      stored = has_stored _ _ g.met.D.Disk.images_told more.has;
-    })) c.put_reply.ensures.memory
+pub returns-in-Advance-clause-done : goal.returns-in-Advance-clause-done
+returns-in-Advance-clause-done g c = λ limit opened before made is_open.
+    on_ok_weaker c.put.result (λ put. record {
+      batches = [];
+      served = rw c.in-Advance.is (advance_served _ _ _ _ _ c.requires.empty put);
+      grown = grown_none limit _ opened before c.args.ledger.now.partition g.met.D.Disk.images_told made is_open;
+    }) c.put.ensures.put
+
+pub returns-in-Advance-clause-unserved : goal.returns-in-Advance-clause-unserved
+returns-in-Advance-clause-unserved g c = λ limit opened before made is_open.
+    if_err_as c.put.result _ _ (λ end memory. unserved_memory _ _ _ limit _ _ opened before _ _ _ _ _ _ _ _ end memory (record {
+      batches = [];
+      each = made_for_none _ _ _;
+      grown = grown_none limit _ opened before c.args.ledger.now.partition g.met.D.Disk.images_told made is_open;
+    })) c.put.ensures.memory

@@ -1,0 +1,52 @@
+-- The clock of a run, and its readings.
+use Rattle.std.specs.Prelude.{◌≡◌, ◌≤◌, min, sum_by, ℕ, List, Bool, true, false, IsTrue, Contains, Option, Some, None, Result, Ok, Err}
+use Rattle.zb_base.specs.Moment.{last_moment}
+use Rattle.zb_wire.specs.declared.request.Request.{Request}
+use Rattle.zb_wire.specs.declared.request.Request.TheVariants as requests
+use Rattle.zb_wire.specs.declared.request.LineFault.{LineFault}
+use Rattle.zb_wire.specs.Request.{request_of}
+use Rattle.zb_words.specs.declared.plan.ClockKind.{ClockKind}
+use Rattle.zb_words.specs.declared.plan.ClockKind.TheVariants as kinds
+use Rattle.zb_words.specs.declared.plan.Plan.{Plan}
+
+-- the clock of a run: one that is moved by hand, or a real one, which may tell the moments that it reads
+pub data Hours : Type 0 where
+  manual : Hours
+  real : Bool → List ℕ → Hours
+
+-- whether it is moved by hand
+abbrev pub is_manual : Hours → Bool
+is_manual manual = true
+is_manual (real tells moments) = false
+
+-- how far a request moves the clock that is moved by hand: only an advance does
+abbrev pub moved_by : Result Request LineFault → ℕ
+moved_by (Ok (requests.Advance ms)) = ms
+moved_by _ = 0
+
+abbrev pub advance_of : List ℕ → ℕ
+advance_of line = moved_by (request_of true line)
+
+-- the clock that is moved by hand stands at 0 at first, and behind these lines at the sum of their advances, at most
+-- at the last moment
+abbrev pub clock_after : List (List ℕ) → ℕ
+clock_after lines = min (sum_by advance_of lines) last_moment
+
+-- a reading of the clock for the last one of these lines
+abbrev pub IsReadingOf : Hours → List (List ℕ) → ℕ → Type 0
+IsReadingOf manual lines reading = reading ≡ clock_after lines
+IsReadingOf (real tells moments) lines reading = (reading ≤ last_moment)
+    × (IsTrue tells → (moment : ℕ) × Contains moments moment × (reading ≡ min moment last_moment))
+
+-- what a run goes by: its clock, and how many bytes a log may have
+pub record Setting : Type 0 where
+  pub hours : Hours
+  pub limit : ℕ
+
+abbrev pub hours_of : ClockKind → Bool → List ℕ → Hours
+hours_of kinds.Manual tells moments = manual
+hours_of kinds.Real tells moments = real tells moments
+
+-- what a run goes by under a plan, with a real clock at hand that may tell the moments that it reads
+abbrev pub setting_of : Plan → Bool → List ℕ → Setting
+setting_of plan tells moments = record { hours = hours_of plan.clock tells moments; limit = plan.limit }
