@@ -65,7 +65,7 @@ module _ (tells tells_images takes_memory : Bool) (old new : DiskView) (images :
     (left : IsTrue tells → StandsWithOrWithout (bodies_of log) (bytes_of batch) new.contents)
     (crash : IsTrue tells_images → (image : List ℕ) → images image → StandsWithOrWithout (bodies_of log) (bytes_of batch) image)
     (time : IsTrue tells_images → LeavesOnly old.moment new.moment past since (StandsWithOrWithout (bodies_of log) (bytes_of batch)))
-    (room : before + frame ≤ limit) where
+    (room : before + frame ≤ limit) (fits : extent (bodies_of (log ++ batch ∷ [])) ≤ limit) where
   abbrev Hurt : Type 0
   Hurt = IsHurt takes_memory old.faults new.faults
 
@@ -82,7 +82,7 @@ module _ (tells tells_images takes_memory : Bool) (old new : DiskView) (images :
 
   pub unwritten_some : (fault : StoreFault) → IsFullAt before frame limit fault → (fault ≡ store.DiskFault → Rose old.faults new.faults) → (fault ≡ store.Memory → IsTrue takes_memory)
       → IsUnwritten tells tells_images takes_memory old new images past since limit log (Some batch) (Some batch) (stop_of fault)
-  unwritten_some store.DiskFault full rose memory = by_hurt stops.DiskFault (rose refl, refl, refl) (inl (rose refl))
+  unwritten_some store.DiskFault full rose memory = by_hurt stops.DiskFault (rose refl, (batch, refl, fits), refl) (inl (rose refl))
   unwritten_some (store.LogFull n m k) full rose memory = absurd (omega (arith, full, room))
   unwritten_some store.Memory full rose memory = by_hurt stops.Memory (inr refl) (inr (memory refl))
 

@@ -1,5 +1,5 @@
 -- A partition that a command has stopped.
-use Rattle.std.specs.Prelude.{◌≡◌, ◌⊎◌, ◌<◌, ◌+◌, ◌-◌, ◌^◌, min, ℕ, List, [], ◌∷◌, ◌++◌, length, Bool, IsTrue, IsSome, Option, Some, None}
+use Rattle.std.specs.Prelude.{◌≡◌, ◌⊎◌, ◌<◌, ◌≤◌, ◌+◌, ◌-◌, ◌^◌, min, ℕ, List, [], ◌∷◌, ◌++◌, length, Bool, IsTrue, Option, Some, None}
 use Rattle.zb_disk.specs.Disk.{DiskView}
 use Rattle.zb_disk.specs.Cause.{Rose}
 use Rattle.zb_model.specs.declared.record.Batch.{Batch}
@@ -35,11 +35,15 @@ abbrev pub IsLeft : Type 0 → List Batch → Option Batch → List ℕ → Type
 IsLeft hurt log None file = Stands file (bodies_of log)
 IsLeft hurt log (Some batch) file = Stands file (bodies_of log) ⊎ (hurt × Stands file (bodies_of (log ++ batch ∷ [])))
 
--- Why the partition stopped. `refused` is the batch that was made and isn't in the log. It was in writing where the
--- disk failed; a log is full exactly where the frame doesn't fit.
+-- there is such a batch, and the log with it is no longer than it may be
+abbrev pub HasRoomFor : (limit : ℕ) → List Batch → Option Batch → Type 0
+HasRoomFor limit log writing = (batch : Batch) × (writing ≡ Some batch) × (extent (bodies_of (log ++ batch ∷ [])) ≤ limit)
+
+-- Why the partition stopped. `refused` is the batch that was made and isn't in the log. Where the disk failed, the log
+-- had room for it, and it was in writing; a log is full where the frame doesn't fit.
 abbrev pub IsStopCause : (before after limit : ℕ) → List Batch → Option Batch → Option Batch → Stop → Type 0
 IsStopCause before after limit log refused in_writing stops.Memory = (in_writing ≡ None) ⊎ (refused ≡ in_writing)
-IsStopCause before after limit log refused in_writing stops.DiskFault = Rose before after × IsSome in_writing × (refused ≡ in_writing)
+IsStopCause before after limit log refused in_writing stops.DiskFault = Rose before after × HasRoomFor limit log in_writing × (refused ≡ in_writing)
 IsStopCause before after limit log refused in_writing (stops.LogFull length_told frame most) = (in_writing ≡ None)
     × (length_told ≡ extent (bodies_of log)) × (most ≡ limit) × (most < length_told + frame)
     × ((batch : Batch) × (refused ≡ Some batch) × (frame ≡ frame_of batch))

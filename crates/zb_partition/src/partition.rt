@@ -1,4 +1,4 @@
-ghost use Rattle.std.specs.Prelude.{◌≡◌, ◌⊎◌, ◌<◌, ◌≤◌, ◌+◌, ◌++◌, ◌∷◌, ◌^◌, ℕ, List, [], length, IsTrue, IsFalse, IsOk, IfErr, IfOk, OnErr, OnOk, IsErrOf, Some, None, Err};
+ghost use Rattle.std.specs.Prelude.{◌≡◌, ◌⊎◌, ◌<◌, ◌≤◌, ◌+◌, ◌++◌, ◌∷◌, ◌^◌, ℕ, List, [], length, IsTrue, IsFalse, IsOk, IsErr, IfErr, IfOk, OnErr, OnOk, IsErrOf, Some, None, Err};
 ghost use Rattle.zb_disk.specs.Disk.{Only};
 ghost use Rattle.zb_model.specs.declared.record.Event.{Event};
 ghost use Rattle.zb_model.specs.declared.record.Batch.{Batch};
@@ -154,6 +154,7 @@ impl<D: Disk> Partition<D> {
         ensures memory { IsErrOf result Stop.Memory → (in_writing self.new ≡ None) ⊎ IsTrue D.takes_memory }
         ensures slots { slots_of self.new ≡ slots_of self.old }
         ensures live { IsOk result → IsTrue (is_live self.new) }
+        ensures dead { IsErr result → IsFalse (is_live self.new) }
         ensures place { place_of self.new ≡ place_of self.old }
         ensures limit { limit_of self.new ≡ limit_of self.old }
         ensures later { (D.view (disk_of self.old)).faults ≤ (D.view (disk_of self.new)).faults }

@@ -60,7 +60,7 @@ module _ (told : Told) (limit : ℕ) (start : Start) (old now : Now) (images : L
     input_full = λ e. absurd (cc);
     disk_fault = λ batch e.
         let same : in_writing ≡ batch = cc in
-        (rose_since start.disk.faults old.disk.faults now.disk.faults later why.0, sym same ∙ sym why.2, subst IsSome same why.1);
+        (rose_since start.disk.faults old.disk.faults now.disk.faults later why.0, sym same ∙ sym why.2, (why.1.0, sym same ∙ why.1.1, why.1.2));
     log_full = λ n frame most e. absurd (cc);
   }
   halted_named unserved at_end (stops.LogFull n frame most) why = record {
@@ -80,5 +80,5 @@ module _ (told : Told) (limit : ℕ) (start : Start) (old now : Now) (images : L
   -- why a line was left undone: the batch that was made last isn't in the log, or there was no memory
   pub halted_why : (stop : Stop) → Why stop → (cause_of in_writing (ends.Stopped stop) ≡ causes.Memory) ⊎ IsSome refused
   halted_why stops.Memory why = inl refl
-  halted_why stops.DiskFault why = inr (subst IsSome (sym why.2) why.1)
+  halted_why stops.DiskFault why = inr (subst IsSome (sym (why.2 ∙ why.1.1)) refl)
   halted_why (stops.LogFull n frame most) why = inr (subst IsSome (sym why.4.1) refl)

@@ -11,7 +11,7 @@ use Rattle.zb_rules.specs.Step.{IsStep}
 use Rattle.zb_store.specs.Log.{extent}
 use Rattle.zb_store.specs.Stands.{Stands}
 use Rattle.zb_partition.specs.Log.{bodies_of, IsApplied}
-use Rattle.zb_partition.specs.Stopping.{frame_of}
+use Rattle.zb_partition.specs.Stopping.{frame_of, HasRoomFor}
 use Rattle.zbd.specs.Ends.{Told, LogEnds}
 use Rattle.zbd.specs.Ledger.{IsStored, IsMade}
 use Rattle.zb_wire.specs.declared.request.Request.{Request}
@@ -45,7 +45,7 @@ pub record IsNamed (told : Told) (limit : ℕ) (start : Start) (now : Now) (log 
   pub source_fault : cause ≡ causes.SourceFault 1 → Rose start.source.faults now.source.faults × (unserved ≡ [])
   pub sink_fault : cause ≡ causes.SinkFault 1 → Rose start.sink.faults now.sink.faults
   pub input_full : cause ≡ causes.InputFull 1 → (now.source.given ≡ start.source.given + most_taken) × (at_end ≡ false) × (unserved ≡ [])
-  pub disk_fault : (batch : Option Batch) → cause ≡ causes.DiskFault 1 batch → Rose start.disk.faults now.disk.faults × (batch ≡ unlogged) × IsSome batch
+  pub disk_fault : (batch : Option Batch) → cause ≡ causes.DiskFault 1 batch → Rose start.disk.faults now.disk.faults × (batch ≡ unlogged) × HasRoomFor limit log batch
   pub log_full : (length_told frame most : ℕ) → cause ≡ causes.LogFull 1 length_told frame most
       → (length_told ≡ extent (bodies_of log)) × (most ≡ limit) × (most < length_told + frame)
       × ((batch : Batch) × (unlogged ≡ Some batch) × (frame ≡ frame_of batch))

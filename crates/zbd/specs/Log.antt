@@ -1,5 +1,5 @@
 -- A partition's log in a run.
-use Rattle.std.specs.Prelude.{◌≡◌, ◌⊎◌, ◌<◌, ◌≤◌, ◌+◌, ℕ, List, [], ◌∷◌, ◌++◌, length, take, IsTrue, IsSome, Option, Some}
+use Rattle.std.specs.Prelude.{◌≡◌, ◌⊎◌, ◌<◌, ◌≤◌, ◌+◌, ℕ, List, [], ◌∷◌, ◌++◌, length, take, IsTrue, Option, Some}
 use Rattle.zb_disk.specs.Cause.{Rose}
 use Rattle.zb_model.specs.declared.record.Batch.{Batch}
 use Rattle.zb_store.specs.Calls.{LeftByOpening}
@@ -7,7 +7,7 @@ use Rattle.zb_store.specs.Log.{extent}
 use Rattle.zb_store.specs.Stands.{Stands}
 use Rattle.zb_rules.specs.Step.{IsStep, AreStepsOn}
 use Rattle.zb_partition.specs.Log.{bodies_of, IsApplied}
-use Rattle.zb_partition.specs.Stopping.{frame_of}
+use Rattle.zb_partition.specs.Stopping.{frame_of, HasRoomFor}
 use Rattle.zbd.specs.Ends.{LogEnds, Told}
 use Rattle.zbd.specs.declared.run.Cause.{Cause}
 use Rattle.zbd.specs.declared.run.Cause.TheVariants as causes
@@ -50,10 +50,10 @@ pub record IsLog (told : Told) (limit : ℕ) (cause : Cause) (unlogged : Option 
   pub steps : AreStepsOn number growth.opened growth.made
   -- the file stands for all of them
   pub contents : IsTrue told.disk → IsKept told ends cause unlogged (whole_of growth) ends.disk_after.contents
-  -- the disk is named only where it failed, with the batch that was being written
+  -- the disk is named only where it failed, with the batch that was being written, for which the log had room
   pub disk_fault : (batch : Option Batch) → cause ≡ causes.DiskFault number batch
-      → Rose ends.disk.faults ends.disk_after.faults × (batch ≡ unlogged) × IsSome batch
-  -- the log is full exactly where the frame of the batch that was made next doesn't fit
+      → Rose ends.disk.faults ends.disk_after.faults × (batch ≡ unlogged) × HasRoomFor limit (whole_of growth) batch
+  -- what was added to the log fits, and it is called full only where the frame of the batch that was made next doesn't
   pub fits : (growth.made ≡ []) ⊎ (extent (bodies_of (whole_of growth)) ≤ limit)
   pub log_full : (length_told frame most : ℕ) → cause ≡ causes.LogFull number length_told frame most
       → (length_told ≡ extent (bodies_of (whole_of growth))) × (most ≡ limit) × (most < length_told + frame)

@@ -1,10 +1,10 @@
-use Rattle.std.proofs.Common.{◌≡◌, ◌+◌, ◌≤◌, ℕ, List, length, Some, Err, rules, sym, ap, ◌∙◌, subst, refl, arith, inr}
+use Rattle.std.proofs.Common.{◌≡◌, ◌+◌, ◌≤◌, ℕ, List, [], ◌∷◌, ◌++◌, length, Some, Err, rules, sym, ap, ◌∙◌, subst, refl, arith, inr}
 use Rattle.std.proofs.lemmas.Bool.{false≢true}
 use Rattle.zb_model.specs.Record.{bytes_of}
 use Rattle.zb_store.specs.Calls.{LeavesOnly}
 use Rattle.zb_store.specs.CallLaws.{leaves_weaker}
 use Rattle.zb_store.specs.GateLog as gates
-use Rattle.zb_store.specs.Log.{framed_length}
+use Rattle.zb_store.specs.Log.{extent, framed_length}
 use Rattle.zb_store.specs.declared.gate_log.GateLog.{GateLog}
 use Rattle.zb_partition.specs.Log.{bodies_of}
 use Rattle.zb_partition.specs.Partition.{disk_of, limit_of, in_writing}
@@ -58,13 +58,15 @@ returns-in-Err-append-clause-stopped g c = λ log ahead none.
     let frame = c.deref.ensures.value ∙ said.frame in
     let new = gates.disk_of c.append.new.self in
     let fits : gates.length_of mid.log + length c.deref.result.now ≤ limit_of mid = subst (λ (f : List ℕ). gates.length_of mid.log + length f ≤ limit_of mid) (sym c.deref.ensures.value) said.fits in
+    let size : length c.deref.result.now ≡ 9 + length (bytes_of c.args.batch) = ap length frame ∙ framed_length (bytes_of c.args.batch) in
+    let room : extent (bodies_of (log ++ c.args.batch ∷ [])) ≤ limit_of mid = omega (arith, fits, size, a.extent, extent_of_more log c.args.batch) in
     rw c.stop_of.ensures
     (subst (λ (l : GateLog g.row.D.Denot D). IsUnwritten D.tells D.tells_images D.takes_memory (D.view (gates.disk_of l)) (D.view new) (D.images new) (D.since (gates.disk_of l)) (D.since new) (gates.limit_of l) log (Some c.args.batch) (Some c.args.batch) (stop_of c.in-Err-append.fault)) said.log
     (unwritten_some D.tells D.tells_images D.takes_memory (D.view (disk_of mid)) (D.view new) (D.images new) (D.since (disk_of mid)) (D.since new) (limit_of mid) (gates.length_of mid.log) (length c.deref.result.now) log c.args.batch
     (λ t. done.left t (bodies_of log) (bytes_of c.args.batch) (a.file t) frame)
     (λ t. done.crash t (bodies_of log) (bytes_of c.args.batch) (a.file (g.met.D.Disk.images_told t)) (a.durable t) frame)
     (λ t. done.time t (bodies_of log) (bytes_of c.args.batch) (a.file (g.met.D.Disk.images_told t)) (a.durable t) frame)
-    fits c.in-Err-append.fault done.full (λ e. done.failed (ap Err e)) (λ e. done.memory (ap Err e))))
+    fits room c.in-Err-append.fault done.full (λ e. done.failed (ap Err e)) (λ e. done.memory (ap Err e))))
 
 pub returns-in-Err-append-clause-memory : goal.returns-in-Err-append-clause-memory
 returns-in-Err-append-clause-memory g c = λ none is.
