@@ -8,7 +8,8 @@ use zb_store::Volume;
 /// The directory of the volumes.
 const DIRECTORY: &str = "zb";
 
-/// The volumes of so many partitions, as files of the directory that are made where they are missing.
+/// The volumes of so many partitions, as files of the directory that are made where they are missing. The names
+/// of the files are on the disk then too.
 pub fn open_volumes<R: Files<File = File>>(
     rt: &R,
     alloc: Global,
@@ -19,7 +20,13 @@ pub fn open_volumes<R: Files<File = File>>(
     for partition in 1..=partitions {
         volumes.push(open_volume(rt, alloc, partition)?)?;
     }
+    sync_directory(rt, DIRECTORY)?;
+    sync_directory(rt, ".")?;
     Ok(volumes)
+}
+
+fn sync_directory<R: Files<File = File>>(rt: &R, path: &str) -> io::Result<()> {
+    File::open(rt, path)?.sync_all()
 }
 
 fn open_volume<R: Files<File = File>>(
