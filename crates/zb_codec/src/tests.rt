@@ -384,17 +384,6 @@ fn no_batch(rt: HostRuntime) -> Result<(), Fail> {
 }
 
 #[test]
-fn no_batch_is_cut_off(rt: HostRuntime) -> Result<(), Fail> {
-    for command in [COMMANDS[0].1, COMMANDS[3].1, COMMANDS[18].1] {
-        let bytes = bytes_from(&rt, &[BEFORE, command, REJECTED])?;
-        for end in 0..bytes.len() {
-            assert!(rt; is_none(&rt, &bytes[..end])?, "{end} bytes");
-        }
-    }
-    Ok(())
-}
-
-#[test]
 fn a_job_that_was_not_found(rt: HostRuntime) -> Result<(), Fail> {
     let bytes = bytes_from(
         &rt,
@@ -424,25 +413,6 @@ fn tells_of_job_5(batch: &Batch) -> bool {
         && key.number() == 5
         && rejection.kind == RejectionKind::NotFound
         && rejection.reason.as_str() == "no job 5"
-}
-
-#[test]
-fn at_most_64_around_a_leaf(rt: HostRuntime) -> Result<(), Fail> {
-    for (depth, none) in [(64, false), (65, true)] {
-        let mut bytes = bytes_from(
-            &rt,
-            &[
-                BEFORE,
-                "01 00000001 70 00000000 00000000 00000001 00000001 66 00000001 61 00000001 62 01",
-            ],
-        )?;
-        for _ in 0..depth {
-            bytes.push(5)?;
-        }
-        bytes.extend_from_slice(&bytes_from(&rt, &["01 01", REJECTED])?)?;
-        assert_eq!(rt; is_none(&rt, &bytes)?, none, "{depth} around a leaf");
-    }
-    Ok(())
 }
 
 /// The bytes that these texts give in hex.

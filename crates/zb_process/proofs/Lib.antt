@@ -1,3 +1,4 @@
 pub mod Members
 pub mod Nesting
 pub mod Pieces
+pub mod Worked
