@@ -2,5 +2,6 @@ pub mod Disk
 pub mod Cause
 pub mod Kept
 pub mod Moments
+pub mod Calls
 pub mod Image
 pub mod MemDisk

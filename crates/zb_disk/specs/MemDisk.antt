@@ -9,6 +9,10 @@ use Rattle.zb_disk.specs.Image.{synced_file, unsynced, IsFilled, IsLongest}
 abbrev pub first_of : MemDisk → List ℕ
 first_of disk = disk.first.items
 
+-- the numbers of its calls that fail
+abbrev pub failing_calls_of : MemDisk → List ℕ
+failing_calls_of disk = disk.log.fails.items
+
 -- its calls before a moment
 abbrev pub calls_before : MemDisk → ℕ → List Call
 calls_before disk moment = take moment disk.log.calls.items

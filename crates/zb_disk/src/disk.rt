@@ -43,6 +43,9 @@ pub trait Disk {
     /// Whether the images, what a crash may leave, are told, and the contents with them.
     ghost tells_images: { Bool };
 
+    /// Whether the count of faults rises only where a call fails.
+    ghost counts_failures: { Bool };
+
     /// Whether a call may be refused for want of memory.
     ghost takes_memory: { Bool };
 
@@ -57,7 +60,7 @@ pub trait Disk {
         ensures length { IsTrue tells → IfOk result (λ n. n ≡ length (view self.old).contents) }
         ensures small { IfOk result (λ n. n < 2 ^ 58) }
         ensures same { IsTrue tells → (view self.new).contents ≡ (view self.old).contents }
-        ensures cause { HasCause takes_memory (view self.old).faults (view self.new).faults result }
+        ensures cause { HasCause counts_failures takes_memory (view self.old).faults (view self.new).faults result }
         ensures crash { IsTrue tells_images → (c : List ℕ) → images self.new c → images self.old c }
         ensures time { IsTrue tells_images → Elapses (view self.old).moment (view self.new).moment (since self.old) (since self.new) (images self.new) };
 
@@ -66,7 +69,7 @@ pub trait Disk {
         requires { IsTrue tells → at + length piece.old ≤ length (view self.old).contents }
         ensures bytes { IsTrue tells → OnOk result (piece.new ≡ slice_range (view self.old).contents at (at + length piece.old)) }
         ensures same { IsTrue tells → (view self.new).contents ≡ (view self.old).contents }
-        ensures cause { HasCause takes_memory (view self.old).faults (view self.new).faults result }
+        ensures cause { HasCause counts_failures takes_memory (view self.old).faults (view self.new).faults result }
         ensures crash { IsTrue tells_images → (c : List ℕ) → images self.new c → images self.old c }
         ensures time { IsTrue tells_images → Elapses (view self.old).moment (view self.new).moment (since self.old) (since self.new) (images self.new) };
 
@@ -76,7 +79,7 @@ pub trait Disk {
         requires end { at + length piece.now < 2 ^ 58 }
         ensures written { IsTrue tells → OnOk result ((view self.new).contents ≡ overwritten (view self.old).contents at piece.now) }
         ensures torn { IsTrue tells → OnErr result (Torn at (length piece.now) (view self.old).contents (view self.new).contents) }
-        ensures cause { HasCause takes_memory (view self.old).faults (view self.new).faults result }
+        ensures cause { HasCause counts_failures takes_memory (view self.old).faults (view self.new).faults result }
         ensures crash { IsTrue tells_images → Follows (Torn at (length piece.now)) (images self.old) (images self.new) }
         ensures time { IsTrue tells_images → Elapses (view self.old).moment (view self.new).moment (since self.old) (since self.new) (images self.new) };
 
@@ -84,7 +87,7 @@ pub trait Disk {
     fn sync(&mut self) -> Result<(), Trouble>
         ensures durable { IsTrue tells_images → OnOk result (Only (view self.new).contents (images self.new)) }
         ensures same { IsTrue tells → (view self.new).contents ≡ (view self.old).contents }
-        ensures cause { HasCause takes_memory (view self.old).faults (view self.new).faults result }
+        ensures cause { HasCause counts_failures takes_memory (view self.old).faults (view self.new).faults result }
         ensures crash { IsTrue tells_images → (c : List ℕ) → images self.new c → images self.old c }
         ensures time { IsTrue tells_images → Elapses (view self.old).moment (view self.new).moment (since self.old) (since self.new) (images self.new) };
 

@@ -1,9 +1,12 @@
-ghost use Rattle.std.specs.Prelude.{◌≡◌, [], true, false};
+ghost use Rattle.std.specs.Prelude.{◌≡◌, ◌<◌, ◌≤◌, ◌↔◌, [], true, false, IsSome};
 ghost use Rattle.std.proofs.lemmas.Bool.{false≢true};
+ghost use Rattle.zb_disk.specs.Cause.{Rose};
+ghost use Rattle.zb_disk.specs.declared.disk.Trouble.TheVariants.{Failed};
 
 use crate::disk::{Disk, Trouble};
 use crate::faults::count_fault;
 use std::fs::File;
+use std::io::{self, ErrorKind};
 use std::os::unix::fs::FileExt;
 
 /// A file of this length is too long for a disk.
@@ -14,6 +17,8 @@ const MAX_BYTES: u64 = 1 << 58;
 pub struct FileDisk {
     file: File,
     faults: u64,
+    last_error: Option<io::Error>,
+    ghost is_told: { IsSome last_error ↔ 0 < faults },
 }
 
 impl FileDisk {
@@ -21,7 +26,28 @@ impl FileDisk {
     pub fn new(file: File) -> FileDisk
         ensures { (⟦<FileDisk as Disk>⟧.view result).faults ≡ 0 }
     {
-        FileDisk { file, faults: 0 }
+        FileDisk {
+            file,
+            faults: 0,
+            last_error: None,
+        }
+    }
+
+    /// Why the last call that failed did so.
+    pub fn last_error(&self) -> Option<io::Error>
+        ensures { IsSome result ↔ 0 < (⟦<FileDisk as Disk>⟧.view self.now).faults }
+    {
+        self.last_error
+    }
+
+    /// Counts a fault, and keeps why.
+    fn fail(&mut self, why: io::Error) -> Trouble
+        ensures result { result ≡ Failed }
+        ensures later { self.old.faults ≤ self.new.faults }
+        ensures rose { Rose self.old.faults self.new.faults }
+    {
+        self.last_error = Some(why);
+        count_fault(&mut self.faults)
     }
 }
 
@@ -32,6 +58,8 @@ impl Disk for FileDisk {
 
     ghost tells_images = { false };
 
+    ghost counts_failures = { true };
+
     ghost takes_memory = { false };
 
     ghost images = { λ _ _. Unit {0} };
@@ -41,28 +69,29 @@ impl Disk for FileDisk {
     fn len(&mut self) -> Result<u64, Trouble> {
         match self.file.metadata() {
             Ok(metadata) if metadata.len() < MAX_BYTES => Ok(metadata.len()),
-            _ => Err(count_fault(&mut self.faults)),
+            Ok(_) => Err(self.fail(io::Error::from(ErrorKind::FileTooLarge))),
+            Err(why) => Err(self.fail(why)),
         }
     }
 
     fn read_at(&mut self, at: u64, piece: &mut [u8]) -> Result<(), Trouble> {
         match self.file.read_exact_at(piece, at) {
             Ok(()) => Ok(()),
-            Err(_) => Err(count_fault(&mut self.faults)),
+            Err(why) => Err(self.fail(why)),
         }
     }
 
     fn write_at(&mut self, at: u64, piece: &[u8]) -> Result<(), Trouble> {
         match self.file.write_all_at(piece, at) {
             Ok(()) => Ok(()),
-            Err(_) => Err(count_fault(&mut self.faults)),
+            Err(why) => Err(self.fail(why)),
         }
     }
 
     fn sync(&mut self) -> Result<(), Trouble> {
         match self.file.sync_data() {
             Ok(()) => Ok(()),
-            Err(_) => Err(count_fault(&mut self.faults)),
+            Err(why) => Err(self.fail(why)),
         }
     }
 

@@ -1,11 +1,11 @@
-ghost use Rattle.std.specs.Prelude.{◌≡◌, ◌<◌, ◌≤◌, ◌^◌, ℕ, List, [], ◌∷◌, ◌++◌, length, true, vec_len, IsTrue, IsFalse, IfOk, OnOk, OnErr, IsErr, IsErrOf};
-ghost use Rattle.std.specs.List.{Contains};
+ghost use Rattle.std.specs.Prelude.{◌≡◌, ◌<◌, ◌≤◌, ◌+◌, ◌^◌, ℕ, List, [], ◌∷◌, ◌++◌, length, slice_range, true, vec_len, IsTrue, IsFalse, IfOk, OnOk, OnErr, IsErrOf};
+ghost use Rattle.zb_disk.specs.Calls.{FailsAsListed, IsListed};
 ghost use Rattle.zb_disk.specs.Disk.{Only, Torn, Follows, Elapses, overwritten};
 ghost use Rattle.zb_disk.specs.Cause.{HasCause, Rose};
 ghost use Rattle.zb_disk.specs.Kept.{file_after, is_write, IsImage, WasImage};
 ghost use Rattle.zb_disk.specs.Moments as moments;
 ghost use Rattle.zb_disk.specs.declared.calls.Call.TheVariants.{Wrote, Synced, Other};
-ghost use Rattle.zb_disk.specs.declared.disk.Trouble.TheVariants.{Failed};
+ghost use Rattle.zb_disk.specs.declared.disk.Trouble.TheVariants.{Failed, Memory};
 
 use crate::bytes::{copy_out, overwrite};
 use crate::calls::{Call, CallLog, Write};
@@ -28,7 +28,7 @@ pub struct MemDisk {
 }
 
 impl MemDisk {
-    ghost use Rattle.zb_disk.specs.MemDisk.{IsLeftAt, IsFilledAt, IsLongestAt};
+    ghost use Rattle.zb_disk.specs.MemDisk.{failing_calls_of, IsLeftAt, IsFilledAt, IsLongestAt};
 
     /// A disk with these bytes, all of them on the disk. The calls with these numbers, from 0, will fail.
     pub fn new(alloc: Global, bytes: Vec<u8>, fails: Vec<u64>) -> Result<MemDisk, AllocError>
@@ -37,6 +37,7 @@ impl MemDisk {
         ensures durable { IfOk result (λ disk. Only bytes.items (⟦<MemDisk as Disk>⟧.images disk)) }
         ensures faults { IfOk result (λ disk. (⟦<MemDisk as Disk>⟧.view disk).faults ≡ 0) }
         ensures moment { IfOk result (λ disk. (⟦<MemDisk as Disk>⟧.view disk).moment ≡ 0) }
+        ensures fails { IfOk result (λ disk. failing_calls_of disk ≡ fails.items) }
     {
         let first = bytes.to_vec(alloc)?;
         let log = CallLog::new(alloc, fails);
@@ -82,7 +83,7 @@ impl MemDisk {
 #[tactic(auto, using(crate::proofs::Steps::steps))]
 fn keep(log: &mut CallLog, call: Call) -> Result<(), Trouble>
     requires { IsFalse (is_write call) }
-    ensures listed { Contains log.old.fails.items (length log.old.calls.items) → IsErr result }
+    ensures listed { FailsAsListed log.old log.new result }
     ensures kept { OnOk result (log.new.calls.items ≡ log.old.calls.items ++ call ∷ []) }
     ensures failed { IsErrOf result Failed → log.new.calls.items ≡ log.old.calls.items ++ Other ∷ [] }
     ensures file { (first : List ℕ) → file_after first log.new.calls.items ≡ file_after first log.old.calls.items }
@@ -90,7 +91,7 @@ fn keep(log: &mut CallLog, call: Call) -> Result<(), Trouble>
     ensures crash { (first c : List ℕ) → IsImage first log.new.calls.items c → IsImage first log.old.calls.items c }
     ensures time { (first : List ℕ) → Elapses (length log.old.calls.items) (length log.new.calls.items)
         (WasImage first log.old.calls.items) (WasImage first log.new.calls.items) (IsImage first log.new.calls.items) }
-    ensures cause { HasCause true log.old.faults log.new.faults result }
+    ensures cause { HasCause true true log.old.faults log.new.faults result }
 {
     if log.fails_next() {
         log.calls.push(Call::Other)?;
@@ -123,6 +124,7 @@ fn write(bytes: &mut Vec<u8>, calls: &mut Vec<Call>, write: Write) -> Result<(),
 #[tactic(auto, using(crate::proofs::Steps::steps))]
 fn keep_failed(log: &mut CallLog, write: Write) -> Trouble
     requires { IsFalse write.is_done }
+    ensures fails { log.new.fails ≡ log.old.fails }
     ensures kept { result ≡ Failed → log.new.calls.items ≡ log.old.calls.items ++ Wrote write ∷ [] }
     ensures file { (first : List ℕ) → file_after first log.new.calls.items ≡ file_after first log.old.calls.items }
     ensures crash { (first : List ℕ) → Follows (Torn write.at (length write.bytes.items)) (IsImage first log.old.calls.items) (IsImage first log.new.calls.items) }
@@ -130,6 +132,7 @@ fn keep_failed(log: &mut CallLog, write: Write) -> Trouble
         (WasImage first log.old.calls.items) (WasImage first log.new.calls.items) (IsImage first log.new.calls.items) }
     ensures later { log.old.faults ≤ log.new.faults }
     ensures cause { result ≡ Failed → Rose log.old.faults log.new.faults }
+    ensures steady { result ≡ Memory → log.new.faults ≡ log.old.faults }
 {
     match log.calls.push(Call::Wrote(write)) {
         Ok(()) => count_fault(&mut log.faults),
@@ -144,24 +147,58 @@ impl Disk for MemDisk {
 
     ghost tells_images = { true };
 
+    ghost counts_failures = { true };
+
     ghost takes_memory = { true };
 
     ghost images = { λ disk. IsImage disk.first.items disk.log.calls.items };
 
     ghost since = { λ disk. WasImage disk.first.items disk.log.calls.items };
 
-    fn len(&mut self) -> Result<u64, Trouble> {
+    fn len(&mut self) -> Result<u64, Trouble>
+        ensures length { IfOk result (λ n. n ≡ length self.old.bytes.items) }
+        ensures small { IfOk result (λ n. n < 2 ^ 58) }
+        ensures same { self.new.bytes.items ≡ self.old.bytes.items }
+        ensures cause { HasCause true true self.old.log.faults self.new.log.faults result }
+        ensures crash { (c : List ℕ) → IsImage self.new.first.items self.new.log.calls.items c → IsImage self.old.first.items self.old.log.calls.items c }
+        ensures time { Elapses (length self.old.log.calls.items) (length self.new.log.calls.items)
+            (WasImage self.old.first.items self.old.log.calls.items) (WasImage self.new.first.items self.new.log.calls.items)
+            (IsImage self.new.first.items self.new.log.calls.items) }
+        ensures listed { FailsAsListed self.old.log self.new.log result }
+    {
         keep(&mut self.log, Call::Other)?;
         Ok(self.bytes.len() as u64)
     }
 
-    fn read_at(&mut self, at: u64, piece: &mut [u8]) -> Result<(), Trouble> {
+    fn read_at(&mut self, at: u64, piece: &mut [u8]) -> Result<(), Trouble>
+        requires { at + length piece.old ≤ length self.old.bytes.items }
+        ensures bytes { OnOk result (piece.new ≡ slice_range self.old.bytes.items at (at + length piece.old)) }
+        ensures same { self.new.bytes.items ≡ self.old.bytes.items }
+        ensures cause { HasCause true true self.old.log.faults self.new.log.faults result }
+        ensures crash { (c : List ℕ) → IsImage self.new.first.items self.new.log.calls.items c → IsImage self.old.first.items self.old.log.calls.items c }
+        ensures time { Elapses (length self.old.log.calls.items) (length self.new.log.calls.items)
+            (WasImage self.old.first.items self.old.log.calls.items) (WasImage self.new.first.items self.new.log.calls.items)
+            (IsImage self.new.first.items self.new.log.calls.items) }
+        ensures listed { FailsAsListed self.old.log self.new.log result }
+    {
         keep(&mut self.log, Call::Other)?;
         copy_out(&self.bytes, at, piece);
         Ok(())
     }
 
-    fn write_at(&mut self, at: u64, piece: &[u8]) -> Result<(), Trouble> {
+    fn write_at(&mut self, at: u64, piece: &[u8]) -> Result<(), Trouble>
+        requires inside { at ≤ length self.old.bytes.items }
+        requires end { at + length piece.now < 2 ^ 58 }
+        ensures written { OnOk result (self.new.bytes.items ≡ overwritten self.old.bytes.items at piece.now) }
+        ensures same { OnErr result (self.new.bytes.items ≡ self.old.bytes.items) }
+        ensures cause { HasCause true true self.old.log.faults self.new.log.faults result }
+        ensures crash { Follows (Torn at (length piece.now)) (IsImage self.old.first.items self.old.log.calls.items)
+            (IsImage self.new.first.items self.new.log.calls.items) }
+        ensures time { Elapses (length self.old.log.calls.items) (length self.new.log.calls.items)
+            (WasImage self.old.first.items self.old.log.calls.items) (WasImage self.new.first.items self.new.log.calls.items)
+            (IsImage self.new.first.items self.new.log.calls.items) }
+        ensures listed { FailsAsListed self.old.log self.new.log result }
+    {
         let is_done = !self.log.fails_next();
         let bytes = piece.to_vec(self.alloc)?;
         let call = Write { at, bytes, is_done };
@@ -171,7 +208,16 @@ impl Disk for MemDisk {
         Err(keep_failed(&mut self.log, call))
     }
 
-    fn sync(&mut self) -> Result<(), Trouble> {
+    fn sync(&mut self) -> Result<(), Trouble>
+        ensures durable { OnOk result (Only self.new.bytes.items (IsImage self.new.first.items self.new.log.calls.items)) }
+        ensures same { self.new.bytes.items ≡ self.old.bytes.items }
+        ensures cause { HasCause true true self.old.log.faults self.new.log.faults result }
+        ensures crash { (c : List ℕ) → IsImage self.new.first.items self.new.log.calls.items c → IsImage self.old.first.items self.old.log.calls.items c }
+        ensures time { Elapses (length self.old.log.calls.items) (length self.new.log.calls.items)
+            (WasImage self.old.first.items self.old.log.calls.items) (WasImage self.new.first.items self.new.log.calls.items)
+            (IsImage self.new.first.items self.new.log.calls.items) }
+        ensures listed { FailsAsListed self.old.log self.new.log result }
+    {
         keep(&mut self.log, Call::Synced)
     }
 

@@ -43,6 +43,8 @@ impl Disk for SoundDisk {
 
     ghost tells_images = { false };
 
+    ghost counts_failures = { true };
+
     ghost takes_memory = { true };
 
     ghost images = { λ _ _. Unit {0} };

@@ -1,3 +1,4 @@
 pub mod Stream
 pub mod Cause
 pub mod Clock
+pub mod Devices

@@ -1,5 +1,5 @@
-ghost use Rattle.std.specs.Prelude.{◌≡◌, true};
-ghost use Rattle.zb_outside.specs.Clock.{told};
+ghost use Rattle.std.specs.Prelude.{◌≡◌, ◌<◌, ◌+◌, ◌-◌, ◌^◌, Contains, true};
+ghost use Rattle.zb_outside.specs.Clock.{told, told_at};
 
 use crate::Clock;
 use zb_base::Moment;
@@ -8,30 +8,44 @@ use zb_base::Moment;
 #[derive(Drop)]
 pub struct ListClock {
     moments: Vec<Moment>,
-    at: usize,
+    readings: usize,
 }
 
 impl ListClock {
+    ghost use Rattle.zb_outside.specs.Devices.{moments_listed, readings_made};
+
     /// A clock that reads these moments one after another, and then its last one again and again. Of
     /// an empty list it reads the start of 1970.
     pub fn new(moments: Vec<Moment>) -> ListClock
-        ensures { ⟦<ListClock as Clock>⟧.moments result ≡ told moments.items }
+        ensures moments { moments_listed result ≡ moments.items }
+        ensures told { ⟦<ListClock as Clock>⟧.moments result ≡ told moments.items }
+        ensures readings { readings_made result ≡ 0 }
     {
-        ListClock { moments, at: 0 }
+        ListClock {
+            moments,
+            readings: 0,
+        }
     }
 }
 
 impl Clock for ListClock {
+    ghost use Rattle.zb_outside.specs.Devices.{moments_listed, readings_made};
+
     ghost moments = { λ c. told c.moments.items };
 
     ghost tells = { true };
 
-    fn now(&mut self) -> Moment {
-        let Some(last) = self.moments.len().checked_sub(1) else {
-            return Moment::new(0);
-        };
-        let at = self.at.min(last);
-        self.at = at + 1;
-        self.moments[at]
+    fn now(&mut self) -> Moment
+        ensures reading { Contains (told (moments_listed self.old)) result }
+        ensures place { result ≡ told_at (moments_listed self.old) (readings_made self.old) }
+        ensures counted { readings_made self.old < 2 ^ 64 - 1 → readings_made self.new ≡ readings_made self.old + 1 }
+        ensures same { self.new.moments ≡ self.old.moments }
+    {
+        let number = self.readings;
+        self.readings = self.readings.saturating_add(1);
+        match self.moments.len().checked_sub(1) {
+            Some(last) => self.moments[number.min(last)],
+            None => Moment::new(0),
+        }
     }
 }

@@ -1,5 +1,8 @@
-ghost use Rattle.std.specs.Prelude.{◌≡◌, ◌≤◌, ◌<◌, ◌^◌, length, drop, vec_len, true, false};
+ghost use Rattle.std.specs.Prelude.{◌≡◌, ◌≤◌, ◌<◌, ◌+◌, ◌-◌, ◌^◌, ◌++◌, ◌↔◌, [], length, take, drop, vec_len, true, false, IfOk, OnErr, IsErrOf};
+ghost use Rattle.std.specs.List.{Contains};
+ghost use Rattle.zb_outside.specs.Cause.{HasCause};
 ghost use Rattle.zb_outside.specs.Stream.{SourceView};
+ghost use Rattle.zb_outside.specs.declared.trouble.Trouble.TheVariants.{Failed};
 
 use crate::{Source, Trouble};
 
@@ -17,11 +20,16 @@ pub struct MemSource {
 }
 
 impl MemSource {
+    ghost use Rattle.zb_outside.specs.Devices.{piece_of, failing_reads, reads_made};
+
     /// A source of these bytes that gives at most `piece` bytes a read, and fails at the reads with
     /// these numbers, which count from 0. A read that failed counts, and takes no bytes.
     pub fn new(bytes: Vec<u8>, piece: usize, fails: Vec<u64>) -> MemSource
         requires { 0 < piece }
-        ensures { ⟦<MemSource as Source>⟧.view result ≡ record { left = bytes.items; given = 0; faults = 0 } }
+        ensures view { ⟦<MemSource as Source>⟧.view result ≡ record { left = bytes.items; given = 0; faults = 0 } }
+        ensures piece { piece_of result ≡ piece }
+        ensures fails { failing_reads result ≡ fails.items }
+        ensures reads { reads_made result ≡ 0 }
     {
         MemSource {
             bytes,
@@ -35,15 +43,31 @@ impl MemSource {
 }
 
 impl Source for MemSource {
+    ghost use Rattle.zb_outside.specs.Devices.{piece_of, failing_reads, reads_made};
     ghost use Rattle.std.proofs.Common.{rules};
 
     ghost view = { λ s. record { left = drop s.given s.bytes.items; given = s.given; faults = s.faults } };
 
     ghost tells = { true };
 
+    ghost counts_failures = { true };
+
     ghost takes_memory = { false };
 
-    fn read(&mut self, piece: &mut [u8]) -> Result<usize, Trouble> {
+    fn read(&mut self, piece: &mut [u8]) -> Result<usize, Trouble>
+        ensures fits { IfOk result (λ n. n ≤ length piece.new) }
+        ensures given { IfOk result (λ n. self.new.given ≡ self.old.given + n) }
+        ensures taken { IfOk result (λ n. drop self.old.given self.old.bytes.items ≡ take n piece.new ++ drop self.new.given self.new.bytes.items) }
+        ensures end { IfOk result (λ n. n ≡ 0 → 0 < length piece.new → drop self.new.given self.new.bytes.items ≡ []) }
+        ensures refused { OnErr result (self.new.given ≡ self.old.given) }
+        ensures stays { self.new.bytes ≡ self.old.bytes }
+        ensures cause { HasCause true false self.old.faults self.new.faults result }
+        ensures pieces { IfOk result (λ n. n ≤ piece_of self.old) }
+        ensures listed { IsErrOf result Failed ↔ Contains (failing_reads self.old) (reads_made self.old) }
+        ensures counted { reads_made self.old < 2 ^ 64 - 1 → reads_made self.new ≡ reads_made self.old + 1 }
+        ensures same_piece { piece_of self.new ≡ piece_of self.old }
+        ensures same_fails { failing_reads self.new ≡ failing_reads self.old }
+    {
         let number = self.reads;
         self.reads = self.reads.saturating_add(1);
         if self.fails.contains(&number) {

@@ -12,6 +12,9 @@ pub trait Sink {
     /// Whether the bytes that were written are told.
     ghost tells: { Bool };
 
+    /// Whether the count of faults rises only where a call fails.
+    ghost counts_failures: { Bool };
+
     /// Whether a call may be refused for want of memory.
     ghost takes_memory: { Bool };
 
@@ -22,10 +25,10 @@ pub trait Sink {
         ensures some { IfOk result (λ n. 0 < length piece.now → 0 < n) }
         ensures written { IsTrue tells → IfOk result (λ n. (view self.new).written ≡ (view self.old).written ++ take n piece.now) }
         ensures stays { IsTrue tells → OnErr result ((view self.new).written ≡ (view self.old).written) }
-        ensures cause { HasCause takes_memory (view self.old).faults (view self.new).faults result };
+        ensures cause { HasCause counts_failures takes_memory (view self.old).faults (view self.new).faults result };
 
     /// Hands on what the sink has kept back.
     fn flush(&mut self) -> Result<(), Trouble>
         ensures stays { IsTrue tells → (view self.new).written ≡ (view self.old).written }
-        ensures cause { HasCause takes_memory (view self.old).faults (view self.new).faults result };
+        ensures cause { HasCause counts_failures takes_memory (view self.old).faults (view self.new).faults result };
 }

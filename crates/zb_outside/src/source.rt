@@ -12,6 +12,9 @@ pub trait Source {
     /// Whether the bytes that are left are told.
     ghost tells: { Bool };
 
+    /// Whether the count of faults rises only where a call fails.
+    ghost counts_failures: { Bool };
+
     /// Whether a call may be refused for want of memory.
     ghost takes_memory: { Bool };
 
@@ -25,7 +28,7 @@ pub trait Source {
         ensures end { IsTrue tells → IfOk result (λ n. n ≡ 0 → 0 < length piece.new → (view self.new).left ≡ []) }
         ensures refused { OnErr result ((view self.new).given ≡ (view self.old).given) }
         ensures stays { IsTrue tells → OnErr result ((view self.new).left ≡ (view self.old).left) }
-        ensures cause { HasCause takes_memory (view self.old).faults (view self.new).faults result };
+        ensures cause { HasCause counts_failures takes_memory (view self.old).faults (view self.new).faults result };
 
     /// A source fails before it has given 2^63 bytes.
     ghost bounded: { (source : Self) → (view source).given < 2 ^ 63 };

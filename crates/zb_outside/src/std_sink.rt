@@ -1,4 +1,4 @@
-ghost use Rattle.std.specs.Prelude.{◌≡◌, ◌≤◌, ◌<◌, [], false, length, take, IfOk};
+ghost use Rattle.std.specs.Prelude.{◌≡◌, ◌≤◌, ◌<◌, [], true, false, length, take, IfOk};
 ghost use Rattle.std.specs.Io.KnownBytes.{Appends, Keeps};
 ghost use Rattle.zb_outside.specs.Stream.{SinkView};
 ghost use Rattle.zb_outside.specs.Cause.{Rose, HasCause};
@@ -39,6 +39,8 @@ impl<W: Write> Sink for StdSink<W> {
 
     ghost tells = { false };
 
+    ghost counts_failures = { true };
+
     ghost takes_memory = { false };
 
     // Where std knows what the writer holds, it grows by the bytes that were taken.
@@ -46,7 +48,7 @@ impl<W: Write> Sink for StdSink<W> {
         ensures bytes { IfOk result (λ n. Appends (W.contents self.old.writer) (W.contents self.new.writer) (take n piece.now)) }
         ensures fits { IfOk result (λ n. n ≤ length piece.now) }
         ensures some { IfOk result (λ n. 0 < length piece.now → 0 < n) }
-        ensures cause { HasCause false self.old.faults self.new.faults result }
+        ensures cause { HasCause true false self.old.faults self.new.faults result }
     {
         match self.writer.write(piece) {
             Ok(count) if count > 0 || piece.is_empty() => Ok(count),
@@ -56,7 +58,7 @@ impl<W: Write> Sink for StdSink<W> {
 
     fn flush(&mut self) -> Result<(), Trouble>
         ensures bytes { Keeps (W.contents self.old.writer) (W.contents self.new.writer) }
-        ensures cause { HasCause false self.old.faults self.new.faults result }
+        ensures cause { HasCause true false self.old.faults self.new.faults result }
     {
         match self.writer.flush() {
             Ok(()) => Ok(()),

@@ -1,4 +1,4 @@
-ghost use Rattle.std.specs.Prelude.{◌≡◌, ◌<◌, ◌≤◌, ◌+◌, ◌^◌, [], false, length, take, IfOk, OnErr};
+ghost use Rattle.std.specs.Prelude.{◌≡◌, ◌<◌, ◌≤◌, ◌+◌, ◌^◌, [], true, false, length, take, IfOk, OnErr};
 ghost use Rattle.std.specs.Io.KnownBytes.{Consumes, IsAtEnd};
 ghost use Rattle.zb_outside.specs.Cause.{HasCause};
 ghost use Rattle.zb_outside.specs.Stream.{SourceView};
@@ -37,6 +37,8 @@ impl<R: Read> Source for StdSource<R> {
 
     ghost tells = { false };
 
+    ghost counts_failures = { true };
+
     ghost takes_memory = { false };
 
     // Where std knows what the reader has left, the bytes that are given are the reader's next, and
@@ -47,7 +49,7 @@ impl<R: Read> Source for StdSource<R> {
         ensures fits { IfOk result (λ n. n ≤ length piece.new) }
         ensures given { IfOk result (λ n. self.new.given ≡ self.old.given + n) }
         ensures refused { OnErr result (self.new.given ≡ self.old.given) }
-        ensures cause { HasCause false self.old.faults self.new.faults result }
+        ensures cause { HasCause true false self.old.faults self.new.faults result }
     {
         match self.reader.read(piece) {
             Ok(count) if (count as u64) < TOO_MANY - self.given => {

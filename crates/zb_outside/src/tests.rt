@@ -1,10 +1,7 @@
-use crate::{
-    Clock, ListClock, MemSink, MemSource, Sink, Source, StdClock, StdSink, StdSource, Trouble,
-};
+use crate::{Clock, MemSink, Sink, Source, StdClock, StdSink, StdSource, Trouble};
 use std::io::{self, ErrorKind, Read, Write};
 use std::process::Abort;
 use std::test::Fail;
-use zb_base::Moment;
 
 /// Reads once, at most three bytes, and wants this answer and these bytes.
 fn expect_read<S: Source>(
@@ -21,39 +18,11 @@ fn expect_read<S: Source>(
 }
 
 #[test]
-fn a_source_in_memory(rt: HostRuntime) -> Result<(), Fail> {
-    let fails = vec![in rt.alloc(); 1]?;
-    let mut source = MemSource::new(b"abcd".to_vec(rt.alloc())?, 2, fails);
-    expect_read(&rt, &mut source, Ok(2), b"ab");
-    expect_read(&rt, &mut source, Err(Trouble::Failed), b"");
-    expect_read(&rt, &mut source, Ok(2), b"cd");
-    expect_read(&rt, &mut source, Ok(0), b"");
-    let mut whole = MemSource::new(b"abcd".to_vec(rt.alloc())?, 9, vec![in rt.alloc()]?);
-    expect_read(&rt, &mut whole, Ok(3), b"abc");
-    expect_read(&rt, &mut whole, Ok(1), b"d");
-    Ok(())
-}
-
-#[test]
 fn a_sink_in_memory(rt: HostRuntime) -> Result<(), Fail> {
-    let fails = vec![in rt.alloc(); 1, 2]?;
-    let mut sink = MemSink::new(rt.alloc(), fails);
+    let mut sink = MemSink::new(rt.alloc(), vec![in rt.alloc()]?);
     assert_eq!(rt; sink.write(b"ab"), Ok(2));
-    assert_eq!(rt; sink.flush(), Err(Trouble::Failed));
-    assert_eq!(rt; sink.write(b"x"), Err(Trouble::Failed));
     assert_eq!(rt; sink.write(b"c"), Ok(1));
-    assert_eq!(rt; sink.flush(), Ok(()));
     assert_eq!(rt; sink.bytes(), b"abc".as_slice());
-    Ok(())
-}
-
-#[test]
-fn a_clock_of_a_list(rt: HostRuntime) -> Result<(), Fail> {
-    let mut clock = ListClock::new(vec![in rt.alloc(); Moment::new(5), Moment::new(8)]?);
-    for want in [5, 8, 8, 8] {
-        assert_eq!(rt; clock.now().ms(), want);
-    }
-    assert_eq!(rt; ListClock::new(vec![in rt.alloc()]?).now().ms(), 0);
     Ok(())
 }
 
