@@ -1,5 +1,5 @@
 ghost use Rattle.std.specs.Prelude.{◌≡◌, ◌↔◌, ◌++◌, ◌+◌, ◌≤◌, ◌<◌, ℕ, List, [], Ok, MatchOption, IfOk, OnOk, OnErr, IsErrOf, IsTrue, length, vec_len, vec_capacity, take};
-ghost use Rattle.zb_outside.specs.Cause.{Rose, HasCause};
+ghost use Rattle.zb_outside.specs.Cause.{Rose, HasCause, UnlessFailed};
 ghost use Rattle.zb_lines.specs.Taken.{Takes};
 ghost use Rattle.zb_lines.specs.Line.{Comes, IsAtEnd, IsOneLine};
 ghost use Rattle.zb_lines.specs.Step.{kept, BreaksAt, HandsOut, KeepsRoom, Refills};
@@ -89,6 +89,7 @@ impl LineReader {
         ensures room { vec_capacity line.old ≤ vec_capacity line.new }
         ensures memory { most ≤ vec_capacity line.old → IsErrOf result Trouble.Memory → IsTrue S.takes_memory }
         ensures failed { IsErrOf result Trouble.Failed → Rose (S.view source.old).faults (S.view source.new).faults }
+        ensures steady { IsTrue S.counts_failures → UnlessFailed result ((S.view source.new).faults ≡ (S.view source.old).faults) }
     {
         line.clear();
         let mut is_begun = self.holds_some();
@@ -140,7 +141,7 @@ impl LineReader {
         requires { self.old ≡ [] }
         ensures refills { Refills S.tells result (S.view source.old) (S.view source.new) budget.old budget.new self.new }
         ensures unasked { budget.old ≡ 0 → S.view source.new ≡ S.view source.old }
-        ensures cause { HasCause S.takes_memory (S.view source.old).faults (S.view source.new).faults result }
+        ensures cause { HasCause S.counts_failures S.takes_memory (S.view source.old).faults (S.view source.new).faults result }
     {
         if *budget == 0 {
             return Ok(Supply::Spent);
@@ -171,7 +172,7 @@ fn read_within<S: Source>(
     ensures end { IsTrue S.tells → IfOk result (λ count. count ≡ 0 → (S.view source.new).left ≡ []) }
     ensures refused { OnErr result (Takes S.tells (S.view source.old) (S.view source.new) []) }
     ensures unspent { OnErr result (budget.new ≡ budget.old) }
-    ensures cause { HasCause S.takes_memory (S.view source.old).faults (S.view source.new).faults result }
+    ensures cause { HasCause S.counts_failures S.takes_memory (S.view source.old).faults (S.view source.new).faults result }
 {
     let most = piece.len().min(*budget as usize);
     match source.read(&mut piece[..most]) {

@@ -1,9 +1,9 @@
 -- What a frame more does to the file of a log.
-use Rattle.std.proofs.Common.{◌≡◌, ◌≢◌, inl, inr, ℕ, ◌+◌, ◌-◌, ◌<◌, ◌≤◌, ◌^◌, List, [], ◌∷◌, ◌++◌, length, take, drop, refl, sym, ◌∙◌, ap, subst, arith, append_assoc, length-append, get_or-take, take-append-drop}
+use Rattle.std.proofs.Common.{◌≡◌, ◌≢◌, inl, inr, ℕ, ◌+◌, ◌-◌, ◌<◌, ◌≤◌, ◌^◌, List, [], ◌∷◌, ◌++◌, length, take, drop, refl, sym, ◌∙◌, ap, subst, arith, append_assoc, length-append, take-append-drop}
 use Rattle.std.specs.Prelude.{slice_index, slice_range}
 use Rattle.std.specs.Int.{w64, from_be_bytes, to_be_bytes}
 use Rattle.std.proofs.lemmas.Bool.{cases_eq}
-use Rattle.std.proofs.lemmas.List.{take_at, drop_at, get_or_at, take-take, drop-take, length-take-le}
+use Rattle.std.proofs.lemmas.List.{take_at, drop_at, get_or_at, length-take-le}
 use Rattle.std.proofs.lemmas.Nat.{from_be_bytes-to_be_bytes_8}
 use Rattle.zb_disk.specs.Disk.{overwritten, Torn, Only}
 use Rattle.zb_store.specs.Calls.{LeftByWriting}
@@ -11,31 +11,7 @@ use Rattle.zb_store.specs.Log.{framed, framed_length}
 use Rattle.zb_store.specs.Stands.{next_gate, IsFrame, Leads, Stands, EndsAt, StandsWithOrWithout, closed_stands}
 use Rattle.zb_store.proofs.Leading.{next_behind}
 use Rattle.zb_store.proofs.Bodies.{leads_push}
-
--- two files whose first n bytes are the same
-module _ (file c : List ℕ) (n : ℕ) (same : take n c ≡ take n file) where
-  byte_kept : (k : ℕ) → k < n → slice_index c k ≡ slice_index file k
-  byte_kept k lt = sym (get_or-take n c k 0 lt) ∙ ap (λ (l : List ℕ). slice_index l k) same ∙ get_or-take n file k 0 lt
-
-  rest_kept : (a : ℕ) → a ≤ n → take (n - a) (drop a c) ≡ take (n - a) (drop a file)
-  rest_kept a le =
-      let all : a + (n - a) ≡ n = omega arith in
-      sym (drop-take a (n - a) c)
-      ∙ ap (λ (m : ℕ). drop a (take m c)) all
-      ∙ ap (λ (l : List ℕ). drop a l) same
-      ∙ ap (λ (m : ℕ). drop a (take m file)) (sym all)
-      ∙ drop-take a (n - a) file
-
-  part_kept : (a b : ℕ) → a ≤ n → b ≤ n → slice_range c a b ≡ slice_range file a b
-  part_kept a b from to =
-      let few : b - a ≤ n - a = omega arith in
-      sym (take-take (b - a) (n - a) (drop a c) few)
-      ∙ ap (λ (l : List ℕ). take (b - a) l) (rest_kept a from)
-      ∙ take-take (b - a) (n - a) (drop a file) few
-
-  next_kept : (at : ℕ) → at + 9 ≤ n → next_gate c at ≡ next_gate file at
-  unfolding next_gate
-  next_kept at le = ap (λ (l : List ℕ). at + 9 + from_be_bytes w64 l) (part_kept (at + 1) (at + 9) (omega arith) le)
+use Rattle.zb_store.proofs.Pieces.{byte_kept, part_kept, next_kept}
 
 -- gates ascend
 leads_up : (file : List ℕ) (at : ℕ) (bodies : List (List ℕ)) (end : ℕ) → Leads file at bodies end → at ≤ end

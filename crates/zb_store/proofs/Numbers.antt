@@ -19,7 +19,7 @@ same_numbers xs ys same =
     same_sums (λ i. byte_worth (7 - i) (slice_index xs i)) (λ i. byte_worth (7 - i) (slice_index ys i)) 7 (λ i le. ap (λ (x : ℕ). byte_worth (7 - i) x) (same i (omega arith)))
 
 -- an element of a part of a list
-in_range : (xs : List ℕ) (a b i : ℕ) → i < b - a → slice_index (slice_range xs a b) i ≡ slice_index xs (a + i)
+pub in_range : (xs : List ℕ) (a b i : ℕ) → i < b - a → slice_index (slice_range xs a b) i ≡ slice_index xs (a + i)
 in_range xs a b i lt = get_or-take (b - a) (drop a xs) i 0 lt ∙ get_or-drop a xs i 0
 
 -- the length behind a gate, by bytes of the file from the gate on

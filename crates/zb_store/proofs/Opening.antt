@@ -1,19 +1,16 @@
 -- What opening leaves stands for what there was.
-use Rattle.std.proofs.Common.{◌≡◌, inl, inr, ℕ, ◌<◌, ◌≤◌, List, length, sym, subst, arith}
-use Rattle.std.proofs.lemmas.Bool.{cases_lt}
+use Rattle.std.proofs.Common.{◌≡◌, inl, inr, ℕ, ◌≤◌, List, length, IsTrue, IsFalse, Result, Ok, Err, subst, arith}
+use Rattle.std.specs.Prelude.{IfOk}
 use Rattle.zb_store.specs.Calls.{LeavesOnly, LeftByOpening}
-use Rattle.zb_store.specs.Stands.{Stands}
+use Rattle.zb_store.specs.Stands.{Stands, IsCutAfter}
+use Rattle.zb_store.specs.GateLog.{disk_of, disk_after, is_whole, HasFrames, HasLog, log_stands}
+use Rattle.zb_store.specs.declared.fault.StoreFault.{StoreFault}
+use Rattle.zb_store.specs.declared.gate_log.GateLog.{GateLog}
+use Rattle.zb_disk.specs.declared.disk.Disk.{Ghosts}
 
 -- a file of at most one byte has no frames, whatever the byte is
 short_standing : (file : List ℕ) (bodies : List (List ℕ)) → length file ≤ 1 → Stands file bodies → (other : List ℕ) → length other ≤ 1 → Stands other bodies
 short_standing file bodies short stands other few = record { short = λ _. stands.short short; long = λ long. absurd (omega arith) }
-
--- a file that stays where it is of more than one byte, and gets no longer where it isn't
-pub kept_standing : (old new : List ℕ) (bodies : List (List ℕ)) → (1 < length old → new ≡ old) → (length old ≤ 1 → length new ≤ 1) → Stands old bodies → Stands new bodies
-kept_standing old new bodies same few stands = elim (cases_lt 1 (length old)) [
-  | inl long ↦ subst (λ (f : List ℕ). Stands f bodies) (sym (same long)) stands
-  | inr short ↦ short_standing old bodies short stands new (few short)
-]
 
 -- what a crash leaves
 left_standing : (file : List ℕ) (images : List ℕ → Type 0) (bodies : List (List ℕ)) → ((c : List ℕ) → images c → Stands c bodies) → images file → (c : List ℕ) → LeftByOpening file images c → Stands c bodies
@@ -28,3 +25,23 @@ since_standing before now past since file images bodies only now_alone reads all
   | inl earlier ↦ all c (now_alone c earlier)
   | inr left ↦ left_standing file images bodies all reads c left
 ]
+
+-- an opened log that is whole has the frames that the file stood for
+pub whole_opened : {D : Type 0} {disks : Ghosts D} (old file : List ℕ) (result : Result (GateLog D disks) (StoreFault × D))
+    → (disks.view (disk_after result)).contents ≡ file → ((bodies : List (List ℕ)) → Stands file bodies → Stands old bodies)
+    → IfOk result (λ log. IsTrue (is_whole log) → (all : List (List ℕ)) × HasLog (disks.view (disk_of log)).contents log all)
+    → IfOk result (λ log. IsTrue (is_whole log) → (all : List (List ℕ)) × Stands old all × HasLog (disks.view (disk_of log)).contents log all)
+whole_opened {disks = disks} old file (Ok log) same stood opened = λ whole.
+    let from = opened whole in
+    (from.0, stood from.0 (subst (λ (f : List ℕ). Stands f from.0) same (log_stands (disks.view log.disk).contents log from.0 from.1)), from.1)
+whole_opened old file (Err refused) same stood opened = opened
+
+-- one that isn't has those before the cut
+pub cut_opened : {D : Type 0} {disks : Ghosts D} (old file : List ℕ) (result : Result (GateLog D disks) (StoreFault × D))
+    → (disks.view (disk_after result)).contents ≡ file → ((bodies : List (List ℕ)) → IsCutAfter file bodies → IsCutAfter old bodies)
+    → IfOk result (λ log. IsFalse (is_whole log) → (all : List (List ℕ)) × IsCutAfter (disks.view (disk_of log)).contents all × HasFrames (disks.view (disk_of log)).contents log all)
+    → IfOk result (λ log. IsFalse (is_whole log) → (all : List (List ℕ)) × IsCutAfter old all × HasFrames (disks.view (disk_of log)).contents log all)
+cut_opened old file (Ok log) same was opened = λ cut.
+    let from = opened cut in
+    (from.0, was from.0 (subst (λ (f : List ℕ). IsCutAfter f from.0) same from.1), from.2)
+cut_opened old file (Err refused) same was opened = opened

@@ -1,11 +1,18 @@
 -- Laws of calls of a disk, one after another.
-use Rattle.std.proofs.Common.{◌≡◌, ◌⊎◌, inl, inr, ℕ, List, length, ◌∙◌, ap, refl, arith}
+use Rattle.std.proofs.Common.{◌≡◌, ◌⊎◌, inl, inr, ℕ, ◌<◌, ◌≤◌, List, length, IsTrue, ◌∙◌, ap, refl, arith}
+use Rattle.std.proofs.lemmas.Bool.{cases_lt}
+use Rattle.zb_disk.specs.Disk.{Elapses}
 use Rattle.zb_disk.specs.declared.disk.Disk.{Ghosts}
-use Rattle.zb_store.specs.Calls.{LeavesOnly, OnlyReads, OnlyOpens}
+use Rattle.zb_store.specs.Calls.{LeavesOnly, OnlyReads, OnlyOpens, LeftByOpening}
 
 -- no call leaves anything more
 pub leaves_none : (now : ℕ) (since : ℕ → List ℕ → Type 0) (P : List ℕ → Type 0) → LeavesOnly now now since since P
-leaves_none now since P = record { later = omega arith; nothing_else = λ t c le was. inl was }
+leaves_none now since P = record {
+  later = omega arith;
+  nothing_else = λ t c le was. inl was;
+  keeps = λ t c le was. was;
+  splits = λ t u c le lt was. inl was;
+}
 
 -- one call after another leaves what either of them leaves
 pub leaves_then : (before between now : ℕ) (past mid since : ℕ → List ℕ → Type 0) (P Q : List ℕ → Type 0) → LeavesOnly before between past mid P → LeavesOnly between now mid since Q → LeavesOnly before now past since (λ c. P c ⊎ Q c)
@@ -18,6 +25,14 @@ leaves_then before between now past mid since P Q first second = record {
       | inr left ↦ inr (inl left)
     ]
   ];
+  keeps = λ t c le was. second.keeps t c (omega (arith, first.later, le)) (first.keeps t c le was);
+  splits = λ t u c order le was. elim (second.splits t u c order (omega (arith, first.later, le)) was) [
+    | inr later ↦ inr later
+    | inl earlier ↦ elim (first.splits t u c order le earlier) [
+      | inl long_ago ↦ inl long_ago
+      | inr then ↦ inr (second.keeps u c (omega (arith, first.later, le)) then)
+    ]
+  ];
 }
 
 -- what is left has whatever follows from P
@@ -27,6 +42,23 @@ leaves_weaker before now past since P Q so leaves = record {
   nothing_else = λ t c le was. elim (leaves.nothing_else t c le was) [
     | inl earlier ↦ inl earlier
     | inr left ↦ inr (so c left)
+  ];
+  keeps = leaves.keeps;
+  splits = leaves.splits;
+}
+
+-- one call leaves what a crash behind it leaves
+pub leaves_call : (before now : ℕ) (past since : ℕ → List ℕ → Type 0) (images P : List ℕ → Type 0) → Elapses before now past since images → ((t : ℕ) (c : List ℕ) → t ≤ now → images c → since t c) → ((c : List ℕ) → images c → P c) → LeavesOnly before now past since P
+leaves_call before now past since images P time counts so = record {
+  later = time.later;
+  nothing_else = λ t c le was. elim (time.nothing_else t c le was) [
+    | inl earlier ↦ inl earlier
+    | inr left ↦ inr (so c left)
+  ];
+  keeps = time.keeps;
+  splits = λ t u c order le was. elim (time.nothing_else t c (omega (arith, order, le)) was) [
+    | inl earlier ↦ inl earlier
+    | inr left ↦ inr (counts u c (omega (arith, le, time.later)) left)
   ];
 }
 
@@ -86,3 +118,20 @@ module _ {D : Type 0} (disks : Ghosts D) where
     crash = λ told c image. first.crash told c (second.crash told c image);
     time = λ told. leaves_read old mid new _ (first.crash told) (first.time told) (second.time told);
   }
+
+  -- nothing done is an opening
+  pub opens_none : (disk : D) → Opens disk disk
+  opens_none disk = record {
+    later = omega arith;
+    same = λ told long. refl;
+    short = λ told few. few;
+    crash = λ told c image. inl image;
+    time = λ told. leaves_none (disks.view disk).moment (disks.since disk) (LeftByOpening (disks.view disk).contents (disks.images disk));
+  }
+
+  -- after an opening, a file of more than one byte is as it was
+  pub opens_long : (old new : D) → Opens old new → IsTrue disks.tells → 1 < length (disks.view new).contents → (disks.view new).contents ≡ (disks.view old).contents
+  opens_long old new opens told long = elim (cases_lt 1 (length (disks.view old).contents)) [
+    | inl was_long ↦ opens.same told was_long
+    | inr was_short ↦ absurd (omega (arith, long, opens.short told was_short))
+  ]

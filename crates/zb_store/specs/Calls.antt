@@ -6,6 +6,9 @@ use Rattle.zb_disk.specs.Disk.{DiskView, Torn}
 pub record LeavesOnly (before now : ℕ) (past since : ℕ → List ℕ → Type 0) (P : List ℕ → Type 0) : Type 0 where
   pub later : before ≤ now
   pub nothing_else : (t : ℕ) (c : List ℕ) → t ≤ before → since t c → past t c ⊎ P c
+  -- what it might have left before, it might have left still; what is new, it might have left at any later moment too
+  pub keeps : (t : ℕ) (c : List ℕ) → t ≤ before → past t c → since t c
+  pub splits : (t u : ℕ) (c : List ℕ) → t ≤ u → u ≤ before → since t c → past t c ⊎ since u c
 
 -- calls that write nothing: the contents stay, and a crash leaves nothing that one before couldn't
 pub record OnlyReads {D : Type 0} (tells tells_images : Bool) (view : D → DiskView) (images : D → List ℕ → Type 0) (since : D → ℕ → List ℕ → Type 0) (old new : D) : Type 0 where

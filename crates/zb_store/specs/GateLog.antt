@@ -3,7 +3,6 @@ use Rattle.std.specs.Prelude.{◌≡◌, ◌+◌, ℕ, List, length, take, slice
 use Rattle.zb_disk.specs.declared.disk.Disk.{Ghosts}
 use Rattle.zb_store.specs.declared.fault.StoreFault.{StoreFault}
 use Rattle.zb_store.specs.declared.gate_log.GateLog.{GateLog}
-use Rattle.zb_store.specs.Gates.{gates_from}
 use Rattle.zb_store.specs.Log.{extent}
 use Rattle.zb_store.specs.Stands.{Leads, Stands, closed_stands}
 
@@ -27,25 +26,20 @@ last_gate_of log = log.last
 abbrev pub length_of : {D : Type 0} {disks : Ghosts D} → GateLog D disks → ℕ
 length_of log = last_gate_of log + 1
 
--- the place of a gate in the file by its number, from 0, where the log's index has it
-abbrev pub place_of : {D : Type 0} {disks : Ghosts D} → GateLog D disks → ℕ → ℕ
-place_of log k = slice_index log.index k
-
 -- whether no frame runs past the end of the file
 abbrev pub is_whole : {D : Type 0} {disks : Ghosts D} → GateLog D disks → Bool
 is_whole log = log.whole
 
--- the index has the places of all gates
-pub record IsIndexed {D : Type 0} {disks : Ghosts D} (log : GateLog D disks) : Type 0 where
-  pub all : length log.index ≡ count_of log + 1
-  pub last : place_of log (count_of log) ≡ last_gate_of log
+-- whether no append to it has failed but for want of room
+abbrev pub is_sound : {D : Type 0} {disks : Ghosts D} → GateLog D disks → Bool
+is_sound log = log.sound
 
--- the log has frames of these bodies: in this file they lead from the first gate to the last one, and the index has
--- the places of the first gates
+-- the log has frames of these bodies: in this file they lead from the first gate to the last one, and so many of them to
+-- the gate that is kept in mind
 pub record HasFrames {D : Type 0} {disks : Ghosts D} (file : List ℕ) (log : GateLog D disks) (bodies : List (List ℕ)) : Type 0 where
   pub count : count_of log ≡ length bodies
   pub leads : Leads file 0 bodies (last_gate_of log)
-  pub index : log.index ≡ take (length log.index) (gates_from 0 bodies)
+  pub near : Leads file 0 (take log.near_frame bodies) log.near_gate
   pub length : length_of log ≡ extent bodies
 
 -- and its last gate is closed in this file
@@ -63,7 +57,6 @@ pub record IsSameLog {D : Type 0} {disks : Ghosts D} (old new : GateLog D disks)
   pub count : count_of new ≡ count_of old
   pub last_gate : last_gate_of new ≡ last_gate_of old
   pub whole : is_whole new ≡ is_whole old
-  pub index : new.index ≡ old.index
 
 -- the disk behind an opening, whether it was refused or not
 abbrev pub disk_after : {D : Type 0} {disks : Ghosts D} → Result (GateLog D disks) (StoreFault × D) → D

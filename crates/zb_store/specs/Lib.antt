@@ -5,5 +5,5 @@ pub mod Cause
 pub mod Calls
 pub mod CallLaws
 pub mod Window
-pub mod Gates
+pub mod Scan
 pub mod GateLog

@@ -1,21 +1,20 @@
-ghost use Rattle.std.specs.Prelude.{◌≡◌, ◌⊎◌, ◌<◌, ◌≤◌, ◌+◌, ◌^◌, ℕ, List, [], ◌∷◌, ◌++◌, length, slice_get, IsTrue, IsFalse, IfErr, IfOk, IsErrOf, OnOk, OnErr};
-ghost use Rattle.zb_disk.specs.Disk.{Only};
+ghost use Rattle.std.specs.Prelude.{◌≡◌, ◌⊎◌, ◌<◌, ◌≤◌, ◌+◌, ◌^◌, ℕ, List, [], ◌∷◌, ◌++◌, length, take, slice_get, IsTrue, IsFalse, IfErr, IfOk, IsErrOf, OnOk, OnErr};
+ghost use Rattle.zb_disk.specs.Disk.{Only, overwritten};
 ghost use Rattle.zb_disk.specs.Cause.{Rose};
-ghost use Rattle.zb_store.specs.Cause.{IsCaused, IsFullAt};
+ghost use Rattle.zb_store.specs.Cause.{IsCaused, IsFullAt, UnlessDiskFault};
 ghost use Rattle.zb_store.specs.Calls.{LeavesOnly, OnlyReads, OnlyOpens};
-ghost use Rattle.zb_store.specs.Gates.{last_of, GoesOn};
 ghost use Rattle.zb_store.specs.Log.{framed};
-ghost use Rattle.zb_store.specs.Stands.{Stands, IsCutAfter, StandsWithOrWithout};
+ghost use Rattle.zb_store.specs.Stands.{Leads, Stands, IsCutAfter, StandsWithOrWithout};
 
 use crate::fault::StoreFault;
-use crate::finding::find;
-use crate::gates::Gates;
+use crate::scan::{HEAD_BYTES, Scan};
+use crate::walking::{gate_behind, read_part, walk};
 use crate::writing::write_frame;
 use std::alloc::Global;
 use zb_disk::Disk;
 
-/// The log in a file of a disk: frames, each behind a gate, up to the first gate that is closed. Of each
-/// frame only the place is kept, as far as there was memory for the places.
+/// The log in a file of a disk: frames, each behind a gate, up to the first gate that is closed. Nothing of a
+/// frame is kept in memory.
 #[derive(Drop)]
 pub struct GateLog<D: Disk> {
     disk: D,
@@ -23,21 +22,24 @@ pub struct GateLog<D: Disk> {
     count: u64,
     // The place of the last gate.
     last: u64,
-    index: Gates,
     whole: bool,
+    // Whether no append has failed but for want of room.
+    sound: bool,
+    // A frame by its number, and the place of its gate, from which later frames are found.
+    near_frame: u64,
+    near_gate: u64,
     ghost inside: { IsTrue D.tells → last < length (D.view disk).contents },
     ghost small: { limit ≤ 2 ^ 32 },
     ghost close: { last < 2 ^ 58 },
     ghost counted: { count ≤ last },
-    ghost indexed: { length index ≤ count + 1 },
-    ghost behind: { last_of index ≤ last },
+    ghost near_counted: { near_frame ≤ count },
+    ghost near_inside: { near_gate ≤ last },
 }
 
 impl<D: Disk> GateLog<D> {
-    ghost use Rattle.zb_store.specs.GateLog.{disk_of, limit_of, count_of, length_of, place_of, is_whole, IsIndexed, HasFrames, HasLog, IsSameLog, disk_after};
+    ghost use Rattle.zb_store.specs.GateLog.{disk_of, limit_of, count_of, length_of, last_gate_of, is_whole, is_sound, HasFrames, HasLog, IsSameLog, disk_after};
 
-    /// Opens the log in a file, once all that was written to it is on the disk. It is read in one
-    /// pass, in pieces of a fixed size. A file of at most one byte becomes a closed gate; no frame is changed.
+    /// Opens the log in a file, once all that was written to it is on the disk, by a `Scan`. A file of at most one byte becomes a closed gate; no frame is changed.
     pub fn open(alloc: Global, disk: D, limit: u64) -> Result<GateLog<D>, (StoreFault, D)>
         requires { limit ≤ 2 ^ 32 }
 
@@ -47,8 +49,7 @@ impl<D: Disk> GateLog<D> {
         ensures cut { IsTrue D.tells → IfOk result (λ log. IsFalse (is_whole log)
             → (bodies : List (List ℕ)) × IsCutAfter (D.view disk).contents bodies × HasFrames (D.view (disk_of log)).contents log bodies) }
         ensures limit { IfOk result (λ log. limit_of log ≡ limit) }
-        ensures first { IfOk result (λ log. place_of log 0 ≡ 0) }
-        ensures indexed { IfOk result IsIndexed }
+        ensures sound { IfOk result (λ log. IsTrue (is_sound log)) }
 
         // No frame is changed: the file goes on to stand for the same bodies, and so does what a crash at any
         // moment since leaves, if all that one before might have left does.
@@ -63,19 +64,39 @@ impl<D: Disk> GateLog<D> {
         ensures durable { IsTrue D.tells_images → OnOk result (Only (D.view (disk_after result)).contents (D.images (disk_after result))) }
 
         ensures later { (D.view disk).faults ≤ (D.view (disk_after result)).faults }
-        ensures cause { IfErr result (λ refused. IsCaused (D.view disk).faults (D.view refused.1).faults refused.0) }
+        ensures steady { IsTrue D.counts_failures → OnOk result ((D.view (disk_after result)).faults ≡ (D.view disk).faults) }
+        ensures cause { IfErr result (λ refused. IsCaused D.counts_failures (D.view disk).faults (D.view refused.1).faults refused.0) }
     {
-        let mut disk = disk;
-        match find(alloc, &mut disk) {
-            Ok(found) => Ok(GateLog {
-                disk,
-                limit,
-                count: found.gates.count(),
-                last: found.gates.last(),
-                index: found.gates,
-                whole: found.whole,
-            }),
-            Err(fault) => Err((fault, disk)),
+        match Scan::begin(alloc, disk, limit) {
+            Ok(scan) => scan.run(),
+            Err(refused) => Err(refused),
+        }
+    }
+
+    /// The log that was found on a disk: so many frames, and the gate behind them.
+    pub(crate) fn over(disk: D, limit: u64, count: u64, last: u64, whole: bool) -> GateLog<D>
+        requires inside { IsTrue D.tells → last < length (D.view disk).contents }
+        requires small { limit ≤ 2 ^ 32 }
+        requires close { last < 2 ^ 58 }
+        requires counted { count ≤ last }
+        ensures disk { disk_of result ≡ disk }
+        ensures limit { limit_of result ≡ limit }
+        ensures count { count_of result ≡ count }
+        ensures last { last_gate_of result ≡ last }
+        ensures whole { is_whole result ≡ whole }
+        ensures sound { IsTrue (is_sound result) }
+        ensures near_frame { result.near_frame ≡ 0 }
+        ensures near_gate { result.near_gate ≡ 0 }
+    {
+        GateLog {
+            disk,
+            limit,
+            count,
+            last,
+            whole,
+            sound: true,
+            near_frame: 0,
+            near_gate: 0,
         }
     }
 
@@ -108,27 +129,36 @@ impl<D: Disk> GateLog<D> {
         self.whole
     }
 
-    /// Reads the body of the frame with this number, from 0. `Memory` is also told where there was no memory
-    /// for the place of the frame. After an `Err` any bytes may be in `body`.
+    /// Whether no append has failed but for want of room.
+    pub fn sound(&self) -> bool
+        ensures { result ≡ is_sound self.now }
+    {
+        self.sound
+    }
+
+    /// Reads the body of the frame with this number, from 0. After an `Err` any bytes may be in `body`. It
+    /// costs a read of the disk for each frame that lies before it, behind the one that was read last where that
+    /// isn't later.
     pub fn frame(&mut self, i: u64, body: &mut Vec<u8>) -> Result<(), StoreFault>
         requires { i < count_of self.old }
         ensures body { IsTrue D.tells → (bodies : List (List ℕ)) → HasFrames (D.view (disk_of self.old)).contents self.old bodies
             → OnOk result (slice_get bodies i ≡ Some body.new.items) }
-        ensures size { OnOk result (place_of self.old (i + 1) ≡ place_of self.old i + 9 + length body.new.items) }
         ensures kept { IsTrue D.tells → (bodies : List (List ℕ)) → HasFrames (D.view (disk_of self.old)).contents self.old bodies
             → HasFrames (D.view (disk_of self.new)).contents self.new bodies }
         ensures kept_log { IsTrue D.tells → (bodies : List (List ℕ)) → HasLog (D.view (disk_of self.old)).contents self.old bodies
             → HasLog (D.view (disk_of self.new)).contents self.new bodies }
         ensures same { IsSameLog self.old self.new }
         ensures reads { OnlyReads D.tells D.tells_images D.view D.images D.since (disk_of self.old) (disk_of self.new) }
-        ensures cause { IfErr result (IsCaused (D.view (disk_of self.old)).faults (D.view (disk_of self.new)).faults) }
+        ensures sound { is_sound self.new ≡ is_sound self.old }
+        ensures steady { IsTrue D.counts_failures → OnOk result ((D.view (disk_of self.new)).faults ≡ (D.view (disk_of self.old)).faults) }
+        ensures cause { IfErr result (IsCaused D.counts_failures (D.view (disk_of self.old)).faults (D.view (disk_of self.new)).faults) }
     {
-        if i >= self.index.count() {
-            return Err(StoreFault::Memory);
-        }
-        let (start, end) = self.index.body_range(i);
-        body.resize((end - start) as usize, 0)?;
-        Ok(self.disk.read_at(start, body.as_mut_slice())?)
+        let near = self.near(i);
+        let gate = walk(&mut self.disk, near, i, self.last)?;
+        let next = gate_behind(&mut self.disk, gate, self.last)?;
+        self.near_frame = i;
+        self.near_gate = gate;
+        read_part(&mut self.disk, gate + HEAD_BYTES, next, body)
     }
 
     /// Adds a frame: the length of a body in eight bytes, the body and a closed gate. That is one write
@@ -137,6 +167,7 @@ impl<D: Disk> GateLog<D> {
     pub fn append(&mut self, frame: &[u8]) -> Result<(), StoreFault>
         requires form { (body : List ℕ) × (frame.now ≡ framed body) }
         requires whole { IsTrue (is_whole self.old) }
+        requires sound { IsTrue (is_sound self.old) }
 
         ensures appended { IsTrue D.tells → (bodies : List (List ℕ)) (body : List ℕ)
             → HasLog (D.view (disk_of self.old)).contents self.old bodies → frame.now ≡ framed body
@@ -147,6 +178,10 @@ impl<D: Disk> GateLog<D> {
         ensures limit { limit_of self.new ≡ limit_of self.old }
         ensures whole { IsTrue (is_whole self.new) }
         ensures same { OnErr result (IsSameLog self.old self.new) }
+
+        // The frame stands behind the gate that was the last one, which was opened by 1.
+        ensures written { IsTrue D.tells → OnOk result ((D.view (disk_of self.new)).contents
+            ≡ overwritten (overwritten (D.view (disk_of self.old)).contents (length_of self.old) frame.now) (last_gate_of self.old) (1 ∷ [])) }
 
         // What it leaves, refused or not, and what a crash at any moment since the call began might have left.
         ensures left { IsTrue D.tells → (bodies : List (List ℕ)) (body : List ℕ)
@@ -167,11 +202,14 @@ impl<D: Disk> GateLog<D> {
             → (c : List ℕ) → D.images (disk_of self.new) c → StandsWithOrWithout bodies body c }
         ensures durable { IsTrue D.tells_images → OnOk result (Only (D.view (disk_of self.new)).contents (D.images (disk_of self.new))) }
 
-        // Why it is refused. A full log leaves the disk alone.
+        // Why it is refused. A full log leaves the disk alone; after another refusal the log takes no append any more.
         ensures over { limit_of self.old < length_of self.old + length frame.now
             → result ≡ Err (StoreFault.LogFull (length_of self.old) (length frame.now) (limit_of self.old)) }
         ensures full { IfErr result (IsFullAt (length_of self.old) (length frame.now) (limit_of self.old)) }
-        ensures untouched { (n m k : ℕ) → IsErrOf result (StoreFault.LogFull n m k) → disk_of self.new ≡ disk_of self.old }
+        ensures untouched { (n m k : ℕ) → IsErrOf result (StoreFault.LogFull n m k) → self.new ≡ self.old }
+        ensures sound { OnOk result (IsTrue (is_sound self.new)) }
+        ensures unsound { OnErr result (IsTrue (is_sound self.new) → self.new ≡ self.old) }
+        ensures steady { IsTrue D.counts_failures → UnlessDiskFault result ((D.view (disk_of self.new)).faults ≡ (D.view (disk_of self.old)).faults) }
         ensures later { (D.view (disk_of self.old)).faults ≤ (D.view (disk_of self.new)).faults }
         ensures failed { IsErrOf result StoreFault.DiskFault
             → Rose (D.view (disk_of self.old)).faults (D.view (disk_of self.new)).faults }
@@ -191,7 +229,10 @@ impl<D: Disk> GateLog<D> {
                 self.go_on(gate + size);
                 Ok(())
             }
-            Err(trouble) => Err(StoreFault::from(trouble)),
+            Err(trouble) => {
+                self.sound = false;
+                Err(StoreFault::from(trouble))
+            }
         }
     }
 
@@ -204,13 +245,27 @@ impl<D: Disk> GateLog<D> {
             limit: _,
             count: _,
             last: _,
-            index: _,
             whole: _,
+            sound: _,
+            near_frame: _,
+            near_gate: _,
         } = self;
         disk
     }
 
-    // Goes on to the gate behind one frame more. Where there is no memory for its place, the index stays behind.
+    // The number of a frame up to this one, and its gate, which is known.
+    fn near(&self, i: u64) -> (u64, u64)
+        ensures frame { result.0 ≤ i }
+        ensures gate { result.1 ≤ last_gate_of self.now }
+        ensures leads { (file : List ℕ) (bodies : List (List ℕ)) → HasFrames file self.now bodies → Leads file 0 (take result.0 bodies) result.1 }
+    {
+        if self.near_frame <= i {
+            return (self.near_frame, self.near_gate);
+        }
+        (0, 0)
+    }
+
+    // Goes on to the gate behind one frame more.
     fn go_on(&mut self, next: u64)
         requires apart { self.old.last + 9 ≤ next }
         requires small { next < 2 ^ 58 }
@@ -220,11 +275,10 @@ impl<D: Disk> GateLog<D> {
         ensures count { self.new.count ≡ self.old.count + 1 }
         ensures last { self.new.last ≡ next }
         ensures whole { self.new.whole ≡ self.old.whole }
-        ensures index { GoesOn self.old.index self.old.count self.new.last self.new.index }
+        ensures sound { self.new.sound ≡ self.old.sound }
+        ensures near_frame { self.new.near_frame ≡ self.old.near_frame }
+        ensures near_gate { self.new.near_gate ≡ self.old.near_gate }
     {
-        if self.index.count() == self.count {
-            let _ = self.index.push(next);
-        }
         self.count += 1;
         self.last = next;
     }

@@ -2,15 +2,16 @@
 #![tactic(auto)]
 
 mod fault;
-mod finding;
 mod framing;
 mod gate_log;
-mod gates;
+mod preparing;
 mod reading;
+mod scan;
 mod step;
 #[cfg(test)]
 mod tests;
 mod volume;
+mod walking;
 mod window;
 mod writing;
 
@@ -18,4 +19,5 @@ pub use fault::StoreFault;
 pub use framing::framed;
 pub use gate_log::GateLog;
 pub use reading::one_reading;
+pub use scan::{Found, Scan};
 pub use volume::Volume;

@@ -3,7 +3,7 @@ ghost use Rattle.std.specs.Prelude.{◌≡◌, ◌<◌, ◌≤◌, ◌+◌, ◌^
 ghost use Rattle.std.specs.Int.{w64, from_be_bytes};
 ghost use Rattle.zb_store.specs.Step.{IsStep, LiesBehind, AreFrom};
 
-use crate::gates::HEAD_BYTES;
+use crate::scan::HEAD_BYTES;
 
 /// What stands at a gate.
 pub enum Step {

@@ -1,5 +1,5 @@
 ghost use Rattle.std.specs.Prelude.{◌<◌, ◌^◌, length, IsTrue};
-ghost use Rattle.zb_store.specs.GateLog.{is_whole};
+ghost use Rattle.zb_store.specs.GateLog.{is_whole, is_sound};
 
 use super::*;
 use std::alloc::Global;
@@ -65,28 +65,16 @@ fn expect_log(
 
 #[test]
 fn files_and_their_bodies(rt: HostRuntime) -> Result<(), Fail> {
-    let table: [(&[u8], bool, u64, &[&[u8]]); 14] = [
+    let table: [(&[u8], bool, u64, &[&[u8]]); 7] = [
         (&[], true, 1, &[]),
-        (&[0], true, 1, &[]),
         (&[1], true, 1, &[]),
-        (&FRAME, true, 12, &[&[7, 8]]),
         (&TWO_FRAMES, true, 22, &[&[7, 8], &[9]]),
         // An empty body, behind a gate that is open by another byte.
         (&[255, 0, 0, 0, 0, 0, 0, 0, 0, 0], true, 10, &[&[]]),
         // Whatever stands behind a closed gate.
         (&[0, 1, 0, 0, 0, 0, 0, 0, 0, 1, 5, 0], true, 1, &[]),
-        (
-            &[1, 0, 0, 0, 0, 0, 0, 0, 1, 5, 0, 1, 0, 0],
-            true,
-            11,
-            &[&[5]],
-        ),
-        (&[0, 0], true, 1, &[]),
-        // A frame that runs past the end.
-        (&[1, 0], false, 1, &[]),
-        (&[1, 0, 0, 0, 0, 0, 0, 0, 1, 5], false, 1, &[]),
-        (&[1, 0, 0, 0, 0, 0, 0, 1, 1, 5, 0], false, 1, &[]),
-        (&[1, 128, 0, 0, 0, 0, 0, 0, 0, 5, 0], false, 1, &[]),
+        // A frame that runs past the end, whose length has few bytes or the highest.
+        (&TWO_FRAMES[..13], false, 12, &[&[7, 8]]),
         (
             &[1, 255, 255, 255, 255, 255, 255, 255, 255, 5, 0],
             false,
@@ -97,21 +85,6 @@ fn files_and_their_bodies(rt: HostRuntime) -> Result<(), Fail> {
     for (file, whole, length, bodies) in table {
         assert!(rt; file.len() < 100);
         expect_log(&rt, rt.alloc(), file, whole, length, bodies)?;
-    }
-    Ok(())
-}
-
-#[test]
-fn a_file_cut_at_each_byte(rt: HostRuntime) -> Result<(), Fail> {
-    let bodies: [&[u8]; 2] = [&[7, 8], &[9]];
-    for size in 0..TWO_FRAMES.len() {
-        let file = &TWO_FRAMES[..size];
-        let (whole, length, count) = match size {
-            0 | 1 => (true, 1, 0),
-            2..=11 => (false, 1, 0),
-            _ => (false, 12, 1),
-        };
-        expect_log(&rt, rt.alloc(), file, whole, length, &bodies[..count])?;
     }
     Ok(())
 }
@@ -149,20 +122,11 @@ fn each_call_of_an_opening_fails(rt: HostRuntime) -> Result<(), Fail> {
         expect_fault(&rt, alloc, &TWO_FRAMES, call, &TWO_FRAMES)?;
     }
     // The gate is written by then.
-    expect_fault(&rt, alloc, &[], 3, &[0])?;
-    expect_fault(&rt, alloc, &[1], 3, &[0])
-}
-
-#[test]
-fn a_frame_that_cannot_be_read(rt: HostRuntime) -> Result<(), Fail> {
-    let alloc = rt.alloc();
-    let fails = [3].to_vec(alloc)?;
-    let disk = MemDisk::new(alloc, TWO_FRAMES.to_vec(alloc)?, fails)?;
-    let mut log = opened(alloc, disk)?;
-    let mut body = Vec::new(alloc);
-    assert!(rt; log.count() == 2);
-    assert_eq!(rt; log.frame(1, &mut body), Err(StoreFault::DiskFault));
-    expect_frame(&rt, alloc, &mut log, 1, &[9])
+    for call in 3..5 {
+        expect_fault(&rt, alloc, &[], call, &[0])?;
+        expect_fault(&rt, alloc, &[1], call, &[0])?;
+    }
+    Ok(())
 }
 
 /// Adds an open gate and a frame with a body of this byte, repeated.
@@ -171,6 +135,21 @@ fn push_frame(alloc: Global, file: &mut Vec<u8>, size: usize, byte: u8) -> Resul
     file.extend_from_slice(&(size as u64).to_be_bytes())?;
     let body = vec![in alloc; byte; size]?;
     file.extend_from_slice(&body)?;
+    Ok(())
+}
+
+/// Wants the next frame to have a body of this byte, repeated.
+fn expect_next(
+    rt: &impl Abort,
+    scan: &mut Scan<MemDisk>,
+    size: usize,
+    byte: u8,
+) -> Result<(), Fail> {
+    assert!(rt; !scan.over());
+    assert_eq!(rt; scan.advance(), Ok(Found::Frame));
+    let body = scan.body();
+    assert_eq!(rt; body.len(), size);
+    assert!(rt; body.iter().all(|b| *b == byte), "a body of {byte}");
     Ok(())
 }
 
@@ -191,21 +170,26 @@ fn a_log_longer_than_a_piece(rt: HostRuntime) -> Result<(), Fail> {
     }
     file.push(0)?;
     assert!(rt; file.len() == 331_101);
-    let mut log = opened(alloc, MemDisk::new(alloc, file, Vec::new(alloc))?)?;
-    assert_eq!(rt; log.count(), 6);
-    assert_eq!(rt; log.length(), 331_101);
-    for (i, (size, byte)) in bodies.iter().enumerate() {
-        let body = vec![in alloc; *byte; *size]?;
-        expect_frame(&rt, alloc, &mut log, i as u64, &body)?;
+    let disk = MemDisk::new(alloc, file, Vec::new(alloc))?;
+    match Scan::begin(alloc, disk, 1_000_000) {
+        Err((fault, _disk)) => Err(fault)?,
+        Ok(mut scan) => {
+            for (size, byte) in bodies {
+                expect_next(&rt, &mut scan, size, byte)?;
+            }
+            assert!(rt; !scan.over());
+            assert_eq!(rt; scan.advance(), Ok(Found::End));
+            // A sync, the length, and five pieces.
+            assert_eq!(rt; scan.into_disk().moment(), 7);
+        }
     }
-    // A sync, the length, four pieces, and a read for each body.
-    assert_eq!(rt; log.into_disk().moment(), 12);
     Ok(())
 }
 
 /// Adds a frame with this body.
 fn add(alloc: Global, log: &mut GateLog<MemDisk>, body: &[u8]) -> Result<(), StoreFault>
-    requires { IsTrue (is_whole log.old) }
+    requires whole { IsTrue (is_whole log.old) }
+    requires sound { IsTrue (is_sound log.old) }
 {
     let frame = framed(alloc, body)?;
     log.append(&frame)
@@ -220,33 +204,8 @@ fn add_all(
 ) -> Result<(), Fail> {
     for body in bodies {
         assert!(rt; log.whole());
+        assert!(rt; log.sound());
         add(alloc, log, body)?;
-    }
-    Ok(())
-}
-
-#[test]
-fn frames_are_added(rt: HostRuntime) -> Result<(), Fail> {
-    let alloc = rt.alloc();
-    let table: [(&[&[u8]], &[u8]); 4] = [
-        (&[], &[0]),
-        (&[&[7, 8]], &FRAME),
-        (&[&[7, 8], &[9]], &TWO_FRAMES),
-        (
-            &[&[], &[0]],
-            &[1, 0, 0, 0, 0, 0, 0, 0, 0, 1, 0, 0, 0, 0, 0, 0, 0, 1, 0, 0],
-        ),
-    ];
-    for (bodies, file) in table {
-        let disk = MemDisk::new(alloc, Vec::new(alloc), Vec::new(alloc))?;
-        let mut log = opened(alloc, disk)?;
-        add_all(&rt, alloc, &mut log, bodies)?;
-        assert_eq!(rt; log.length(), file.len() as u64, "at {file:?}");
-        for (i, body) in bodies.iter().enumerate() {
-            expect_frame(&rt, alloc, &mut log, i as u64, body)?;
-        }
-        let disk = log.into_disk();
-        assert_eq!(rt; disk.bytes(), file, "at {file:?}");
     }
     Ok(())
 }
@@ -276,6 +235,7 @@ fn expect_refusal(rt: &impl Abort, alloc: Global, call: u64, left: &[u8]) -> Res
     let disk = MemDisk::new(alloc, Vec::new(alloc), fails)?;
     let mut log = opened(alloc, disk)?;
     assert!(rt; log.whole());
+    assert!(rt; log.sound());
     let added = add(alloc, &mut log, &[7, 8]);
     assert_eq!(rt; added, Err(StoreFault::DiskFault), "call {call}");
     let disk = log.into_disk();
@@ -288,19 +248,11 @@ fn expect_refusal(rt: &impl Abort, alloc: Global, call: u64, left: &[u8]) -> Res
 fn each_call_of_an_addition_fails(rt: HostRuntime) -> Result<(), Fail> {
     let alloc = rt.alloc();
     let behind = [0, 0, 0, 0, 0, 0, 0, 0, 2, 7, 8, 0];
-    // The opening makes four calls.
-    expect_refusal(&rt, alloc, 4, &[0])?;
-    expect_refusal(&rt, alloc, 5, &behind)?;
+    // The opening makes five calls.
+    expect_refusal(&rt, alloc, 5, &[0])?;
     expect_refusal(&rt, alloc, 6, &behind)?;
-    expect_refusal(&rt, alloc, 7, &FRAME)
-}
-
-#[test]
-fn a_frame_of_forty_bytes(rt: HostRuntime) -> Result<(), Fail> {
-    let alloc = rt.alloc();
-    let frame = framed(alloc, &[7; 40])?;
-    assert_eq!(rt; frame.len(), 49);
-    Ok(())
+    expect_refusal(&rt, alloc, 7, &behind)?;
+    expect_refusal(&rt, alloc, 8, &FRAME)
 }
 
 /// Wants the image of a moment, with this byte in place of what wasn't on the disk yet, to be a whole log of so

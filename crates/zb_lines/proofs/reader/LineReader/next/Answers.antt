@@ -1,4 +1,4 @@
-use Rattle.std.proofs.Common.{arith, refl}
+use Rattle.std.proofs.Common.{◌∙◌, arith, refl}
 use Rattle.zb_lines.proofs.Reading.{starts, goes_on, ends_line, gives_no_more, none_came, ends_stream, stops}
 use Rattle.zb_lines.proofs.reader.LineReader.next.Goals as goal
 
@@ -8,6 +8,7 @@ loop-self-init g c = (
   omega arith,
   omega (arith, c.clear.ensures.len),
   omega (arith, c.clear.ensures.capacity),
+  λ _. refl,
   λ _. refl,
 )
 
@@ -31,6 +32,7 @@ loop-self-preserved g c =
       c.hand_out.ensures.room.within c.loop-self.invariant.2,
       omega (arith, c.hand_out.ensures.room.grows),
       λ none. absurd (omega (arith, c.loop-self.invariant.0.spent, r.1, r.2)),
+      λ counts. c.in-Ok-Piece.ensures.cause.steady counts ∙ c.loop-self.invariant.5 counts,
     )
 
 pub returns-in-Ok-End-clause-comes : goal.returns-in-Ok-End-clause-comes

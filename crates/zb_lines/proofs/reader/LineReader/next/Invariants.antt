@@ -1,4 +1,4 @@
-use Rattle.std.proofs.Common.{◌≡◌, vec_len, vec_capacity, ◌-◌, ◌^◌, ◌≤◌}
+use Rattle.std.proofs.Common.{◌≡◌, vec_len, vec_capacity, ◌-◌, ◌^◌, ◌≤◌, IsTrue}
 use Rattle.zb_lines.specs.Step.{Reads}
 use Rattle.zb_lines.proofs.reader.LineReader.next.Given as goal
 
@@ -8,6 +8,7 @@ invariant-loop-self g l = Reads g.S.Source.tells (g.S.Source.view l.fn.source) (
     × (vec_len l.line ≤ l.most)
     × (vec_capacity l.fn.line ≤ vec_capacity l.line)
     × (l.fn.budget ≡ 0 → g.S.Source.view l.source ≡ g.S.Source.view l.fn.source)
+    × (IsTrue g.S.Source.counts_failures → (g.S.Source.view l.source).faults ≡ (g.S.Source.view l.fn.source).faults)
 
 abbrev pub decreases-loop-self : goal.decreases-loop-self
 decreases-loop-self g l = 2 ^ 63 - (g.S.Source.view l.source).given

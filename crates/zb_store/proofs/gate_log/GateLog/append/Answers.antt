@@ -35,7 +35,7 @@ returns-in-Ok-clause-appended g c = λ told bodies body has form.
     let ends = c.in-Ok.ensures.written told bodies body (ends_at was log bodies has (log.inside told)) form in
     let last : last_gate_of new ≡ last_gate_of log + length (framed body) = omega (arith, c.go_on.ensures.last, ap length form) in
     let ends_there = subst (λ (n : ℕ). EndsAt file (bodies ++ body ∷ []) n) (sym c.go_on.ensures.last) ends in
-    let more = log_more file was log new bodies body has.frames log.indexed c.go_on.ensures.index c.go_on.ensures.count last ends_there in
+    let more = log_more file was log new bodies body has.frames log.near_counted c.go_on.ensures.near_frame c.go_on.ensures.near_gate c.go_on.ensures.count last ends_there in
     subst (λ d. HasLog (disks.view d).contents new (bodies ++ body ∷ [])) (sym c.go_on.ensures.disk) more
 
 pub returns-then-gate-size-clause-since : goal.returns-then-gate-size-clause-since

@@ -1,26 +1,19 @@
-use Rattle.std.proofs.Common.{◌≡◌, ◌+◌, ◌-◌, ◌++◌, ℕ, List, length, take, drop, sym, ◌∙◌, ap, arith, rules}
+use Rattle.std.proofs.Common.{◌≡◌, ◌+◌, ℕ, List, sym, ◌∙◌, ap, arith}
 use Rattle.std.specs.Prelude.{Some, slice_range}
-use Rattle.zb_store.proofs.Frames.{body_between, written_over}
+use Rattle.std.proofs.lemmas.Result.{on_ok_weaker}
+use Rattle.zb_store.specs.Stands.{next_gate}
+use Rattle.zb_store.proofs.Bodies.{frame_at}
 use Rattle.zb_store.proofs.gate_log.GateLog.frame.Goals as goal
-
-pub read_at-requires : goal.read_at-requires
-read_at-requires g c = λ told.
-    let inside = c.args.self.now.inside told in
-    omega (arith, inside, c.body_range-start.ensures.last, c.body_range-start.ensures.order, c.as_mut_slice.ensures.len, c.in_ok-resize.ensures.len)
 
 pub returns-clause-body : goal.returns-clause-body
 returns-clause-body g c = λ told bodies has.
-    let file = (g.D.Disk.view c.args.self.now.disk).contents in
-    let index = c.args.self.now.index in
-    let start = c.body_range-start.result.0 in
-    let end = c.body_range-start.result.1 in
-    let items = c.resize.new.self.items in
-    let piece = c.read_at.new.piece in
-    let size : length c.as_mut_slice.result.now ≡ end - start = c.as_mut_slice.ensures.len ∙ c.in_ok-resize.ensures.len in
-    let to : start + length c.as_mut_slice.result.now ≡ end = omega (arith, size, c.body_range-start.ensures.order) in
-    let read : piece ≡ slice_range file start end = c.in_ok-read_at.ensures.bytes told ∙ ap (λ (n : ℕ). slice_range file start n) to in
-    let whole : length items ≡ c.resize.new.self.len = search rules in
-    let same : length piece ≡ c.resize.new.self.len = search rules in
-    let all : take c.resize.new.self.len (piece ++ drop (length piece) items) ≡ piece = written_over piece items c.resize.new.self.len same whole in
-    body_between file index bodies c.args.self.now.last c.args.i start end has.leads has.index (omega (arith, c.requires, has.count)) (omega (arith, c.count.ensures.count)) c.body_range-start.ensures.start c.body_range-start.ensures.end
-    ∙ ap (λ (l : List ℕ). Some l) (sym read ∙ sym all)
+    let view = g.D.Disk.view in
+    let log = c.args.self.now in
+    let file = (view log.disk).contents in
+    let walked : (view c.walk.new.disk).contents ≡ file = c.walk.ensures.reads.same told in
+    let stepped : (view c.gate_behind.new.disk).contents ≡ file = c.gate_behind.ensures.reads.same told ∙ walked in
+    let front = c.in_ok-gate.ensures.gate told bodies has.leads (c.near-near.ensures.leads file bodies has) (omega (arith, c.requires, has.count)) in
+    let at = frame_at file 0 c.args.i bodies log.last c.in_ok-gate.gate has.leads front (omega (arith, c.requires, has.count)) in
+    let next : c.in_ok-next.next ≡ next_gate file c.in_ok-gate.gate = c.in_ok-next.ensures.next told ∙ ap (λ (f : List ℕ). next_gate f c.in_ok-gate.gate) walked in
+    let part = at.2.body_is ∙ ap (λ (n : ℕ). slice_range file (c.in_ok-gate.gate + 9) n) (sym next) ∙ ap (λ (f : List ℕ). slice_range f (c.in_ok-gate.gate + 9) c.in_ok-next.next) (sym stepped) in
+    on_ok_weaker c.read_part.result (λ read. at.1 ∙ ap (λ (l : List ℕ). Some l) (part ∙ sym read)) (c.read_part.ensures.part told)
