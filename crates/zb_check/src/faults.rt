@@ -3,7 +3,8 @@ ghost use Rattle.std.specs.Prelude.{◌≡◌, ◌&&◌, not, [], count_by};
 ghost use Rattle.std.specs.List.{list_any};
 ghost use Rattle.std.specs.Option.{option_copied};
 ghost use Rattle.std.specs.Str.{bytes_eq};
-ghost use Rattle.zb_rules.specs.Faults.{begins, ends, is_at, empty_id, double_id, dangling, bad_start, flow_end, no_incoming, too_large};
+ghost use Rattle.zb_rules.specs.Board.{is_start};
+ghost use Rattle.zb_rules.specs.Faults.{ends, is_at, empty_id, double_id, dangling, bad_start, flow_end, no_incoming, too_large};
 
 use crate::ids::{first_empty, first_used, has_id, is_empty};
 use zb_model::{Flow, Model, Node, NodeKind, Text};
@@ -58,7 +59,7 @@ pub fn flow_end(model: &Model) -> Option<&Text>
     let flows = model.flows.as_slice();
     flows
         .iter()
-        .find(|flow| begins_at(model, &flow.to) || ends_at(model, &flow.from))
+        .find(|flow| is_start_at(model, &flow.to) || ends_at(model, &flow.from))
         .map(|flow| &flow.id)
 }
 
@@ -84,11 +85,11 @@ pub fn too_large(model: &Model) -> Option<&Text>
 }
 
 // Whether the node with the id is a start event.
-fn begins_at(model: &Model, id: &Text) -> bool
-    ensures { result ≡ is_at model.now id.now begins }
+fn is_start_at(model: &Model, id: &Text) -> bool
+    ensures { result ≡ is_at model.now id.now is_start }
 {
     let nodes = model.nodes.as_slice();
-    nodes.iter().any(|node| node.id.as_str() == id.as_str() && begins(node.kind))
+    nodes.iter().any(|node| node.id.as_str() == id.as_str() && is_start(node.kind))
 }
 
 // Whether the node with the id is an end event.
@@ -103,9 +104,9 @@ fn ends_at(model: &Model, id: &Text) -> bool
 
 // Whether the node is no start event, and no flow leads to it.
 fn lacks_incoming(model: &Model, node: &Node) -> bool
-    ensures { result ≡ (not (begins node.now.kind) && not (list_any (λ f. bytes_eq f.to node.now.id) model.now.flows)) }
+    ensures { result ≡ (not (is_start node.now.kind) && not (list_any (λ f. bytes_eq f.to node.now.id) model.now.flows)) }
 {
-    !begins(node.kind) && !leads_to(model.flows.as_slice(), &node.id)
+    !is_start(node.kind) && !leads_to(model.flows.as_slice(), &node.id)
 }
 
 // Whether a flow leads to the id.
@@ -117,21 +118,21 @@ fn leads_to(flows: &[Flow], id: &Text) -> bool
 
 // How many start events the process has, those of its subprocesses left out.
 fn starts(nodes: &[Node]) -> usize
-    ensures { result ≡ count_by (λ n. begins n.kind && bytes_eq n.parent []) nodes.now }
+    ensures { result ≡ count_by (λ n. is_start n.kind && bytes_eq n.parent []) nodes.now }
 {
     nodes.iter().filter(|node| is_top_start(node)).count()
 }
 
 // Whether the node is a start event of the process itself.
 fn is_top_start(node: &Node) -> bool
-    ensures { result ≡ (begins node.now.kind && bytes_eq node.now.parent []) }
+    ensures { result ≡ (is_start node.now.kind && bytes_eq node.now.parent []) }
 {
-    begins(node.kind) && is_empty(&node.parent)
+    is_start(node.kind) && is_empty(&node.parent)
 }
 
-// Whether an event starts a process or a scope.
-fn begins(kind: NodeKind) -> bool
-    ensures { result ≡ begins kind }
+// Whether a node starts a process or a scope.
+fn is_start(kind: NodeKind) -> bool
+    ensures { result ≡ is_start kind }
 {
     matches!(kind, NodeKind::StartEvent | NodeKind::MessageStartEvent)
 }

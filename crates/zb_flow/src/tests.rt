@@ -112,14 +112,7 @@ fn settled(alloc: Global, count: usize) -> Result<(usize, bool), AllocError> {
 #[test]
 fn settles_until_the_game_is_quiet_or_the_batch_is_full(rt: HostRuntime) -> Result<(), Fail> {
     // The instance takes twelve turns, and a batch is full with 1,024 events.
-    let table = [
-        (0, 12, true),
-        (1_000, 1_012, true),
-        (1_012, 1_024, true),
-        (1_015, 1_024, false),
-        (1_024, 1_024, false),
-        (1_030, 1_030, false),
-    ];
+    let table = [(0, 12, true), (1_012, 1_024, true), (1_015, 1_024, false)];
     for (before, events, is_quiet) in table {
         let (count, quiet) = settled(rt.alloc(), before)?;
         assert_eq!(rt; count, events);

@@ -20,6 +20,7 @@ pub fn put_in_phase(
 ) -> Result<(), GameFault>
     ensures put { OnOk result (edited (λ c. c.key == key) (in_phase phase owed) cells.old.items ≡ Some cells.new.items) }
     ensures none { IsErrOf result GameFault.Illegal → edited (λ c. c.key == key) (in_phase phase owed) cells.old.items ≡ None }
+    ensures kept { IsErrOf result GameFault.Illegal → cells.new.items ≡ cells.old.items }
 {
     match place_of_cell(key, cells) {
         Some(place) => {
@@ -36,6 +37,7 @@ pub fn put_in_phase(
 pub fn take_away(cells: &mut Vec<Cell>, key: Key) -> Result<(), GameFault>
     ensures gone { OnOk result (removed (λ c. c.key == key) cells.old.items ≡ Some cells.new.items) }
     ensures none { IsErrOf result GameFault.Illegal → removed (λ c. c.key == key) cells.old.items ≡ None }
+    ensures kept { IsErrOf result GameFault.Illegal → cells.new.items ≡ cells.old.items }
 {
     match place_of_cell(key, cells) {
         Some(place) => {
@@ -50,6 +52,7 @@ pub fn take_away(cells: &mut Vec<Cell>, key: Key) -> Result<(), GameFault>
 pub fn take_token(tokens: &mut Vec<Token>, entry: &Enter) -> Result<(), GameFault>
     ensures gone { OnOk result (removed (enters entry.now) tokens.old.items ≡ Some tokens.new.items) }
     ensures none { IsErrOf result GameFault.Illegal → removed (enters entry.now) tokens.old.items ≡ None }
+    ensures kept { IsErrOf result GameFault.Illegal → tokens.new.items ≡ tokens.old.items }
 {
     match place_of_token(entry, tokens) {
         Some(place) => {

@@ -118,11 +118,12 @@ impl Game {
     }
 
     /// Plays a move, legal or not. `Illegal` says that its effect names a cell, a token or a model that isn't
-    /// there; where all are there, only `Memory` is answered for a fault. After a fault the game is only dropped.
-    /// It goes through the lists that the move looks at or changes.
+    /// there, and nothing has changed; where all are there, only `Memory` is answered for a fault. After `Memory`
+    /// the game is only dropped. It goes through the lists that the move looks at or changes.
     pub fn play(&mut self, alloc: Global, m: &Move) -> Result<(), GameFault>
         ensures played { OnOk result (played self.old m.now ≡ Some self.new) }
         ensures illegal { IsErrOf result GameFault.Illegal → played self.old m.now ≡ None }
+        ensures kept { IsErrOf result GameFault.Illegal → self.new ≡ self.old }
     {
         match m {
             Move::Stand(d) => self.stand(alloc, d),

@@ -37,11 +37,11 @@ pub fn start_among(nodes: &[Node]) -> Option<&Node>
     nodes.iter().find(|node| is_top_start(node))
 }
 
-/// Whether a node has this id. It goes through the nodes.
-pub fn has_node(id: &str, nodes: &[Node]) -> bool
-    ensures { result ≡ list_any (λ n. bytes_eq n.id id.now) nodes.now }
+/// The first node with this id. It goes through all before it.
+pub fn node_among<'a>(id: &str, nodes: &'a [Node]) -> Option<&'a Node>
+    ensures { option_copied result ≡ find (λ n. bytes_eq n.id id.now) nodes.now }
 {
-    nodes.iter().any(|node| node.id.as_str() == id)
+    nodes.iter().find(|node| node.id.as_str() == id)
 }
 
 /// Whether a cell is in this one. It goes through the cells.
@@ -93,5 +93,12 @@ fn is_at(spot: &Spot, via: &str, node: &str) -> bool
 fn is_top_start(node: &Node) -> bool
     ensures { result ≡ (is_start node.now.kind && bytes_eq node.now.parent []) }
 {
-    node.kind == NodeKind::StartEvent && node.parent.as_str().is_empty()
+    is_start(node.kind) && node.parent.as_str().is_empty()
+}
+
+// Whether a node of this kind is a start event.
+fn is_start(kind: NodeKind) -> bool
+    ensures { result ≡ is_start kind }
+{
+    matches!(kind, NodeKind::StartEvent | NodeKind::MessageStartEvent)
 }

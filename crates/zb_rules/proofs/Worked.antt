@@ -70,6 +70,18 @@ play : turns (true ∷ true ∷ true ∷ true ∷ true ∷ true ∷ true ∷ tru
 unfolding turn
 play = refl
 
+-- a token that has come to a service task stays there
+abbrev at_task : List Event
+at_task =
+    events.ProcessCreated (record { key = 2251799813685249; version = 1; model = record process { nodes = node (codes "s") kinds.StartEvent ∷ node (codes "e") kinds.ServiceTask ∷ [] } })
+    ∷ events.ProcessInstanceCreationCreated (record { key = 2251799813685250; definition = 2251799813685249 }) ∷ activating 2251799813685250 0 (codes "p") []
+    ∷ activated 2251799813685250 ∷ activating 2251799813685251 2251799813685250 (codes "s") [] ∷ activated 2251799813685251 ∷ events.ElementCompleting 2251799813685251 ∷ completed 2251799813685251 (codes "f" ∷ [])
+    ∷ events.SequenceFlowTaken (record { key = 2251799813685251; flow = codes "f" }) ∷ activating 2251799813685252 2251799813685250 (codes "e") (codes "f") ∷ activated 2251799813685252 ∷ []
+
+task_waits : turn 1 at_task ≡ None
+unfolding turn
+task_waits = refl
+
 -- deploying it, and making an instance of it
 deploy : deployed 1 [] process ≡ events.ProcessCreated (record { key = 2251799813685249; version = 1; model = process }) ∷ events.DeploymentCreated (record { key = 2251799813685250; definition = 2251799813685249 }) ∷ []
 deploy = refl

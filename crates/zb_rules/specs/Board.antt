@@ -43,9 +43,10 @@ flows_out m id = map (λ f. f.id) (filter (λ f. bytes_eq f.from id) m.flows)
 abbrev pub leads_to : Model → List ℕ → List ℕ → Bool
 leads_to m flow id = option_map_or (λ f. bytes_eq f.to id) (first (λ f. bytes_eq f.id flow) m.flows) false
 
--- a start event without a trigger (BPMN 2.0.2, 10.5.2)
+-- a start event, with a trigger or without (BPMN 2.0.2, 10.5.2)
 abbrev pub is_start : NodeKind → Bool
 is_start kinds.StartEvent = true
+is_start kinds.MessageStartEvent = true
 is_start kind = false
 
 -- the start event of a scope with this id, empty at the top

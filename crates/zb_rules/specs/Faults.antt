@@ -6,6 +6,7 @@ use Rattle.std.specs.Str.{bytes_eq}
 use Rattle.zb_process.specs.declared.model.Model.{Model}
 use Rattle.zb_process.specs.declared.model.NodeKind.{NodeKind}
 use Rattle.zb_process.specs.declared.model.NodeKind.TheVariants as kinds
+use Rattle.zb_rules.specs.Board.{is_start}
 use Rattle.zb_rules.specs.declared.fault.Fault.{Fault}
 use Rattle.zb_rules.specs.declared.fault.Fault.TheVariants as faults
 
@@ -21,12 +22,7 @@ has_id id ids = list_any (λ other. bytes_eq other id) ids
 abbrev pub has_node : Model → List ℕ → Bool
 has_node m id = has_id id (map (λ n. n.id) m.nodes)
 
--- an event that starts a process or a scope, and one that ends it (BPMN 2.0.2, 10.5.2, 10.5.3)
-abbrev pub begins : NodeKind → Bool
-begins kinds.StartEvent = true
-begins kinds.MessageStartEvent = true
-begins kind = false
-
+-- an event that ends a process or a scope (BPMN 2.0.2, 10.5.3)
 abbrev pub ends : NodeKind → Bool
 ends kinds.EndEvent = true
 ends kinds.TerminateEndEvent = true
@@ -56,15 +52,15 @@ dangling m = option_map (λ f. f.id) (find (λ f. not (has_node m f.from) || not
 
 -- the process hasn't exactly one start event
 abbrev pub bad_start : Model → Option (List ℕ)
-bad_start m = if count_by (λ n. begins n.kind && bytes_eq n.parent []) m.nodes == 1 then None else Some m.process
+bad_start m = if count_by (λ n. is_start n.kind && bytes_eq n.parent []) m.nodes == 1 then None else Some m.process
 
 -- a flow into a start event, or out of an end event
 abbrev pub flow_end : Model → Option (List ℕ)
-flow_end m = option_map (λ f. f.id) (find (λ f. is_at m f.to begins || is_at m f.from ends) m.flows)
+flow_end m = option_map (λ f. f.id) (find (λ f. is_at m f.to is_start || is_at m f.from ends) m.flows)
 
 -- a node without incoming flow that is no start event
 abbrev pub no_incoming : Model → Option (List ℕ)
-no_incoming m = option_map (λ n. n.id) (find (λ n. not (begins n.kind) && not (list_any (λ f. bytes_eq f.to n.id) m.flows)) m.nodes)
+no_incoming m = option_map (λ n. n.id) (find (λ n. not (is_start n.kind) && not (list_any (λ f. bytes_eq f.to n.id) m.flows)) m.nodes)
 
 -- more than 1,000 nodes or 2,000 flows
 abbrev pub too_large : Model → Option (List ℕ)

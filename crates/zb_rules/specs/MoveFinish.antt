@@ -1,13 +1,40 @@
 -- A cell begins to complete (BPMN 2.0.2, 13.3.2; a scope: 13.2, where no token is left).
-use Rattle.std.specs.Prelude.{ℕ, ◌==◌, [], Bool, false, ◌&&◌, if◌then◌else◌, true, Option, option_map}
+use Rattle.std.specs.Prelude.{ℕ, ◌==◌, [], Bool, true, false, ◌&&◌, if◌then◌else◌, Option, option_map, option_and_then}
 use Rattle.std.specs.Option.{option_map_or}
+use Rattle.zb_process.specs.declared.model.NodeKind.{NodeKind}
+use Rattle.zb_process.specs.declared.model.NodeKind.TheVariants as kinds
 use Rattle.zb_rules.specs.Edits.{edited}
+use Rattle.zb_rules.specs.declared.board.Cell.{Cell}
 use Rattle.zb_rules.specs.declared.board.Phase.TheVariants as phases
-use Rattle.zb_rules.specs.Board.{Board, cell_at, is_phase, is_root, is_empty, in_phase, with_cells}
+use Rattle.zb_rules.specs.Board.{Board, cell_at, model_at, node_at, is_phase, is_root, is_empty, in_phase, with_cells}
 
--- when: it is active, and waits for nothing; a scope waits for what is in it
+-- a node of this kind waits for nothing once a token has entered it (BPMN 2.0.2, chapter 13: 13.4 gateways, 13.5 events)
+abbrev pub waits_for_nothing : NodeKind → Bool
+waits_for_nothing kinds.StartEvent = true
+waits_for_nothing kinds.MessageStartEvent = true
+waits_for_nothing kinds.EndEvent = true
+waits_for_nothing kinds.TerminateEndEvent = true
+waits_for_nothing kinds.ExclusiveGateway = true
+waits_for_nothing kinds.ParallelGateway = true
+waits_for_nothing kinds.ThrowEvent = true
+waits_for_nothing kinds.DateBoundaryEvent = true
+waits_for_nothing kinds.DurationBoundaryEvent = true
+waits_for_nothing kinds.MessageBoundaryEvent = true
+waits_for_nothing kinds.ErrorBoundaryEvent = true
+waits_for_nothing kinds.CompensationBoundaryEvent = true
+waits_for_nothing kind = false
+
+-- the node of a cell is there, and waits for nothing
+abbrev pub goes_on : Board → Cell → Bool
+goes_on b c = option_map_or (λ n. waits_for_nothing n.kind) (option_and_then (λ m. node_at m c.node) (model_at b c.definition)) false
+
+-- nothing is left that a cell waits for; a root waits for what is in it
+abbrev pub is_done : Board → Cell → Bool
+is_done b c = if is_root c then is_empty b c.key else goes_on b c
+
+-- when: it is active, and waits for nothing
 abbrev pub can_finish : Board → ℕ → Bool
-can_finish b key = option_map_or (λ c. is_phase c.phase phases.Active && (if is_root c then is_empty b key else true)) (cell_at b key) false
+can_finish b key = option_map_or (λ c. is_phase c.phase phases.Active && is_done b c) (cell_at b key) false
 
 -- effect: it is completing
 abbrev pub play_finish : Board → ℕ → Option Board

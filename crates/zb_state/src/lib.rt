@@ -6,8 +6,6 @@ mod keys;
 mod messages;
 mod moves;
 mod out;
-#[cfg(test)]
-mod play_tests;
 mod state;
 #[cfg(test)]
 mod tests;

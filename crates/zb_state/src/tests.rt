@@ -1,119 +1,144 @@
-use crate::State;
+use crate::{Out, State};
 use std::alloc::{AllocError, Global};
 use std::test::Fail;
 use zb_model::{
-    Event, Key, MessagePublish, MessagePublished, Moment, PartitionId, TableFault, Text, Vars,
+    DeploymentCreated, ElementActivating, Event, Flow, Key, List, MessagePublish, MessagePublished,
+    Model, Moment, Node, NodeKind, PartitionId, ProcessCreated, ProcessInstanceCreationCreated,
+    Role, TableFault, Text, Vars,
 };
 
-/// The greatest number below the keys of the first partition.
-const BEFORE: u64 = 2_251_799_813_685_248;
+fn node(alloc: Global, id: &str, kind: NodeKind) -> Result<Node, AllocError> {
+    Ok(Node {
+        id: Text::of(alloc, id)?,
+        kind,
+        parent: Text::empty(alloc),
+        attached: Text::empty(alloc),
+        cancel: false,
+        otherwise: Text::empty(alloc),
+        name: Text::empty(alloc),
+        expr: None,
+        retries: 0,
+        handler: false,
+        multi: None,
+        inputs: List::empty(alloc),
+        outputs: List::empty(alloc),
+    })
+}
 
-fn published(alloc: Global, key: u64, deadline: u64) -> Result<Event, AllocError> {
+/// A process `p` of a start event, a flow and an end event.
+fn model(alloc: Global) -> Result<Model, AllocError> {
+    let mut nodes = List::empty(alloc);
+    nodes.push(node(alloc, "s", NodeKind::StartEvent)?)?;
+    nodes.push(node(alloc, "e", NodeKind::EndEvent)?)?;
+    let mut flows = List::empty(alloc);
+    flows.push(Flow {
+        id: Text::of(alloc, "f")?,
+        from: Text::of(alloc, "s")?,
+        to: Text::of(alloc, "e")?,
+        condition: None,
+    })?;
+    Ok(Model {
+        process: Text::of(alloc, "p")?,
+        tag: Text::empty(alloc),
+        nodes,
+        flows,
+    })
+}
+
+/// The root of an instance of `p`.
+fn root(alloc: Global, key: Key, definition: Key) -> Result<Event, AllocError> {
+    Ok(Event::ElementActivating(ElementActivating {
+        key,
+        scope: Key::new(0),
+        definition,
+        node: Text::of(alloc, "p")?,
+        role: Role::Plain,
+        via: Text::empty(alloc),
+        started: Text::empty(alloc),
+    }))
+}
+
+/// Takes in that `p` is deployed and an instance of it begins.
+fn begin(alloc: Global, state: &mut State, out: &mut Out) -> Result<(), AllocError> {
+    let definition = state.next_key();
+    let process = Event::ProcessCreated(ProcessCreated {
+        key: definition,
+        version: 1,
+        model: model(alloc)?,
+    });
+    out.put(alloc, state, process)?;
+    let key = state.next_key();
+    let deployment = Event::DeploymentCreated(DeploymentCreated { key, definition });
+    out.put(alloc, state, deployment)?;
+    let key = state.next_key();
+    let instance = ProcessInstanceCreationCreated { key, definition };
+    out.put(
+        alloc,
+        state,
+        Event::ProcessInstanceCreationCreated(instance),
+    )?;
+    out.put(alloc, state, root(alloc, key, definition)?)
+}
+
+/// Adds the forced event, if there is one.
+fn go_on(alloc: Global, state: &mut State, out: &mut Out) -> Result<(), AllocError> {
+    match state.turn(alloc)? {
+        Some(event) => out.put(alloc, state, event),
+        None => Ok(()),
+    }
+}
+
+#[test]
+fn an_instance_goes_on_by_itself(rt: HostRuntime) -> Result<(), Fail> {
+    let alloc = rt.alloc();
+    let mut state = State::empty(alloc, PartitionId::new(1));
+    let mut out = Out::new(alloc);
+    begin(alloc, &mut state, &mut out)?;
+    for _ in 0..20 {
+        go_on(alloc, &mut state, &mut out)?;
+    }
+    assert_eq!(rt; out.len(), 16);
+    assert_eq!(rt; out.events().as_slice().len(), 16);
+    assert_eq!(rt; state.greatest_version("p"), 1);
+    assert!(rt; state.definition_for("p", 0).is_some());
+    let _game = state.game(alloc)?;
+    Ok(())
+}
+
+/// A message with this key that waits until 1,000.
+fn published(alloc: Global, key: Key) -> Result<Event, AllocError> {
     Ok(Event::MessagePublished(MessagePublished {
-        key: Key::new(key),
+        key,
         name: Text::of(alloc, "paid")?,
         correlation_key: Text::of(alloc, "o-1")?,
         id: Text::of(alloc, "x")?,
-        deadline: Moment::new(deadline),
+        deadline: Moment::new(1000),
         variables: Vars::empty(alloc),
     }))
 }
 
-fn wanted(alloc: Global, id: &str) -> Result<MessagePublish, AllocError> {
+/// The command that publishes it once more.
+fn wanted(alloc: Global) -> Result<MessagePublish, AllocError> {
     Ok(MessagePublish {
         name: Text::of(alloc, "paid")?,
         correlation_key: Text::of(alloc, "o-1")?,
         time_to_live: 1000,
-        id: Text::of(alloc, id)?,
+        id: Text::of(alloc, "x")?,
         variables: Vars::empty(alloc),
     })
 }
 
-/// Whether the event of a message with this key, published or expired, was taken in.
-fn took(
-    alloc: Global,
-    state: &mut State,
-    is_published: bool,
-    key: u64,
-) -> Result<bool, AllocError> {
-    let event = if is_published {
-        published(alloc, key, 1000)?
-    } else {
-        Event::MessageExpired(Key::new(key))
-    };
-    let answer = state.apply(alloc, &event);
-    drop(event);
-    match answer {
-        Ok(()) => Ok(true),
-        Err(TableFault::NotApplicable) => Ok(false),
-        Err(TableFault::Memory) => Err(AllocError),
-    }
-}
-
 #[test]
-fn takes_in_what_applies(rt: HostRuntime) -> Result<(), Fail> {
+fn a_message_waits_until_it_expires(rt: HostRuntime) -> Result<(), Fail> {
     let alloc = rt.alloc();
     let mut state = State::empty(alloc, PartitionId::new(1));
-    let same = wanted(alloc, "x")?;
-    let other = wanted(alloc, "y")?;
-    // A message is published or expires, with which counter, and whether that applies; then the counter of
-    // the next key, and whether the message is buffered.
-    let table = [
-        (false, 1, false, 1, false),
-        (true, 2, false, 1, false),
-        (true, 1, true, 2, true),
-        (true, 1, false, 2, true),
-        (true, 2, true, 3, true),
-        (false, 1, true, 3, true),
-        (false, 1, false, 3, true),
-        (false, 2, true, 3, false),
-        (true, 3, true, 4, true),
-    ];
-    for (is_published, counter, applies, next, is_buffered) in table {
-        let took = took(alloc, &mut state, is_published, BEFORE + counter)?;
-        assert_eq!(rt; took, applies);
-        assert_eq!(rt; state.next_key().number(), BEFORE + next);
-        assert_eq!(rt; state.buffers(&same), is_buffered);
-        assert_eq!(rt; state.buffers(&other), false);
-    }
-    Ok(())
-}
-
-/// Takes in a message with this key and deadline.
-fn publish(alloc: Global, state: &mut State, key: u64, deadline: u64) -> Result<(), AllocError> {
-    let event = published(alloc, key, deadline)?;
-    let answer = state.apply(alloc, &event);
-    drop(event);
-    match answer {
-        Ok(()) => Ok(()),
-        Err(_) => Err(AllocError),
-    }
-}
-
-/// The counter of the message that is due first, of two with these deadlines, or 0.
-fn due_of(alloc: Global, first: u64, second: u64, now: u64) -> Result<u64, AllocError> {
-    let mut state = State::empty(alloc, PartitionId::new(1));
-    publish(alloc, &mut state, BEFORE + 1, first)?;
-    publish(alloc, &mut state, BEFORE + 2, second)?;
-    match state.due(Moment::new(now)) {
-        Some(key) => Ok(key.counter()),
-        None => Ok(0),
-    }
-}
-
-#[test]
-fn the_earliest_deadline_is_due_first(rt: HostRuntime) -> Result<(), Fail> {
-    // The deadlines of two messages, the moment, and which of them is due first.
-    let table = [
-        (2000, 1000, 2000, 2),
-        (2000, 1000, 1000, 2),
-        (2000, 1000, 999, 0),
-        (1000, 2000, 2000, 1),
-        (1000, 1000, 1000, 1),
-    ];
-    for (first, second, now, due) in table {
-        let found = due_of(rt.alloc(), first, second, now)?;
-        assert_eq!(rt; found, due);
-    }
+    let key = state.next_key();
+    let event = published(alloc, key)?;
+    assert_eq!(rt; state.apply(alloc, &event), Ok(()));
+    assert_eq!(rt; state.apply(alloc, &event), Err(TableFault::NotApplicable));
+    assert!(rt; state.buffers(&wanted(alloc)?));
+    assert_eq!(rt; state.deadline_of(key), Some(Moment::new(1000)));
+    assert_eq!(rt; state.due(Moment::new(999)), None);
+    assert_eq!(rt; state.due(Moment::new(1000)), Some(key));
     Ok(())
 }

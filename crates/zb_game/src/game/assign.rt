@@ -20,6 +20,7 @@ impl Game {
     pub(super) fn assign(&mut self, alloc: Global, a: &Assigned) -> Result<(), GameFault>
         ensures played { OnOk result (play_assign self.old a.now ≡ Some self.new) }
         ensures illegal { IsErrOf result GameFault.Illegal → play_assign self.old a.now ≡ None }
+        ensures kept { IsErrOf result GameFault.Illegal → self.new ≡ self.old }
     {
         if self.cell(a.scope).is_none() {
             return Err(GameFault::Illegal);

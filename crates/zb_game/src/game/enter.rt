@@ -3,7 +3,7 @@ ghost use Rattle.zb_rules.specs.MoveEnter.{arrives, can_enter, comes_by, play_en
 
 use crate::edits::take_token;
 use crate::flows::leads_to;
-use crate::lookups::{has_entering, has_node};
+use crate::lookups::{has_entering, node_among};
 use crate::{Game, GameFault};
 use std::alloc::Global;
 use zb_model::{Key, List, Model, Role, TryCopy};
@@ -27,12 +27,14 @@ impl Game {
     }
 
     // Whether the node is there, and the token comes to it.
-    #[tactic(auto, using(crate::proofs::Firsts::any_first))]
+    #[tactic(auto, using(crate::proofs::Firsts::found_first))]
     fn comes_by(&self, definition: Key, e: &Enter) -> bool
         ensures { result ≡ comes_by self.now definition e.now }
     {
         match self.model(definition) {
-            Some(model) => has_node(e.node.as_str(), model.nodes.as_slice()) && arrives(model, e),
+            Some(model) => {
+                node_among(e.node.as_str(), model.nodes.as_slice()).is_some() && arrives(model, e)
+            }
             None => false,
         }
     }
@@ -41,10 +43,12 @@ impl Game {
     pub(super) fn enter(&mut self, alloc: Global, e: &Enter) -> Result<(), GameFault>
         ensures played { OnOk result (play_enter self.old e.now ≡ Some self.new) }
         ensures illegal { IsErrOf result GameFault.Illegal → play_enter self.old e.now ≡ None }
+        ensures kept { IsErrOf result GameFault.Illegal → self.new ≡ self.old }
     {
         let Some(definition) = self.definition_of(e.scope) else {
             return Err(GameFault::Illegal);
         };
+        take_token(&mut self.tokens, e)?;
         let node = e.node.copy(alloc)?;
         self.cells.push(Cell {
             key: e.key,
@@ -55,7 +59,7 @@ impl Game {
             phase: Phase::Activating,
             owed: List::empty(alloc),
         })?;
-        take_token(&mut self.tokens, e)
+        Ok(())
     }
 }
 

@@ -1,23 +1,44 @@
-ghost use Rattle.std.specs.Prelude.{◌≡◌, Some, None, OnOk, IsErrOf};
-ghost use Rattle.zb_rules.specs.Board.{is_empty};
-ghost use Rattle.zb_rules.specs.MoveFinish.{can_finish, play_finish};
+ghost use Rattle.std.specs.Prelude.{◌≡◌, Some, None, false, OnOk, IsErrOf};
+ghost use Rattle.std.specs.Option.{option_map_or};
+ghost use Rattle.zb_rules.specs.Board.{is_empty, node_at};
+ghost use Rattle.zb_rules.specs.MoveFinish.{can_finish, goes_on, is_done, play_finish, waits_for_nothing};
 
 use crate::edits::put_in_phase;
-use crate::lookups::{has_cell_in, has_token_in};
+use crate::lookups::{has_cell_in, has_token_in, node_among};
 use crate::{Game, GameFault};
 use std::alloc::Global;
-use zb_model::{Key, List};
-use zb_rules::Phase;
+use zb_model::{Key, List, Model, NodeKind};
+use zb_rules::{Cell, Phase};
 
 impl Game {
-    /// Whether a cell may begin to complete. It goes through the cells and the tokens.
+    /// Whether a cell may begin to complete. It goes through the cells; for a root also through the tokens, for
+    /// another cell through the models and the nodes of one.
     pub(super) fn can_finish(&self, key: Key) -> bool
         ensures { result ≡ can_finish self.now key }
     {
         match self.cell(key) {
-            Some(cell) => {
-                cell.phase == Phase::Active && (cell.scope != Key::new(0) || self.is_empty(key))
-            }
+            Some(cell) => cell.phase == Phase::Active && self.is_done(cell),
+            None => false,
+        }
+    }
+
+    // Whether nothing is left that a cell waits for.
+    fn is_done(&self, cell: &Cell) -> bool
+        ensures { result ≡ is_done self.now cell.now }
+    {
+        if cell.scope == Key::new(0) {
+            self.is_empty(cell.key)
+        } else {
+            self.goes_on(cell)
+        }
+    }
+
+    // Whether the node of a cell is there, and waits for nothing.
+    fn goes_on(&self, cell: &Cell) -> bool
+        ensures { result ≡ goes_on self.now cell.now }
+    {
+        match self.model(cell.definition) {
+            Some(model) => goes_on_at(model, cell.node.as_str()),
             None => false,
         }
     }
@@ -34,7 +55,40 @@ impl Game {
     pub(super) fn finish(&mut self, alloc: Global, key: Key) -> Result<(), GameFault>
         ensures played { OnOk result (play_finish self.old key ≡ Some self.new) }
         ensures illegal { IsErrOf result GameFault.Illegal → play_finish self.old key ≡ None }
+        ensures kept { IsErrOf result GameFault.Illegal → self.new ≡ self.old }
     {
         put_in_phase(&mut self.cells, key, Phase::Completing, List::empty(alloc))
+    }
+}
+
+// Whether the node with an id is there, and waits for nothing.
+#[tactic(auto, using(crate::proofs::Firsts::found_first))]
+fn goes_on_at(model: &Model, id: &str) -> bool
+    ensures { result ≡ option_map_or (λ n. waits_for_nothing n.kind) (node_at model.now id.now) false }
+{
+    match node_among(id, model.nodes.as_slice()) {
+        Some(node) => waits_for_nothing(node.kind),
+        None => false,
+    }
+}
+
+// Whether a node of this kind waits for nothing once a token has entered it.
+fn waits_for_nothing(kind: NodeKind) -> bool
+    ensures { result ≡ waits_for_nothing kind }
+{
+    match kind {
+        NodeKind::StartEvent
+        | NodeKind::MessageStartEvent
+        | NodeKind::EndEvent
+        | NodeKind::TerminateEndEvent
+        | NodeKind::ExclusiveGateway
+        | NodeKind::ParallelGateway
+        | NodeKind::ThrowEvent
+        | NodeKind::DateBoundaryEvent
+        | NodeKind::DurationBoundaryEvent
+        | NodeKind::MessageBoundaryEvent
+        | NodeKind::ErrorBoundaryEvent
+        | NodeKind::CompensationBoundaryEvent => true,
+        _ => false,
     }
 }

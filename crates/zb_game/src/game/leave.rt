@@ -51,6 +51,7 @@ impl Game {
     pub(super) fn leave(&mut self, alloc: Global, l: &Leave) -> Result<(), GameFault>
         ensures played { OnOk result (play_leave self.old l.now ≡ Some self.new) }
         ensures illegal { IsErrOf result GameFault.Illegal → play_leave self.old l.now ≡ None }
+        ensures kept { IsErrOf result GameFault.Illegal → self.new ≡ self.old }
     {
         let owed = copy_of(alloc, l.owed.as_slice())?;
         self.leaving(l.key, owed)
@@ -61,10 +62,12 @@ impl Game {
     pub(super) fn leaving(&mut self, key: Key, owed: List<Text>) -> Result<(), GameFault>
         ensures left { OnOk result (leaving owed key self.old ≡ Some self.new) }
         ensures none { IsErrOf result GameFault.Illegal → leaving owed key self.old ≡ None }
+        ensures kept { IsErrOf result GameFault.Illegal → self.new ≡ self.old }
     {
         if owed.as_slice().is_empty() {
+            take_away(&mut self.cells, key)?;
             forget_variables(&mut self.variables, key);
-            take_away(&mut self.cells, key)
+            Ok(())
         } else {
             put_in_phase(&mut self.cells, key, Phase::Leaving, owed)
         }

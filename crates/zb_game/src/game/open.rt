@@ -24,13 +24,15 @@ impl Game {
     pub(super) fn open(&mut self, alloc: Global, key: Key) -> Result<(), GameFault>
         ensures played { OnOk result (play_open self.old key ≡ Some self.new) }
         ensures illegal { IsErrOf result GameFault.Illegal → play_open self.old key ≡ None }
+        ensures kept { IsErrOf result GameFault.Illegal → self.new ≡ self.old }
     {
         let Some(cell) = self.cell(key) else {
             return Err(GameFault::Illegal);
         };
         let token = self.first_token(alloc, cell)?;
+        put_in_phase(&mut self.cells, key, Phase::Active, List::empty(alloc))?;
         add_token(&mut self.tokens, token)?;
-        put_in_phase(&mut self.cells, key, Phase::Active, List::empty(alloc))
+        Ok(())
     }
 
     // The token that this cell gets as it opens, if it gets one.

@@ -18,6 +18,7 @@ impl Game {
     pub(super) fn stand(&mut self, alloc: Global, d: &Deployed) -> Result<(), GameFault>
         ensures played { OnOk result (play_stand self.old d.now ≡ Some self.new) }
         ensures illegal { IsErrOf result GameFault.Illegal → play_stand self.old d.now ≡ None }
+        ensures kept { IsErrOf result GameFault.Illegal → self.new ≡ self.old }
     {
         self.models.push(d.copy(alloc)?)?;
         Ok(())

@@ -23,6 +23,7 @@ impl Game {
     pub(super) fn take(&mut self, alloc: Global, t: &Take) -> Result<(), GameFault>
         ensures played { OnOk result (play_take self.old t.now ≡ Some self.new) }
         ensures illegal { IsErrOf result GameFault.Illegal → play_take self.old t.now ≡ None }
+        ensures kept { IsErrOf result GameFault.Illegal → self.new ≡ self.old }
     {
         let Some(cell) = self.cell(t.key) else {
             return Err(GameFault::Illegal);
