@@ -12,7 +12,7 @@ use Rattle.zb_rules.specs.Applies.{applies, all_apply}
 use Rattle.zb_rules.specs.StepLaws.{all_apply_more, all_apply_on, events_of_more, last_moment_more}
 use Rattle.zb_state.specs.State.{place_of, IsStateOf}
 use Rattle.zb_partition.specs.declared.opening.Known.{Known}
-use Rattle.zb_partition.specs.Log.{IsApplied, IsBadBody}
+use Rattle.zb_partition.specs.Log.{AreBatches, IsApplied, IsBadBody}
 use Rattle.zb_partition.specs.Reading.{IsKnown}
 
 -- the first events, and the one behind them
@@ -52,10 +52,16 @@ bad_body p log body found of_found spelled fails batch of_batch also applies_too
     let applied : Applies found = subst Applies (sym same) applies_too in
     grind (arith, fails, applied)
 
+-- batches that fit their spelling, and one more
+pub are_more : (log : List Batch) (batch : Batch) → AreBatches log → IsBatch batch → AreBatches (log ++ batch ∷ [])
+are_more [] batch are is = (is, tt)
+are_more (b ∷ bs) batch are is = (are.0, are_more bs batch are.1 is)
+
 -- one batch more is known
-pub known_more : (p : ℕ) (log : List Batch) (batch : Batch) (old new : Known) → IsKnown p log old → place_of new.state ≡ place_of old.state → IsTrue (all_apply (place_of old.state) (events_of log) (events_in batch.outcome)) → IsStateOf (events_of log ++ events_in batch.outcome) new.state → batch.moment ≡ new.last_moment → IsKnown p (log ++ batch ∷ []) new
-known_more p log batch old new known place here state moment = record {
+pub known_more : (p : ℕ) (log : List Batch) (batch : Batch) (old new : Known) → IsBatch batch → IsKnown p log old → place_of new.state ≡ place_of old.state → IsTrue (all_apply (place_of old.state) (events_of log) (events_in batch.outcome)) → IsStateOf (events_of log ++ events_in batch.outcome) new.state → batch.moment ≡ new.last_moment → IsKnown p (log ++ batch ∷ []) new
+known_more p log batch old new is known place here state moment = record {
   place = place ∙ known.place;
+  fits = are_more log batch known.fits is;
   applied = applied_more p log batch known.applied (subst (λ (q : ℕ). IsTrue (all_apply q (events_of log) (events_in batch.outcome))) known.place here);
   state = subst (λ (l : List Event). IsStateOf l new.state) (sym (events_of_more log batch)) state;
   moment = last_moment_more log batch ∙ moment;

@@ -1,5 +1,5 @@
 -- A batch more in a log, or one that could not be added.
-use Rattle.std.proofs.Common.{◌≡◌, ℕ, ◌+◌, ◌≤◌, List, [], ◌∷◌, ◌++◌, length, Bool, IsTrue, Option, Some, None, refl, sym, ap, ◌∙◌, subst, inl, inr, ⊎_elim, arith, length-append}
+use Rattle.std.proofs.Common.{◌≡◌, ℕ, ◌+◌, ◌≤◌, List, [], ◌∷◌, ◌++◌, length, Bool, IsTrue, Option, Some, None, Err, refl, sym, ap, ◌∙◌, subst, inl, inr, ⊎_elim, arith, length-append}
 use Rattle.zb_disk.specs.Cause.{Rose}
 use Rattle.zb_disk.specs.Disk.{DiskView, Only}
 use Rattle.zb_disk.specs.declared.disk.Disk.{Ghosts}
@@ -7,11 +7,12 @@ use Rattle.zb_model.specs.declared.record.Batch.{Batch}
 use Rattle.zb_model.specs.declared.stop.Stop.{Stop}
 use Rattle.zb_model.specs.declared.stop.Stop.TheVariants as stops
 use Rattle.zb_model.specs.Record.{bytes_of}
+use Rattle.zb_model.specs.RecordFits.{IsBatch}
 use Rattle.zb_store.specs.Calls.{LeavesOnly}
 use Rattle.zb_store.specs.CallLaws.{leaves_none, leaves_weaker}
 use Rattle.zb_store.specs.Log.{extent, framed, extent_more, framed_length}
 use Rattle.zb_store.specs.Stands.{Stands, StandsWithOrWithout}
-use Rattle.zb_store.specs.Cause.{IsFullAt}
+use Rattle.zb_store.specs.Cause.{IsFullAt, UnlessDiskFault}
 use Rattle.zb_store.specs.GateLog as gates
 use Rattle.zb_store.specs.declared.gate_log.GateLog.{GateLog}
 use Rattle.zb_store.specs.declared.fault.StoreFault.{StoreFault}
@@ -22,9 +23,10 @@ use Rattle.zb_state.specs.State.{IsStateOf}
 use Rattle.zb_state.specs.declared.state.State.{State}
 use Rattle.zb_partition.specs.Log.{bodies_of}
 use Rattle.zb_partition.specs.Partition.{disk_of, HasLog, IsAhead}
-use Rattle.zb_partition.specs.Stopping.{IsLeft, IsLogOrMore, IsHurt, IsStopCause, IsUnwritten, IsTooLong, stop_of}
+use Rattle.zb_partition.specs.Stopping.{IsLeft, IsLogOrMore, IsHurt, IsStopCause, IsUnwritten, IsTooLong, UnlessDiskFails, stop_of}
 use Rattle.zb_partition.specs.declared.partition.Partition.{Partition}
 use Rattle.zb_partition.proofs.Frames.{bodies_of_more}
+use Rattle.zb_partition.proofs.Read.{are_more}
 
 -- how long a log with a batch more is
 pub extent_of_more : (log : List Batch) (batch : Batch) → extent (bodies_of (log ++ batch ∷ [])) ≡ extent (bodies_of log) + (9 + length (bytes_of batch))
@@ -60,17 +62,23 @@ pub log_or_more : (log : List Batch) (batch : Batch) (file : List ℕ) → Stand
 log_or_more log batch file (inl without) = inl without
 log_or_more log batch file (inr with_it) = inr (subst (λ (bodies : List (List ℕ)). Stands file bodies) (sym (bodies_of_more log batch)) with_it)
 
+-- the batch that there is has room
+room_for : (log : List Batch) (batch : Batch) (limit : ℕ) → extent (bodies_of (log ++ batch ∷ [])) ≤ limit → (other : Batch) → Some batch ≡ Some other → extent (bodies_of (log ++ other ∷ [])) ≤ limit
+room_for log batch limit fits other same =
+    let one : batch ≡ other = cc in
+    subst (λ (b : Batch). extent (bodies_of (log ++ b ∷ [])) ≤ limit) one fits
+
 -- the batch was in writing as the log refused it
 module _ (tells tells_images takes_memory : Bool) (old new : DiskView) (images : List ℕ → Type 0) (past since : ℕ → List ℕ → Type 0) (limit before frame : ℕ) (log : List Batch) (batch : Batch)
     (left : IsTrue tells → StandsWithOrWithout (bodies_of log) (bytes_of batch) new.contents)
     (crash : IsTrue tells_images → (image : List ℕ) → images image → StandsWithOrWithout (bodies_of log) (bytes_of batch) image)
     (time : IsTrue tells_images → LeavesOnly old.moment new.moment past since (StandsWithOrWithout (bodies_of log) (bytes_of batch)))
-    (room : before + frame ≤ limit) (fits : extent (bodies_of (log ++ batch ∷ [])) ≤ limit) where
+    (of_batch : IsBatch batch) (room : before + frame ≤ limit) (fits : extent (bodies_of (log ++ batch ∷ [])) ≤ limit) where
   abbrev Hurt : Type 0
   Hurt = IsHurt takes_memory old.faults new.faults
 
   may_have : Hurt → (file : List ℕ) → StandsWithOrWithout (bodies_of log) (bytes_of batch) file → IsLeft Hurt log (Some batch) file
-  may_have hurt file either = ⊎_elim (λ without. inl without) (λ with_it. inr (hurt, with_it)) (log_or_more log batch file either)
+  may_have hurt file either = ⊎_elim (λ without. inl without) (λ with_it. inr (hurt, of_batch, with_it)) (log_or_more log batch file either)
 
   by_hurt : (stop : Stop) → IsStopCause old.faults new.faults limit log (Some batch) (Some batch) stop → Hurt → IsUnwritten tells tells_images takes_memory old new images past since limit log (Some batch) (Some batch) stop
   by_hurt stop cause hurt = record {
@@ -84,7 +92,7 @@ module _ (tells tells_images takes_memory : Bool) (old new : DiskView) (images :
       → IsUnwritten tells tells_images takes_memory old new images past since limit log (Some batch) (Some batch) (stop_of fault)
   unwritten_some store.DiskFault full rose memory = by_hurt stops.DiskFault (rose refl, (batch, refl, fits), refl) (inl (rose refl))
   unwritten_some (store.LogFull n m k) full rose memory = absurd (omega (arith, full, room))
-  unwritten_some store.Memory full rose memory = by_hurt stops.Memory (inr refl) (inr (memory refl))
+  unwritten_some store.Memory full rose memory = by_hurt stops.Memory (inr refl, room_for log batch limit fits) (inr (memory refl))
 
 -- a log that stops for want of memory had none on its disk
 pub memory_told : (takes_memory : Bool) (fault : StoreFault) → (fault ≡ store.Memory → IsTrue takes_memory) → stop_of fault ≡ stops.Memory → IsTrue takes_memory
@@ -104,6 +112,7 @@ module _ {D : Type 0} {disks : Ghosts D} (log : List Batch) (old new : Partition
   ahead_kept batch same_state same_moment is = record {
     file = kept_file is.file;
     durable = kept_durable is.durable;
+    fits = is.fits;
     count = ap (λ (l : GateLog D disks). gates.count_of l) same_log ∙ is.count;
     extent = ap (λ (l : GateLog D disks). gates.length_of l) same_log ∙ is.extent;
     state = subst (λ (s : State). IsStateOf (events_of (log ++ batch ∷ [])) s) (sym same_state) is.state;
@@ -115,6 +124,7 @@ module _ {D : Type 0} {disks : Ghosts D} (log : List Batch) (old new : Partition
   has_kept same_state same_moment is = record {
     file = kept_file is.file;
     durable = kept_durable is.durable;
+    fits = is.fits;
     count = ap (λ (l : GateLog D disks). gates.count_of l) same_log ∙ is.count;
     extent = ap (λ (l : GateLog D disks). gates.length_of l) same_log ∙ is.extent;
     state = subst (λ (s : State). IsStateOf (events_of log) s) (sym same_state) is.state;
@@ -127,6 +137,7 @@ module _ {D : Type 0} {disks : Ghosts D} (log : List Batch) (old new : Partition
   goes_ahead batch state moment is = record {
     file = kept_file is.file;
     durable = kept_durable is.durable;
+    fits = is.fits;
     count = ap (λ (l : GateLog D disks). gates.count_of l) same_log ∙ is.count;
     extent = ap (λ (l : GateLog D disks). gates.length_of l) same_log ∙ is.extent;
     state = state;
@@ -135,15 +146,16 @@ module _ {D : Type 0} {disks : Ghosts D} (log : List Batch) (old new : Partition
   }
 
 -- the batch was added
-pub has_more : {D : Type 0} {disks : Ghosts D} (log : List Batch) (batch : Batch) (old new : Partition D disks) (frame : List ℕ) → IsAhead log batch old → frame ≡ framed (bytes_of batch)
+pub has_more : {D : Type 0} {disks : Ghosts D} (log : List Batch) (batch : Batch) (old new : Partition D disks) (frame : List ℕ) → IsAhead log batch old → IsBatch batch → frame ≡ framed (bytes_of batch)
     → (IsTrue disks.tells → gates.HasLog (disks.view (disk_of new)).contents new.log (bodies_of log ++ bytes_of batch ∷ []))
     → (IsTrue disks.tells_images → Only (disks.view (disk_of new)).contents (disks.images (disk_of new)))
     → gates.count_of new.log ≡ gates.count_of old.log + 1 → gates.length_of new.log ≡ gates.length_of old.log + length frame
     → new.state ≡ old.state → new.last_moment ≡ old.last_moment → new.in_writing ≡ old.in_writing
     → HasLog (log ++ batch ∷ []) new
-has_more {D} {disks} log batch old new frame ahead framed_is file durable count grown same_state same_moment same_writing = record {
+has_more {D} {disks} log batch old new frame ahead of_batch framed_is file durable count grown same_state same_moment same_writing = record {
   file = λ t. subst (λ (bodies : List (List ℕ)). gates.HasLog (disks.view (disk_of new)).contents new.log bodies) (sym (bodies_of_more log batch)) (file t);
   durable = durable;
+  fits = are_more log batch ahead.fits of_batch;
   count = omega (arith, count, ahead.count, length-append log (batch ∷ []));
   extent =
       let size : length frame ≡ 9 + length (bytes_of batch) = ap length framed_is ∙ framed_length (bytes_of batch) in
@@ -156,6 +168,12 @@ has_more {D} {disks} log batch old new frame ahead framed_is file durable count 
 -- the frame was too long
 pub too_long_cause : (before limit faults : ℕ) (log : List Batch) (batch : Batch) (writing : Option Batch) (stop : Stop) → IsTooLong before limit batch stop → before ≡ extent (bodies_of log) → writing ≡ None
     → IsStopCause faults faults limit log (Some batch) writing stop
-too_long_cause before limit faults log batch writing stops.Memory long is none = inl none
+too_long_cause before limit faults log batch writing stops.Memory long is none = (inl none, room_for log batch limit (omega (arith, long, is, extent_of_more log batch)))
 too_long_cause before limit faults log batch writing stops.DiskFault long is none = absurd long
 too_long_cause before limit faults log batch writing (stops.LogFull n frame most) long is none = (none, long.0 ∙ is, long.2, long.3, (batch, refl, long.1))
+
+-- what the log says of its call unless the disk failed
+pub unless_told : (T P : Type 0) (fault : StoreFault) → UnlessDiskFault {T = Unit {0}} (Err fault) P → UnlessDiskFails {T = T} (Err (stop_of fault)) P
+unless_told T P store.DiskFault told = tt
+unless_told T P (store.LogFull n m k) told = told
+unless_told T P store.Memory told = told

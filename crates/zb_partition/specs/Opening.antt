@@ -1,19 +1,18 @@
 -- Opening a partition.
-use Rattle.std.specs.Prelude.{◌≡◌, ℕ, List, IsTrue, Result, Ok, Err}
+use Rattle.std.specs.Prelude.{ℕ, List, IsTrue, Result, Ok, Err}
 use Rattle.zb_disk.specs.declared.disk.Disk.{Ghosts}
 use Rattle.zb_model.specs.declared.record.Batch.{Batch}
 use Rattle.zb_store.specs.Stands.{Stands}
-use Rattle.zb_store.specs.GateLog as gates
-use Rattle.zb_store.specs.declared.gate_log.GateLog.{GateLog}
 use Rattle.zb_store.specs.declared.volume.Volume.{Volume}
-use Rattle.zb_partition.specs.Log.{bodies_of, IsApplied}
+use Rattle.zb_partition.specs.Log.{bodies_of, AreBatches, IsApplied}
 use Rattle.zb_partition.specs.Partition.{disk_of, slots_of, HasLog}
 use Rattle.zb_partition.specs.declared.fault.OpenFault.{OpenFault}
 use Rattle.zb_partition.specs.declared.partition.Partition.{Partition}
 
--- the file stood for these batches, whose events apply, and the partition has them
+-- the file stood for these batches, which fit their spelling and whose events apply, and the partition has them
 pub record IsOpened {D : Type 0} {disks : Ghosts D} (place : ℕ) (file : List ℕ) (log : List Batch) (partition : Partition D disks) : Type 0 where
   pub stood : IsTrue disks.tells → Stands file (bodies_of log)
+  pub fits : AreBatches log
   pub applied : IsApplied place log
   pub has : HasLog log partition
 
@@ -26,10 +25,3 @@ disk_after (Err refused) = refused.1.log
 abbrev pub slots_after : {D : Type 0} {disks : Ghosts D} → Result (Partition D disks) (OpenFault × Volume D) → D × D
 slots_after (Ok partition) = slots_of partition
 slots_after (Err refused) = (refused.1.snap_a, refused.1.snap_b)
-
--- all frames of the log, which is whole, were read: they are of these batches
-pub record IsReadWhole {D : Type 0} {disks : Ghosts D} (place : ℕ) (log : GateLog D disks) (batches : List Batch) (partition : Partition D disks) : Type 0 where
-  pub whole : IsTrue (gates.is_whole log)
-  pub applied : IsApplied place batches
-  pub spelled : IsTrue disks.tells → (bodies : List (List ℕ)) → gates.HasFrames (disks.view (gates.disk_of log)).contents log bodies → bodies ≡ bodies_of batches
-  pub has : (IsTrue disks.tells → gates.HasLog (disks.view (gates.disk_of log)).contents log (bodies_of batches)) → HasLog batches partition

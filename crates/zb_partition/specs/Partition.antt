@@ -8,7 +8,7 @@ use Rattle.zb_store.specs.GateLog as gates
 use Rattle.zb_rules.specs.View.{events_of, last_moment}
 use Rattle.zb_state.specs.State as states
 use Rattle.zb_state.specs.State.{IsStateOf}
-use Rattle.zb_partition.specs.Log.{bodies_of}
+use Rattle.zb_partition.specs.Log.{bodies_of, AreBatches}
 use Rattle.zb_partition.specs.declared.partition.Partition.{Partition}
 
 -- its number
@@ -47,6 +47,7 @@ in_writing partition = partition.in_writing
 pub record HasLog {D : Type 0} {disks : Ghosts D} (log : List Batch) (partition : Partition D disks) : Type 0 where
   pub file : IsTrue disks.tells → gates.HasLog (disks.view (disk_of partition)).contents partition.log (bodies_of log)
   pub durable : IsTrue disks.tells_images → Only (disks.view (disk_of partition)).contents (disks.images (disk_of partition))
+  pub fits : AreBatches log
   pub count : frames_of partition ≡ length log
   pub extent : gates.length_of partition.log ≡ extent (bodies_of log)
   pub state : IsStateOf (events_of log) partition.state
@@ -57,6 +58,7 @@ pub record HasLog {D : Type 0} {disks : Ghosts D} (log : List Batch) (partition 
 pub record IsAhead {D : Type 0} {disks : Ghosts D} (log : List Batch) (batch : Batch) (partition : Partition D disks) : Type 0 where
   pub file : IsTrue disks.tells → gates.HasLog (disks.view (disk_of partition)).contents partition.log (bodies_of log)
   pub durable : IsTrue disks.tells_images → Only (disks.view (disk_of partition)).contents (disks.images (disk_of partition))
+  pub fits : AreBatches log
   pub count : frames_of partition ≡ length log
   pub extent : gates.length_of partition.log ≡ extent (bodies_of log)
   pub state : IsStateOf (events_of (log ++ batch ∷ [])) partition.state

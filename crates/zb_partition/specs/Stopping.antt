@@ -1,5 +1,5 @@
 -- A partition that a command has stopped.
-use Rattle.std.specs.Prelude.{◌≡◌, ◌⊎◌, ◌<◌, ◌≤◌, ◌+◌, ◌-◌, ◌^◌, min, ℕ, List, [], ◌∷◌, ◌++◌, length, Bool, IsTrue, Option, Some, None}
+use Rattle.std.specs.Prelude.{◌≡◌, ◌⊎◌, ◌<◌, ◌≤◌, ◌+◌, ◌-◌, ◌^◌, min, ℕ, List, [], ◌∷◌, ◌++◌, length, Bool, IsTrue, Option, Some, None, Result, Ok, Err}
 use Rattle.zb_disk.specs.Disk.{DiskView}
 use Rattle.zb_disk.specs.Cause.{Rose}
 use Rattle.zb_model.specs.declared.record.Batch.{Batch}
@@ -7,6 +7,7 @@ use Rattle.zb_model.specs.declared.record.Command.{Command}
 use Rattle.zb_model.specs.declared.stop.Stop.{Stop}
 use Rattle.zb_model.specs.declared.stop.Stop.TheVariants as stops
 use Rattle.zb_model.specs.Record.{bytes_of}
+use Rattle.zb_model.specs.RecordFits.{IsBatch}
 use Rattle.zb_store.specs.Log.{extent}
 use Rattle.zb_store.specs.Calls.{LeavesOnly}
 use Rattle.zb_store.specs.Stands.{Stands}
@@ -33,16 +34,17 @@ IsLogOrMore log batch file = Stands file (bodies_of log) ⊎ Stands file (bodies
 -- a file stands for the log, or, where the disk was hurt, for it with the batch that was in writing
 abbrev pub IsLeft : Type 0 → List Batch → Option Batch → List ℕ → Type 0
 IsLeft hurt log None file = Stands file (bodies_of log)
-IsLeft hurt log (Some batch) file = Stands file (bodies_of log) ⊎ (hurt × Stands file (bodies_of (log ++ batch ∷ [])))
+IsLeft hurt log (Some batch) file = Stands file (bodies_of log) ⊎ (hurt × IsBatch batch × Stands file (bodies_of (log ++ batch ∷ [])))
 
 -- there is such a batch, and the log with it is no longer than it may be
 abbrev pub HasRoomFor : (limit : ℕ) → List Batch → Option Batch → Type 0
 HasRoomFor limit log writing = (batch : Batch) × (writing ≡ Some batch) × (extent (bodies_of (log ++ batch ∷ [])) ≤ limit)
 
 -- Why the partition stopped. `refused` is the batch that was made and isn't in the log. Where the disk failed, the log
--- had room for it, and it was in writing; a log is full where the frame doesn't fit.
+-- had room for it, and it was in writing; a log is full where the frame doesn't fit; where memory ran out, it had room.
 abbrev pub IsStopCause : (before after limit : ℕ) → List Batch → Option Batch → Option Batch → Stop → Type 0
-IsStopCause before after limit log refused in_writing stops.Memory = (in_writing ≡ None) ⊎ (refused ≡ in_writing)
+IsStopCause before after limit log refused in_writing stops.Memory = ((in_writing ≡ None) ⊎ (refused ≡ in_writing))
+    × ((batch : Batch) → refused ≡ Some batch → extent (bodies_of (log ++ batch ∷ [])) ≤ limit)
 IsStopCause before after limit log refused in_writing stops.DiskFault = Rose before after × HasRoomFor limit log in_writing × (refused ≡ in_writing)
 IsStopCause before after limit log refused in_writing (stops.LogFull length_told frame most) = (in_writing ≡ None)
     × (length_told ≡ extent (bodies_of log)) × (most ≡ limit) × (most < length_told + frame)
@@ -69,9 +71,9 @@ pub record IsStopped (tells tells_images takes_memory : Bool) (old new : DiskVie
   pub next : (batch : Batch) → refused ≡ Some batch → IsStepOf place log moment begin command batch
   pub unwritten : IsUnwritten tells tells_images takes_memory old new images past since limit log refused in_writing stop
 
--- the frame of the batch doesn't fit into a log of this length, or there was no memory for it
+-- the frame of the batch doesn't fit into a log of this length, or it does and there was no memory for it
 abbrev pub IsTooLong : (length_is limit : ℕ) → Batch → Stop → Type 0
-IsTooLong length_is limit batch stops.Memory = Unit {0}
+IsTooLong length_is limit batch stops.Memory = length_is + (9 + length (bytes_of batch)) ≤ limit
 IsTooLong length_is limit batch stops.DiskFault = ⊥
 IsTooLong length_is limit batch (stops.LogFull length_told frame most) = (length_told ≡ length_is) × (frame ≡ frame_of batch) × (most ≡ limit) × (most < length_told + frame)
 
@@ -80,3 +82,10 @@ abbrev pub stop_of : StoreFault → Stop
 stop_of store.DiskFault = stops.DiskFault
 stop_of (store.LogFull length_told frame limit) = stops.LogFull length_told frame limit
 stop_of store.Memory = stops.Memory
+
+-- what holds of a command unless the disk failed
+abbrev pub UnlessDiskFails : {T : Type 0} → Result T Stop → Type 0 → Type 0
+UnlessDiskFails (Ok value) P = P
+UnlessDiskFails (Err stops.DiskFault) P = Unit {0}
+UnlessDiskFails (Err stops.Memory) P = P
+UnlessDiskFails (Err (stops.LogFull length_told frame most)) P = P

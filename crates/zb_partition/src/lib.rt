@@ -2,6 +2,7 @@
 #![tactic(auto)]
 
 mod fault;
+mod laws;
 mod opening;
 mod partition;
 mod record;
@@ -9,4 +10,5 @@ mod record;
 mod tests;
 
 pub use fault::OpenFault;
+pub use laws::one_log;
 pub use partition::{Partition, Stopped};

@@ -3,8 +3,10 @@ ghost use Rattle.zb_disk.specs.Disk.{Only};
 ghost use Rattle.zb_model.specs.declared.record.Event.{Event};
 ghost use Rattle.zb_model.specs.declared.record.Batch.{Batch};
 ghost use Rattle.zb_model.specs.Record.{bytes_of};
+ghost use Rattle.zb_model.specs.RecordFits.{IsBatch};
 ghost use Rattle.zb_store.specs.Calls.{OnlyReads, OnlyOpens, LeavesOnly};
 ghost use Rattle.zb_store.specs.GateLog as gates;
+ghost use Rattle.zb_store.specs.Scan.{disk_of_scan, limit_of_scan};
 ghost use Rattle.zb_store.specs.Log.{framed, extent};
 ghost use Rattle.zb_rules.specs.View.{last_moment, events_of};
 ghost use Rattle.zb_rules.specs.Due.{due_command};
@@ -12,19 +14,19 @@ ghost use Rattle.zb_rules.specs.Own.{IsRun};
 ghost use Rattle.zb_state.specs.State as states;
 ghost use Rattle.zb_state.specs.State.{IsStateOf};
 ghost use Rattle.zb_partition.specs.Fault.{IsDiskCause};
-ghost use Rattle.zb_partition.specs.Reading.{IsRead, IsRefused};
+ghost use Rattle.zb_partition.specs.Reading.{IsAtStart};
 ghost use Rattle.zb_partition.specs.Log.{bodies_of};
-ghost use Rattle.zb_partition.specs.Stopping.{IsStepOf, IsStopped, IsLogOrMore, IsUnwritten, IsTooLong, stop_of};
+ghost use Rattle.zb_partition.specs.Stopping.{IsStepOf, IsStopped, IsLogOrMore, IsUnwritten, IsTooLong, UnlessDiskFails, stop_of};
 
 use crate::fault::OpenFault;
-use crate::opening::{Known, read_frames};
+use crate::opening::read_frames;
 use crate::record::put_frame;
 use std::alloc::{AllocError, Global};
 use zb_disk::Disk;
 use zb_model::{Batch, Command, Moment, PartitionId, Stop};
 use zb_state::State;
 use zb_step::outcome_of;
-use zb_store::{GateLog, StoreFault, Volume};
+use zb_store::{GateLog, Scan, StoreFault, Volume};
 
 /// How many bytes a frame has beyond its body: the length in front, and the gate behind.
 const FRAME_BYTES: u64 = 9;
@@ -43,6 +45,7 @@ pub struct Partition<D: Disk> {
     // The frame of the batch that was written last.
     frame: Vec<u8>,
     ghost whole: { IsTrue live → IsTrue (gates.is_whole log) },
+    ghost sound: { IsTrue live → IsTrue (gates.is_sound log) },
     ghost limited: { gates.limit_of log ≤ 2 ^ 32 },
     ghost resting: { IsTrue live → in_writing ≡ None },
 }
@@ -60,12 +63,13 @@ pub struct Stopped<D> {
 impl<D: Disk> Partition<D> {
     ghost use Rattle.zb_partition.specs.Log.{IsBadAt};
     ghost use Rattle.zb_partition.specs.Partition.{place_of, disk_of, slots_of, limit_of, frames_of, last_moment_of, is_live, in_writing, HasLog, IsAhead};
-    ghost use Rattle.zb_partition.specs.Opening.{IsOpened, IsReadWhole, disk_after, slots_after};
+    ghost use Rattle.zb_partition.specs.Opening.{IsOpened, disk_after, slots_after};
 
     /// Opens the partition with this number over its volume, whose log may have so many bytes. Every frame is
     /// read, and the log is refused where one can't be: at the first frame that spells no batch, that has an
-    /// event that doesn't apply, or that runs past the end of the file. No frame is changed. It reads each byte
-    /// of the log twice, and takes a call of the disk for each frame and memory for the buffered messages.
+    /// event that doesn't apply, or that runs past the end of the file. No frame is changed. It reads the log
+    /// once, in large pieces, and takes memory for the buffered messages, for what the state keeps, and for one
+    /// frame.
     pub fn open(
         alloc: Global,
         volume: Volume<D>,
@@ -82,15 +86,16 @@ impl<D: Disk> Partition<D> {
         // What becomes of the file, and what a crash may leave of it at any moment. The slots stay as they are.
         ensures opens { OnlyOpens D.tells D.tells_images D.view D.images D.since volume.log (disk_after result) }
         ensures slots { slots_after result ≡ (volume.snap_a, volume.snap_b) }
-        ensures cause { IfErr result (λ refused. IsDiskCause (D.view volume.log).faults (D.view refused.1.log).faults refused.0) }
+        ensures steady { IsTrue D.counts_failures → OnOk result ((D.view (disk_after result)).faults ≡ (D.view volume.log).faults) }
+        ensures cause { IfErr result (λ refused. IsDiskCause D.counts_failures (D.view volume.log).faults (D.view refused.1.log).faults refused.0) }
     {
         let Volume {
             log,
             snap_a,
             snap_b,
         } = volume;
-        match GateLog::open(alloc, log, limit) {
-            Ok(log) => Partition::over(alloc, log, snap_a, snap_b, place),
+        match Scan::begin(alloc, log, limit) {
+            Ok(scan) => Partition::over(alloc, scan, snap_a, snap_b, place),
             Err((fault, log)) => Err((
                 OpenFault::from(fault),
                 Volume {
@@ -157,6 +162,7 @@ impl<D: Disk> Partition<D> {
         ensures dead { IsErr result → IsFalse (is_live self.new) }
         ensures place { place_of self.new ≡ place_of self.old }
         ensures limit { limit_of self.new ≡ limit_of self.old }
+        ensures steady { IsTrue D.counts_failures → UnlessDiskFails result ((D.view (disk_of self.new)).faults ≡ (D.view (disk_of self.old)).faults) }
         ensures later { (D.view (disk_of self.old)).faults ≤ (D.view (disk_of self.new)).faults }
     {
         self.live = false;
@@ -203,30 +209,31 @@ impl<D: Disk> Partition<D> {
         }
     }
 
-    // The partition over a log that was found.
+    // The partition over a log whose frames are to be found.
     fn over(
         alloc: Global,
-        mut log: GateLog<D>,
+        mut scan: Scan<D>,
         snap_a: D,
         snap_b: D,
         place: PartitionId,
     ) -> Result<Partition<D>, (OpenFault, Volume<D>)>
-        requires first { gates.place_of log 0 ≡ 0 }
-        requires indexed { gates.IsIndexed log }
-        requires limit { gates.limit_of log ≤ 2 ^ 32 }
-        requires durable { IsTrue D.tells_images → Only (D.view (gates.disk_of log)).contents (D.images (gates.disk_of log)) }
-        ensures read { IfOk result (λ partition. (batches : List Batch) × IsReadWhole place log batches partition) }
+        requires start { IsAtStart (D.view (disk_of_scan scan)).contents scan }
+        requires limit { limit_of_scan scan ≤ 2 ^ 32 }
+        requires durable { IsTrue D.tells_images → Only (D.view (disk_of_scan scan)).contents (D.images (disk_of_scan scan)) }
+        ensures opened { IfOk result (λ partition. (log : List Batch) × IsOpened place (D.view (disk_of_scan scan)).contents log partition) }
         ensures place { IfOk result (λ partition. place_of partition ≡ place) }
-        ensures limit { IfOk result (λ partition. limit_of partition ≡ gates.limit_of log) }
+        ensures limit { IfOk result (λ partition. limit_of partition ≡ limit_of_scan scan) }
         ensures live { IfOk result (λ partition. IsTrue (is_live partition)) }
-        ensures bad { IsTrue D.tells → IfErr result (λ refused. IsRefused place log refused.0) }
-        ensures reads { OnlyReads D.tells D.tells_images D.view D.images D.since (gates.disk_of log) (disk_after result) }
+        ensures bad { IsTrue D.tells → (frame : ℕ)
+            → IfErr result (λ refused. refused.0 ≡ OpenFault.BadLog frame → IsBadAt place (D.view (disk_of_scan scan)).contents frame) }
+        ensures reads { OnlyReads D.tells D.tells_images D.view D.images D.since (disk_of_scan scan) (disk_after result) }
         ensures slots { slots_after result ≡ (snap_a, snap_b) }
-        ensures cause { IfErr result (λ refused. IsDiskCause (D.view (gates.disk_of log)).faults (D.view refused.1.log).faults refused.0) }
+        ensures steady { IsTrue D.counts_failures → OnOk result ((D.view (disk_after result)).faults ≡ (D.view (disk_of_scan scan)).faults) }
+        ensures cause { IfErr result (λ refused. IsDiskCause D.counts_failures (D.view (disk_of_scan scan)).faults (D.view refused.1.log).faults refused.0) }
     {
-        match read_log(alloc, &mut log, place) {
+        match read_frames(alloc, &mut scan, place) {
             Ok(known) => Ok(Partition {
-                log,
+                log: scan.finish(),
                 snap_a,
                 snap_b,
                 state: known.state,
@@ -238,7 +245,7 @@ impl<D: Disk> Partition<D> {
             Err(fault) => Err((
                 fault,
                 Volume {
-                    log: log.into_disk(),
+                    log: scan.into_disk(),
                     snap_a,
                     snap_b,
                 },
@@ -278,6 +285,7 @@ impl<D: Disk> Partition<D> {
     // Adds the batch that was made to the log.
     fn write(&mut self, batch: Batch) -> Result<Batch, Stop>
         requires whole { IsTrue (gates.is_whole self.old.log) }
+        requires sound { IsTrue (gates.is_sound self.old.log) }
         requires stopped { IsFalse (is_live self.old) }
         ensures same { IfOk result (λ stored. stored ≡ batch) }
         ensures log { (log : List Batch) → IsAhead log batch self.old → OnOk result (HasLog (log ++ batch ∷ []) self.new) }
@@ -294,10 +302,12 @@ impl<D: Disk> Partition<D> {
         ensures fits { (log : List Batch) → IsAhead log batch self.old
             → OnOk result (extent (bodies_of (log ++ batch ∷ [])) ≤ limit_of self.old) }
         ensures whole { OnOk result (IsTrue (gates.is_whole self.new.log)) }
+        ensures sound { OnOk result (IsTrue (gates.is_sound self.new.log)) }
         ensures live { is_live self.new ≡ is_live self.old }
         ensures resting { OnOk result (in_writing self.new ≡ in_writing self.old) }
         ensures place { place_of self.new ≡ place_of self.old }
         ensures limit { limit_of self.new ≡ limit_of self.old }
+        ensures steady { IsTrue D.counts_failures → UnlessDiskFails result ((D.view (disk_of self.new)).faults ≡ (D.view (disk_of self.old)).faults) }
         ensures later { (D.view (disk_of self.old)).faults ≤ (D.view (disk_of self.new)).faults }
     {
         match self.prepare(&batch) {
@@ -317,6 +327,7 @@ impl<D: Disk> Partition<D> {
     fn prepare(&mut self, batch: &Batch) -> Result<(), Stop>
         ensures frame { OnOk result (self.new.frame.items ≡ framed (bytes_of batch.now)) }
         ensures fits { OnOk result (gates.length_of self.new.log + length self.new.frame.items ≤ limit_of self.new) }
+        ensures batch { OnOk result (IsBatch batch.now) }
         ensures full { IfErr result (IsTooLong (gates.length_of self.old.log) (limit_of self.old) batch.now) }
         ensures log { self.new.log ≡ self.old.log }
         ensures slots { slots_of self.new ≡ slots_of self.old }
@@ -358,31 +369,4 @@ fn stop_of(fault: StoreFault) -> Stop
         },
         StoreFault::Memory => Stop::Memory,
     }
-}
-
-// Reads a log that was found.
-fn read_log<D: Disk>(
-    alloc: Global,
-    log: &mut GateLog<D>,
-    place: PartitionId,
-) -> Result<Known, OpenFault>
-    requires { gates.place_of log.old 0 ≡ 0 }
-    ensures whole { IfOk result (λ known. IsTrue (gates.is_whole log.old)) }
-    ensures read { IfOk result (λ known. (batches : List Batch)
-        × IsRead place log.new (D.view (gates.disk_of log.new)).contents (gates.count_of log.new) batches known) }
-    ensures bad { IsTrue D.tells → IfErr result (IsRefused place log.old) }
-    ensures same { gates.IsSameLog log.old log.new }
-    ensures kept { IsTrue D.tells → (bodies : List (List ℕ)) → gates.HasLog (D.view (gates.disk_of log.old)).contents log.old bodies
-        → gates.HasLog (D.view (gates.disk_of log.new)).contents log.new bodies }
-    ensures reads { OnlyReads D.tells D.tells_images D.view D.images D.since (gates.disk_of log.old) (gates.disk_of log.new) }
-    ensures cause { IfErr result (IsDiskCause (D.view (gates.disk_of log.old)).faults (D.view (gates.disk_of log.new)).faults) }
-{
-    let known = match read_frames(alloc, log, place) {
-        Ok(known) => known,
-        Err(fault) => return Err(fault),
-    };
-    if !log.whole() {
-        return Err(OpenFault::BadLog { frame: log.count() });
-    }
-    Ok(known)
 }

@@ -1,7 +1,7 @@
 use super::*;
 use std::alloc::{AllocError, Global};
 use std::test::Fail;
-use zb_disk::MemDisk;
+use zb_disk::{Disk, MemDisk};
 use zb_model::{Command, MessagePublish, Moment, PartitionId, Text, Vars};
 use zb_store::Volume;
 
@@ -10,20 +10,8 @@ fn disk(alloc: Global) -> Result<MemDisk, AllocError> {
     MemDisk::new(alloc, Vec::new(alloc), Vec::new(alloc))
 }
 
-/// A volume of new disks.
-fn new_volume(alloc: Global) -> Result<Volume<MemDisk>, AllocError> {
-    let log = disk(alloc)?;
-    let snap_a = disk(alloc)?;
-    let snap_b = disk(alloc)?;
-    Ok(Volume {
-        log,
-        snap_a,
-        snap_b,
-    })
-}
-
 /// The partition of a volume, where its opening isn't refused.
-fn opened(alloc: Global, volume: Volume<MemDisk>) -> Option<Partition<MemDisk>> {
+fn opened<D: Disk + Drop>(alloc: Global, volume: Volume<D>) -> Option<Partition<D>> {
     Partition::open(alloc, volume, PartitionId::new(1), 1_000_000).ok()
 }
 
@@ -38,41 +26,47 @@ fn message(alloc: Global) -> Result<MessagePublish, AllocError> {
     })
 }
 
-/// Whether the message is published at this moment.
-fn is_published(
+/// Publishes the message at moment 7, if no command has stopped the partition, and stops it: its files.
+fn published<D: Disk + Drop>(
     alloc: Global,
-    partition: &mut Partition<MemDisk>,
-    moment: u64,
-) -> Result<bool, Fail> {
-    let command = Command::MessagePublish(message(alloc)?);
-    if !partition.live() {
-        return Ok(false);
+    mut partition: Partition<D>,
+    message: MessagePublish,
+) -> Volume<D> {
+    if partition.live() {
+        let _ = partition.submit(alloc, Moment::new(7), 0, Command::MessagePublish(message));
     }
-    Ok(
-        partition
-            .submit(alloc, Moment::new(moment), 0, command)
-            .is_ok(),
-    )
+    partition.stopped().volume
 }
 
-/// Publishes a message at moment 7, and stops: the files, if nothing was refused.
-fn published(alloc: Global) -> Result<Option<Volume<MemDisk>>, Fail> {
-    let Some(mut partition) = opened(alloc, new_volume(alloc)?) else {
-        return Ok(None);
-    };
-    let is_published = is_published(alloc, &mut partition, 7)?;
-    let Stopped { volume, .. } = partition.stopped();
-    Ok(is_published.then_some(volume))
+/// How many frames the log has, and whether a command is due at these moments.
+fn seen<D: Disk + Drop>(partition: &Partition<D>) -> (u64, bool, bool) {
+    let early = partition.due(Moment::new(16)).is_some();
+    let late = partition.due(Moment::new(17)).is_some();
+    (partition.frames(), early, late)
+}
+
+/// The partition of the volume after it was stopped and opened again, with a message.
+fn opened_again<D: Disk + Drop>(
+    alloc: Global,
+    volume: Volume<D>,
+    message: MessagePublish,
+) -> Option<Partition<D>> {
+    match opened(alloc, volume) {
+        Some(partition) => opened(alloc, published(alloc, partition, message)),
+        None => None,
+    }
 }
 
 #[test]
 fn a_message_is_there_again(rt: HostRuntime) -> Result<(), Fail> {
     let alloc = rt.alloc();
-    let volume = published(alloc)?.ok_or("not published")?;
-    let partition = opened(alloc, volume).ok_or("not opened")?;
-    assert_eq!(rt; partition.frames(), 1);
-    assert_eq!(rt; partition.last_moment().ms(), 7);
-    assert!(rt; partition.due(Moment::new(16)).is_none());
-    assert!(rt; partition.due(Moment::new(17)).is_some());
+    let message = message(alloc)?;
+    let volume = Volume {
+        log: disk(alloc)?,
+        snap_a: disk(alloc)?,
+        snap_b: disk(alloc)?,
+    };
+    let partition = opened_again(alloc, volume, message).ok_or("not opened")?;
+    assert_eq!(rt; seen(&partition), (1, false, true));
     Ok(())
 }

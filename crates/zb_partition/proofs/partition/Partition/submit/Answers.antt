@@ -19,7 +19,7 @@ returns-in-Err-clause-stopped g c = λ log has in_time.
     let memory : c.in-Err.stop ≡ stops.Memory = let e = c.in-Err.ensures.memory in cc in
     let faults = (D.view (disk_of old)).faults in
     let cause : IsStopCause faults faults (limit_of old) log None (in_writing new) c.in-Err.stop =
-    subst (λ (s : Stop). IsStopCause faults faults (limit_of old) log None (in_writing new) s) (sym memory) (inl none) in
+    subst (λ (s : Stop). IsStopCause faults faults (limit_of old) log None (in_writing new) s) (sym memory) (inl none, λ batch e. absurd (cc)) in
     record {
       refused = None;
       next = λ batch e. absurd (cc);

@@ -1,5 +1,6 @@
 use Rattle.std.proofs.Common.{◌≡◌, ◌+◌, ◌≤◌, ℕ, List, [], ◌∷◌, ◌++◌, length, Some, Err, rules, sym, ap, ◌∙◌, subst, refl, arith, inr}
 use Rattle.std.proofs.lemmas.Bool.{false≢true}
+use Rattle.zb_model.specs.declared.record.Batch.{Batch}
 use Rattle.zb_model.specs.Record.{bytes_of}
 use Rattle.zb_store.specs.Calls.{LeavesOnly}
 use Rattle.zb_store.specs.CallLaws.{leaves_weaker}
@@ -8,8 +9,8 @@ use Rattle.zb_store.specs.Log.{extent, framed_length}
 use Rattle.zb_store.specs.declared.gate_log.GateLog.{GateLog}
 use Rattle.zb_partition.specs.Log.{bodies_of}
 use Rattle.zb_partition.specs.Partition.{disk_of, limit_of, in_writing}
-use Rattle.zb_partition.specs.Stopping.{IsUnwritten, IsLogOrMore, stop_of}
-use Rattle.zb_partition.proofs.Written.{file_stands, image_stands, unwritten_none, unwritten_some, memory_told, log_or_more, ahead_kept, has_more, too_long_cause, extent_of_more}
+use Rattle.zb_partition.specs.Stopping.{IsUnwritten, IsLogOrMore, UnlessDiskFails, stop_of}
+use Rattle.zb_partition.proofs.Written.{file_stands, image_stands, unwritten_none, unwritten_some, memory_told, log_or_more, ahead_kept, has_more, too_long_cause, extent_of_more, unless_told}
 use Rattle.zb_partition.proofs.partition.Partition.write.Goals as goal
 
 pub returns-in-Err-clause-stopped : goal.returns-in-Err-clause-stopped
@@ -27,6 +28,7 @@ returns-in-Err-clause-stopped g c = λ log ahead none.
 pub invariant_of-self-in-Err-append : goal.invariant_of-self-in-Err-append
 invariant_of-self-in-Err-append g c = record {
   whole = λ live. absurd (false≢true (sym c.requires.stopped ∙ sym c.in-Ok.ensures.live ∙ live));
+  sound = λ live. absurd (false≢true (sym c.requires.stopped ∙ sym c.in-Ok.ensures.live ∙ live));
   limited = search rules;
   resting = λ live. absurd (false≢true (sym c.requires.stopped ∙ sym c.in-Ok.ensures.live ∙ live));
 }
@@ -37,7 +39,7 @@ returns-in-Ok-append-clause-log g c = λ log ahead.
     let done = c.in-Ok-append.ensures in
     let a = ahead_kept log c.args.self.now c.prepare.new.self said.log said.in_writing c.args.batch said.state said.last_moment ahead in
     let frame = c.deref.ensures.value ∙ said.frame in
-    has_more log c.args.batch c.prepare.new.self _ c.deref.result.now a frame (λ t. done.appended t (bodies_of log) (bytes_of c.args.batch) (a.file t) frame) done.durable done.count done.length refl refl refl
+    has_more log c.args.batch c.prepare.new.self _ c.deref.result.now a said.batch frame (λ t. done.appended t (bodies_of log) (bytes_of c.args.batch) (a.file t) frame) done.durable done.count done.length refl refl refl
 
 pub returns-in-Ok-append-clause-fits : goal.returns-in-Ok-append-clause-fits
 returns-in-Ok-append-clause-fits g c = λ log ahead.
@@ -66,7 +68,7 @@ returns-in-Err-append-clause-stopped g c = λ log ahead none.
     (λ t. done.left t (bodies_of log) (bytes_of c.args.batch) (a.file t) frame)
     (λ t. done.crash t (bodies_of log) (bytes_of c.args.batch) (a.file (g.met.D.Disk.images_told t)) (a.durable t) frame)
     (λ t. done.time t (bodies_of log) (bytes_of c.args.batch) (a.file (g.met.D.Disk.images_told t)) (a.durable t) frame)
-    fits room c.in-Err-append.fault done.full (λ e. done.failed (ap Err e)) (λ e. done.memory (ap Err e))))
+    said.batch fits room c.in-Err-append.fault done.full (λ e. done.failed (ap Err e)) (λ e. done.memory (ap Err e))))
 
 pub returns-in-Err-append-clause-memory : goal.returns-in-Err-append-clause-memory
 returns-in-Err-append-clause-memory g c = λ none is.
@@ -83,3 +85,11 @@ returns-in-Ok-append-clause-time g c = λ t log ahead.
     subst (λ (l : GateLog g.row.D.Denot D). LeavesOnly (D.view (gates.disk_of l)).moment (D.view new).moment (D.since (gates.disk_of l)) (D.since new) (IsLogOrMore log c.args.batch)) said.log
     (leaves_weaker (D.view (disk_of mid)).moment (D.view new).moment (D.since (disk_of mid)) (D.since new) _ _ (log_or_more log c.args.batch)
     (c.in-Ok-append.ensures.time t (bodies_of log) (bytes_of c.args.batch) (a.file (g.met.D.Disk.images_told t)) (a.durable t) frame))
+
+pub returns-in-Err-append-clause-steady : goal.returns-in-Err-append-clause-steady
+returns-in-Err-append-clause-steady g c = λ counts.
+    let view = g.D.Disk.view in
+    let faults = (view (gates.disk_of c.append.new.self)).faults in
+    rw c.stop_of.ensures
+    (subst (λ (l : GateLog g.row.D.Denot g.D.Disk). UnlessDiskFails {T = Batch} (Err (stop_of c.in-Err-append.fault)) (faults ≡ (view (gates.disk_of l)).faults)) c.in-Ok.ensures.log
+    (unless_told Batch _ c.in-Err-append.fault (c.in-Err-append.ensures.steady counts)))
