@@ -1,13 +1,14 @@
 #!/usr/bin/env bash
 # Feeds the built server one process and then create lines, on a file system in memory, and prints instances per
-# second, and how fast their log is opened. It is no test.
+# second, and how fast their log is opened. It is no test. ZBD in the environment names another server.
 # usage: bench/create.sh [LINES] [DIRECTORY IN MEMORY]
 set -eu
 top=$(cd "$(dirname "$0")/.." && pwd)
 lines=${1:-20000}
 memory=$(mktemp -d "${2:-/dev/shm}/bench.XXXXXX")
 trap 'rm -rf "$memory"' EXIT
-"$top/zbd" >/dev/null 2>&1 || true
+[ -n "${ZBD:-}" ] || "$top/zbd" >/dev/null 2>&1 </dev/null || true
+server=${ZBD:-$top/crates/zbd/out/zbd}
 head -n 1 "$top/examples/process.jsonl" >"$memory/lines"
 for ((line = 1; line <= lines; line++)); do
     printf '{"op":"create","process":"p"}\n'
@@ -17,7 +18,7 @@ done >>"$memory/lines"
 seconds() {
     local start end
     start=$(date +%s.%N)
-    (cd "$memory" && "$top/zbd" serve --clock manual <"$1" >"$memory/replies")
+    (cd "$memory" && "$server" serve --clock manual <"$1" >"$memory/replies")
     end=$(date +%s.%N)
     awk -v a="$start" -v b="$end" 'BEGIN { print b - a }'
 }

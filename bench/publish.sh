@@ -1,6 +1,6 @@
 #!/usr/bin/env bash
 # Feeds publish lines to the built server, on a real disk and on a file system in memory, and prints requests
-# per second of both and what part of the time is the device's. It is no test.
+# per second of both and what part of the time is the device's. It is no test. ZBD in the environment names another server.
 # usage: bench/publish.sh [LINES] [DIRECTORY ON A DISK] [DIRECTORY IN MEMORY]
 set -eu
 top=$(cd "$(dirname "$0")/.." && pwd)
@@ -8,7 +8,8 @@ lines=${1:-20000}
 disk=$(mktemp -d "${2:-$top}/bench.XXXXXX")
 memory=$(mktemp -d "${3:-/dev/shm}/bench.XXXXXX")
 trap 'rm -rf "$disk" "$memory"' EXIT
-"$top/zbd" >/dev/null 2>&1 || true
+[ -n "${ZBD:-}" ] || "$top/zbd" >/dev/null 2>&1 </dev/null || true
+server=${ZBD:-$top/crates/zbd/out/zbd}
 for ((line = 1; line <= lines; line++)); do
     printf '{"op":"publish","name":"paid","correlationKey":"o-%d","timeToLive":60000}\n' "$line"
 done >"$memory/lines"
@@ -17,7 +18,7 @@ done >"$memory/lines"
 seconds() {
     local start end
     start=$(date +%s.%N)
-    (cd "$1" && "$top/zbd" serve --clock manual <"$memory/lines" >"$memory/replies")
+    (cd "$1" && "$server" serve --clock manual <"$memory/lines" >"$memory/replies")
     end=$(date +%s.%N)
     [ "$(wc -l <"$memory/replies")" -eq "$lines" ] || { echo 'bench: not every line has a reply' >&2; exit 1; }
     awk -v a="$start" -v b="$end" 'BEGIN { print b - a }'

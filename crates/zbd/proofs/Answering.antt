@@ -1,5 +1,5 @@
 -- What requests are answered.
-use Rattle.std.proofs.Common.{◌≡◌, ◌<◌, ◌≤◌, ◌+◌, max, nat_lt, ℕ, List, [], ◌∷◌, ◌++◌, length, Bool, true, false, IsTrue, IsSome, Option, Some, None, option_map, Ok, Err, refl, sym, ◌∙◌, ap, subst, inl, inr, arith}
+use Rattle.std.proofs.Common.{◌≡◌, ◌<◌, ◌≤◌, ◌+◌, max, nat_lt, ℕ, List, [], ◌∷◌, ◌++◌, length, Bool, true, false, IsSome, Option, Some, None, option_map, Ok, Err, refl, sym, ◌∙◌, ap, subst, inr, arith}
 use Rattle.std.proofs.lemmas.Bool.Decides.{nat_tests}
 use Rattle.zb_disk.specs.Disk.{DiskView}
 use Rattle.zb_instance_records.specs.declared.instance.ProcessInstanceCreationCreate.{ProcessInstanceCreationCreate}

@@ -1,13 +1,13 @@
 -- How a stop of the partition ends a run.
-use Rattle.std.proofs.Common.{◌≡◌, ◌⊎◌, ℕ, ◌≤◌, List, Bool, IsTrue, IsSome, Option, Some, None, refl, sym, ◌∙◌, subst, inl, inr, arith}
+use Rattle.std.proofs.Common.{◌≡◌, ℕ, ◌≤◌, List, Bool, IsTrue, IsSome, Option, Some, None, refl, sym, ◌∙◌, subst, inl, inr, ⊎_elim, arith}
 use Rattle.zb_model.specs.declared.record.Batch.{Batch}
 use Rattle.zb_model.specs.declared.stop.Stop.{Stop}
 use Rattle.zb_model.specs.declared.stop.Stop.TheVariants as stops
 use Rattle.zb_partition.specs.Stopping.{IsLeft, IsHurt, IsStopCause}
 use Rattle.zbd.specs.Ends.{Told}
 use Rattle.zbd.specs.Log.{IsDiskHurt, IsKept}
+use Rattle.zbd.specs.Served.{IsWhyUndone}
 use Rattle.zbd.specs.Serving.{Start, Now, log_ends, cause_of}
-use Rattle.zbd.specs.declared.run.Cause.TheVariants as causes
 use Rattle.zbd.specs.declared.run.End.TheVariants as ends
 use Rattle.zbd.proofs.Logs.{rose_since}
 use Rattle.zbd.proofs.Over.{IsHeld, IsNamed}
@@ -20,26 +20,23 @@ module _ (told : Told) (limit : ℕ) (start : Start) (old now : Now) (images : L
   abbrev Hurt : Type 0
   Hurt = IsHurt told.disk_memory old.disk.faults now.disk.faults
 
-  -- where a batch was in writing, it is the one that was made last, and a hurt disk is told by the cause
-  told_hurt : (batch : Batch) → in_writing ≡ Some batch → (stop : Stop) → Why stop → Hurt → (refused ≡ Some batch) × IsDiskHurt told (log_ends start now) (cause_of in_writing (ends.Stopped stop))
-  told_hurt batch is stop why (inl rose) = (asked stop why, inl (rose_since start.disk.faults old.disk.faults now.disk.faults later rose))
-    where
-      asked : (stop : Stop) → Why stop → refused ≡ Some batch
-      asked stops.Memory (inl none) = absurd (let e : None ≡ Some batch = sym none ∙ is in cc)
-      asked stops.Memory (inr same) = same ∙ is
-      asked stops.DiskFault why = why.2 ∙ is
-      asked (stops.LogFull n frame most) why = absurd (let e : None ≡ Some batch = sym why.0 ∙ is in cc)
-  told_hurt batch is stops.Memory (inl none) (inr takes) = absurd (let e : None ≡ Some batch = sym none ∙ is in cc)
-  told_hurt batch is stops.Memory (inr same) (inr takes) = (same ∙ is, inr (takes, refl))
-  told_hurt batch is stops.DiskFault why (inr takes) = (why.2 ∙ is, inl (rose_since start.disk.faults old.disk.faults now.disk.faults later why.0))
-  told_hurt batch is (stops.LogFull n frame most) why (inr takes) = absurd (let e : None ≡ Some batch = sym why.0 ∙ is in cc)
+  -- a batch that was in writing is the one that was made last
+  asked : (batch : Batch) → in_writing ≡ Some batch → (stop : Stop) → Why stop → refused ≡ Some batch
+  asked batch is stops.Memory why = ⊎_elim (λ none. absurd (let e : None ≡ Some batch = sym none ∙ is in cc)) (λ same. same ∙ is) why.0
+  asked batch is stops.DiskFault why = why.2 ∙ is
+  asked batch is (stops.LogFull n frame most) why = absurd (let e : None ≡ Some batch = sym why.0 ∙ is in cc)
+
+  -- and a hurt disk is told by the cause
+  hurt_told : (batch : Batch) → in_writing ≡ Some batch → (stop : Stop) → Why stop → Hurt → IsDiskHurt told (log_ends start now) (cause_of in_writing (ends.Stopped stop))
+  hurt_told batch is stops.Memory why hurt = ⊎_elim (λ rose. inl (rose_since start.disk.faults old.disk.faults now.disk.faults later rose)) (λ takes. inr (takes, refl)) hurt
+  hurt_told batch is stops.DiskFault why hurt = inl (rose_since start.disk.faults old.disk.faults now.disk.faults later why.0)
+  hurt_told batch is (stops.LogFull n frame most) why hurt = absurd (let e : None ≡ Some batch = sym why.0 ∙ is in cc)
 
   pub kept_by : (writing : Option Batch) → in_writing ≡ writing → (stop : Stop) → Why stop → (file : List ℕ) → IsLeft Hurt log writing file → IsKept told (log_ends start now) (cause_of in_writing (ends.Stopped stop)) refused log file
   kept_by None is stop why file left = inl left
   kept_by (Some batch) is stop why file (inl before) = inl before
-  kept_by (Some batch) is stop why file (inr (hurt, after)) =
-      let h = told_hurt batch is stop why hurt in
-      inr ((batch, h.0, after), h.1)
+  kept_by (Some batch) is stop why file (inr (hurt, fits, after)) =
+      inr ((batch, asked batch is stop why, fits, after), hurt_told batch is stop why hurt)
 
   -- what the disk has
   pub halted_held : (stop : Stop) → Why stop → (IsTrue told.disk → IsLeft Hurt log in_writing now.disk.contents) → (IsTrue told.images → (image : List ℕ) → images image → IsLeft Hurt log in_writing image)
@@ -50,9 +47,10 @@ module _ (told : Told) (limit : ℕ) (start : Start) (old now : Now) (images : L
   }
 
   -- and how it is named
-  pub halted_named : (unserved : List (List ℕ)) (at_end : Bool) (stop : Stop) → Why stop → IsNamed told limit start now log refused unserved at_end (cause_of in_writing (ends.Stopped stop))
-  halted_named unserved at_end stops.Memory why = named_memory told limit start now log refused unserved at_end
-  halted_named unserved at_end stops.DiskFault why = record {
+  pub halted_named : (unserved : List (List ℕ)) (at_end : Bool) (stop : Stop) → Why stop → (IsTrue told.disk_counts → (stop ≡ stops.DiskFault → ⊥) → now.disk.faults ≡ start.disk.faults)
+      → IsNamed told limit start now log refused unserved at_end (cause_of in_writing (ends.Stopped stop))
+  halted_named unserved at_end stops.Memory why steady = named_memory told limit start now log refused unserved at_end (λ t. steady t (λ e. absurd (cc))) why.1
+  halted_named unserved at_end stops.DiskFault why steady = record {
     status = (omega arith, omega arith);
     done = λ e. absurd (cc);
     source_fault = λ e. absurd (cc);
@@ -62,8 +60,13 @@ module _ (told : Told) (limit : ℕ) (start : Start) (old now : Now) (images : L
         let same : in_writing ≡ batch = cc in
         (rose_since start.disk.faults old.disk.faults now.disk.faults later why.0, sym same ∙ sym why.2, (why.1.0, sym same ∙ why.1.1, why.1.2));
     log_full = λ n frame most e. absurd (cc);
+    no_disk_fault = λ before. absurd (omega (arith, before));
+    room = λ before. absurd (omega (arith, before));
+    no_source_fault = λ before. absurd (omega (arith, before));
+    no_sink_fault = λ before. absurd (omega (arith, before));
+    not_full = λ before. absurd (omega (arith, before));
   }
-  halted_named unserved at_end (stops.LogFull n frame most) why = record {
+  halted_named unserved at_end (stops.LogFull n frame most) why steady = record {
     status = (omega arith, omega arith);
     done = λ e. absurd (cc);
     source_fault = λ e. absurd (cc);
@@ -75,10 +78,15 @@ module _ (told : Told) (limit : ℕ) (start : Start) (old now : Now) (images : L
         let same_frame : frame ≡ frame' = cc in
         let same_most : most ≡ most' = cc in
         (sym same_length ∙ why.1, sym same_most ∙ why.2, omega (arith, why.3, same_length, same_frame, same_most), (why.4.0, why.4.1, sym same_frame ∙ why.4.2));
+    no_disk_fault = λ before t. steady t (λ e. absurd (cc));
+    room = λ before. absurd (omega (arith, before));
+    no_source_fault = λ before. absurd (omega (arith, before));
+    no_sink_fault = λ before. absurd (omega (arith, before));
+    not_full = λ before. absurd (omega (arith, before));
   }
 
   -- why a line was left undone: the batch that was made last isn't in the log, or there was no memory
-  pub halted_why : (stop : Stop) → Why stop → (cause_of in_writing (ends.Stopped stop) ≡ causes.Memory) ⊎ IsSome refused
-  halted_why stops.Memory why = inl refl
-  halted_why stops.DiskFault why = inr (subst IsSome (sym (why.2 ∙ why.1.1)) refl)
-  halted_why (stops.LogFull n frame most) why = inr (subst IsSome (sym why.4.1) refl)
+  pub halted_why : (stop : Stop) → Why stop → IsWhyUndone (cause_of in_writing (ends.Stopped stop)) refused
+  halted_why stops.Memory why = tt
+  halted_why stops.DiskFault why = subst IsSome (sym (why.2 ∙ why.1.1)) refl
+  halted_why (stops.LogFull n frame most) why = subst IsSome (sym why.4.1) refl

@@ -1,5 +1,8 @@
 -- Laws of a call whose result is handed on.
-use Rattle.std.proofs.Common.{Result, Ok, Err, OnOk, OnErr, IfErr}
+use Rattle.std.proofs.Common.{Result, Ok, Err, OnOk, OnErr, IfErr, IsErrOf, refl}
+use Rattle.zb_model.specs.declared.stop.Stop.{Stop}
+use Rattle.zb_model.specs.declared.stop.Stop.TheVariants as stops
+use Rattle.zb_partition.specs.Stopping.{UnlessDiskFails}
 
 -- a premise goes in under Ok
 pub on_ok_under : {T E : Type 0} (r : Result T E) (A P : Type 0) → (A → OnOk r P) → OnOk r (A → P)
@@ -15,3 +18,10 @@ if_err_both (Err e) A P Q R f q g = g e f q
 pub if_err_as : {T E : Type 0} (r : Result T E) (P Q : E → Type 0) → ((e : E) → P e → Q e) → IfErr r P → IfErr r Q
 if_err_as (Ok x) P Q f p = tt
 if_err_as (Err e) P Q f p = f e p
+
+-- what holds unless the disk failed
+pub unless_told : {T : Type 0} (r : Result T Stop) (P : Type 0) → UnlessDiskFails r P → (IsErrOf r stops.DiskFault → ⊥) → P
+unless_told (Ok x) P p other = p
+unless_told (Err stops.DiskFault) P p other = absurd (other refl)
+unless_told (Err stops.Memory) P p other = p
+unless_told (Err (stops.LogFull length_told frame most)) P p other = p

@@ -8,6 +8,6 @@ pub mod Opening
 pub mod Over
 pub mod Single
 pub mod Stops
-pub mod Streams
+pub mod StreamLines
 pub mod Ticking
 pub mod Turns

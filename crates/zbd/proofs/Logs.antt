@@ -1,5 +1,5 @@
 -- Batches that are made one after the other.
-use Rattle.std.proofs.Common.{◌≡◌, ◌⊎◌, ℕ, suc, ◌+◌, ◌<◌, ◌≤◌, max, min, List, [], ◌∷◌, ◌++◌, length, take, Bool, IsTrue, Option, Some, None, refl, sym, ap, ◌∙◌, subst, inl, inr, ⊎_elim, append_assoc, arith, length-append}
+use Rattle.std.proofs.Common.{◌≡◌, ◌⊎◌, ℕ, suc, ◌+◌, ◌<◌, ◌≤◌, max, min, List, [], ◌∷◌, ◌++◌, length, take, Bool, IsTrue, Option, Some, None, sym, ap, ◌∙◌, subst, inl, inr, ⊎_elim, append_assoc, arith, length-append}
 use Rattle.std.proofs.lemmas.List.{take-append-le, take_min}
 use Rattle.std.proofs.Math.Seq.{take-append-add}
 use Rattle.std.specs.List.{range_with_len}
@@ -13,12 +13,11 @@ use Rattle.zb_model.specs.declared.stop.Stop.TheVariants as stops
 use Rattle.zb_rules.specs.View.{last_moment}
 use Rattle.zb_rules.specs.Step.{IsStep}
 use Rattle.zb_rules.specs.StepLaws.{are_steps_more}
-use Rattle.zb_store.specs.Calls.{LeavesOnly}
 use Rattle.zb_store.specs.CallLaws.{leaves_none, leaves_then, leaves_weaker}
 use Rattle.zb_store.specs.GateLog.{log_stands}
 use Rattle.zb_store.specs.Log.{extent}
 use Rattle.zb_store.specs.Stands.{Stands}
-use Rattle.zb_partition.specs.Log.{bodies_of}
+use Rattle.zb_partition.specs.Log.{bodies_of, AreBatches}
 use Rattle.zb_partition.specs.Partition.{disk_of, in_writing, HasLog}
 use Rattle.zb_partition.specs.Stopping.{IsLeft, IsHurt, IsStepOf, IsStopCause, IsStopped, IsLogOrMore}
 use Rattle.zb_partition.specs.declared.partition.Partition.{Partition}
@@ -34,8 +33,8 @@ rose_since start old new later rose = λ below. let more : old < new = rose belo
 -- one batch more, with the next place
 pub made_more : (limit : ℕ) (opened made : List Batch) (places : List ℕ) (batch : Batch) → IsMade limit opened made places → IsStep 1 (opened ++ made) batch
     → batch.begin ≡ length (opened ++ made) → extent (bodies_of ((opened ++ made) ++ batch ∷ [])) ≤ limit
-    → IsMade limit opened (made ++ batch ∷ []) (places ++ length (opened ++ made) ∷ [])
-made_more limit opened made places batch old step begin fits = record {
+    → AreBatches ((opened ++ made) ++ batch ∷ []) → IsMade limit opened (made ++ batch ∷ []) (places ++ length (opened ++ made) ∷ [])
+made_more limit opened made places batch old step begin fits fit = record {
   stamps =
       let count : length (made ++ batch ∷ []) ≡ suc (length made) = omega (arith, length-append made (batch ∷ [])) in
       let put : places ++ length (opened ++ made) ∷ [] ≡ range_with_len (length opened) (length made) ++ (length opened + length made) ∷ [] =
@@ -43,6 +42,7 @@ made_more limit opened made places batch old step begin fits = record {
       put ∙ sym (range_with_len_more (length opened) (length made)) ∙ ap (range_with_len (length opened)) (sym count);
   stamped = AllZip_more IsStamped places made (length (opened ++ made)) batch old.stamped begin;
   steps = are_steps_more 1 opened made batch old.steps step;
+  fit = subst AreBatches (append_assoc opened made (batch ∷ [])) fit;
   fits = inr (subst (λ (log : List Batch). extent (bodies_of log) ≤ limit) (append_assoc opened made (batch ∷ [])) fits);
 }
 
@@ -102,8 +102,8 @@ module _ (tells tells_images : Bool) (limit : ℕ) (old mid new : DiskView) (ima
       → IsLeft (IsHurt takes_memory mid.faults new.faults) log in_writing file → IsLeft (IsHurt takes_memory old.faults new.faults) log in_writing file
   hurt_then takes_memory later log None file left = left
   hurt_then takes_memory later log (Some batch) file (inl without) = inl without
-  hurt_then takes_memory later log (Some batch) file (inr (inl rose, with)) = inr (inl (rose_since old.faults mid.faults new.faults later rose), with)
-  hurt_then takes_memory later log (Some batch) file (inr (inr takes, with)) = inr (inr takes, with)
+  hurt_then takes_memory later log (Some batch) file (inr (inl rose, fits, with)) = inr (inl (rose_since old.faults mid.faults new.faults later rose), fits, with)
+  hurt_then takes_memory later log (Some batch) file (inr (inr takes, fits, with)) = inr (inr takes, fits, with)
 
   cause_then : old.faults ≤ mid.faults → (log : List Batch) (refused in_writing : Option Batch) (stop : Stop)
       → IsStopCause mid.faults new.faults limit log refused in_writing stop → IsStopCause old.faults new.faults limit log refused in_writing stop
@@ -172,7 +172,7 @@ module _ {D : Type 0} {disks : Ghosts D} (limit : ℕ) (places : List ℕ) (open
         made = subst (λ (l : List Batch). IsMade limit opened l places) (append_none before) made;
         refused = None;
         next = λ batch e. absurd (cc);
-        cause = inl is_open.has.resting;
+        cause = (inl is_open.has.resting, λ batch e. absurd (cc));
         file = λ t. subst (λ (l : List Batch). Left l view.contents) (append_none before) (left_resting takes_memory view.contents (stored.file t));
         crash = λ t image is. subst (λ (l : List Batch). Left l image) (append_none before) (left_resting takes_memory image (stored.crash t image is));
         time = λ t. leaves_none view.moment (disks.since (disk_of partition)) _;

@@ -7,7 +7,7 @@ use Rattle.zb_model.specs.declared.record.Batch.{Batch}
 use Rattle.zb_rules.specs.StepLaws.{are_steps_none}
 use Rattle.zb_store.specs.Calls.{OnlyOpens, LeftByOpening}
 use Rattle.zb_store.specs.Stands.{Stands}
-use Rattle.zb_partition.specs.Log.{bodies_of, IsApplied, IsBadAt}
+use Rattle.zb_partition.specs.Log.{bodies_of, AreBatches, IsApplied, IsBadAt}
 use Rattle.zb_partition.specs.Fault.{IsDiskCause}
 use Rattle.zb_partition.specs.declared.fault.OpenFault.{OpenFault}
 use Rattle.zb_partition.specs.declared.fault.OpenFault.TheVariants as faults
@@ -22,29 +22,31 @@ use Rattle.zbd.proofs.Lists.{append_none}
 -- a log that isn't opened
 pub fails_to_open : (told : Told) (ends : LogEnds) (fault : OpenFault)
     → (IsTrue told.disk → (frame : ℕ) → fault ≡ faults.BadLog frame → IsBadAt 1 ends.disk.contents frame)
-    → IsDiskCause ends.disk.faults ends.disk_after.faults fault
+    → IsDiskCause told.disk_counts ends.disk.faults ends.disk_after.faults fault
     → FailsToOpen told (ends ∷ []) (open_cause_of fault)
 fails_to_open told ends faults.DiskFault bad rose = (refl, (ends, omega arith, refl, rose))
-fails_to_open told ends (faults.BadLog frame) bad rose = (ends, omega arith, refl, λ t. bad t frame refl)
-fails_to_open told ends faults.Memory bad rose = tt
+fails_to_open told ends (faults.BadLog frame) bad rose = ((ends, omega arith, refl, λ t. bad t frame refl), (rose, tt))
+fails_to_open told ends faults.Memory bad rose = (rose, tt)
 
 -- nothing was made yet
-pub made_none : (limit : ℕ) (opened : List Batch) → IsMade limit opened [] []
-made_none limit opened = record {
+pub made_none : (limit : ℕ) (opened : List Batch) → AreBatches opened → IsMade limit opened [] []
+made_none limit opened fit = record {
   stamps = refl;
   stamped = tt;
   steps = are_steps_none 1 opened;
+  fit = subst AreBatches (append_none opened) fit;
   fits = inl refl;
 }
 
 -- nothing was read yet
 pub serving_first : (told : Told) (setting : Setting) (start : Start) (disk : DiskView) (before images : List ℕ → Type 0) (since : ℕ → List ℕ → Type 0) (Has : List Batch → Type 0) (clocks : Clocks) (opened : List Batch)
-    → Has opened → IsStored told.disk told.images disk images opened → (IsTrue told.disk → Stands start.disk.contents (bodies_of opened)) → IsApplied 1 opened → AreAt setting.hours [] clocks
-    → start.disk.faults ≤ disk.faults → (IsTrue told.images → start.disk.moment ≤ disk.moment)
+    → Has opened → AreBatches opened → IsStored told.disk told.images disk images opened → (IsTrue told.disk → Stands start.disk.contents (bodies_of opened)) → IsApplied 1 opened → AreAt setting.hours [] clocks
+    → start.disk.faults ≤ disk.faults → (IsTrue told.disk_counts → disk.faults ≡ start.disk.faults) → (IsTrue told.images → start.disk.moment ≤ disk.moment)
+    → (IsTrue told.images → (image : List ℕ) → since disk.moment image → images image)
     → (IsTrue told.images → (image : List ℕ) → since start.disk.moment image → LeftByOpening start.disk.contents before image)
     → IsServing told setting start (now_of start.source start.sink disk) before images since Has [] clocks [] most_taken 1
 unfolding most_taken
-serving_first told setting start disk before images since Has clocks opened has stored stood applied at later moment ever = record {
+serving_first told setting start disk before images since Has clocks opened has fit stored stood applied at later steady moment now opening = record {
   opened = opened;
   taken = [];
   lines = [];
@@ -59,14 +61,17 @@ serving_first told setting start disk before images since Has clocks opened has 
   sent = λ t. append_none start.sink.written;
   stood = stood;
   applied = applied;
-  made = made_none setting.limit opened;
+  made = made_none setting.limit opened fit;
   has = subst Has (append_none opened) has;
   stored = subst (IsStored told.disk told.images disk images) (append_none opened) stored;
-  later = moment;
-  ever = λ t image was. inl (ever t image was);
+  opened_at = disk.moment;
+  later = λ t. (moment t, omega arith);
+  ever = λ t image was. (0, subst (λ (l : List Batch). Stands image (bodies_of l)) (append_none opened) (stored.crash t image (now t image was)));
+  opening = λ t image was. inl (opening t image was);
   source_later = omega arith;
   sink_later = omega arith;
   disk_later = later;
+  steady = record { source = λ t. refl; sink = λ t. refl; disk = steady };
 }
 
 -- what an opening may have left, at any moment since

@@ -1,5 +1,6 @@
 -- How a run ends.
-use Rattle.std.proofs.Common.{◌≡◌, ◌⊎◌, ℕ, zero, suc, ◌+◌, ◌<◌, List, [], ◌∷◌, ◌++◌, length, Bool, false, IsTrue, Option, Some, None, Ok, refl, sym, ◌∙◌, ap, subst, inl, inr, ⊎_elim, arith, IsSome}
+use Rattle.std.proofs.Common.{◌≡◌, ◌⊎◌, ℕ, zero, suc, ◌+◌, ◌-◌, ◌<◌, ◌≤◌, List, [], ◌∷◌, ◌++◌, length, nat_lt, Bool, true, false, IsTrue, IsFalse, Option, Some, None, Ok, refl, sym, ◌∙◌, ap, subst, inl, inr, arith}
+use Rattle.std.proofs.lemmas.Bool.Decides.{nat_tests}
 use Rattle.std.proofs.lemmas.List.{append-nil}
 use Rattle.std.proofs.lemmas.List.Sorted.{IsPermutation-refl}
 use Rattle.std.proofs.lemmas.List.FromFn.{get_or-range_with_len, length-range_with_len}
@@ -8,24 +9,27 @@ use Rattle.std.specs.List.Sorted.{IsPermutation, IsStrictlyIncreasing}
 use Rattle.zb_disk.specs.Cause.{Rose}
 use Rattle.zb_model.specs.declared.record.Batch.{Batch}
 use Rattle.zb_rules.specs.Step.{IsStep}
+use Rattle.zb_store.specs.Calls.{LeftByOpening}
 use Rattle.zb_store.specs.Log.{extent}
 use Rattle.zb_store.specs.Stands.{Stands}
 use Rattle.zb_partition.specs.Log.{bodies_of, IsApplied}
 use Rattle.zb_partition.specs.Stopping.{frame_of, HasRoomFor}
-use Rattle.zbd.specs.Ends.{Told, LogEnds}
+use Rattle.zbd.specs.Ends.{Told, LogEnds, OfNumber}
 use Rattle.zbd.specs.Ledger.{IsStored, IsMade}
 use Rattle.zb_wire.specs.declared.request.Request.{Request}
 use Rattle.zb_wire.specs.Request.{request_of}
 use Rattle.zbd.specs.Hours.{Hours, is_manual, IsReadingOf, Setting}
 use Rattle.zbd.specs.Made.{AreMadeFor, IsMadeNext}
 use Rattle.zbd.specs.Log.{Growth, whole_of, IsKept, WasLeft}
-use Rattle.zbd.specs.Served.{MayEnd, IsUndone}
+use Rattle.zbd.specs.Served.{MayEnd, IsWhyUndone, IsUndone}
+use Rattle.zbd.specs.Cause.{rank_of, comes_before}
+use Rattle.zbd.specs.Order.{HasFailed, WasMet}
 use Rattle.zbd.specs.Serving.{Start, Now, IsOver, session_ends, log_ends}
-use Rattle.zbd.specs.Session.{SessionRun, IsSent, Answer, AreAnswers, batches_of, replies_of, most_taken}
+use Rattle.zbd.specs.Session.{SessionRun, IsSent, Answer, AreAnswers, batches_of, most_taken}
 use Rattle.zbd.specs.declared.run.Cause.{Cause}
 use Rattle.zbd.specs.declared.run.Cause.TheVariants as causes
 use Rattle.zbd.proofs.Lists.{append_none}
-use Rattle.zbd.proofs.Streams.{IsStream}
+use Rattle.zbd.proofs.StreamLines.{IsStream}
 
 -- the file stands for the log, whatever a crash leaves, or the disk was hurt
 pub record IsHeld (told : Told) (ends : LogEnds) (images : List ℕ → Type 0) (cause : Cause) (unlogged : Option Batch) (log : List Batch) : Type 0 where
@@ -38,7 +42,7 @@ held_stored told ends images cause unlogged log stored = record {
   crash = λ t image left. inl (stored.crash t image left);
 }
 
--- what a cause says
+-- what a cause says, and that nothing that comes before it was met
 pub record IsNamed (told : Told) (limit : ℕ) (start : Start) (now : Now) (log : List Batch) (unlogged : Option Batch) (unserved : List (List ℕ)) (at_end : Bool) (cause : Cause) : Type 0 where
   pub status : MayEnd 1 1 cause
   pub done : cause ≡ causes.Done → IsTrue at_end × (unserved ≡ [])
@@ -49,6 +53,11 @@ pub record IsNamed (told : Told) (limit : ℕ) (start : Start) (now : Now) (log 
   pub log_full : (length_told frame most : ℕ) → cause ≡ causes.LogFull 1 length_told frame most
       → (length_told ≡ extent (bodies_of log)) × (most ≡ limit) × (most < length_told + frame)
       × ((batch : Batch) × (unlogged ≡ Some batch) × (frame ≡ frame_of batch))
+  pub no_disk_fault : 1 < rank_of cause → IsTrue told.disk_counts → now.disk.faults ≡ start.disk.faults
+  pub room : 2 < rank_of cause → (batch : Batch) → unlogged ≡ Some batch → extent (bodies_of (log ++ batch ∷ [])) ≤ limit
+  pub no_source_fault : 4 < rank_of cause → IsTrue told.source_counts → now.source.faults ≡ start.source.faults
+  pub no_sink_fault : 5 < rank_of cause → IsTrue told.sink_counts → now.sink.faults ≡ start.sink.faults
+  pub not_full : 6 < rank_of cause → at_end ≡ true
 
 -- a batch that isn't in the log is a step on it, and begins behind it
 abbrev pub IsLeftOver : List Batch → Batch → Type 0
@@ -65,7 +74,7 @@ pub record IsFirst (hours : Hours) (log : List Batch) (served unserved : List (L
   pub read : IsReadingOf hours (served ++ line ∷ []) reading
   pub made : AreMadeFor request reading log silent
   pub next : (batch : Batch) → unlogged ≡ Some batch → IsMadeNext request reading log silent batch
-  pub why : (cause ≡ causes.Memory) ⊎ IsSome unlogged
+  pub why : IsWhyUndone cause unlogged
 
 -- nothing was left undone, or the first line that wasn't served
 abbrev pub IsLeftUndone : Hours → List Batch → List (List ℕ) → List (List ℕ) → Cause → List Batch → Option Batch → Type 0
@@ -79,28 +88,62 @@ increasing a n = λ k within.
 some_same : {A : Type 0} (x y : A) → Some x ≡ Some y → x ≡ y
 some_same x y e = cc
 
-crash_at : (told : Told) (first : LogEnds) (images : List ℕ → Type 0) (cause : Cause) (unlogged : Option Batch) (growth : Growth) → IsHeld told first images cause unlogged (whole_of growth)
-    → IsTrue told.images → (place : ℕ) (listed : Growth) (ends : LogEnds) (image : List ℕ)
-    → slice_get (growth ∷ []) place ≡ Some listed → slice_get (first ∷ []) place ≡ Some ends → images image
-    → IsKept told ends cause unlogged (whole_of listed) image
-crash_at told first images cause unlogged growth held tells zero listed ends image is_log is_ends left =
+-- what holds of the one log and its ends, at any place
+at_place : (first : LogEnds) (growth : Growth) (P : LogEnds → Growth → Type 0) → P first growth → (place : ℕ) (listed : Growth) (ends : LogEnds)
+    → slice_get (growth ∷ []) place ≡ Some listed → slice_get (first ∷ []) place ≡ Some ends → P ends listed
+at_place first growth P holds zero listed ends is_log is_ends =
     let same_log : growth ≡ listed = some_same _ _ is_log in
     let same_ends : first ≡ ends = some_same _ _ is_ends in
-    subst (λ (g : Growth). IsKept told ends cause unlogged (whole_of g) image) same_log
-    (subst (λ (e : LogEnds). IsKept told e cause unlogged (whole_of growth) image) same_ends (held.crash tells image left))
-crash_at told first images cause unlogged growth held tells (suc place) listed ends image is_log is_ends left = absurd (cc)
+    subst (λ (g : Growth). P ends g) same_log (subst (λ (e : LogEnds). P e growth) same_ends holds)
+at_place first growth P holds (suc place) listed ends is_log is_ends = absurd (cc)
 
-ever_at : (told : Told) (first : LogEnds) (before since : List ℕ → Type 0) (cause : Cause) (unlogged : Option Batch) (growth : Growth)
-    → (IsTrue told.images → (image : List ℕ) → since image → WasLeft told first before cause unlogged growth image)
-    → IsTrue told.images → (place : ℕ) (listed : Growth) (ends : LogEnds) (image : List ℕ)
-    → slice_get (growth ∷ []) place ≡ Some listed → slice_get (first ∷ []) place ≡ Some ends → since image
-    → WasLeft told ends before cause unlogged listed image
-ever_at told first before since cause unlogged growth ever tells zero listed ends image is_log is_ends left =
-    let same_log : growth ≡ listed = some_same _ _ is_log in
-    let same_ends : first ≡ ends = some_same _ _ is_ends in
-    subst (λ (g : Growth). WasLeft told ends before cause unlogged g image) same_log
-    (subst (λ (e : LogEnds). WasLeft told e before cause unlogged growth image) same_ends (ever tells image left))
-ever_at told first before since cause unlogged growth ever tells (suc place) listed ends image is_log is_ends left = absurd (cc)
+-- the one member is the one that has a number
+of_one : {A : Type 0} (member : A) (number : ℕ) (P : A → Type 0) → OfNumber (member ∷ []) number P → P member
+of_one member number P is = by_place (number - 1) is.2
+  where
+    by_place : (place : ℕ) → slice_get (member ∷ []) place ≡ Some is.0 → P member
+    by_place zero at = subst P (sym (some_same _ _ at)) is.3
+    by_place (suc place) at = absurd (cc)
+
+-- an order that doesn't hold isn't told
+not_told : (a b : ℕ) → (a < b → ⊥) → (test : Bool) → nat_lt a b ≡ test → IsFalse (nat_lt a b)
+not_told a b never false is = is
+not_told a b never true is = absurd (never (grind (arith, nat_tests)))
+
+-- a count that stands didn't rise
+no_failure : (counts : Bool) (before after : ℕ) → HasFailed counts before after → (IsTrue counts → after ≡ before) → ⊥
+no_failure counts before after failed same = absurd (omega (arith, same failed.0, failed.1))
+
+-- of the causes that were met none comes before the one that is told
+none_first : (told : Told) (limit : ℕ) (start : Start) (now : Now) (run : SessionRun) (growth : Growth) (unlogged : Option Batch) (unserved : List (List ℕ)) (cause : Cause)
+    → IsNamed told limit start now (whole_of growth) unlogged unserved run.ended cause → (other : Cause)
+    → WasMet told limit (session_ends start now ∷ []) (log_ends start now ∷ []) (run ∷ []) (growth ∷ []) unlogged other → IsFalse (comes_before other cause)
+none_first told limit start now run growth unlogged unserved cause named (causes.DiskFault partition batch) met =
+    not_told _ _ (λ before. no_failure told.disk_counts start.disk.faults now.disk.faults (of_one (log_ends start now) partition _ met) (named.no_disk_fault before)) _ refl
+none_first told limit start now run growth unlogged unserved cause named (causes.LogFull partition length_told frame most) met =
+    not_told 2 (rank_of cause) (λ (before : 2 < rank_of cause). let full = of_one growth partition _ met.2 in absurd (omega (arith, full, named.room before met.0 met.1))) _ refl
+none_first told limit start now run growth unlogged unserved cause named (causes.SourceFault session) met =
+    not_told _ _ (λ before. no_failure told.source_counts start.source.faults now.source.faults (of_one (session_ends start now) session _ met) (named.no_source_fault before)) _ refl
+none_first told limit start now run growth unlogged unserved cause named (causes.SinkFault session) met =
+    not_told _ _ (λ before. no_failure told.sink_counts start.sink.faults now.sink.faults (of_one (session_ends start now) session _ met) (named.no_sink_fault before)) _ refl
+none_first told limit start now run growth unlogged unserved cause named (causes.InputFull session) met =
+    let full = of_one run session _ met in
+    not_told _ _ (λ before. let ended = named.not_full before in let more = full.1 in absurd (cc)) _ refl
+none_first told limit start now run growth unlogged unserved cause named causes.Done met = last cause
+  where
+    last : (cause : Cause) → IsFalse (comes_before causes.Done cause)
+    last causes.Done = refl
+    last causes.Usage = refl
+    last (causes.SourceFault session) = refl
+    last (causes.DiskFault partition batch) = refl
+    last (causes.BadLog partition frame) = refl
+    last (causes.SinkFault session) = refl
+    last causes.Memory = refl
+    last (causes.LogFull partition length_told frame limit) = refl
+    last (causes.InputFull session) = refl
+none_first told limit start now run growth unlogged unserved cause named causes.Memory met = absurd met
+none_first told limit start now run growth unlogged unserved cause named causes.Usage met = absurd met
+none_first told limit start now run growth unlogged unserved cause named (causes.BadLog partition frame) met = absurd met
 
 undone_of : (hours : Hours) (run : SessionRun) (cause : Cause) (silent : List Batch) (unlogged : Option Batch)
     → IsLeftUndone hours (run.log ++ batches_of run.answers) run.served run.unserved cause silent unlogged → IsUndone hours (run ∷ []) cause silent unlogged
@@ -123,22 +166,23 @@ undone_of hours run cause silent unlogged (inr first) = inr (record {
 
 -- a run is over
 pub over : (told : Told) (setting : Setting) (start : Start) (now : Now) (before images : List ℕ → Type 0) (since : ℕ → List ℕ → Type 0) (places : List ℕ) (cause : Cause)
-    (served unserved : List (List ℕ)) (at_end : Bool) (answers : List Answer) (opened made silent : List Batch) (unlogged : Option Batch)
+    (served unserved : List (List ℕ)) (at_end : Bool) (answers : List Answer) (opened made silent : List Batch) (unlogged : Option Batch) (opened_at : ℕ)
     → made ≡ batches_of answers ++ silent
     → IsStream told.source start.source now.source served unserved at_end
     → AreAnswers setting.hours opened [] served answers
-    → (IsTrue told.sink → IsSent told (session_ends start now) cause (replies_of answers))
+    → (IsTrue told.sink → IsSent told 1 (session_ends start now) cause answers)
     → (IsTrue told.disk → Stands start.disk.contents (bodies_of opened))
     → IsApplied 1 opened
     → IsMade setting.limit opened made places
     → IsHeld told (log_ends start now) images cause unlogged (opened ++ made)
-    → (IsTrue told.images → (image : List ℕ) → since start.disk.moment image → WasLeft told (log_ends start now) before cause unlogged (record { opened = opened; made = made }) image)
+    → (IsTrue told.images → (image : List ℕ) → since opened_at image → WasLeft told (log_ends start now) cause unlogged (record { opened = opened; made = made; opened_at = opened_at }) image)
+    → (IsTrue told.images → (image : List ℕ) → since start.disk.moment image → LeftByOpening start.disk.contents before image ⊎ since opened_at image)
     → IsNamed told setting.limit start now (opened ++ made) unlogged unserved at_end cause
     → IsLeftUndone setting.hours (opened ++ batches_of answers) served unserved cause silent unlogged
     → ((batch : Batch) → unlogged ≡ Some batch → IsLeftOver (opened ++ made) batch)
     → IsOver told setting start now before images since places cause
-over told setting start now before images since places cause served unserved at_end answers opened made silent unlogged split stream are sent stood applied are_made held ever named undone left =
-    let growth : Growth = record { opened = opened; made = made } in
+over told setting start now before images since places cause served unserved at_end answers opened made silent unlogged opened_at split stream are sent stood applied are_made held ever opening named undone left =
+    let growth : Growth = record { opened = opened; made = made; opened_at = opened_at } in
     let run : SessionRun = record {
       taken = stream.taken;
       lines = stream.lines;
@@ -155,10 +199,12 @@ over told setting start now before images since places cause served unserved at_
       silent = silent;
       unlogged = unlogged;
       status = named.status;
+      first_met = none_first told setting.limit start now run growth unlogged unserved cause named;
       are_logs = (
         record {
           opened = stood;
           applied = applied;
+          fit = are_made.fit;
           steps = are_made.steps;
           contents = held.file;
           disk_fault = named.disk_fault;
@@ -194,6 +240,10 @@ over told setting start now before images since places cause served unserved at_
       in_turn = (append_none opened, tt);
       batches = append-nil made ∙ split ∙ ap (λ bs. bs ++ silent) (sym (append-nil (batches_of answers)));
       undone = undone_of setting.hours run cause silent unlogged undone;
-      crash_now = λ tells place listed ends image is_log is_ends left. crash_at told (log_ends start now) images cause unlogged growth held tells place listed ends image is_log is_ends left;
-      crash_ever = λ tells place listed ends image is_log is_ends was. ever_at told (log_ends start now) before (since start.disk.moment) cause unlogged growth ever tells place listed ends image is_log is_ends was;
+      crash_now = λ tells place listed ends image is_log is_ends left.
+          at_place (log_ends start now) growth (λ e g. images image → IsKept told e cause unlogged (whole_of g) image) (held.crash tells image) place listed ends is_log is_ends left;
+      crash_ever = λ tells place listed ends image is_log is_ends was.
+          at_place (log_ends start now) growth (λ e g. since g.opened_at image → WasLeft told e cause unlogged g image) (ever tells image) place listed ends is_log is_ends was;
+      crash_opening = λ tells place listed ends image is_log is_ends was.
+          at_place (log_ends start now) growth (λ e g. since e.disk.moment image → LeftByOpening e.disk.contents before image ⊎ since g.opened_at image) (opening tells image) place listed ends is_log is_ends was;
     }

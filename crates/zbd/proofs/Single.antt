@@ -1,18 +1,19 @@
 -- A run of one session and one volume, as a run of lists of them.
-use Rattle.std.proofs.Common.{◌≡◌, ℕ, zero, suc, ◌<◌, List, [], ◌∷◌, ◌++◌, length, get_or, slice_get, IsTrue, Option, Some, refl, sym, ap, subst, inl, inr, arith, length-append}
+use Rattle.std.proofs.Common.{◌≡◌, ◌⊎◌, ℕ, zero, suc, List, [], ◌∷◌, ◌++◌, length, get_or, slice_get, IsTrue, Some, refl, sym, ap, subst, inl, inr, arith, length-append}
 use Rattle.std.proofs.Math.ListN.{set}
 use Rattle.std.specs.List.{AllZip}
 use Rattle.zb_disk.specs.Disk.{DiskView}
 use Rattle.zb_outside.specs.Stream.{SourceView, SinkView}
-use Rattle.zb_model.specs.declared.record.Batch.{Batch}
+use Rattle.zb_store.specs.Calls.{LeftByOpening}
 use Rattle.zb_store.specs.declared.volume.Volume.{Volume}
 use Rattle.zbd.specs.Ends.{Told, SessionEnds, LogEnds, sessions_ends, logs_ends, images_at, since_at, IsSafe}
 use Rattle.zbd.specs.Hours.{Setting}
-use Rattle.zbd.specs.Log.{Growth, WasLeft}
-use Rattle.zbd.specs.Served.{Serves, IsRun, slots_in, slots_of}
+use Rattle.zbd.specs.Log.{Growth}
+use Rattle.zbd.specs.Served.{Serves, MayEnd, FailsToOpen, IsRun, slots_in, slots_of}
 use Rattle.zbd.specs.Serving.{start_of, now_of, session_ends, log_ends}
 use Rattle.zbd.specs.declared.run.Session.{Session}
 use Rattle.zbd.specs.declared.run.Cause.{Cause}
+use Rattle.zbd.specs.declared.run.Cause.TheVariants as causes
 
 -- a list of one member
 pub one_member : {A : Type 0} (xs : List A) (x : A) → length xs ≡ 1 → x ≡ get_or xs 0 x → xs ≡ x ∷ []
@@ -39,14 +40,12 @@ image_of {D} images volume zero image at =
     subst (λ (v : Volume D). images v.log image) (sym same) at.2
 image_of images volume (suc place) image at = absurd (let e = at.1 in cc)
 
--- what a crash might have left of it since the run began
-since_of : {D : Type 0} (view : D → DiskView) (since : D → ℕ → List ℕ → Type 0) (volume volume' : Volume D) (place : ℕ) (image : List ℕ)
-    → since_at view since (volume ∷ []) (volume' ∷ []) place image → since volume'.log (view volume.log).moment image
-since_of {D} view since volume volume' zero image at =
-    let same_old : volume ≡ at.0 = cc (at.2) in
-    let same_new : volume' ≡ at.1 = cc (at.3) in
-    subst (λ (v : Volume D). since v.log (view volume.log).moment image) (sym same_new) (subst (λ (v : Volume D). since at.1.log (view v.log).moment image) (sym same_old) at.4)
-since_of view since volume volume' (suc place) image at = absurd (let e = at.2 in cc)
+-- what a crash might have left of it since a moment
+since_of : {D : Type 0} (since : D → ℕ → List ℕ → Type 0) (volume : Volume D) (place moment : ℕ) (image : List ℕ) → since_at since (volume ∷ []) place moment image → since volume.log moment image
+since_of {D} since volume zero moment image at =
+    let same : volume ≡ at.0 = cc (at.1) in
+    subst (λ (v : Volume D). since v.log moment image) (sym same) at.2
+since_of since volume (suc place) moment image at = absurd (let e = at.1 in cc)
 
 -- nothing was done
 pub safe_same : {D : Type 0} (view : D → DiskView) (images : D → List ℕ → Type 0) (since : D → ℕ → List ℕ → Type 0) (volumes : List (Volume D))
@@ -64,23 +63,25 @@ pub slots_single : {D : Type 0} (volume volume' : Volume D) (volumes volumes' : 
     → slots_in volume' ≡ slots_in volume → slots_of volumes' ≡ slots_of volumes
 slots_single volume volume' volumes volumes' e1 e2 same = rw (e1, e2) (ap (λ slots. slots ∷ []) same)
 
--- what a crash might have left, where one before the run might have left more
-wider : (told : Told) (ends : LogEnds) (before more : List ℕ → Type 0) (cause : Cause) (unlogged : Option Batch) (growth : Growth) (image : List ℕ) → (before image → more image)
-    → WasLeft told ends before cause unlogged growth image → WasLeft told ends more cause unlogged growth image
-wider told ends before more cause unlogged growth image so (inl (inl was)) = inl (inl (so was))
-wider told ends before more cause unlogged growth image so (inl (inr few)) = inl (inr few)
-wider told ends before more cause unlogged growth image so (inr left) = inr left
+-- what opening might have left, where a crash before the run might have left more, and one since then too
+wider : (file : List ℕ) (before more since later : List ℕ → Type 0) (image : List ℕ) → (before image → more image) → (since image → later image)
+    → LeftByOpening file before image ⊎ since image → LeftByOpening file more image ⊎ later image
+wider file before more since later image so then (inl (inl was)) = inl (inl (so was))
+wider file before more since later image so then (inl (inr few)) = inl (inr few)
+wider file before more since later image so then (inr was) = inr (then was)
 
--- the same run of one volume, where a crash may leave fewer images, and one before the run might have left more
-serves_fewer : (told : Told) (setting : Setting) (streams : List SessionEnds) (first : LogEnds) (before : List ℕ → Type 0) (more images fewer since later : ℕ → List ℕ → Type 0) (cause : Cause) (stamps : List (List ℕ))
-    → ((image : List ℕ) → before image → more 0 image) → ((place : ℕ) (image : List ℕ) → fewer place image → images place image) → ((place : ℕ) (image : List ℕ) → later place image → since place image)
-    → Serves told setting streams (first ∷ []) (λ place. before) images since cause stamps → Serves told setting streams (first ∷ []) more fewer later cause stamps
-serves_fewer told setting streams first before more images fewer since later cause stamps so less gone s = record {
+-- the same run of one volume, where what crashes leave of it is told by its place among the volumes
+serves_fewer : (told : Told) (setting : Setting) (streams : List SessionEnds) (first : LogEnds) (before : List ℕ → Type 0) (more images fewer : ℕ → List ℕ → Type 0) (since : ℕ → List ℕ → Type 0) (later : (place moment : ℕ) → List ℕ → Type 0)
+    (cause : Cause) (stamps : List (List ℕ)) → ((image : List ℕ) → before image → more 0 image) → ((place : ℕ) (image : List ℕ) → fewer place image → images place image)
+    → ((place moment : ℕ) (image : List ℕ) → later place moment image → since moment image) → ((moment : ℕ) (image : List ℕ) → since moment image → later 0 moment image)
+    → Serves told setting streams (first ∷ []) (λ place. before) images (λ place. since) cause stamps → Serves told setting streams (first ∷ []) more fewer later cause stamps
+serves_fewer told setting streams first before more images fewer since later cause stamps so less gone again s = record {
   runs = s.runs;
   logs = s.logs;
   silent = s.silent;
   unlogged = s.unlogged;
   status = s.status;
+  first_met = s.first_met;
   are_logs = s.are_logs;
   stamped = s.stamped;
   ascending = s.ascending;
@@ -90,19 +91,29 @@ serves_fewer told setting streams first before more images fewer since later cau
   batches = s.batches;
   undone = s.undone;
   crash_now = λ told place log ends image is_log is_ends left. s.crash_now told place log ends image is_log is_ends (less place image left);
-  crash_ever = ever;
+  crash_ever = λ told place log ends image is_log is_ends was. s.crash_ever told place log ends image is_log is_ends (gone place log.opened_at image was);
+  crash_opening = opening;
 }
   where
-    ever : IsTrue told.images → (place : ℕ) (growth : Growth) (ends : LogEnds) (image : List ℕ) → slice_get s.logs place ≡ Some growth → slice_get (first ∷ []) place ≡ Some ends
-        → later place image → WasLeft told ends (more place) cause s.unlogged growth image
-    ever tells zero growth ends image is_log is_ends was = wider told ends before (more 0) cause s.unlogged growth image (so image) (s.crash_ever tells 0 growth ends image is_log is_ends (gone 0 image was))
-    ever tells (suc place) growth ends image is_log is_ends was = absurd (cc)
+    opening : IsTrue told.images → (place : ℕ) (growth : Growth) (ends : LogEnds) (image : List ℕ) → slice_get s.logs place ≡ Some growth → slice_get (first ∷ []) place ≡ Some ends
+        → later place ends.disk.moment image → LeftByOpening ends.disk.contents (more place) image ⊎ later place growth.opened_at image
+    opening tells zero growth ends image is_log is_ends was =
+        wider ends.disk.contents before (more 0) (since growth.opened_at) (later 0 growth.opened_at) image (so image) (again growth.opened_at image)
+        (s.crash_opening tells 0 growth ends image is_log is_ends (gone 0 ends.disk.moment image was))
+    opening tells (suc place) growth ends image is_log is_ends was = absurd (cc)
 
-run_fewer : (told : Told) (setting : Setting) (streams : List SessionEnds) (first : LogEnds) (before : List ℕ → Type 0) (more images fewer since later : ℕ → List ℕ → Type 0) (cause : Cause) (stamps : List (List ℕ))
-    → ((image : List ℕ) → before image → more 0 image) → ((place : ℕ) (image : List ℕ) → fewer place image → images place image) → ((place : ℕ) (image : List ℕ) → later place image → since place image)
-    → IsRun told setting streams (first ∷ []) (λ place. before) images since cause stamps → IsRun told setting streams (first ∷ []) more fewer later cause stamps
-run_fewer told setting streams first before more images fewer since later cause [] so less gone run = run
-run_fewer told setting streams first before more images fewer since later cause (stamp ∷ stamps) so less gone run = serves_fewer told setting streams first before more images fewer since later cause (stamp ∷ stamps) so less gone run
+run_fewer : (told : Told) (setting : Setting) (streams : List SessionEnds) (first : LogEnds) (before : List ℕ → Type 0) (more images fewer : ℕ → List ℕ → Type 0) (since : ℕ → List ℕ → Type 0) (later : (place moment : ℕ) → List ℕ → Type 0)
+    (cause : Cause) (stamps : List (List ℕ)) → ((image : List ℕ) → before image → more 0 image) → ((place : ℕ) (image : List ℕ) → fewer place image → images place image)
+    → ((place moment : ℕ) (image : List ℕ) → later place moment image → since moment image) → ((moment : ℕ) (image : List ℕ) → since moment image → later 0 moment image)
+    → IsRun told setting streams (first ∷ []) (λ place. before) images (λ place. since) cause stamps → IsRun told setting streams (first ∷ []) more fewer later cause stamps
+run_fewer told setting streams first before more images fewer since later cause [] so less gone again run = run
+run_fewer told setting streams first before more images fewer since later cause (stamp ∷ stamps) so less gone again run = serves_fewer told setting streams first before more images fewer since later cause (stamp ∷ stamps) so less gone again run
+
+-- a run of planned words isn't a question of usage
+pub never_usage : (told : Told) (setting : Setting) (streams : List SessionEnds) (volumes : List LogEnds) (before images : ℕ → List ℕ → Type 0) (since : (place moment : ℕ) → List ℕ → Type 0) (cause : Cause) (stamps : List (List ℕ))
+    → IsRun told setting streams volumes before images since cause stamps → cause ≡ causes.Usage → ⊥
+never_usage told setting streams volumes before images since cause [] run is = subst (FailsToOpen told volumes) is run.0
+never_usage told setting streams volumes before images since cause (stamp ∷ stamps) run is = subst (MayEnd (length streams) (length volumes)) is run.status
 
 -- the run of the one session over the one volume is the run
 pub run_single : {S K D : Type 0} (told : Told) (setting : Setting) (source : S → SourceView) (sink : K → SinkView) (view : D → DiskView) (images : D → List ℕ → Type 0) (since : D → ℕ → List ℕ → Type 0)
@@ -110,11 +121,11 @@ pub run_single : {S K D : Type 0} (told : Told) (setting : Setting) (source : S 
     → olds ≡ old ∷ [] → news ≡ new ∷ [] → volumes ≡ volume ∷ [] → volumes' ≡ volume' ∷ []
     → IsRun told setting (session_ends (start_of (source old.source) (sink old.sink) (view volume.log)) (now_of (source new.source) (sink new.sink) (view volume'.log)) ∷ [])
     (log_ends (start_of (source old.source) (sink old.sink) (view volume.log)) (now_of (source new.source) (sink new.sink) (view volume'.log)) ∷ [])
-    (λ place. images volume.log) (λ place. images volume'.log) (λ place. since volume'.log (view volume.log).moment) cause stamps
-    → IsRun told setting (sessions_ends source sink olds news) (logs_ends view volumes volumes') (images_at images volumes) (images_at images volumes') (since_at view since volumes volumes') cause stamps
+    (λ place. images volume.log) (λ place. images volume'.log) (λ place. since volume'.log) cause stamps
+    → IsRun told setting (sessions_ends source sink olds news) (logs_ends view volumes volumes') (images_at images volumes) (images_at images volumes') (since_at since volumes') cause stamps
 run_single told setting source sink view images since old new olds news volume volume' volumes volumes' cause stamps e1 e2 e3 e4 run =
     let start = start_of (source old.source) (sink old.sink) (view volume.log) in
     let now = now_of (source new.source) (sink new.sink) (view volume'.log) in
     rw (e1, e2, e3, e4) (run_fewer told setting (session_ends start now ∷ []) (log_ends start now)
-    (images volume.log) (images_at images (volume ∷ [])) (λ place. images volume'.log) (images_at images (volume' ∷ [])) (λ place. since volume'.log (view volume.log).moment) (since_at view since (volume ∷ []) (volume' ∷ [])) cause stamps
-    (λ image was. (volume, refl, was)) (image_of images volume') (since_of view since volume volume') run)
+    (images volume.log) (images_at images (volume ∷ [])) (λ place. images volume'.log) (images_at images (volume' ∷ [])) (since volume'.log) (since_at since (volume' ∷ [])) cause stamps
+    (λ image was. (volume, refl, was)) (image_of images volume') (since_of since volume') (λ moment image was. (volume', refl, was)) run)

@@ -1,5 +1,5 @@
 -- One turn of a session: a line is read, answered and replied to, or the run ends.
-use Rattle.std.proofs.Common.{◌≡◌, ◌⊎◌, ℕ, ◌+◌, ◌<◌, ◌≤◌, List, [], ◌∷◌, ◌++◌, length, Bool, true, false, IsTrue, Option, None, Result, refl, sym, ap, ◌∙◌, subst, inl, inr, ⊎_elim, append_assoc, arith, length-append}
+use Rattle.std.proofs.Common.{◌≡◌, ◌⊎◌, ℕ, ◌+◌, ◌≤◌, List, [], ◌∷◌, ◌++◌, length, Bool, true, false, IsTrue, Option, Some, None, refl, sym, ap, ◌∙◌, subst, inl, inr, ⊎_elim, append_assoc, arith, length-append}
 use Rattle.std.specs.List.{flat_map}
 use Rattle.std.proofs.lemmas.Grind.{flat_map-append}
 use Rattle.std.proofs.lemmas.List.{append-nil}
@@ -7,36 +7,46 @@ use Rattle.zb_disk.specs.Cause.{Rose}
 use Rattle.zb_disk.specs.Disk.{DiskView}
 use Rattle.zb_outside.specs.Stream.{SourceView, SinkView}
 use Rattle.zb_model.specs.declared.record.Batch.{Batch}
-use Rattle.zb_store.specs.Calls.{LeavesOnly}
+use Rattle.zb_store.specs.Calls.{LeavesOnly, LeftByOpening}
+use Rattle.zb_store.specs.Log.{extent}
+use Rattle.zb_partition.specs.Log.{bodies_of}
 use Rattle.zb_lines.specs.Taken.{Takes, takes_on}
 use Rattle.zb_lines.specs.Line.{IsOneLine, ended}
-use Rattle.zbd.specs.Ends.{Told, LogEnds}
+use Rattle.zbd.specs.Ends.{Told}
 use Rattle.zbd.specs.Hours.{Setting}
 use Rattle.zbd.specs.Ledger.{IsMade, IsStored}
-use Rattle.zbd.specs.Log.{IsFront, WasLeft}
-use Rattle.zbd.specs.Serving.{Start, Now, now_of, Clocks, Past, IsServing, WasLeftBefore, IsReplied, IsSinkEnd, cause_of}
-use Rattle.zbd.specs.Session.{Answer, IsAnswer, AreAnswers, batches_of, replies_of, most_taken}
-use Rattle.zbd.specs.declared.run.Cause.{Cause}
+use Rattle.zbd.specs.Log.{IsFront}
+use Rattle.zbd.specs.Serving.{Start, Now, now_of, Clocks, Past, IsSteady, IsServing, IsReplied, IsSinkEnd, session_ends, cause_of}
+use Rattle.zbd.specs.Session.{Answer, IsAnswer, AreAnswers, IsCutShort, batches_of, replies_of, most_taken}
 use Rattle.zbd.specs.declared.run.Cause.TheVariants as causes
 use Rattle.zbd.specs.declared.run.End.{End}
 use Rattle.zbd.specs.declared.run.End.TheVariants as ends
 use Rattle.zbd.proofs.Logs.{rose_since, front_grows, front_behind}
-use Rattle.zbd.proofs.Streams.{IsBehind, AllByRecursion-append, are_answers_more, batches_of_more, replies_of_more}
+use Rattle.zbd.proofs.StreamLines.{IsBehind, AllByRecursion-append, are_answers_more, batches_of_more, replies_of_more}
 use Rattle.zbd.proofs.Over.{IsNamed}
 
--- what a crash might have left so far, once the log has grown
-pub left_more : (file : List ℕ) (before : List ℕ → Type 0) (opened made more : List Batch) (image : List ℕ)
-    → WasLeftBefore file before opened made image ⊎ IsFront (opened ++ made) more image → WasLeftBefore file before opened (made ++ more) image
-left_more file before opened made more image (inl (inl by_opening)) = inl by_opening
-left_more file before opened made more image (inl (inr front)) = inr (front_grows opened made more image front)
-left_more file before opened made more image (inr front) = inr (front_behind opened made more image front)
+-- what a crash might have left since the log was opened, once it has grown
+pub ever_more : (opened made more : List Batch) (at old new : ℕ) (gone since : ℕ → List ℕ → Type 0) → at ≤ old
+    → ((image : List ℕ) → gone at image → IsFront opened made image) → LeavesOnly old new gone since (IsFront (opened ++ made) more)
+    → (image : List ℕ) → since at image → IsFront opened (made ++ more) image
+ever_more opened made more at old new gone since later ever leaves image was =
+    ⊎_elim (λ earlier. front_grows opened made more image (ever image earlier)) (λ front. front_behind opened made more image front) (leaves.nothing_else at image later was)
 
--- the same, of a crash at any moment since the run began
-pub ever_more : (file : List ℕ) (before : List ℕ → Type 0) (opened made more : List Batch) (first old new : ℕ) (gone since : ℕ → List ℕ → Type 0) → first ≤ old
-    → ((image : List ℕ) → gone first image → WasLeftBefore file before opened made image) → LeavesOnly old new gone since (IsFront (opened ++ made) more)
-    → (image : List ℕ) → since first image → WasLeftBefore file before opened (made ++ more) image
-ever_more file before opened made more first old new gone since later ever leaves image was =
-    left_more file before opened made more image (⊎_elim (λ earlier. inl (ever image earlier)) (λ front. inr front) (leaves.nothing_else first image later was))
+-- what one might have left since the run began, once more calls were made
+pub opening_more : (file : List ℕ) (before : List ℕ → Type 0) (first at old new : ℕ) (gone since : ℕ → List ℕ → Type 0) (P : List ℕ → Type 0) → first ≤ at → at ≤ old
+    → ((image : List ℕ) → gone first image → LeftByOpening file before image ⊎ gone at image) → LeavesOnly old new gone since P
+    → (image : List ℕ) → since first image → LeftByOpening file before image ⊎ since at image
+opening_more file before first at old new gone since P sooner later opening leaves image was =
+    ⊎_elim (λ earlier. ⊎_elim (λ left. inl left) (λ kept. inr (leaves.keeps at image later kept)) (opening image earlier)) (λ now. inr now) (leaves.splits first at image sooner later was)
+
+-- a line was served, and no device failed
+pub record IsLater (told : Told) (old : Now) (source : SourceView) (sink : SinkView) (disk : DiskView) : Type 0 where
+  pub source_later : old.source.faults ≤ source.faults
+  pub sink_later : old.sink.faults ≤ sink.faults
+  pub disk_later : old.disk.faults ≤ disk.faults
+  pub source_steady : IsTrue told.source_counts → source.faults ≡ old.source.faults
+  pub sink_steady : IsTrue told.sink_counts → sink.faults ≡ old.sink.faults
+  pub disk_steady : IsTrue told.disk_counts → disk.faults ≡ old.disk.faults
 
 -- what lies behind the line that comes next
 abbrev pub past_of : List (List ℕ) → List Batch → List Answer → Past
@@ -65,9 +75,9 @@ module _ (told : Told) (setting : Setting) (start : Start) (before : List ℕ �
       (source : SourceView) (sink : SinkView) (disk : DiskView) (more line left : List ℕ)
       → Takes told.source old.source source more → budget ≡ budget' + length more → IsOneLine line → held ++ more ≡ ended line ++ left
       → IsReplied told setting (past_of s.lines s.opened s.answers) line (now_of source old.sink old.disk) (now_of source sink disk) images' gone since Has' places' clocks'
-      → old.source.faults ≤ source.faults → old.sink.faults ≤ sink.faults → old.disk.faults ≤ disk.faults
+      → IsLater told old source sink disk
       → IsServing told setting start (now_of source sink disk) before images' since Has' places' clocks' left budget' (number + 1)
-  turn_on images' since Has' places' clocks' budget' source sink disk more line left takes spends one bytes replied source_later sink_later disk_later =
+  turn_on images' since Has' places' clocks' budget' source sink disk more line left takes spends one bytes replied later =
       let b = behind budget' source more takes spends in
       let a = replied.answered in
       let answer : Answer = record { reading = a.reading; batches = a.batches; reply = replied.reply } in
@@ -90,17 +100,27 @@ module _ (told : Told) (setting : Setting) (start : Start) (before : List ℕ �
         made = subst (λ (l : List Batch). IsMade setting.limit s.opened l places') (sym log) a.grown.made;
         has = subst (λ (l : List Batch). Has' (s.opened ++ l)) (sym log) a.grown.has;
         stored = subst (λ (l : List Batch). IsStored told.disk told.images disk images' (s.opened ++ l)) (sym log) a.grown.stored;
-        later = λ t. omega (arith, s.later t, (a.grown.time t).later);
-        ever = λ t image was. subst (λ (l : List Batch). WasLeftBefore start.disk.contents before s.opened l image) (sym log)
-            (ever_more start.disk.contents before s.opened (batches_of s.answers) a.batches start.disk.moment old.disk.moment disk.moment gone since (s.later t) (s.ever t) (a.grown.time t) image was);
-        source_later = omega (arith, s.source_later);
-        sink_later = omega (arith, s.sink_later);
-        disk_later = omega (arith, s.disk_later);
+        opened_at = s.opened_at;
+        later = λ t. ((s.later t).0, omega (arith, (s.later t).1, (a.grown.time t).later));
+        ever = λ t image was. subst (λ (l : List Batch). IsFront s.opened l image) (sym log)
+            (ever_more s.opened (batches_of s.answers) a.batches s.opened_at old.disk.moment disk.moment gone since (s.later t).1 (s.ever t) (a.grown.time t) image was);
+        opening = λ t image was.
+            opening_more start.disk.contents before start.disk.moment s.opened_at old.disk.moment disk.moment gone since _ (s.later t).0 (s.later t).1 (s.opening t) (a.grown.time t) image was;
+        source_later = omega (arith, s.source_later, later.source_later);
+        sink_later = omega (arith, s.sink_later, later.sink_later);
+        disk_later = omega (arith, s.disk_later, later.disk_later);
+        steady = record {
+          source = λ t. later.source_steady t ∙ s.steady.source t;
+          sink = λ t. later.sink_steady t ∙ s.steady.sink t;
+          disk = λ t. later.disk_steady t ∙ s.steady.disk t;
+        };
       }
 
 -- nothing but memory was wanting
-pub named_memory : (told : Told) (limit : ℕ) (start : Start) (now : Now) (log : List Batch) (unlogged : Option Batch) (unserved : List (List ℕ)) (at_end : Bool) → IsNamed told limit start now log unlogged unserved at_end causes.Memory
-named_memory told limit start now log unlogged unserved at_end = record {
+pub named_memory : (told : Told) (limit : ℕ) (start : Start) (now : Now) (log : List Batch) (unlogged : Option Batch) (unserved : List (List ℕ)) (at_end : Bool)
+    → (IsTrue told.disk_counts → now.disk.faults ≡ start.disk.faults) → ((batch : Batch) → unlogged ≡ Some batch → extent (bodies_of (log ++ batch ∷ [])) ≤ limit)
+    → IsNamed told limit start now log unlogged unserved at_end causes.Memory
+named_memory told limit start now log unlogged unserved at_end disk room = record {
   status = tt;
   done = λ e. absurd (cc);
   source_fault = λ e. absurd (cc);
@@ -108,10 +128,19 @@ named_memory told limit start now log unlogged unserved at_end = record {
   input_full = λ e. absurd (cc);
   disk_fault = λ batch e. absurd (cc);
   log_full = λ n frame most e. absurd (cc);
+  no_disk_fault = λ before. disk;
+  room = λ before. room;
+  no_source_fault = λ before. absurd (omega (arith, before));
+  no_sink_fault = λ before. absurd (omega (arith, before));
+  not_full = λ before. absurd (omega (arith, before));
 }
 
-pub named_done : (told : Told) (limit : ℕ) (start : Start) (now : Now) (log : List Batch) → IsNamed told limit start now log None [] true causes.Done
-named_done told limit start now log = record {
+-- every batch that was made is in the log
+pub no_more : (limit : ℕ) (log : List Batch) (batch : Batch) → None ≡ Some batch → extent (bodies_of (log ++ batch ∷ [])) ≤ limit
+no_more limit log batch e = absurd (cc)
+
+pub named_done : (told : Told) (limit : ℕ) (start : Start) (now : Now) (log : List Batch) → IsSteady told start now → IsNamed told limit start now log None [] true causes.Done
+named_done told limit start now log steady = record {
   status = tt;
   done = λ e. (refl, refl);
   source_fault = λ e. absurd (cc);
@@ -119,10 +148,16 @@ named_done told limit start now log = record {
   input_full = λ e. absurd (cc);
   disk_fault = λ batch e. absurd (cc);
   log_full = λ n frame most e. absurd (cc);
+  no_disk_fault = λ before. steady.disk;
+  room = λ before. no_more limit log;
+  no_source_fault = λ before. steady.source;
+  no_sink_fault = λ before. steady.sink;
+  not_full = λ before. refl;
 }
 
-pub named_source : (told : Told) (limit : ℕ) (start : Start) (now : Now) (log : List Batch) (at_end : Bool) → Rose start.source.faults now.source.faults → IsNamed told limit start now log None [] at_end (causes.SourceFault 1)
-named_source told limit start now log at_end rose = record {
+pub named_source : (told : Told) (limit : ℕ) (start : Start) (now : Now) (log : List Batch) (at_end : Bool) → Rose start.source.faults now.source.faults
+    → (IsTrue told.disk_counts → now.disk.faults ≡ start.disk.faults) → IsNamed told limit start now log None [] at_end (causes.SourceFault 1)
+named_source told limit start now log at_end rose disk = record {
   status = (omega arith, omega arith);
   done = λ e. absurd (cc);
   source_fault = λ e. (rose, refl);
@@ -130,10 +165,16 @@ named_source told limit start now log at_end rose = record {
   input_full = λ e. absurd (cc);
   disk_fault = λ batch e. absurd (cc);
   log_full = λ n frame most e. absurd (cc);
+  no_disk_fault = λ before. disk;
+  room = λ before. no_more limit log;
+  no_source_fault = λ before. absurd (omega (arith, before));
+  no_sink_fault = λ before. absurd (omega (arith, before));
+  not_full = λ before. absurd (omega (arith, before));
 }
 
-pub named_full : (told : Told) (limit : ℕ) (start : Start) (now : Now) (log : List Batch) → now.source.given ≡ start.source.given + most_taken → IsNamed told limit start now log None [] false (causes.InputFull 1)
-named_full told limit start now log full = record {
+pub named_full : (told : Told) (limit : ℕ) (start : Start) (now : Now) (log : List Batch) → now.source.given ≡ start.source.given + most_taken → IsSteady told start now
+    → IsNamed told limit start now log None [] false (causes.InputFull 1)
+named_full told limit start now log full steady = record {
   status = (omega arith, omega arith);
   done = λ e. absurd (cc);
   source_fault = λ e. absurd (cc);
@@ -141,13 +182,19 @@ named_full told limit start now log full = record {
   input_full = λ e. (full, refl, refl);
   disk_fault = λ batch e. absurd (cc);
   log_full = λ n frame most e. absurd (cc);
+  no_disk_fault = λ before. steady.disk;
+  room = λ before. no_more limit log;
+  no_source_fault = λ before. steady.source;
+  no_sink_fault = λ before. steady.sink;
+  not_full = λ before. absurd (omega (arith, before));
 }
 
 -- a sink that ends a run is named where it failed
 pub named_sink : (told : Told) (limit : ℕ) (start : Start) (old now : Now) (log : List Batch) (unserved : List (List ℕ)) (at_end : Bool) (in_writing : Option Batch) (end : End)
-    → IsSinkEnd told.sink_memory old.sink now.sink end → start.sink.faults ≤ old.sink.faults → IsNamed told limit start now log None unserved at_end (cause_of in_writing end)
-named_sink told limit start old now log unserved at_end in_writing ends.Memory is later = named_memory told limit start now log None unserved at_end
-named_sink told limit start old now log unserved at_end in_writing ends.SinkFault is later = record {
+    → IsSinkEnd told.sink_memory old.sink now.sink end → start.sink.faults ≤ old.sink.faults → (IsTrue told.disk_counts → now.disk.faults ≡ start.disk.faults)
+    → (IsTrue told.source_counts → now.source.faults ≡ start.source.faults) → IsNamed told limit start now log None unserved at_end (cause_of in_writing end)
+named_sink told limit start old now log unserved at_end in_writing ends.Memory is later disk source = named_memory told limit start now log None unserved at_end disk (no_more limit log)
+named_sink told limit start old now log unserved at_end in_writing ends.SinkFault is later disk source = record {
   status = (omega arith, omega arith);
   done = λ e. absurd (cc);
   source_fault = λ e. absurd (cc);
@@ -155,18 +202,23 @@ named_sink told limit start old now log unserved at_end in_writing ends.SinkFaul
   input_full = λ e. absurd (cc);
   disk_fault = λ batch e. absurd (cc);
   log_full = λ n frame most e. absurd (cc);
+  no_disk_fault = λ before. disk;
+  room = λ before. no_more limit log;
+  no_source_fault = λ before. source;
+  no_sink_fault = λ before. absurd (omega (arith, before));
+  not_full = λ before. absurd (omega (arith, before));
 }
-named_sink told limit start old now log unserved at_end in_writing ends.Done is later = absurd is
-named_sink told limit start old now log unserved at_end in_writing ends.SourceFault is later = absurd is
-named_sink told limit start old now log unserved at_end in_writing ends.InputFull is later = absurd is
-named_sink told limit start old now log unserved at_end in_writing (ends.Stopped stop) is later = absurd is
+named_sink told limit start old now log unserved at_end in_writing ends.Done is later disk source = absurd is
+named_sink told limit start old now log unserved at_end in_writing ends.SourceFault is later disk source = absurd is
+named_sink told limit start old now log unserved at_end in_writing ends.InputFull is later disk source = absurd is
+named_sink told limit start old now log unserved at_end in_writing (ends.Stopped stop) is later disk source = absurd is
 
--- why the replies fall short
-pub short : (told : Told) (start old new : SinkView) (in_writing : Option Batch) (end : End) → IsSinkEnd told.sink_memory old new end → start.faults ≤ old.faults
-    → Rose start.faults new.faults ⊎ (IsTrue told.sink_memory × (cause_of in_writing end ≡ causes.Memory))
-short told start old new in_writing ends.Memory is later = inr (is, refl)
-short told start old new in_writing ends.SinkFault is later = inl (rose_since start.faults old.faults new.faults later is)
-short told start old new in_writing ends.Done is later = absurd is
-short told start old new in_writing ends.SourceFault is later = absurd is
-short told start old new in_writing ends.InputFull is later = absurd is
-short told start old new in_writing (ends.Stopped stop) is later = absurd is
+-- why the last reply falls short
+pub short : (told : Told) (begun : Start) (now : Now) (old : SinkView) (in_writing : Option Batch) (end : End) → IsSinkEnd told.sink_memory old now.sink end → begun.sink.faults ≤ old.faults
+    → IsCutShort told 1 (session_ends begun now) (cause_of in_writing end)
+short told begun now old in_writing ends.Memory is later = inr (is, refl)
+short told begun now old in_writing ends.SinkFault is later = inl (rose_since begun.sink.faults old.faults now.sink.faults later is, inl refl)
+short told begun now old in_writing ends.Done is later = absurd is
+short told begun now old in_writing ends.SourceFault is later = absurd is
+short told begun now old in_writing ends.InputFull is later = absurd is
+short told begun now old in_writing (ends.Stopped stop) is later = absurd is

@@ -8,7 +8,8 @@ use Rattle.zb_words.specs.declared.plan.Plan.{Plan}
 use Rattle.zbd.specs.Hours.{setting_of}
 use Rattle.zbd.specs.Words.{IsPlanned}
 use Rattle.zbd.specs.Ends.{Told, sessions_ends, logs_ends, images_at, since_at, IsSafe}
-use Rattle.zbd.specs.Served.{IsRun, status_of, slots_of}
+use Rattle.zbd.specs.Cause.{status_of}
+use Rattle.zbd.specs.Served.{IsRun, slots_of}
 use Rattle.zbd.specs.declared.run.Session.{Session}
 use Rattle.zbd.specs.declared.run.Closed.{Closed}
 use Rattle.zbd.specs.declared.run.Cause.TheVariants as causes
@@ -36,5 +37,5 @@ pub record Closes {S K D : Type 0} (told : Told) (source : S → SourceView) (si
   -- what the run is, by the plan of the words: its causes, its logs, its sessions, and what a crash leaves, now and ever
   pub run : closed.cause ≢ causes.Usage → (plan : Plan) × IsPlanned words (length sessions) (length volumes) plan
       × IsRun told (setting_of plan tells moments) (sessions_ends source sink sessions closed.sessions.items) (logs_ends disk volumes closed.volumes.items)
-      (images_at images volumes) (images_at images closed.volumes.items) (since_at disk since volumes closed.volumes.items)
+      (images_at images volumes) (images_at images closed.volumes.items) (since_at since closed.volumes.items)
       closed.cause (map (λ list. list.items) closed.stamps.items)

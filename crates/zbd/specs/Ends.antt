@@ -1,5 +1,5 @@
 -- What was handed to a run and what it handed back, as plain data.
-use Rattle.std.specs.Prelude.{◌≡◌, ◌<◌, ℕ, suc, List, [], ◌∷◌, length, Bool, slice_get, Some}
+use Rattle.std.specs.Prelude.{◌≡◌, ◌<◌, ◌≤◌, ◌-◌, ℕ, suc, List, [], ◌∷◌, length, Bool, slice_get, Some}
 use Rattle.zb_disk.specs.Disk.{DiskView}
 use Rattle.zb_store.specs.Calls.{LeftByOpening}
 use Rattle.zb_outside.specs.Stream.{SourceView, SinkView}
@@ -18,7 +18,7 @@ pub record LogEnds : Type 0 where
   pub disk : DiskView
   pub disk_after : DiskView
 
--- what the types handed in tell, and which of their calls may want memory
+-- what the types handed in tell, which of their calls may want memory, and which of them count nothing but failures
 pub record Told : Type 0 where
   pub source : Bool
   pub sink : Bool
@@ -26,15 +26,21 @@ pub record Told : Type 0 where
   pub images : Bool
   pub sink_memory : Bool
   pub disk_memory : Bool
+  pub source_counts : Bool
+  pub sink_counts : Bool
+  pub disk_counts : Bool
 
-abbrev pub told : Bool → Bool → Bool → Bool → Bool → Bool → Told
-told source sink disk images sink_memory disk_memory = record {
+abbrev pub told : Bool → Bool → Bool → Bool → Bool → Bool → Bool → Bool → Bool → Told
+told source sink disk images sink_memory disk_memory source_counts sink_counts disk_counts = record {
   source = source;
   sink = sink;
   disk = disk;
   images = images;
   sink_memory = sink_memory;
   disk_memory = disk_memory;
+  source_counts = source_counts;
+  sink_counts = sink_counts;
+  disk_counts = disk_counts;
 }
 
 -- the ends of each session
@@ -58,11 +64,9 @@ logs_ends view (old ∷ olds) [] = []
 abbrev pub images_at : {D : Type 0} → (D → List ℕ → Type 0) → List (Volume D) → ℕ → List ℕ → Type 0
 images_at {D} images volumes place image = (volume : Volume D) × (slice_get volumes place ≡ Some volume) × images volume.log image
 
--- a crash at some moment since the run began might have left this of the log of the volume at a place, which it began
--- and ended with
-abbrev pub since_at : {D : Type 0} → (D → DiskView) → (D → ℕ → List ℕ → Type 0) → List (Volume D) → List (Volume D) → ℕ → List ℕ → Type 0
-since_at {D} view since olds news place image = (old new : Volume D) × (slice_get olds place ≡ Some old) × (slice_get news place ≡ Some new)
-    × since new.log (view old.log).moment image
+-- a crash at some moment since this one might have left this of the log of the volume at a place
+abbrev pub since_at : {D : Type 0} → (D → ℕ → List ℕ → Type 0) → List (Volume D) → (place moment : ℕ) → List ℕ → Type 0
+since_at {D} since volumes place moment image = (volume : Volume D) × (slice_get volumes place ≡ Some volume) × since volume.log moment image
 
 -- the log of a volume was not put at risk: a crash now, or at any moment since the run began, leaves no more of it than
 -- what one before might have left, or an opening
@@ -76,3 +80,7 @@ EachFrom R n [] [] = Unit {0}
 EachFrom R n (x ∷ xs) (y ∷ ys) = R n x y × EachFrom R (suc n) xs ys
 EachFrom R n [] (y ∷ ys) = ⊥
 EachFrom R n (x ∷ xs) [] = ⊥
+
+-- the member with this number, from 1, has P
+abbrev pub OfNumber : {A : Type 0} → List A → ℕ → (A → Type 0) → Type 0
+OfNumber {A} members number P = (member : A) × (1 ≤ number) × (slice_get members (number - 1) ≡ Some member) × P member

@@ -1,5 +1,5 @@
 -- The clock of a run, and its readings.
-use Rattle.std.specs.Prelude.{◌≡◌, ◌≤◌, min, sum_by, ℕ, List, Bool, true, false, IsTrue, Contains, Option, Some, None, Result, Ok, Err}
+use Rattle.std.specs.Prelude.{◌≡◌, ◌≤◌, min, sum_by, ℕ, List, Bool, true, false, IsTrue, Contains, Result, Ok}
 use Rattle.zb_base.specs.Moment.{last_moment}
 use Rattle.zb_wire.specs.declared.request.Request.{Request}
 use Rattle.zb_wire.specs.declared.request.Request.TheVariants as requests

@@ -13,7 +13,7 @@ use Rattle.zb_rules.specs.View.{last_moment}
 use Rattle.zb_rules.specs.Step.{AreStepsOn}
 use Rattle.zb_wire.specs.declared.request.Request.{Request}
 use Rattle.zb_wire.specs.declared.request.Request.TheVariants as requests
-use Rattle.zb_partition.specs.Log.{bodies_of}
+use Rattle.zb_partition.specs.Log.{bodies_of, AreBatches}
 use Rattle.zb_partition.specs.Partition.{place_of, limit_of, is_live, HasLog}
 use Rattle.zb_partition.specs.Stopping.{IsLeft, IsHurt, IsStepOf, IsStopCause}
 use Rattle.zb_partition.specs.declared.partition.Partition.{Partition}
@@ -26,11 +26,12 @@ pub record IsStored (tells tells_images : Bool) (view : DiskView) (images : List
   pub file : IsTrue tells → Stands view.contents (bodies_of log)
   pub crash : IsTrue tells_images → (image : List ℕ) → images image → Stands image (bodies_of log)
 
--- these batches were made on an opened log of at most so many bytes, and have these places
+-- these batches were made on an opened log of at most so many bytes, and have these places; all fit their spelling
 pub record IsMade (limit : ℕ) (opened made : List Batch) (places : List ℕ) : Type 0 where
   pub stamps : places ≡ range_with_len (length opened) (length made)
   pub stamped : AllZip IsStamped places made
   pub steps : AreStepsOn 1 opened made
+  pub fit : AreBatches (opened ++ made)
   pub fits : (made ≡ []) ⊎ (extent (bodies_of (opened ++ made)) ≤ limit)
 
 -- the one partition has this log of at most so many bytes, and no command has stopped it

@@ -1,6 +1,7 @@
 pub mod Words
 pub mod Hours
 pub mod Made
+pub mod Cause
 pub mod Ends
 pub mod Session
 pub mod Log
@@ -8,3 +9,4 @@ pub mod Served
 pub mod Ledger
 pub mod Serving
 pub mod Closing
+pub mod Order

@@ -1,32 +1,23 @@
 -- What a run of the server is.
-use Rattle.std.specs.Prelude.{◌≡◌, ◌⊎◌, ◌<◌, ◌≤◌, ◌-◌, ℕ, List, [], ◌∷◌, ◌++◌, length, slice_get, IsTrue, IsSome, Option, Some, None, Ok}
+use Rattle.std.specs.Prelude.{◌≡◌, ◌⊎◌, ◌<◌, ◌≤◌, ℕ, List, [], ◌∷◌, ◌++◌, length, slice_get, IsTrue, IsFalse, IsSome, Option, Some, None, Ok}
 use Rattle.std.specs.List.{flat_map, AllByRecursion, AllZip, range_with_len}
 use Rattle.std.specs.List.Sorted.{IsPermutation, IsStrictlyIncreasing}
 use Rattle.zb_disk.specs.Cause.{Rose}
 use Rattle.zb_model.specs.declared.record.Batch.{Batch}
 use Rattle.zb_wire.specs.declared.request.Request.{Request}
 use Rattle.zb_wire.specs.Request.{request_of}
-use Rattle.zbd.specs.Ends.{SessionEnds, LogEnds, Told, EachFrom}
+use Rattle.zbd.specs.Ends.{SessionEnds, LogEnds, Told, EachFrom, OfNumber}
+use Rattle.zbd.specs.Cause.{comes_before}
+use Rattle.zbd.specs.Order.{WasMet}
 use Rattle.zbd.specs.Session.{SessionRun, IsSession, batches_of}
 use Rattle.zb_partition.specs.Log.{IsBadAt}
+use Rattle.zb_store.specs.Calls.{LeftByOpening}
 use Rattle.zbd.specs.Hours.{Hours, is_manual, IsReadingOf, Setting}
 use Rattle.zbd.specs.Made.{AreMadeFor, IsMadeNext}
 use Rattle.zbd.specs.Log.{Growth, whole_of, IsLog, IsKept, WasLeft}
 use Rattle.zb_store.specs.declared.volume.Volume.{Volume}
 use Rattle.zbd.specs.declared.run.Cause.{Cause}
 use Rattle.zbd.specs.declared.run.Cause.TheVariants as causes
-
--- the exit status of a cause
-abbrev pub status_of : Cause → ℕ
-status_of causes.Done = 0
-status_of causes.Usage = 2
-status_of (causes.SourceFault session) = 3
-status_of (causes.DiskFault partition batch) = 4
-status_of (causes.BadLog partition frame) = 5
-status_of (causes.SinkFault session) = 6
-status_of causes.Memory = 7
-status_of (causes.LogFull partition length_told frame limit) = 8
-status_of (causes.InputFull session) = 9
 
 -- a number from 1 to n
 abbrev pub IsOneOf : ℕ → ℕ → Type 0
@@ -60,8 +51,20 @@ abbrev pub AreInTurn : List Batch → List SessionRun → Type 0
 AreInTurn log [] = Unit {0}
 AreInTurn log (run ∷ runs) = (run.log ≡ log) × AreInTurn (log ++ batches_of run.answers) runs
 
+-- what may leave a line undone: the disk failed or the log was full at a batch that was made for it, or memory ran out
+abbrev pub IsWhyUndone : Cause → Option Batch → Type 0
+IsWhyUndone (causes.DiskFault partition batch) unlogged = IsSome unlogged
+IsWhyUndone (causes.LogFull partition length_told frame limit) unlogged = IsSome unlogged
+IsWhyUndone causes.Memory unlogged = Unit {0}
+IsWhyUndone causes.Done unlogged = ⊥
+IsWhyUndone causes.Usage unlogged = ⊥
+IsWhyUndone (causes.SourceFault session) unlogged = ⊥
+IsWhyUndone (causes.BadLog partition frame) unlogged = ⊥
+IsWhyUndone (causes.SinkFault session) unlogged = ⊥
+IsWhyUndone (causes.InputFull session) unlogged = ⊥
+
 -- a line was read and not answered, the first one that a session has not served: its request, at a reading of the
--- clock, made the silent batches, and the one that isn't in its log, if there is one; else memory ran out
+-- clock, made the silent batches, and the one that isn't in its log, if there is one
 pub record IsUnfinished (hours : Hours) (runs : List SessionRun) (cause : Cause) (silent : List Batch) (unlogged : Option Batch) : Type 0 where
   pub place : ℕ
   pub run : SessionRun
@@ -75,7 +78,7 @@ pub record IsUnfinished (hours : Hours) (runs : List SessionRun) (cause : Cause)
   pub read : IsReadingOf hours (run.served ++ line ∷ []) reading
   pub made : AreMadeFor request reading (run.log ++ batches_of run.answers) silent
   pub next : (batch : Batch) → unlogged ≡ Some batch → IsMadeNext request reading (run.log ++ batches_of run.answers) silent batch
-  pub why : (cause ≡ causes.Memory) ⊎ IsSome unlogged
+  pub why : IsWhyUndone cause unlogged
 
 -- nothing was left undone, or one line
 abbrev pub IsUndone : Hours → List SessionRun → Cause → List Batch → Option Batch → Type 0
@@ -83,7 +86,7 @@ IsUndone hours runs cause silent unlogged = ((silent ≡ []) × (unlogged ≡ No
 
 -- a run whose logs were opened: its sessions, its logs, and its cause, and what a crash might have left of each log
 -- before the run, may leave now, and might have left at some moment since the run began
-pub record Serves (told : Told) (setting : Setting) (streams : List SessionEnds) (volumes : List LogEnds) (before images since : ℕ → List ℕ → Type 0)
+pub record Serves (told : Told) (setting : Setting) (streams : List SessionEnds) (volumes : List LogEnds) (before images : ℕ → List ℕ → Type 0) (since : (place moment : ℕ) → List ℕ → Type 0)
     (cause : Cause) (stamps : List (List ℕ)) : Type 0 where
   -- each session's part, the batches of each partition, the batches of a line that was not answered, and the batch
   -- that was made last and isn't in its log
@@ -91,8 +94,9 @@ pub record Serves (told : Told) (setting : Setting) (streams : List SessionEnds)
   pub logs : List Growth
   pub silent : List Batch
   pub unlogged : Option Batch
-  -- the causes that there are, and when each comes
+  -- the causes that there are, and no cause that is told before it was met
   pub status : MayEnd (length streams) (length volumes) cause
+  pub first_met : (other : Cause) → WasMet told setting.limit streams volumes runs logs unlogged other → IsFalse (comes_before other cause)
   -- each log has as many new batches as stamps; the stamps are the numbers from the count of all opened batches on,
   -- each once, and ascend in each log
   pub are_logs : EachFrom (IsLog told setting.limit cause unlogged) 1 volumes logs
@@ -109,20 +113,25 @@ pub record Serves (told : Told) (setting : Setting) (streams : List SessionEnds)
   pub crash_now : IsTrue told.images → (place : ℕ) (growth : Growth) (ends : LogEnds) (image : List ℕ)
       → slice_get logs place ≡ Some growth → slice_get volumes place ≡ Some ends → images place image
       → IsKept told ends cause unlogged (whole_of growth) image
-  -- and a crash at any moment since the run began left no more than that, a front of the log, or what opening leaves
+  -- and a crash at any moment since the log was opened left no more than that, or a front of the log
   pub crash_ever : IsTrue told.images → (place : ℕ) (growth : Growth) (ends : LogEnds) (image : List ℕ)
-      → slice_get logs place ≡ Some growth → slice_get volumes place ≡ Some ends → since place image
-      → WasLeft told ends (before place) cause unlogged growth image
+      → slice_get logs place ≡ Some growth → slice_get volumes place ≡ Some ends → since place growth.opened_at image
+      → WasLeft told ends cause unlogged growth image
+  -- one before, since the run began, left what opening leaves
+  pub crash_opening : IsTrue told.images → (place : ℕ) (growth : Growth) (ends : LogEnds) (image : List ℕ)
+      → slice_get logs place ≡ Some growth → slice_get volumes place ≡ Some ends → since place ends.disk.moment image
+      → LeftByOpening ends.disk.contents (before place) image ⊎ since place growth.opened_at image
 
--- the member with this number, from 1, has P
-abbrev pub OfNumber : {A : Type 0} → List A → ℕ → (A → Type 0) → Type 0
-OfNumber {A} members number P = (member : A) × (1 ≤ number) × (slice_get members (number - 1) ≡ Some member) × P member
+-- no call of a log's disk failed, as its count tells
+abbrev pub IsUntroubled : Told → LogEnds → Type 0
+IsUntroubled told ends = IsTrue told.disk_counts → ends.disk_after.faults ≡ ends.disk.faults
 
 -- Opening ended the run: a disk failed, a log has a first frame that can't be read, or there was no memory.
 abbrev pub FailsToOpen : Told → List LogEnds → Cause → Type 0
 FailsToOpen told volumes (causes.DiskFault partition batch) = (batch ≡ None) × OfNumber volumes partition (λ ends. Rose ends.disk.faults ends.disk_after.faults)
 FailsToOpen told volumes (causes.BadLog partition frame) = OfNumber volumes partition (λ ends. IsTrue told.disk → IsBadAt partition ends.disk.contents frame)
-FailsToOpen told volumes causes.Memory = Unit {0}
+    × AllByRecursion (IsUntroubled told) volumes
+FailsToOpen told volumes causes.Memory = AllByRecursion (IsUntroubled told) volumes
 FailsToOpen told volumes causes.Done = ⊥
 FailsToOpen told volumes causes.Usage = ⊥
 FailsToOpen told volumes (causes.SourceFault session) = ⊥
@@ -130,12 +139,13 @@ FailsToOpen told volumes (causes.SinkFault session) = ⊥
 FailsToOpen told volumes (causes.LogFull partition length_told frame limit) = ⊥
 FailsToOpen told volumes (causes.InputFull session) = ⊥
 
--- a log longer than one byte is as it was
+-- a log longer than one byte is as it was, and any other has at most one byte still
 abbrev pub IsSpared : Told → LogEnds → Type 0
-IsSpared told ends = IsTrue told.disk → 1 < length ends.disk.contents → ends.disk_after.contents ≡ ends.disk.contents
+IsSpared told ends = IsTrue told.disk → (1 < length ends.disk.contents → ends.disk_after.contents ≡ ends.disk.contents)
+    × (length ends.disk.contents ≤ 1 → length ends.disk_after.contents ≤ 1)
 
 -- a run of planned words: its logs were opened, and then it has stamps for each of them, or they weren't
-abbrev pub IsRun : Told → Setting → List SessionEnds → List LogEnds → (before images since : ℕ → List ℕ → Type 0) → Cause → List (List ℕ) → Type 0
+abbrev pub IsRun : Told → Setting → List SessionEnds → List LogEnds → (before images : ℕ → List ℕ → Type 0) → (since : (place moment : ℕ) → List ℕ → Type 0) → Cause → List (List ℕ) → Type 0
 IsRun told setting streams volumes before images since cause [] = FailsToOpen told volumes cause × AllByRecursion (IsSpared told) volumes
 IsRun told setting streams volumes before images since cause (first ∷ more) = Serves told setting streams volumes before images since cause (first ∷ more)
 

@@ -71,13 +71,15 @@ abbrev pub AreAt : Hours → List (List ℕ) → Clocks → Type 0
 AreAt manual lines clocks = clocks.dial ≡ Some (clock_after lines)
 AreAt (real tells moments) lines clocks = (clocks.dial ≡ None) × (tells ≡ clocks.tells) × (moments ≡ clocks.moments)
 
--- a crash at some moment of the run so far might have left this of the log: what opening leaves, or a front of it
-abbrev pub WasLeftBefore : List ℕ → (List ℕ → Type 0) → List Batch → List Batch → List ℕ → Type 0
-WasLeftBefore file before opened made image = LeftByOpening file before image ⊎ IsFront opened made image
+-- no device has failed since the run began, as its count tells where it counts nothing but failures
+pub record IsSteady (told : Told) (start : Start) (now : Now) : Type 0 where
+  pub source : IsTrue told.source_counts → now.source.faults ≡ start.source.faults
+  pub sink : IsTrue told.sink_counts → now.sink.faults ≡ start.sink.faults
+  pub disk : IsTrue told.disk_counts → now.disk.faults ≡ start.disk.faults
 
 -- Every line before the one with this number was served; `held` are the bytes behind them that were taken, `budget` is
 -- how many may still be. The partition has the log of which `Has` holds. A crash might have left `before` of it as the
--- run began, may leave `images` now, and might have left what `since` says at some moment since then.
+-- run began, may leave `images` now, and might have left what `since` says from a moment on.
 pub record IsServing (told : Told) (setting : Setting) (start : Start) (now : Now) (before images : List ℕ → Type 0) (since : ℕ → List ℕ → Type 0)
     (Has : List Batch → Type 0) (places : List ℕ) (clocks : Clocks) (held : List ℕ) (budget number : ℕ) : Type 0 where
   pub opened : List Batch
@@ -97,11 +99,15 @@ pub record IsServing (told : Told) (setting : Setting) (start : Start) (now : No
   pub made : IsMade setting.limit opened (batches_of answers) places
   pub has : Has (opened ++ batches_of answers)
   pub stored : IsStored told.disk told.images now.disk images (opened ++ batches_of answers)
-  pub later : IsTrue told.images → start.disk.moment ≤ now.disk.moment
-  pub ever : IsTrue told.images → (image : List ℕ) → since start.disk.moment image → WasLeftBefore start.disk.contents before opened (batches_of answers) image
+  -- when the log was open: a crash since then left a front of it, and one before what opening leaves
+  pub opened_at : ℕ
+  pub later : IsTrue told.images → (start.disk.moment ≤ opened_at) × (opened_at ≤ now.disk.moment)
+  pub ever : IsTrue told.images → (image : List ℕ) → since opened_at image → IsFront opened (batches_of answers) image
+  pub opening : IsTrue told.images → (image : List ℕ) → since start.disk.moment image → LeftByOpening start.disk.contents before image ⊎ since opened_at image
   pub source_later : start.source.faults ≤ now.source.faults
   pub sink_later : start.sink.faults ≤ now.sink.faults
   pub disk_later : start.disk.faults ≤ now.disk.faults
+  pub steady : IsSteady told start now
 
 -- what lies behind a line: the lines before it, the batches that the log had at opening, and those that were made since
 pub record Past : Type 0 where
@@ -232,7 +238,7 @@ cause_of in_writing (ends.Stopped (stops.LogFull length_told frame limit)) = cau
 -- the run is over
 abbrev pub IsOver : Told → Setting → Start → Now → (before images : List ℕ → Type 0) → (since : ℕ → List ℕ → Type 0) → List ℕ → Cause → Type 0
 IsOver told setting start now before images since places cause = Serves told setting
-    (session_ends start now ∷ []) (log_ends start now ∷ []) (λ place. before) (λ place. images) (λ place. since start.disk.moment) cause (places ∷ [])
+    (session_ends start now ∷ []) (log_ends start now ∷ []) (λ place. before) (λ place. images) (λ place. since) cause (places ∷ [])
 
 -- how a run goes on: to the line behind the one with this number, or to its end
 abbrev pub GoesOn : Told → Setting → Start → Now → (before images : List ℕ → Type 0) → (since : ℕ → List ℕ → Type 0) → (List Batch → Type 0) → List ℕ → Clocks → List ℕ → ℕ → ℕ → Option Batch → Result Bool End → Type 0

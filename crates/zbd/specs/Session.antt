@@ -1,5 +1,5 @@
 -- A session: the lines of a source, what each led to, and the replies.
-use Rattle.std.specs.Prelude.{◌≡◌, ◌⊎◌, ◌≤◌, ◌+◌, ◌^◌, ℕ, List, [], ◌∷◌, ◌++◌, length, take, Bool, true, false, IsTrue, Some, None, Result, Ok, Err}
+use Rattle.std.specs.Prelude.{◌≡◌, ◌⊎◌, ◌≤◌, ◌+◌, ◌^◌, ℕ, List, [], ◌∷◌, ◌++◌, length, take, Bool, true, false, IsTrue, None, Result, Ok, Err}
 use Rattle.std.specs.List.{flat_map}
 use Rattle.zb_disk.specs.Cause.{Rose}
 use Rattle.zb_model.specs.declared.record.Batch.{Batch}
@@ -13,6 +13,7 @@ use Rattle.zb_reply.specs.Reply.{line_of}
 use Rattle.zbd.specs.Hours.{Hours, is_manual, IsReadingOf}
 use Rattle.zbd.specs.Made.{IsServed}
 use Rattle.zbd.specs.Ends.{SessionEnds, Told}
+use Rattle.zbd.specs.Cause.{comes_before}
 use Rattle.zbd.specs.declared.run.Cause.{Cause}
 use Rattle.zbd.specs.declared.run.Cause.TheVariants as causes
 
@@ -75,11 +76,17 @@ pub record SessionRun : Type 0 where
   pub answers : List Answer
   pub unserved : List (List ℕ)
 
--- all of these bytes were written, or a front of them, since the sink failed or wanted memory
-abbrev pub IsSent : Told → SessionEnds → Cause → List ℕ → Type 0
-IsSent told ends cause bytes = (ends.sink_after.written ≡ ends.sink.written ++ bytes)
-    ⊎ ((n : ℕ) × (ends.sink_after.written ≡ ends.sink.written ++ take n bytes)
-    × (Rose ends.sink.faults ends.sink_after.faults ⊎ (IsTrue told.sink_memory × (cause ≡ causes.Memory))))
+-- why a reply of the session with this number is missing, or cut short: its sink failed, and the run's cause is that
+-- or one that is told before it, or its sink's calls take memory, and the cause is want of it
+abbrev pub IsCutShort : Told → (number : ℕ) → SessionEnds → Cause → Type 0
+IsCutShort told number ends cause = (Rose ends.sink.faults ends.sink_after.faults × ((cause ≡ causes.SinkFault number) ⊎ IsTrue (comes_before cause (causes.SinkFault number))))
+    ⊎ (IsTrue told.sink_memory × (cause ≡ causes.Memory))
+
+-- the replies were written in order, all of them, or all but the last one and a front of that
+abbrev pub IsSent : Told → (number : ℕ) → SessionEnds → Cause → List Answer → Type 0
+IsSent told number ends cause answers = (ends.sink_after.written ≡ ends.sink.written ++ replies_of answers)
+    ⊎ ((front : List Answer) × (last : Answer) × (n : ℕ) × (answers ≡ front ++ last ∷ [])
+    × (ends.sink_after.written ≡ ends.sink.written ++ (replies_of front ++ take n last.reply)) × IsCutShort told number ends cause)
 
 -- the session with this number, in a run that ended by this cause
 pub record IsSession (told : Told) (hours : Hours) (cause : Cause) (number : ℕ) (ends : SessionEnds) (run : SessionRun) : Type 0 where
@@ -91,7 +98,7 @@ pub record IsSession (told : Told) (hours : Hours) (cause : Cause) (number : ℕ
   -- the served lines are the first ones, each with its answer, and the replies were written in order
   pub first : run.lines ++ last_line run.ended run.rest ≡ run.served ++ run.unserved
   pub answers : AreAnswers hours run.log [] run.served run.answers
-  pub sent : IsTrue told.sink → IsSent told ends cause (replies_of run.answers)
+  pub sent : IsTrue told.sink → IsSent told number ends cause run.answers
   -- the run is done only where every source was read to its end and every line is served
   pub done : cause ≡ causes.Done → IsTrue run.ended × (run.unserved ≡ [])
   -- a stream is named only where it failed; a source then has all its lines served

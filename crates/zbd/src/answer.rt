@@ -1,5 +1,6 @@
-ghost use Rattle.std.specs.Prelude.{◌≡◌, ◌≤◌, ◌++◌, ◌∷◌, ℕ, List, [], Option, Some, None, IsSome, IsTrue, is_some, IfErr, IfOk, OnOk, Ok};
+ghost use Rattle.std.specs.Prelude.{◌≡◌, ◌≤◌, ◌++◌, ◌∷◌, ℕ, List, [], Option, Some, None, IsSome, IsTrue, is_some, IfErr, IfOk, OnOk, IsErrOf, Ok};
 ghost use Rattle.zb_model.specs.declared.record.Batch.{Batch};
+ghost use Rattle.zb_model.specs.declared.stop.Stop.TheVariants as stops;
 ghost use Rattle.zb_wire.specs.Request.{request_of};
 ghost use Rattle.zb_wire.specs.declared.request.Request.TheVariants as requests;
 ghost use Rattle.zb_wire.specs.Asked.{command_of};
@@ -47,6 +48,8 @@ pub fn answer_line<D: Disk, C: Clock>(
         (IsOpen setting.limit ledger.new.partition) ledger.new.stamps.items (in_writing ledger.new.partition)) }
     ensures slots { slots_of ledger.new.partition ≡ slots_of ledger.old.partition }
     ensures later { (D.view (disk_of ledger.old.partition)).faults ≤ (D.view (disk_of ledger.new.partition)).faults }
+    ensures steady { IsTrue D.counts_failures → ¬ IsErrOf result (End.Stopped stops.DiskFault)
+        → (D.view (disk_of ledger.new.partition)).faults ≡ (D.view (disk_of ledger.old.partition)).faults }
     ensures kind { is_some dial.new ≡ is_some dial.old }
     ensures moments { C.moments clock.new ≡ C.moments clock.old }
     ensures untouched { IsTrue (is_some dial.old) → clock.new ≡ clock.old }
@@ -82,6 +85,8 @@ fn answer_request<D: Disk>(
         (IsOpen limit ledger.new.partition) ledger.new.stamps.items (in_writing ledger.new.partition)) }
     ensures slots { slots_of ledger.new.partition ≡ slots_of ledger.old.partition }
     ensures later { (D.view (disk_of ledger.old.partition)).faults ≤ (D.view (disk_of ledger.new.partition)).faults }
+    ensures steady { IsTrue D.counts_failures → ¬ IsErrOf result (End.Stopped stops.DiskFault)
+        → (D.view (disk_of ledger.new.partition)).faults ≡ (D.view (disk_of ledger.old.partition)).faults }
 {
     match request {
         Request::Tick => answer_tick(alloc, reading, ledger, reply),
@@ -109,6 +114,8 @@ fn answer_tick<D: Disk>(
         (IsOpen limit ledger.new.partition) ledger.new.stamps.items (in_writing ledger.new.partition)) }
     ensures slots { slots_of ledger.new.partition ≡ slots_of ledger.old.partition }
     ensures later { (D.view (disk_of ledger.old.partition)).faults ≤ (D.view (disk_of ledger.new.partition)).faults }
+    ensures steady { IsTrue D.counts_failures → ¬ IsErrOf result (End.Stopped stops.DiskFault)
+        → (D.view (disk_of ledger.new.partition)).faults ≡ (D.view (disk_of ledger.old.partition)).faults }
 {
     match ledger.tick(alloc, reading) {
         Ok(due) => put(alloc, &Reply::Tick(due), Some(0), reply),
@@ -137,6 +144,8 @@ fn answer_command<D: Disk>(
         (IsOpen limit ledger.new.partition) ledger.new.stamps.items (in_writing ledger.new.partition)) }
     ensures slots { slots_of ledger.new.partition ≡ slots_of ledger.old.partition }
     ensures later { (D.view (disk_of ledger.old.partition)).faults ≤ (D.view (disk_of ledger.new.partition)).faults }
+    ensures steady { IsTrue D.counts_failures → ¬ IsErrOf result (End.Stopped stops.DiskFault)
+        → (D.view (disk_of ledger.new.partition)).faults ≡ (D.view (disk_of ledger.old.partition)).faults }
 {
     let Some(command) = request.into_command() else {
         unreachable!()

@@ -1,6 +1,8 @@
+// The files of the volumes.
+use crate::start_error::StartError;
 use std::alloc::{AllocError, Global};
-use std::fs::{self, File, OpenOptions};
-use std::io;
+use std::fs::{self, File, OpenOptions, TryLockError};
+use std::io::{self, ErrorKind};
 use std::rt::Files;
 use zb_disk::FileDisk;
 use zb_store::Volume;
@@ -8,50 +10,139 @@ use zb_store::Volume;
 /// The directory of the volumes.
 const DIRECTORY: &str = "zb";
 
-/// The volumes of so many partitions, as files of the directory that are made where they are missing. The names
-/// of the files are on the disk then too.
+/// What the name of a log ends in.
+const LOG: &str = "log";
+
+/// What the name of the first slot for snapshots ends in.
+const SNAP_A: &str = "a";
+
+/// What the name of the second slot ends in.
+const SNAP_B: &str = "b";
+
+/// The volumes of so many partitions, as files of the directory. What is missing is made, and its name is on the
+/// disk then too. No other server can have these files as long as they are open.
 pub fn open_volumes<R: Files<File = File>>(
     rt: &R,
     alloc: Global,
     partitions: u32,
-) -> io::Result<Vec<Volume<FileDisk>>> {
-    fs::create_dir_all(rt, DIRECTORY)?;
+) -> Result<Vec<Volume<FileDisk>>, StartError> {
+    make_directory(rt, alloc)?;
     let mut volumes = Vec::new(alloc);
     for partition in 1..=partitions {
         volumes.push(open_volume(rt, alloc, partition)?)?;
     }
-    sync_directory(rt, DIRECTORY)?;
-    sync_directory(rt, ".")?;
     Ok(volumes)
 }
 
-fn sync_directory<R: Files<File = File>>(rt: &R, path: &str) -> io::Result<()> {
-    File::open(rt, path)?.sync_all()
+/// Tells on standard error which files failed, and why.
+pub fn report_faults(rt: &HostRuntime, volumes: &[Volume<FileDisk>]) -> io::Result<()> {
+    let mut partition: u32 = 0;
+    for volume in volumes {
+        partition = partition.saturating_add(1);
+        report_fault(rt, partition, LOG, &volume.log)?;
+        report_fault(rt, partition, SNAP_A, &volume.snap_a)?;
+        report_fault(rt, partition, SNAP_B, &volume.snap_b)?;
+    }
+    Ok(())
 }
 
+// Tells why this file failed last, if it did.
+fn report_fault(rt: &HostRuntime, partition: u32, kind: &str, disk: &FileDisk) -> io::Result<()> {
+    match disk.last_error() {
+        Some(error) => eprintln!(rt; "zbd: {DIRECTORY}/{partition}.{kind}: {error}"),
+        None => Ok(()),
+    }
+}
+
+// Makes the directory of the volumes where there is none.
+fn make_directory<R: Files<File = File>>(rt: &R, alloc: Global) -> Result<(), StartError> {
+    match fs::create_dir(rt, DIRECTORY) {
+        Ok(()) => Ok(()),
+        Err(error) if error.kind() == ErrorKind::AlreadyExists => Ok(()),
+        Err(error) => Err(StartError::at(alloc, DIRECTORY, error)),
+    }
+}
+
+// The files of a partition. Before the first byte of its log is written, their names are brought onto the disk.
 fn open_volume<R: Files<File = File>>(
     rt: &R,
     alloc: Global,
     partition: u32,
-) -> io::Result<Volume<FileDisk>> {
+) -> Result<Volume<FileDisk>, StartError> {
+    let log = open_file(rt, alloc, partition, LOG)?;
+    let snap_a = open_file(rt, alloc, partition, SNAP_A)?;
+    let snap_b = open_file(rt, alloc, partition, SNAP_B)?;
+    let has_bytes = matches!(log.metadata(), Ok(found) if found.len() > 0);
+    if !has_bytes {
+        sync_directory(rt, alloc, DIRECTORY)?;
+        sync_directory(rt, alloc, ".")?;
+    }
     Ok(Volume {
-        log: open_file(rt, alloc, partition, "log")?,
-        snap_a: open_file(rt, alloc, partition, "a")?,
-        snap_b: open_file(rt, alloc, partition, "b")?,
+        log: FileDisk::new(log),
+        snap_a: FileDisk::new(snap_a),
+        snap_b: FileDisk::new(snap_b),
     })
 }
 
+// Brings the names in a directory onto the disk. A file system whose directories can't be synced calls that an
+// invalid argument.
+fn sync_directory<R: Files<File = File>>(
+    rt: &R,
+    alloc: Global,
+    path: &str,
+) -> Result<(), StartError> {
+    match File::open(rt, path).and_then(|directory| directory.sync_all()) {
+        Ok(()) => Ok(()),
+        Err(error) if error.kind() == ErrorKind::InvalidInput => Ok(()),
+        Err(error) => Err(StartError::at(alloc, path, error)),
+    }
+}
+
+// Opens a file of a partition, or makes it, and takes its lock.
 fn open_file<R: Files<File = File>>(
     rt: &R,
     alloc: Global,
     partition: u32,
     kind: &str,
-) -> io::Result<FileDisk> {
-    let path = format!(in alloc; "{DIRECTORY}/{partition}.{kind}")?;
-    let file = OpenOptions::new()
-        .read(true)
-        .write(true)
-        .create(true)
-        .open(rt, path.as_str())?;
-    Ok(FileDisk::new(file))
+) -> Result<File, StartError> {
+    let path = path_of(alloc, partition, kind)?;
+    let path = path.as_str();
+    refuse_others(rt, alloc, path)?;
+    let mut options = OpenOptions::new();
+    match options.read(true).write(true).create(true).open(rt, path) {
+        Ok(file) => lock(alloc, path, file),
+        Err(error) => Err(StartError::at(alloc, path, error)),
+    }
+}
+
+// Where a file of a partition stands.
+fn path_of(alloc: Global, partition: u32, kind: &str) -> Result<String, AllocError> {
+    format!(in alloc; "{DIRECTORY}/{partition}.{kind}")
+}
+
+// Refuses what is there and no regular file. To open it might wait, or do something to a device.
+fn refuse_others<R: Files<File = File>>(
+    rt: &R,
+    alloc: Global,
+    path: &str,
+) -> Result<(), StartError> {
+    match fs::metadata(rt, path) {
+        Ok(found) if found.is_file() => Ok(()),
+        Ok(_) => Err(StartError::NotRegular {
+            path: String::from_str(alloc, path)?,
+        }),
+        Err(error) if error.kind() == ErrorKind::NotFound => Ok(()),
+        Err(error) => Err(StartError::at(alloc, path, error)),
+    }
+}
+
+// Takes the lock of a file, which is held as long as the file is open.
+fn lock(alloc: Global, path: &str, file: File) -> Result<File, StartError> {
+    match file.try_lock() {
+        Ok(()) => Ok(file),
+        Err(TryLockError::WouldBlock) => Err(StartError::InUse {
+            path: String::from_str(alloc, DIRECTORY)?,
+        }),
+        Err(TryLockError::Error(error)) => Err(StartError::at(alloc, path, error)),
+    }
 }

@@ -1,4 +1,4 @@
-ghost use Rattle.std.specs.Prelude.{◌≡◌, ◌≤◌, ◌++◌, ◌∷◌, ℕ, List, [], max, IfErr, IfOk, OnOk};
+ghost use Rattle.std.specs.Prelude.{◌≡◌, ◌≤◌, ◌++◌, ◌∷◌, ℕ, List, [], max, IfErr, IfOk, OnOk, IsErrOf, IsTrue};
 ghost use Rattle.zb_model.specs.declared.record.Batch.{Batch};
 ghost use Rattle.zb_rules.specs.View.{last_moment};
 ghost use Rattle.zb_rules.specs.Step.{IsStep};
@@ -49,6 +49,7 @@ impl<D: Disk> Ledger<D> {
             self.new.stamps.items opened before [] reading command (in_writing self.new.partition)) }
         ensures slots { slots_of self.new.partition ≡ slots_of self.old.partition }
         ensures later { (D.view (disk_of self.old.partition)).faults ≤ (D.view (disk_of self.new.partition)).faults }
+        ensures steady { IsTrue D.counts_failures → ¬ IsErrOf result Stop.DiskFault → (D.view (disk_of self.new.partition)).faults ≡ (D.view (disk_of self.old.partition)).faults }
     {
         match self.stamps.reserve(1) {
             Ok(()) => {}
@@ -79,6 +80,7 @@ impl<D: Disk> Ledger<D> {
             self.new.stamps.items (in_writing self.new.partition)) }
         ensures slots { slots_of self.new.partition ≡ slots_of self.old.partition }
         ensures later { (D.view (disk_of self.old.partition)).faults ≤ (D.view (disk_of self.new.partition)).faults }
+        ensures steady { IsTrue D.counts_failures → ¬ IsErrOf result Stop.DiskFault → (D.view (disk_of self.new.partition)).faults ≡ (D.view (disk_of self.old.partition)).faults }
     {
         for done in 0..MOST_DUE {
             let Some(command) = self.partition.due(reading) else {
@@ -106,6 +108,7 @@ impl<D: Disk> Ledger<D> {
             self.new.stamps.items opened before [] reading command (in_writing self.new.partition)) }
         ensures slots { slots_of self.new.partition ≡ slots_of self.old.partition }
         ensures later { (D.view (disk_of self.old.partition)).faults ≤ (D.view (disk_of self.new.partition)).faults }
+        ensures steady { IsTrue D.counts_failures → ¬ IsErrOf result Stop.DiskFault → (D.view (disk_of self.new.partition)).faults ≡ (D.view (disk_of self.old.partition)).faults }
     {
         let _batch = match self.commit(alloc, reading, command) {
             Ok(batch) => batch,

@@ -1,5 +1,6 @@
-ghost use Rattle.std.specs.Prelude.{◌≡◌, ◌≤◌, ◌++◌, ℕ, List, Bool, take, IsTrue, is_some, IfErr, OnErr, OnOk};
+ghost use Rattle.std.specs.Prelude.{◌≡◌, ◌≤◌, ◌++◌, ℕ, List, Bool, take, IsTrue, is_some, IfErr, OnErr, OnOk, IsErrOf};
 ghost use Rattle.zb_outside.specs.Stream.{SourceView};
+ghost use Rattle.zb_model.specs.declared.stop.Stop.TheVariants as stops;
 ghost use Rattle.zb_partition.specs.Partition.{disk_of, slots_of, in_writing};
 ghost use Rattle.zbd.specs.Ends.{told};
 ghost use Rattle.zbd.specs.Hours.{Setting};
@@ -30,18 +31,18 @@ pub fn serve_line<K: Sink, D: Disk, C: Clock>(
         × ComesNext setting past (IsOpen setting.limit ledger.old.partition) ledger.old.stamps.items (clocks_of dial.old C.tells (C.moments clock.old)) number line shown.now }
 
     // For every source, and all lines and batches that may lie behind it.
-    ensures replied { (source : SourceView) (tells : Bool) (setting : Setting) (past : Past) (line : List ℕ)
+    ensures replied { (source : SourceView) (tells counts : Bool) (setting : Setting) (past : Past) (line : List ℕ)
         → ComesNext setting past (IsOpen setting.limit ledger.old.partition) ledger.old.stamps.items (clocks_of dial.old C.tells (C.moments clock.old)) number line shown.now
         → OnOk result (IsReplied
-        (told tells K.tells D.tells D.tells_images K.takes_memory D.takes_memory) setting past line
+        (told tells K.tells D.tells D.tells_images K.takes_memory D.takes_memory counts K.counts_failures D.counts_failures) setting past line
         (now_of source (K.view sink.old) (D.view (disk_of ledger.old.partition)))
         (now_of source (K.view sink.new) (D.view (disk_of ledger.new.partition)))
         (D.images (disk_of ledger.new.partition)) (D.since (disk_of ledger.old.partition)) (D.since (disk_of ledger.new.partition))
         (IsOpen setting.limit ledger.new.partition) ledger.new.stamps.items (clocks_of dial.new C.tells (C.moments clock.new))) }
-    ensures over { (source : SourceView) (tells : Bool) (setting : Setting) (past : Past) (line : List ℕ)
+    ensures over { (source : SourceView) (tells counts : Bool) (setting : Setting) (past : Past) (line : List ℕ)
         → ComesNext setting past (IsOpen setting.limit ledger.old.partition) ledger.old.stamps.items (clocks_of dial.old C.tells (C.moments clock.old)) number line shown.now
         → IfErr result (IsLineEnd
-        (told tells K.tells D.tells D.tells_images K.takes_memory D.takes_memory) setting past line
+        (told tells K.tells D.tells D.tells_images K.takes_memory D.takes_memory counts K.counts_failures D.counts_failures) setting past line
         (now_of source (K.view sink.old) (D.view (disk_of ledger.old.partition)))
         (now_of source (K.view sink.new) (D.view (disk_of ledger.new.partition)))
         (D.images (disk_of ledger.new.partition)) (D.since (disk_of ledger.old.partition)) (D.since (disk_of ledger.new.partition))
@@ -51,6 +52,9 @@ pub fn serve_line<K: Sink, D: Disk, C: Clock>(
     ensures slots { slots_of ledger.new.partition ≡ slots_of ledger.old.partition }
     ensures sink_later { (K.view sink.old).faults ≤ (K.view sink.new).faults }
     ensures disk_later { (D.view (disk_of ledger.old.partition)).faults ≤ (D.view (disk_of ledger.new.partition)).faults }
+    ensures sink_steady { IsTrue K.counts_failures → ¬ IsErrOf result End.SinkFault → (K.view sink.new).faults ≡ (K.view sink.old).faults }
+    ensures disk_steady { IsTrue D.counts_failures → ¬ IsErrOf result (End.Stopped stops.DiskFault)
+        → (D.view (disk_of ledger.new.partition)).faults ≡ (D.view (disk_of ledger.old.partition)).faults }
     ensures kind { is_some dial.new ≡ is_some dial.old }
     ensures moments { C.moments clock.new ≡ C.moments clock.old }
     ensures untouched { IsTrue (is_some dial.old) → clock.new ≡ clock.old }
@@ -66,6 +70,7 @@ fn deliver<K: Sink>(sink: &mut K, reply: &[u8]) -> Result<(), End>
     ensures sent { IsTrue K.tells → OnOk result ((K.view sink.new).written ≡ (K.view sink.old).written ++ reply.now) }
     ensures part { IsTrue K.tells → OnErr result ((n : ℕ) × ((K.view sink.new).written ≡ (K.view sink.old).written ++ take n reply.now)) }
     ensures later { (K.view sink.old).faults ≤ (K.view sink.new).faults }
+    ensures steady { IsTrue K.counts_failures → ¬ IsErrOf result End.SinkFault → (K.view sink.new).faults ≡ (K.view sink.old).faults }
     ensures end { IfErr result (IsSinkEnd K.takes_memory (K.view sink.old) (K.view sink.new)) }
 {
     match zb_lines::send(sink, reply) {

@@ -12,15 +12,20 @@ mod line;
 mod run;
 mod running;
 mod session;
+mod start_error;
+mod streams;
 #[cfg(test)]
 mod tests;
 mod top;
 
-use files::open_volumes;
+use files::{open_volumes, report_faults};
 use run::{Cause, Session};
+use start_error::StartError;
 use std::env;
-use std::io::{self, Stdin, Stdout};
+use std::fs::File;
+use std::io::{self, ErrorKind, Stdin, Stdout};
 use std::process::ExitCode;
+use streams::hold_standard_streams;
 use top::{plan_for, serve};
 use zb_disk::FileDisk;
 use zb_outside::{OpenDoor, StdClock, StdSink, StdSource};
@@ -37,6 +42,8 @@ struct Real {
     words: Vec<String>,
     sessions: Vec<Terminal>,
     volumes: Vec<Volume<FileDisk>>,
+    /// They stand for the standard streams that are missing.
+    held: Vec<File>,
 }
 
 fn main(rt: HostRuntime) -> ExitCode {
@@ -51,6 +58,7 @@ fn main(rt: HostRuntime) -> ExitCode {
         words,
         sessions,
         volumes,
+        held: _held,
     } = real;
     let mut clock = StdClock::new(&rt);
     let closed = serve(
@@ -62,19 +70,18 @@ fn main(rt: HostRuntime) -> ExitCode {
         &mut clock,
         &OpenDoor,
     );
-    let _ = report(&rt, &closed.cause);
+    let _ = report(&rt, &closed.cause, &closed.volumes);
     ExitCode::from(closed.status)
 }
 
-// Makes the real objects. Files are opened only where the words are those of a server.
-fn make_real(rt: &HostRuntime) -> io::Result<Real>
+// Makes the real objects. Files are opened only where the words are those of a server, and behind those that
+// hold the numbers of the standard streams.
+fn make_real(rt: &HostRuntime) -> Result<Real, StartError>
     ensures { IfOk result (λ real. length real.sessions.items ≡ 1) }
 {
     let alloc = rt.alloc();
-    let mut words = Vec::new(alloc);
-    for word in env::args(rt)?.skip(1) {
-        words.push(word)?;
-    }
+    let held = hold_standard_streams(rt, alloc)?;
+    let words = words(rt)?;
     let mut sessions = Vec::new(alloc);
     sessions.push(Session {
         source: StdSource::new(rt.stdin()),
@@ -88,14 +95,35 @@ fn make_real(rt: &HostRuntime) -> io::Result<Real>
         words,
         sessions,
         volumes,
+        held,
     })
 }
 
+// The words behind the program's name. Where one of them is no text there are none, and that is no command
+// line either.
+fn words(rt: &HostRuntime) -> io::Result<Vec<String>> {
+    let mut words = Vec::new(rt.alloc());
+    match env::args(rt) {
+        Ok(args) => {
+            for word in args.skip(1) {
+                words.push(word)?;
+            }
+        }
+        Err(error) if error.kind() == ErrorKind::InvalidData => {}
+        Err(error) => return Err(error),
+    }
+    Ok(words)
+}
+
 // Tells on standard error why the run ended, unless it is done.
-fn report(rt: &HostRuntime, cause: &Cause) -> io::Result<()> {
+fn report(rt: &HostRuntime, cause: &Cause, volumes: &[Volume<FileDisk>]) -> io::Result<()> {
     match cause {
         Cause::Done => Ok(()),
         Cause::Usage => eprintln!(rt; "zbd: {cause}\n{USAGE}"),
+        Cause::DiskFault { .. } => {
+            eprintln!(rt; "zbd: {cause}")?;
+            report_faults(rt, volumes)
+        }
         _ => eprintln!(rt; "zbd: {cause}"),
     }
 }

@@ -45,14 +45,14 @@ pub fn run<S: Source, K: Sink, D: Disk, C: Clock>(
     ensures slots { slots_in result.volume ≡ slots_in volume }
     ensures spared { result.stamps.items ≡ [] → IsTrue D.tells_images → IsSafe D.view D.images D.since volume result.volume }
     ensures run { IsRun
-        (told S.tells K.tells D.tells D.tells_images K.takes_memory D.takes_memory) (setting_of plan C.tells (C.moments clock.old))
+        (told S.tells K.tells D.tells D.tells_images K.takes_memory D.takes_memory S.counts_failures K.counts_failures D.counts_failures) (setting_of plan C.tells (C.moments clock.old))
         (session_ends
         (start_of (S.view session.old.source) (K.view session.old.sink) (D.view volume.log))
         (now_of (S.view session.new.source) (K.view session.new.sink) (D.view result.volume.log)) ∷ [])
         (log_ends
         (start_of (S.view session.old.source) (K.view session.old.sink) (D.view volume.log))
         (now_of (S.view session.new.source) (K.view session.new.sink) (D.view result.volume.log)) ∷ [])
-        (λ place. D.images volume.log) (λ place. D.images result.volume.log) (λ place. D.since result.volume.log (D.view volume.log).moment)
+        (λ place. D.images volume.log) (λ place. D.images result.volume.log) (λ place. D.since result.volume.log)
         result.cause (map (λ list. list.items) result.stamps.items) }
     ensures untouched { plan.clock ≡ kinds.Manual → clock.new ≡ clock.old }
     ensures moments { C.moments clock.new ≡ C.moments clock.old }
@@ -95,15 +95,16 @@ fn serve_partition<S: Source, K: Sink, D: Disk, C: Clock>(
     ensures run { (disk : D) (opened : List Batch) → IsOpen plan.limit partition opened → IsApplied 1 opened
         → (IsTrue D.tells → Stands (D.view disk).contents (bodies_of opened))
         → OnlyOpens D.tells D.tells_images D.view D.images D.since disk (disk_of partition)
+        → (IsTrue D.counts_failures → (D.view (disk_of partition)).faults ≡ (D.view disk).faults)
         → IsRun
-        (told S.tells K.tells D.tells D.tells_images K.takes_memory D.takes_memory) (setting_of plan C.tells (C.moments clock.old))
+        (told S.tells K.tells D.tells D.tells_images K.takes_memory D.takes_memory S.counts_failures K.counts_failures D.counts_failures) (setting_of plan C.tells (C.moments clock.old))
         (session_ends
         (start_of (S.view session.old.source) (K.view session.old.sink) (D.view disk))
         (now_of (S.view session.new.source) (K.view session.new.sink) (D.view result.volume.log)) ∷ [])
         (log_ends
         (start_of (S.view session.old.source) (K.view session.old.sink) (D.view disk))
         (now_of (S.view session.new.source) (K.view session.new.sink) (D.view result.volume.log)) ∷ [])
-        (λ place. D.images disk) (λ place. D.images result.volume.log) (λ place. D.since result.volume.log (D.view disk).moment)
+        (λ place. D.images disk) (λ place. D.images result.volume.log) (λ place. D.since result.volume.log)
         result.cause (map (λ list. list.items) result.stamps.items) }
     ensures untouched { plan.clock ≡ kinds.Manual → clock.new ≡ clock.old }
     ensures moments { C.moments clock.new ≡ C.moments clock.old }

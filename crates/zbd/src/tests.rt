@@ -11,7 +11,6 @@ use zb_outside::{ListClock, MemSink, MemSource, OpenDoor};
 use zb_store::Volume;
 
 mod crashes;
-mod hours;
 mod processes;
 
 type Ended = Closed<MemSource, MemSink, MemDisk>;
@@ -227,87 +226,6 @@ fn ample_memory_serves_so_always_memory_is_refused(rt: HostRuntime) -> Result<()
     Ok(())
 }
 
-/// A publish whose message has an id.
-const NAMED: &str =
-    "{\"op\":\"publish\",\"name\":\"paid\",\"correlationKey\":\"o-1\",\"timeToLive\":1000,\"messageId\":\"x\"}\n";
-
-/// The same, which expires at once.
-const BRIEF: &str =
-    "{\"op\":\"publish\",\"name\":\"paid\",\"correlationKey\":\"o-1\",\"timeToLive\":0,\"messageId\":\"x\"}\n";
-
-/// The reply of a publish that is the second.
-const SECOND: &str = "{\"ok\":{\"message\":2251799813685250},\"units\":0}\n";
-
-/// The reply of a publish that is the third.
-const THIRD: &str = "{\"ok\":{\"message\":2251799813685251},\"units\":0}\n";
-
-/// The reply of a publish whose message is buffered.
-const REPEATED: &str =
-    "{\"reason\":\"message paid o-1 x is buffered\",\"rejected\":\"ALREADY_EXISTS\",\"units\":0}\n";
-
-#[test]
-fn each_line_has_its_reply(rt: HostRuntime) -> Result<(), Fail> {
-    let table: [(&[&str], &[&str], &[u64]); 10] = [
-        (&[], &[], &[]),
-        (&["\n"], &["{\"fault\":\"NOT_JSON\",\"line\":1}\n"], &[]),
-        (
-            &["{\"op\":\"fly\"}\n", "[]\n", "{}\n"],
-            &[
-                "{\"fault\":\"UNKNOWN_OP\",\"line\":1}\n",
-                "{\"fault\":\"NOT_OBJECT\",\"line\":2}\n",
-                "{\"fault\":\"NO_OP\",\"line\":3}\n",
-            ],
-            &[],
-        ),
-        (
-            &["{\"op\":\"publish\"}\n", "<bpmn>"],
-            &[
-                "{\"fault\":\"FIELD\",\"field\":\"name\",\"line\":1}\n",
-                "{\"fault\":\"NOT_JSON\",\"line\":2}\n",
-            ],
-            &[],
-        ),
-        (&[PAID, PAID], &[FIRST, SECOND], &[0, 1]),
-        (&[NAMED, NAMED], &[FIRST, REPEATED], &[0, 1]),
-        (
-            &[NAMED, BRIEF, PAID],
-            &[FIRST, REPEATED, SECOND],
-            &[0, 1, 2],
-        ),
-        (&[BRIEF, BRIEF], &[FIRST, SECOND], &[0, 1]),
-        (
-            &[BRIEF, NAMED, BRIEF],
-            &[FIRST, SECOND, REPEATED],
-            &[0, 1, 2],
-        ),
-        (
-            &[PAID, "{\"op\":\"publish\"\n", NAMED.trim_end()],
-            &[FIRST, "{\"fault\":\"NOT_JSON\",\"line\":2}\n", SECOND],
-            &[0, 1],
-        ),
-    ];
-    for (lines, replies, stamps) in table {
-        let input = joined(rt.alloc(), lines)?;
-        let output = joined(rt.alloc(), replies)?;
-        for piece in [1, 7, 65_536] {
-            let script = Script {
-                input: &input,
-                piece,
-                ..PLAIN
-            };
-            let want = Want {
-                status: 0,
-                output: &output,
-                log: if stamps.is_empty() { Some(&[0]) } else { None },
-                stamps: Some(stamps),
-                bad_frame: None,
-            };
-            expect(&rt, rt.alloc(), &script, &want)?;
-        }
-    }
-    Ok(())
-}
-
 /// The texts, one behind the other.
 fn joined(alloc: Global, texts: &[&str]) -> Result<Vec<u8>, AllocError> {
     let mut bytes = Vec::new(alloc);
@@ -315,53 +233,6 @@ fn joined(alloc: Global, texts: &[&str]) -> Result<Vec<u8>, AllocError> {
         bytes.extend_from_slice(text.as_bytes())?;
     }
     Ok(bytes)
-}
-
-/// A publish line padded by blanks to so many bytes, then a publish, then a line that asks for nothing.
-fn padded(alloc: Global, length: usize) -> Result<Vec<u8>, AllocError> {
-    let mut input = PAID.trim_end().as_bytes().to_vec(alloc)?;
-    input.resize(length, b' ')?;
-    input.push(b'\n')?;
-    input.extend_from_slice(PAID.as_bytes())?;
-    input.extend_from_slice(b"{\"op\":\"fly\"}\n")?;
-    Ok(input)
-}
-
-#[test]
-fn a_line_may_be_too_long(rt: HostRuntime) -> Result<(), Fail> {
-    let table: [(usize, &[u8], &[u64]); 3] = [
-        (
-            262_144,
-            b"{\"ok\":{\"message\":2251799813685249},\"units\":0}\n{\"ok\":{\"message\":2251799813685250},\"units\":0}\n{\"fault\":\"UNKNOWN_OP\",\"line\":3}\n",
-            &[0, 1],
-        ),
-        (
-            262_145,
-            b"{\"fault\":\"TOO_LONG\",\"line\":1}\n{\"ok\":{\"message\":2251799813685249},\"units\":0}\n{\"fault\":\"UNKNOWN_OP\",\"line\":3}\n",
-            &[0],
-        ),
-        (
-            600_000,
-            b"{\"fault\":\"TOO_LONG\",\"line\":1}\n{\"ok\":{\"message\":2251799813685249},\"units\":0}\n{\"fault\":\"UNKNOWN_OP\",\"line\":3}\n",
-            &[0],
-        ),
-    ];
-    for (length, output, stamps) in table {
-        let input = padded(rt.alloc(), length)?;
-        let script = Script {
-            input: &input,
-            ..PLAIN
-        };
-        let want = Want {
-            status: 0,
-            output,
-            log: None,
-            stamps: Some(stamps),
-            bad_frame: None,
-        };
-        expect(&rt, rt.alloc(), &script, &want)?;
-    }
-    Ok(())
 }
 
 #[test]
@@ -401,9 +272,9 @@ fn a_device_may_fail(rt: HostRuntime) -> Result<(), Fail> {
         };
         expect(&rt, rt.alloc(), script, &want)?;
     }
-    // Opening syncs, asks for the length, writes the gate and syncs, or reads the frames twice; a batch is
-    // written, synced, its gate opened, and synced.
-    for (log, opening) in [(&[] as &[u8], 4u64), (&PAID_LOG, 4)] {
+    // Opening syncs, asks for the length, writes the gate of an empty log and syncs, and reads; a batch is written,
+    // synced, its gate opened, and synced.
+    for (log, opening) in [(&[] as &[u8], 5u64), (&PAID_LOG, 3)] {
         for call in 0..opening + 4 {
             let script = Script {
                 calls: &[call],
@@ -419,69 +290,6 @@ fn a_device_may_fail(rt: HostRuntime) -> Result<(), Fail> {
             };
             expect(&rt, rt.alloc(), &script, &want)?;
         }
-    }
-    Ok(())
-}
-
-/// A batch whose event says that a message has expired that was never there: format, moment, begin, the
-/// command with the message's key, and one event with the same key.
-const STRANGE_LOG: [u8; 50] = [
-    1, 0, 0, 0, 0, 0, 0, 0, 40, 1, 0, 0, 0, 0, 0, 0, 0, 0, 0, 0, 0, 0, 0, 0, 0, 0, 0x0d, 0, 8, 0,
-    0, 0, 0, 0, 1, 1, 0, 0, 0, 1, 0x1e, 0, 8, 0, 0, 0, 0, 0, 1, 0,
-];
-
-/// Where the last byte of the event's key is in `STRANGE_LOG` behind a log of a publish.
-const STRANGE_KEY: usize = 103 + 48;
-
-/// Where the last byte of the key is in the second of two logs of a publish, one behind the other.
-const SECOND_KEY: usize = 103 + 71;
-
-#[test]
-fn a_log_is_read_from_its_first_frame_on(rt: HostRuntime) -> Result<(), Fail> {
-    let alloc = rt.alloc();
-    // A log of two batches, what is behind a closed gate, an open gate and a frame that isn't there, a format
-    // that isn't known, and an event that doesn't apply behind a good frame.
-    let mut twice = PAID_LOG.to_vec(alloc)?;
-    twice[103] = 0xff;
-    twice.extend_from_slice(&PAID_LOG[1..])?;
-    twice[SECOND_KEY] = 2;
-    let mut behind = PAID_LOG.to_vec(alloc)?;
-    behind.extend_from_slice(b"any bytes")?;
-    let mut format = PAID_LOG;
-    format[9] = 3;
-    let mut strange = PAID_LOG.to_vec(alloc)?;
-    strange[103] = 1;
-    strange.extend_from_slice(&STRANGE_LOG[1..])?;
-    strange[STRANGE_KEY] = 2;
-    let cut = [1, 0, 0, 0, 0, 0, 0, 0, 5];
-    let table: [(&[u8], Option<u64>, &str, &[u64]); 11] = [
-        (&[], None, FIRST, &[0]),
-        (&[1], None, FIRST, &[0]),
-        (&[0, 9, 9], None, FIRST, &[0]),
-        (&PAID_LOG, None, SECOND, &[1]),
-        (&behind, None, SECOND, &[1]),
-        (&twice, None, THIRD, &[2]),
-        (&cut, Some(0), "", &[]),
-        (&format, Some(0), "", &[]),
-        (&STRANGE_LOG, Some(0), "", &[]),
-        (&strange, Some(1), "", &[]),
-        (&[7, 7], Some(0), "", &[]),
-    ];
-    for (log, bad_frame, reply, stamps) in table {
-        let script = Script {
-            input: PAID.as_bytes(),
-            log,
-            ..PLAIN
-        };
-        let is_bad = bad_frame.is_some();
-        let want = Want {
-            status: if is_bad { 5 } else { 0 },
-            output: reply.as_bytes(),
-            log: if is_bad { Some(log) } else { None },
-            stamps: if is_bad { None } else { Some(stamps) },
-            bad_frame,
-        };
-        expect(&rt, alloc, &script, &want)?;
     }
     Ok(())
 }
@@ -518,74 +326,6 @@ fn copied(alloc: Global, ended: &Ended, reply: &mut Vec<u8>) -> Result<Vec<u8>, 
     reply.clear();
     reply.extend_from_slice(output(ended))?;
     log(ended).to_vec(alloc)
-}
-
-#[test]
-fn a_log_is_served_again(rt: HostRuntime) -> Result<(), Fail> {
-    let alloc = rt.alloc();
-    let mut bytes = Vec::new(alloc);
-    let mut reply = Vec::new(alloc);
-    for (line, want) in [
-        (NAMED, FIRST),
-        (NAMED, REPEATED),
-        (BRIEF, REPEATED),
-        (PAID, SECOND),
-    ] {
-        let script = Script {
-            input: line.as_bytes(),
-            log: &bytes,
-            ..PLAIN
-        };
-        let next = stored(alloc, &script, &mut reply)?;
-        assert_eq!(rt; reply.as_slice(), want.as_bytes());
-        bytes = next;
-    }
-    Ok(())
-}
-
-#[test]
-fn what_can_not_be_served_is_refused(rt: HostRuntime) -> Result<(), Fail> {
-    let paid = Script {
-        input: PAID.as_bytes(),
-        ..PLAIN
-    };
-    let table: [(Script<'_>, Option<&[u8]>); 6] = [
-        (Script { words: &[], ..paid }, Some(&[])),
-        (
-            Script {
-                words: &["serve", "--limit", "63"],
-                ..paid
-            },
-            Some(&[]),
-        ),
-        (
-            Script {
-                words: &["serve", "file"],
-                ..paid
-            },
-            Some(&[]),
-        ),
-        (Script { volumes: 2, ..paid }, None),
-        (
-            Script {
-                is_attended: false,
-                ..paid
-            },
-            Some(&[]),
-        ),
-        (Script { volumes: 0, ..paid }, None),
-    ];
-    for (script, log) in &table {
-        let want = Want {
-            status: 2,
-            output: b"",
-            log: *log,
-            stamps: None,
-            bad_frame: None,
-        };
-        expect(&rt, rt.alloc(), script, &want)?;
-    }
-    Ok(())
 }
 
 /// What a run of this script tells of a full log, and its status.

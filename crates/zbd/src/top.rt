@@ -4,7 +4,7 @@ ghost use Rattle.zb_words.specs.declared.plan.ClockKind.TheVariants as kinds;
 ghost use Rattle.zb_words.specs.declared.plan.Plan.{Plan};
 ghost use Rattle.zbd.specs.Words.{IsPlanned};
 ghost use Rattle.zbd.specs.Ends.{told};
-ghost use Rattle.zbd.specs.Served.{status_of};
+ghost use Rattle.zbd.specs.Cause.{status_of};
 ghost use Rattle.zbd.specs.Closing.{Closes};
 
 use crate::run::{Cause, Closed, Session};
@@ -39,11 +39,12 @@ where
     G: Door,
     requires { length sessions.items < 2 ^ 32 }
     ensures closed { Closes
-        (told S.tells K.tells D.tells D.tells_images K.takes_memory D.takes_memory)
+        (told S.tells K.tells D.tells D.tells_images K.takes_memory D.takes_memory S.counts_failures K.counts_failures D.counts_failures)
         S.view K.view D.view D.images D.since C.tells (C.moments clock.old)
         (map string_bytes words.now) sessions.items volumes.items result }
 
-    // The clock is read under a plan that goes by it alone.
+    // The clock is read under a plan that goes by it alone, and not where the words can't be served.
+    ensures unasked { result.cause ≡ Cause.Usage → clock.new ≡ clock.old }
     ensures untouched { (plan : Plan) → IsPlan (map string_bytes words.now) plan → plan.clock ≡ kinds.Manual → clock.new ≡ clock.old }
     ensures moments { C.moments clock.new ≡ C.moments clock.old }
 {
@@ -62,11 +63,12 @@ pub fn serve_alone<S: Source, K: Sink, D: Disk, C: Clock>(
 ) -> Closed<S, K, D>
     requires { length sessions.items < 2 ^ 32 }
     ensures closed { Closes
-        (told S.tells K.tells D.tells D.tells_images K.takes_memory D.takes_memory)
+        (told S.tells K.tells D.tells D.tells_images K.takes_memory D.takes_memory S.counts_failures K.counts_failures D.counts_failures)
         S.view K.view D.view D.images D.since C.tells (C.moments clock.old)
         (map string_bytes words.now) sessions.items volumes.items result }
 
-    // The clock is read under a plan that goes by it alone.
+    // The clock is read under a plan that goes by it alone, and not where the words can't be served.
+    ensures unasked { result.cause ≡ Cause.Usage → clock.new ≡ clock.old }
     ensures untouched { (plan : Plan) → IsPlan (map string_bytes words.now) plan → plan.clock ≡ kinds.Manual → clock.new ≡ clock.old }
     ensures moments { C.moments clock.new ≡ C.moments clock.old }
 {

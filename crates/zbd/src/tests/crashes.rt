@@ -1,10 +1,8 @@
 // What a crash leaves of the log behind a call that fails.
-use super::{Ended, PAID, PLAIN, Script, output, served};
-use crate::run::Cause;
+use super::{Ended, PLAIN, Script, output, served};
 use std::alloc::{AllocError, Global};
 use std::test::Fail;
 use zb_disk::MemDisk;
-use zb_model::Command;
 use zb_store::GateLog;
 
 /// A message that expires when the clock is moved by a millisecond, and the request that goes on with it.
@@ -74,40 +72,10 @@ fn keeps_behind(alloc: Global, call: u64) -> Result<bool, AllocError> {
 
 #[test]
 fn a_call_may_fail_and_what_was_acknowledged_stays(rt: HostRuntime) -> Result<(), Fail> {
-    // Opening takes four calls, and each of the two batches four.
-    for call in 0..12 {
+    // Opening takes five calls, and each of the two batches four.
+    for call in 0..13 {
         let is_kept = keeps_behind(rt.alloc(), call)?;
         assert!(rt; is_kept, "call {call}");
     }
-    Ok(())
-}
-
-/// Whether the disk failed as the batch of `PAID` was written.
-fn has_paid_in_writing(ended: &Ended) -> bool {
-    let Cause::DiskFault {
-        in_writing: Some(batch),
-        ..
-    } = &ended.cause
-    else {
-        return false;
-    };
-    match &batch.command {
-        Command::MessagePublish(publish) => {
-            publish.name.as_str() == "paid" && publish.correlation_key.as_str() == "o-1"
-        }
-        _ => false,
-    }
-}
-
-#[test]
-fn the_batch_in_writing_is_told(rt: HostRuntime) -> Result<(), Fail> {
-    // The last sync of the append.
-    let script = Script {
-        input: PAID.as_bytes(),
-        calls: &[7],
-        ..PLAIN
-    };
-    let ended = served(rt.alloc(), &script)?;
-    assert!(rt; has_paid_in_writing(&ended));
     Ok(())
 }

@@ -1,5 +1,5 @@
-// Deploying processes, and what becomes of their instances.
-use super::{FIRST, PAID, PLAIN, Script, Want, expect, joined, stored};
+// What becomes of an instance, as its batch in the log tells.
+use super::{PLAIN, Script, joined, stored};
 use std::alloc::{AllocError, Global};
 use std::test::Fail;
 use zb_disk::MemDisk;
@@ -14,129 +14,11 @@ const DEPLOY: &str =
 const FORK: &str =
     "{\"op\":\"deploy\",\"model\":{\"process\":\"q\",\"nodes\":[{\"id\":\"s\",\"kind\":\"startEvent\"},{\"id\":\"x\",\"kind\":\"endEvent\"},{\"id\":\"y\",\"kind\":\"endEvent\"}],\"flows\":[{\"id\":\"a\",\"sourceRef\":\"s\",\"targetRef\":\"y\"},{\"id\":\"b\",\"sourceRef\":\"s\",\"targetRef\":\"x\"}]}}\n";
 
-/// A process without nodes.
-const EMPTY: &str = "{\"op\":\"deploy\",\"model\":{\"process\":\"p\",\"nodes\":[],\"flows\":[]}}\n";
-
-/// An instance of the first process, one of its second version, and one of the other process, with variables.
+/// An instance of the first process, and one of the other process, with variables.
 const CREATE: &str = "{\"op\":\"create\",\"process\":\"p\"}\n";
-
-const SECOND_VERSION: &str = "{\"op\":\"create\",\"process\":\"p\",\"version\":2}\n";
 
 const CREATE_FORK: &str =
     "{\"op\":\"create\",\"process\":\"q\",\"variables\":{\"n\":7,\"a\":true}}\n";
-
-const DEPLOYED: &str =
-    "{\"ok\":{\"definition\":2251799813685249,\"process\":\"p\",\"version\":1},\"units\":0}\n";
-
-const CREATED: &str =
-    "{\"ok\":{\"definition\":2251799813685249,\"instance\":2251799813685251},\"units\":0}\n";
-
-const CREATED_NEXT: &str =
-    "{\"ok\":{\"definition\":2251799813685249,\"instance\":2251799813685254},\"units\":0}\n";
-
-#[test]
-fn processes_are_deployed_and_run(rt: HostRuntime) -> Result<(), Fail> {
-    let table: [(&[&str], &[&str], &[u64]); 6] = [
-        (
-            &[DEPLOY, CREATE, CREATE, PAID],
-            &[
-                DEPLOYED,
-                CREATED,
-                CREATED_NEXT,
-                "{\"ok\":{\"message\":2251799813685257},\"units\":0}\n",
-            ],
-            &[0, 1, 2, 3],
-        ),
-        (
-            &[EMPTY],
-            &["{\"reason\":\"START: p\",\"rejected\":\"INVALID_ARGUMENT\",\"units\":0}\n"],
-            &[0],
-        ),
-        (
-            &[CREATE, PAID],
-            &[
-                "{\"reason\":\"no process p\",\"rejected\":\"NOT_FOUND\",\"units\":0}\n",
-                FIRST,
-            ],
-            &[0, 1],
-        ),
-        (
-            &[DEPLOY, SECOND_VERSION, DEPLOY, SECOND_VERSION, CREATE],
-            &[
-                DEPLOYED,
-                "{\"reason\":\"no version 2 of process p\",\"rejected\":\"NOT_FOUND\",\"units\":0}\n",
-                "{\"ok\":{\"definition\":2251799813685251,\"process\":\"p\",\"version\":2},\"units\":0}\n",
-                "{\"ok\":{\"definition\":2251799813685251,\"instance\":2251799813685253},\"units\":0}\n",
-                "{\"ok\":{\"definition\":2251799813685251,\"instance\":2251799813685256},\"units\":0}\n",
-            ],
-            &[0, 1, 2, 3, 4],
-        ),
-        (
-            &[
-                "{\"op\":\"deploy\",\"model\":{\"process\":\"p\",\"nodes\":[{\"id\":\"s\",\"kind\":\"serviceTask\"}],\"flows\":[]}}\n",
-                "{\"op\":\"deploy\"}\n",
-                "{\"op\":\"create\"}\n",
-                "{\"op\":\"create\",\"process\":\"p\",\"version\":4294967296}\n",
-            ],
-            &[
-                "{\"fault\":\"FIELD\",\"field\":\"model\",\"line\":1,\"path\":\"/nodes/0/kind\"}\n",
-                "{\"fault\":\"FIELD\",\"field\":\"model\",\"line\":2,\"path\":\"\"}\n",
-                "{\"fault\":\"FIELD\",\"field\":\"process\",\"line\":3}\n",
-                "{\"fault\":\"RANGE\",\"field\":\"version\",\"line\":4}\n",
-            ],
-            &[],
-        ),
-        (
-            &[DEPLOY, FORK, CREATE_FORK, CREATE],
-            &[
-                DEPLOYED,
-                "{\"ok\":{\"definition\":2251799813685251,\"process\":\"q\",\"version\":1},\"units\":0}\n",
-                "{\"ok\":{\"definition\":2251799813685251,\"instance\":2251799813685253},\"units\":0}\n",
-                "{\"ok\":{\"definition\":2251799813685249,\"instance\":2251799813685257},\"units\":0}\n",
-            ],
-            &[0, 1, 2, 3],
-        ),
-    ];
-    for (lines, replies, stamps) in table {
-        let input = joined(rt.alloc(), lines)?;
-        let output = joined(rt.alloc(), replies)?;
-        let script = Script {
-            input: &input,
-            ..PLAIN
-        };
-        let want = Want {
-            status: 0,
-            output: &output,
-            log: None,
-            stamps: Some(stamps),
-            bad_frame: None,
-        };
-        expect(&rt, rt.alloc(), &script, &want)?;
-    }
-    Ok(())
-}
-
-#[test]
-fn a_process_is_there_in_the_next_run(rt: HostRuntime) -> Result<(), Fail> {
-    let alloc = rt.alloc();
-    let mut bytes = Vec::new(alloc);
-    let mut reply = Vec::new(alloc);
-    for (line, want) in [
-        (DEPLOY, DEPLOYED),
-        (CREATE, CREATED),
-        (CREATE, CREATED_NEXT),
-    ] {
-        let script = Script {
-            input: line.as_bytes(),
-            log: &bytes,
-            ..PLAIN
-        };
-        let next = stored(alloc, &script, &mut reply)?;
-        assert_eq!(rt; reply.as_slice(), want.as_bytes());
-        bytes = next;
-    }
-    Ok(())
-}
 
 /// What an event says, with the counters of its keys.
 fn told(alloc: Global, event: &Event) -> Result<String, AllocError> {

@@ -42,3 +42,9 @@ returns-in-Err-clause-unserved g c = λ limit opened before made is_open. record
   next = asks_first c.args.request c.args.reading (opened ++ before) c.in-Some.command (sym c.into_command.ensures ∙ c.in-Some.is);
   held = c.in-Err.ensures.held limit opened before made is_open;
 }
+
+pub returns-in-Ok-clause-steady : goal.returns-in-Ok-clause-steady
+returns-in-Ok-clause-steady g c = λ t other. c.in-Ok.ensures.steady t (λ e. absurd (cc))
+
+pub returns-in-Err-clause-steady : goal.returns-in-Err-clause-steady
+returns-in-Err-clause-steady g c = λ t other. c.in-Err.ensures.steady t (λ e. other (cc))

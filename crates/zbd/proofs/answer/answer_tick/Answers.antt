@@ -20,3 +20,9 @@ returns-in-Ok-clause-unserved g c = λ limit opened before made is_open.
       each = t.each;
       grown = t.grown;
     })) c.put.ensures.memory
+
+pub returns-in-Ok-clause-steady : goal.returns-in-Ok-clause-steady
+returns-in-Ok-clause-steady g c = λ t other. c.in-Ok.ensures.steady t (λ e. absurd (cc))
+
+pub returns-in-Err-clause-steady : goal.returns-in-Err-clause-steady
+returns-in-Err-clause-steady g c = λ t other. c.in-Err.ensures.steady t (λ e. other (cc))

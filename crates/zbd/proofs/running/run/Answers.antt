@@ -15,10 +15,10 @@ pub returns-in-Err-open-clause-run : goal.returns-in-Err-open-clause-run
 returns-in-Err-open-clause-run g c =
     let said = c.in-Err-open.ensures in
     rw (c.reserve.ensures.items, c.new-stamps.ensures.items, c.open_cause.ensures) (
-      fails_to_open (told g.S.Source.tells g.K.Sink.tells g.D.Disk.tells g.D.Disk.tells_images g.K.Sink.takes_memory g.D.Disk.takes_memory)
+      fails_to_open (told g.S.Source.tells g.K.Sink.tells g.D.Disk.tells g.D.Disk.tells_images g.K.Sink.takes_memory g.D.Disk.takes_memory g.S.Source.counts_failures g.K.Sink.counts_failures g.D.Disk.counts_failures)
           (record { disk = g.D.Disk.view c.args.volume.log; disk_after = g.D.Disk.view c.in-Err-open.volume.log }) c.in-Err-open.fault
           (λ t frame e. subst (λ (p : ℕ). IsBadAt p (g.D.Disk.view c.args.volume.log).contents frame) c.new.ensures (said.bad t frame e)) said.cause,
-      (said.opens.same, tt),
+      (λ t. (said.opens.same t, said.opens.short t), tt),
     )
 
 pub returns-in-Err-open-clause-spared : goal.returns-in-Err-open-clause-spared
@@ -38,4 +38,4 @@ returns-in-Ok-open-clause-run g c =
     let said = c.in-Ok-open.ensures in
     let is_open : IsOpen c.args.plan.limit c.in-Ok-open.partition said.opened.0 = record { has = said.opened.1.has; live = said.live; place = said.place ∙ c.new.ensures; most = said.limit } in
     let applied = subst (λ (p : ℕ). IsApplied p said.opened.0) c.new.ensures said.opened.1.applied in
-    c.serve_partition.ensures.run c.args.volume.log said.opened.0 is_open applied said.opened.1.stood said.opens
+    c.serve_partition.ensures.run c.args.volume.log said.opened.0 is_open applied said.opened.1.stood said.opens said.steady

@@ -1,4 +1,4 @@
-use Rattle.std.proofs.Common.{◌≡◌, ◌≢◌, ℕ, ◌++◌, List, Ok, ap, sym, ◌∙◌, subst, arith, rules}
+use Rattle.std.proofs.Common.{◌≢◌, ℕ, ◌++◌, List, Ok, ap, sym, subst, rules}
 use Rattle.zb_lines.specs.Line.{Comes, IsAtEnd}
 use Rattle.zb_lines.specs.declared.reader.Next.{Next}
 use Rattle.zb_lines.specs.declared.reader.Next.TheVariants as nexts
@@ -20,14 +20,14 @@ pub returns-in-End-clause-goes_on : goal.returns-in-End-clause-goes_on
 returns-in-End-clause-goes_on g c = λ setting start first s.
     let read = c.in-Ok.ensures.comes in
     let came = subst (λ (n : Next). Comes c.longest_shown.result (Ok n) (c.args.desk.now.reader ++ read.0) c.next.new.self c.next.new.line.items) c.in-End.is read.3 in
-    stops_done _ setting start _ _ _ _ _ _ _ _ _ _ s _ _ read.0 read.1 read.2 came.0 (c.in-Ok.ensures.at_end (subst (λ (n : Next). IsAtEnd (Ok n)) (sym c.in-End.is) tt))
+    stops_done _ setting start _ _ _ _ _ _ _ _ _ _ s _ _ read.0 read.1 read.2 came.0 (c.in-Ok.ensures.at_end (subst (λ (n : Next). IsAtEnd (Ok n)) (sym c.in-End.is) tt)) c.in-Ok.ensures.steady
 
 -- no more may be taken
 pub returns-in-Full-clause-goes_on : goal.returns-in-Full-clause-goes_on
 returns-in-Full-clause-goes_on g c = λ setting start first s.
     let read = c.in-Ok.ensures.comes in
     let came = subst (λ (n : Next). Comes c.longest_shown.result (Ok n) (c.args.desk.now.reader ++ read.0) c.next.new.self c.next.new.line.items) c.in-Full.is read.3 in
-    stops_full _ setting start _ _ _ _ _ _ _ _ _ _ s _ _ read.0 read.1 read.2 came (c.in-Ok.ensures.full (ap Ok c.in-Full.is))
+    stops_full _ setting start _ _ _ _ _ _ _ _ _ _ s _ _ read.0 read.1 read.2 came (c.in-Ok.ensures.full (ap Ok c.in-Full.is)) c.in-Ok.ensures.steady
 
 pub serve_line-requires : goal.serve_line-requires
 serve_line-requires g c =
@@ -54,11 +54,18 @@ returns-in-Ok-serve_line-clause-goes_on g c = λ setting start first s.
     let not_end : c.in-Ok.next ≢ nexts.End = search rules in
     let not_full : c.in-Ok.next ≢ nexts.Full = search rules in
     let next = comes_next _ setting start _ _ _ _ _ _ _ _ _ _ s c.longest_shown.result read.0 c.next.new.self _ c.in-Ok.next not_end not_full came (c.longest_shown.ensures.decides (is_manual setting.hours)) in
-    let replied = c.in-Ok-serve_line.ensures.replied (g.S.Source.view c.next.new.source) g.S.Source.tells setting _ _ next in
+    let replied = c.in-Ok-serve_line.ensures.replied (g.S.Source.view c.next.new.source) g.S.Source.tells g.S.Source.counts_failures setting _ _ next in
     rw c.may_go_on.ensures (turn_served _ setting start _ _ _ _ _ (g.D.Disk.since (disk_of c.serve_line.new.ledger.partition)) _ (IsOpen setting.limit c.serve_line.new.ledger.partition) _ _ _
     (clocks_of c.serve_line.new.dial g.C.Clock.tells (g.C.Clock.moments c.serve_line.new.clock)) _ _ _ _ c.longest_shown.result _ _ _ read.0 c.next.new.self _ s read.1 read.2
     (in_writing c.serve_line.new.ledger.partition) c.in-Ok.next not_end not_full came c.in-Ok.ensures.at_end
-    replied c.in-Ok.ensures.later c.in-Ok-serve_line.ensures.sink_later c.in-Ok-serve_line.ensures.disk_later)
+    replied (record {
+      source_later = c.in-Ok.ensures.later;
+      sink_later = c.in-Ok-serve_line.ensures.sink_later;
+      disk_later = c.in-Ok-serve_line.ensures.disk_later;
+      source_steady = c.in-Ok.ensures.steady;
+      sink_steady = λ t. c.in-Ok-serve_line.ensures.sink_steady t (λ e. absurd (cc));
+      disk_steady = λ t. c.in-Ok-serve_line.ensures.disk_steady t (λ e. absurd (cc));
+    }))
 
 -- a line ended the run
 pub returns-in-Err-serve_line-clause-goes_on : goal.returns-in-Err-serve_line-clause-goes_on
@@ -68,7 +75,7 @@ returns-in-Err-serve_line-clause-goes_on g c = λ setting start first s.
     let not_end : c.in-Ok.next ≢ nexts.End = search rules in
     let not_full : c.in-Ok.next ≢ nexts.Full = search rules in
     let next = comes_next _ setting start _ _ _ _ _ _ _ _ _ _ s c.longest_shown.result read.0 c.next.new.self _ c.in-Ok.next not_end not_full came (c.longest_shown.ensures.decides (is_manual setting.hours)) in
-    let ended = c.in-Err-serve_line.ensures.over (g.S.Source.view c.next.new.source) g.S.Source.tells setting _ _ next in
+    let ended = c.in-Err-serve_line.ensures.over (g.S.Source.view c.next.new.source) g.S.Source.tells g.S.Source.counts_failures setting _ _ next in
     turn_stopped _ setting start _ _ _ _ _ (g.D.Disk.since (disk_of c.serve_line.new.ledger.partition)) _ (IsOpen setting.limit c.serve_line.new.ledger.partition) _ _ _
     (clocks_of c.serve_line.new.dial g.C.Clock.tells (g.C.Clock.moments c.serve_line.new.clock)) _ _ _ _ c.longest_shown.result _ _ _ read.0 c.next.new.self _ s read.1 read.2
-    (in_writing c.serve_line.new.ledger.partition) c.in-Ok.next not_end not_full came c.in-Ok.ensures.at_end _ ended
+    (in_writing c.serve_line.new.ledger.partition) c.in-Ok.next not_end not_full came c.in-Ok.ensures.at_end _ ended c.in-Ok.ensures.steady (λ t other. c.in-Err-serve_line.ensures.disk_steady t (λ e. other (cc)))

@@ -1,8 +1,8 @@
-use Rattle.std.proofs.Common.{arith, ◌∙◌, sym, ap, subst, IsTrue}
+use Rattle.std.proofs.Common.{arith, ◌∙◌, sym, subst, IsTrue}
 use Rattle.zb_lines.specs.Taken.{takes_nothing}
 use Rattle.zb_partition.specs.Partition.{disk_of, in_writing}
 use Rattle.zbd.specs.Ledger.{IsOpen}
-use Rattle.zbd.specs.Serving.{clocks_of, GoesOn}
+use Rattle.zbd.specs.Serving.{clocks_of}
 use Rattle.zbd.specs.Session.{most_taken}
 use Rattle.zbd.proofs.Stops.{stops_memory, few, goes_over, goes_next}
 use Rattle.zbd.proofs.session.serve_session.Goals as goal

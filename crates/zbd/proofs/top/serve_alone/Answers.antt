@@ -33,7 +33,7 @@ returns-clause-closed g c =
         c.in-Some.plan,
         planned,
         rw (c.closed-2.ensures.cause, c.closed-2.ensures.stamps)
-            (run_single (told g.S.Source.tells g.K.Sink.tells g.D.Disk.tells g.D.Disk.tells_images g.K.Sink.takes_memory g.D.Disk.takes_memory) (setting_of c.in-Some.plan g.C.Clock.tells (g.C.Clock.moments c.args.clock.now))
+            (run_single (told g.S.Source.tells g.K.Sink.tells g.D.Disk.tells g.D.Disk.tells_images g.K.Sink.takes_memory g.D.Disk.takes_memory g.S.Source.counts_failures g.K.Sink.counts_failures g.D.Disk.counts_failures) (setting_of c.in-Some.plan g.C.Clock.tells (g.C.Clock.moments c.args.clock.now))
             g.S.Source.view g.K.Sink.view g.D.Disk.view g.D.Disk.images g.D.Disk.since c.index_mut.result.now c.run-cause.new.session _ _ c.in-Some-pop.volume _ _ _ _ _ session sessions volume volumes c.run-cause.ensures.run),
       );
     }

@@ -1,4 +1,4 @@
-use Rattle.std.proofs.Common.{◌≡◌, ◌≤◌, ◌++◌, ◌∷◌, max, ℕ, List, [], refl, sym, ap, ◌∙◌, subst, append_assoc, arith}
+use Rattle.std.proofs.Common.{◌≤◌, ◌++◌, ◌∷◌, max, ℕ, List, [], Err, refl, sym, ap, ◌∙◌, subst, append_assoc, arith}
 use Rattle.zb_model.specs.declared.record.Batch.{Batch}
 use Rattle.zb_rules.specs.View.{last_moment}
 use Rattle.zb_rules.specs.Step.{IsStep}
@@ -7,7 +7,7 @@ use Rattle.zb_store.specs.CallLaws.{leaves_weaker}
 use Rattle.zb_partition.specs.Log.{bodies_of}
 use Rattle.zb_partition.specs.Partition.{HasLog, place_of, disk_of, in_writing}
 use Rattle.zb_partition.specs.Stopping.{IsStopped}
-use Rattle.zbd.specs.Ledger.{IsOpen}
+use Rattle.zbd.proofs.Handing.{unless_told}
 use Rattle.zbd.proofs.Logs.{made_more, has_stored, front_or_more, held_unasked, held_stopped}
 use Rattle.zbd.proofs.ledger.Ledger.commit.Goals as goal
 
@@ -44,7 +44,7 @@ returns-in-Ok-submit-clause-grown g c = λ limit opened before made is_open.
     let fits = subst (λ (most : ℕ). extent (bodies_of ((opened ++ before) ++ c.in-Ok-submit.batch ∷ [])) ≤ most) is_open.most (c.in-Ok-submit.ensures.fits log is_open.has) in
     let has = subst (λ (l : List Batch). HasLog l c.submit.new.self) (append_assoc opened before (c.in-Ok-submit.batch ∷ [])) (c.in-Ok-submit.ensures.log log is_open.has) in
     record {
-      made = rw (c.push_reserved.ensures.items, c.reserve.ensures.items, place) (made_more limit opened before _ batch made step (is.begin ∙ place) fits);
+      made = rw (c.push_reserved.ensures.items, c.reserve.ensures.items, place) (made_more limit opened before _ batch made step (is.begin ∙ place) fits (c.in-Ok-submit.ensures.log log is_open.has).fits);
       has = record {
         has = has;
         live = c.in-Ok-submit.ensures.live refl;
@@ -66,3 +66,9 @@ returns-in-Err-submit-clause-held g c = λ limit opened before made is_open.
     rw c.reserve.ensures.items (held_stopped limit _ opened before c.args.self.now.partition g.met.D.Disk.images_told made is_open g.D.Disk.takes_memory _ _ _ c.args.reading _ _ c.args.command _ _
     is_at (c.frames-begin.ensures ∙ is_open.has.count)
     (subst (λ (place : ℕ). Stops place limit) is_open.place (subst (λ (l : ℕ). Stops (place_of c.args.self.now.partition) l) is_open.most stopped)))
+
+pub returns-in-Ok-submit-clause-steady : goal.returns-in-Ok-submit-clause-steady
+returns-in-Ok-submit-clause-steady g c = λ t other. c.in-Ok-submit.ensures.steady t
+
+pub returns-in-Err-submit-clause-steady : goal.returns-in-Err-submit-clause-steady
+returns-in-Err-submit-clause-steady g c = λ t other. unless_told (Err c.in-Err-submit.stop) _ (c.in-Err-submit.ensures.steady t) other

@@ -1,6 +1,5 @@
-use Rattle.std.proofs.Common.{◌≡◌, ◌≤◌, ◌<◌, ◌++◌, ◌∷◌, ℕ, List, [], Option, Some, None, refl, sym, ap, ◌∙◌, subst, arith}
+use Rattle.std.proofs.Common.{◌≡◌, ◌<◌, ◌++◌, ℕ, refl, sym, ◌∙◌, arith}
 use Rattle.zb_rules.specs.View.{events_of}
-use Rattle.zb_rules.specs.Due.{due_command}
 use Rattle.zb_rules.specs.DueLaws.{due_command_is_run}
 use Rattle.zbd.specs.Made.{most_due}
 use Rattle.zbd.proofs.Logs.{grown_none}
@@ -8,7 +7,7 @@ use Rattle.zbd.proofs.Ticking.{ticking_none, ticking_more, ticked_all, ticked_fu
 use Rattle.zbd.proofs.ledger.Ledger.tick.Goals as goal
 
 pub loop-done-init : goal.loop-done-init
-loop-done-init g c = (λ limit opened before made is_open. ticking_none _ _ limit _ opened before _ _ _ _ _ (grown_none limit _ opened before c.args.self.now.partition g.met.D.Disk.images_told made is_open), refl, omega arith)
+loop-done-init g c = (λ limit opened before made is_open. ticking_none _ _ limit _ opened before _ _ _ _ _ (grown_none limit _ opened before c.args.self.now.partition g.met.D.Disk.images_told made is_open), refl, omega arith, λ t. refl)
 
 -- there are fewer than the most so far
 fewer : (done most : ℕ) → most ≡ 1000 → done < 1000 → done < most
@@ -50,6 +49,7 @@ loop-done-preserved g c = (
       (sym c.in-Some.is ∙ c.due.ensures (opened ++ (before ++ t.more)) t.grown.has.has) a.is a.moment a.grown,
   c.in-Ok.ensures.slots ∙ c.loop-done.invariant.1,
   omega (arith, c.loop-done.invariant.2, c.in-Ok.ensures.later),
+  λ t. c.in-Ok.ensures.steady t (λ e. absurd (cc)) ∙ c.loop-done.invariant.3 t,
 )
 
 pub returns-clause-ticked : goal.returns-clause-ticked
@@ -57,3 +57,6 @@ unfolding most_due
 returns-clause-ticked g c = λ limit opened before made is_open.
     let t = c.loop-done.invariant.0 limit opened before made is_open in
     ticked_full _ _ limit _ opened before _ _ _ _ _ _ _ _ t 1000 (omega arith) (omega arith)
+
+pub returns-in-Err-clause-steady : goal.returns-in-Err-clause-steady
+returns-in-Err-clause-steady g c = λ t other. c.in-Err.ensures.steady t (λ e. other (cc)) ∙ c.loop-done.invariant.3 t
