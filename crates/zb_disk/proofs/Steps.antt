@@ -14,6 +14,7 @@ use Rattle.zb_disk.specs.Moments.{torn_none, reads, file_push, image_push}
 pub elapses_none : (file : List ℕ) (old new : List Call) → new ≡ old → Elapses (length old) (length new) (WasImage file old) (WasImage file new) (IsImage file new)
 elapses_none file old new same = record {
   later = omega (arith, ap length same);
+  next = omega (arith, ap length same);
   nothing_else = λ t c le was. inl (subst (λ (l : List Call). WasImage file l t c) same was);
   keeps = λ t c le was. subst (λ (l : List Call). WasImage file l t c) (sym same) was;
 }
@@ -22,6 +23,7 @@ elapses_none file old new same = record {
 pub elapses_push : (file : List ℕ) (old new : List Call) (call : Call) → new ≡ old ++ call ∷ [] → Elapses (length old) (length new) (WasImage file old) (WasImage file new) (IsImage file new)
 elapses_push file old new call pushed = record {
   later = omega (arith, size);
+  next = omega (arith, size);
   nothing_else = λ t c le was. elim (cases_eq was.0 (length new)) [
     | inl last ↦ inr (subst (λ (l : List Call). IsImage file l c) (take_all was.0 new (omega arith)) was.3)
     | inr sooner ↦

@@ -26,8 +26,10 @@ Follows step old new = (c : List ℕ) → new c → (d : List ℕ) × old d × s
 abbrev pub Only : List ℕ → (List ℕ → Type 0) → Type 0
 Only file outcomes = (c : List ℕ) → outcomes c → c ≡ file
 
--- Time goes on: a crash since t might have left what it might have left before, or what it may leave now.
+-- Time goes on, over one call by at most one moment: a crash since t might have left what it might have left before, or
+-- what it may leave now.
 pub record Elapses (before now : ℕ) (past since : ℕ → List ℕ → Type 0) (images : List ℕ → Type 0) : Type 0 where
   pub later : before ≤ now
+  pub next : now ≤ before + 1
   pub nothing_else : (t : ℕ) (c : List ℕ) → t ≤ before → since t c → past t c ⊎ images c
   pub keeps : (t : ℕ) (c : List ℕ) → t ≤ before → past t c → since t c

@@ -32,7 +32,8 @@ impl<T: Drop> From<AllocFailed<T>> for Trouble {
 
 /// A file on a disk, as a list of bytes. Between two syncs a crash may leave any bytes where a write
 /// went, and any length between the old and the new one; other bytes stay. A read gives what a crash
-/// could leave, too. After a sync that succeeded a crash leaves what a read gives.
+/// could leave, too. After a sync that succeeded a crash leaves what a read gives. A disk's moment is a
+/// number of calls that it made so far, of which it may leave out some: no call takes it on by more than one.
 pub trait Disk {
     /// The disk as plain data: its contents as read, its count of faults, its moment.
     ghost view: { Self → DiskView };

@@ -1,9 +1,11 @@
 -- Opening a partition.
-use Rattle.std.proofs.Common.{◌≡◌, List, ℕ, IsTrue, sym, ◌∙◌, ap, subst, arith}
+use Rattle.std.proofs.Common.{◌≡◌, inl, inr, List, ℕ, length, IsTrue, sym, ◌∙◌, ap, subst, arith}
 use Rattle.std.specs.Prelude.{None, slice_index}
+use Rattle.std.proofs.lemmas.Bool.{cases_lt}
 use Rattle.zb_disk.specs.Disk.{Only}
 use Rattle.zb_disk.specs.declared.disk.Disk.{Ghosts}
 use Rattle.zb_model.specs.declared.record.Batch.{Batch}
+use Rattle.zb_store.specs.Calls.{IsAsOpened}
 use Rattle.zb_store.specs.CallLaws.{Reads, Opens, opens_long}
 use Rattle.zb_store.specs.GateLog as gates
 use Rattle.zb_store.specs.Scan.{disk_of_scan, count_of_scan, gate_of_scan}
@@ -53,3 +55,10 @@ opened_by {D = D} {disks = disks} p old new log known partition told_both durabl
 -- a frame that is bad after an opening was bad before
 pub bad_before : {D : Type 0} (disks : Ghosts D) (p frame : ℕ) (old new : D) → Opens disks old new → IsTrue disks.tells → IsBadAt p (disks.view new).contents frame → IsBadAt p (disks.view old).contents frame
 bad_before disks p frame old new opens told bad = subst (λ (f : List ℕ). IsBadAt p f frame) (opens_long disks old new opens told bad.long) bad
+
+-- a file that is as it was opened stands for what it stood for
+pub stands_open : (file c : List ℕ) (bodies : List (List ℕ)) → Stands file bodies → IsAsOpened file c → Stands c bodies
+stands_open file c bodies stands opened = elim (cases_lt 1 (length file)) [
+  | inl long ↦ subst (λ (f : List ℕ). Stands f bodies) (sym (opened.0 long)) stands
+  | inr short ↦ record { short = λ _. stands.short short; long = λ long. absurd (omega (arith, opened.1 short, long)) }
+]

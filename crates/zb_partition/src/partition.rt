@@ -4,7 +4,8 @@ ghost use Rattle.zb_model.specs.declared.record.Event.{Event};
 ghost use Rattle.zb_model.specs.declared.record.Batch.{Batch};
 ghost use Rattle.zb_model.specs.Record.{bytes_of};
 ghost use Rattle.zb_model.specs.RecordFits.{IsBatch};
-ghost use Rattle.zb_store.specs.Calls.{OnlyReads, OnlyOpens, LeavesOnly};
+ghost use Rattle.zb_store.specs.Calls.{OnlyReads, OnlyOpens, LeavesOnly, Settles};
+ghost use Rattle.zb_store.specs.Stands.{Stands};
 ghost use Rattle.zb_store.specs.GateLog as gates;
 ghost use Rattle.zb_store.specs.Scan.{disk_of_scan, limit_of_scan};
 ghost use Rattle.zb_store.specs.Log.{framed, extent};
@@ -85,6 +86,11 @@ impl<D: Disk> Partition<D> {
 
         // What becomes of the file, and what a crash may leave of it at any moment. The slots stay as they are.
         ensures opens { OnlyOpens D.tells D.tells_images D.view D.images D.since volume.log (disk_after result) }
+
+        // From the first call of the disk on a crash leaves a file that stands for the log that was opened.
+        ensures settled { IsTrue D.tells_images → (log : List Batch) → Stands (D.view volume.log).contents (bodies_of log)
+            → OnOk result (Settles (D.view volume.log).moment (D.view (disk_after result)).moment
+            (D.images volume.log) (D.since (disk_after result)) (λ image. Stands image (bodies_of log))) }
         ensures slots { slots_after result ≡ (volume.snap_a, volume.snap_b) }
         ensures steady { IsTrue D.counts_failures → OnOk result ((D.view (disk_after result)).faults ≡ (D.view volume.log).faults) }
         ensures cause { IfErr result (λ refused. IsDiskCause D.counts_failures (D.view volume.log).faults (D.view refused.1.log).faults refused.0) }

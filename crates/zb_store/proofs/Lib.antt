@@ -4,5 +4,6 @@ mod Pieces
 mod Bodies
 mod Scanning
 mod Opening
+mod Settling
 mod Appending
 mod Frames

@@ -1,9 +1,9 @@
 -- Laws of calls of a disk, one after another.
-use Rattle.std.proofs.Common.{◌≡◌, ◌⊎◌, inl, inr, ℕ, ◌<◌, ◌≤◌, List, length, IsTrue, ◌∙◌, ap, refl, arith}
+use Rattle.std.proofs.Common.{◌≡◌, ◌⊎◌, inl, inr, ℕ, ◌<◌, ◌≤◌, List, length, IsTrue, Result, Ok, Err, OnOk, ◌∙◌, ap, refl, arith}
 use Rattle.std.proofs.lemmas.Bool.{cases_lt}
 use Rattle.zb_disk.specs.Disk.{Elapses}
 use Rattle.zb_disk.specs.declared.disk.Disk.{Ghosts}
-use Rattle.zb_store.specs.Calls.{LeavesOnly, OnlyReads, OnlyOpens, LeftByOpening}
+use Rattle.zb_store.specs.Calls.{LeavesOnly, OnlyReads, OnlyOpens, LeftByOpening, Settles}
 
 -- no call leaves anything more
 pub leaves_none : (now : ℕ) (since : ℕ → List ℕ → Type 0) (P : List ℕ → Type 0) → LeavesOnly now now since since P
@@ -62,9 +62,58 @@ leaves_call before now past since images P time counts so = record {
   ];
 }
 
+-- what holds, holds of any answer
+pub on_ok : {A B : Type 0} (result : Result A B) (P : Type 0) → P → OnOk result P
+on_ok (Ok value) P p = p
+on_ok (Err fault) P p = tt
+
 -- a crash since the calls began leaves what one before them might have left, or what they leave
 pub leaves_since : (before now : ℕ) (past since : ℕ → List ℕ → Type 0) (P : List ℕ → Type 0) → LeavesOnly before now past since P → (c : List ℕ) → since before c → past before c ⊎ P c
 leaves_since before now past since P leaves c was = leaves.nothing_else before c (omega arith) was
+
+-- what a first call leaves, if all of it has P, is settled
+pub settles_first : (began now : ℕ) (before : List ℕ → Type 0) (past since : ℕ → List ℕ → Type 0) (images P : List ℕ → Type 0) → Elapses began now past since images
+    → ((c : List ℕ) → past began c → before c) → ((c : List ℕ) → since now c → images c) → ((c : List ℕ) → images c → since now c) → ((c : List ℕ) → images c → P c)
+    → Settles began now before since P
+settles_first began now before past since images P time then_alone now_alone counts so = record {
+  opened_at = now;
+  by_first = (time.later, time.next);
+  later = omega arith;
+  left = λ c was. so c (now_alone c was);
+  earlier = λ c was. elim (time.nothing_else began c (omega arith) was) [
+    | inl long_ago ↦ inl (then_alone c long_ago)
+    | inr image ↦ inr (counts c image)
+  ];
+}
+
+-- and stays so where the calls behind it leave only files that have P
+pub settles_then : (began between now : ℕ) (before : List ℕ → Type 0) (past since : ℕ → List ℕ → Type 0) (P Q : List ℕ → Type 0) → Settles began between before past P → LeavesOnly between now past since Q → ((c : List ℕ) → Q c → P c) → Settles began now before since P
+settles_then began between now before past since P Q first leaves so = record {
+  opened_at = first.opened_at;
+  by_first = first.by_first;
+  later = omega (arith, first.later, leaves.later);
+  left = λ c was. elim (leaves.nothing_else first.opened_at c first.later was) [
+    | inl earlier ↦ first.left c earlier
+    | inr image ↦ so c image
+  ];
+  earlier = λ c was. elim (leaves.splits began first.opened_at c first.by_first.0 first.later was) [
+    | inl long_ago ↦ elim (first.earlier c long_ago) [
+      | inl image ↦ inl image
+      | inr then ↦ inr (leaves.keeps first.opened_at c first.later then)
+    ]
+    | inr then ↦ inr then
+  ];
+}
+
+-- what is settled has whatever follows from P
+pub settles_weaker : (began now : ℕ) (before : List ℕ → Type 0) (since : ℕ → List ℕ → Type 0) (P Q : List ℕ → Type 0) → ((c : List ℕ) → P c → Q c) → Settles began now before since P → Settles began now before since Q
+settles_weaker began now before since P Q so settled = record {
+  opened_at = settled.opened_at;
+  by_first = settled.by_first;
+  later = settled.later;
+  left = λ c was. so c (settled.left c was);
+  earlier = settled.earlier;
+}
 
 module _ {D : Type 0} (disks : Ghosts D) where
   -- a disk, and what it became: a crash since leaves a file that has P
@@ -108,6 +157,14 @@ module _ {D : Type 0} (disks : Ghosts D) where
     crash = λ told c image. first.crash told c (second.crash told c image);
     time = λ told. leaves_read old mid new (disks.images old) (first.crash told) (first.time told) (second.time told);
   }
+
+  -- what is settled stays so where it is read
+  pub settles_read : (began : ℕ) (before P : List ℕ → Type 0) (old new : D) → IsTrue disks.tells_images
+      → ((t : ℕ) (c : List ℕ) → t ≤ (disks.view old).moment → disks.images old c → disks.since old t c)
+      → Settles began (disks.view old).moment before (disks.since old) P → Reads old new → Settles began (disks.view new).moment before (disks.since new) P
+  settles_read began before P old new told counts first reads =
+      settles_then began (disks.view old).moment (disks.view new).moment before (disks.since old) (disks.since new) P (disks.images old) first (reads.time told)
+      (λ c image. first.left c (counts first.opened_at c first.later image))
 
   -- an opening, and then reading
   pub opens_then : (old mid new : D) → Opens old mid → Reads mid new → Opens old new

@@ -1,5 +1,5 @@
 -- What calls of a disk leave behind.
-use Rattle.std.specs.Prelude.{◌≡◌, ◌⊎◌, ℕ, ◌<◌, ◌≤◌, List, length, Bool, IsTrue}
+use Rattle.std.specs.Prelude.{◌≡◌, ◌⊎◌, ℕ, ◌+◌, ◌<◌, ◌≤◌, List, length, Bool, IsTrue}
 use Rattle.zb_disk.specs.Disk.{DiskView, Torn}
 
 -- time goes on, and a crash at any moment since leaves a file that has P
@@ -33,3 +33,21 @@ pub record OnlyOpens {D : Type 0} (tells tells_images : Bool) (view : D → Disk
 -- what a write that was cut short may leave of one of these files
 abbrev pub LeftByWriting : ℕ → ℕ → (List ℕ → Type 0) → List ℕ → Type 0
 LeftByWriting at n before c = (d : List ℕ) × before d × Torn at n d c
+
+-- a moment is that at which calls begin, or the next one, at which the first of them is made
+abbrev pub IsByFirstCall : (began moment : ℕ) → Type 0
+IsByFirstCall began moment = (began ≤ moment) × (moment ≤ began + 1)
+
+-- what a crash may leave of a file once its opening has begun with a sync: the file, or, where it had no more than one
+-- byte, no more than one byte
+abbrev pub IsAsOpened : List ℕ → List ℕ → Type 0
+IsAsOpened file c = (1 < length file → c ≡ file) × (length file ≤ 1 → length c ≤ 1)
+
+-- From the first call on a crash leaves only files that have P. What one since the calls began might have left is that,
+-- or what one might have left before.
+pub record Settles (began now : ℕ) (before : List ℕ → Type 0) (since : ℕ → List ℕ → Type 0) (P : List ℕ → Type 0) : Type 0 where
+  pub opened_at : ℕ
+  pub by_first : IsByFirstCall began opened_at
+  pub later : opened_at ≤ now
+  pub left : (c : List ℕ) → since opened_at c → P c
+  pub earlier : (c : List ℕ) → since began c → before c ⊎ since opened_at c

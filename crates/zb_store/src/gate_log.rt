@@ -2,7 +2,7 @@ ghost use Rattle.std.specs.Prelude.{◌≡◌, ◌⊎◌, ◌<◌, ◌≤◌, �
 ghost use Rattle.zb_disk.specs.Disk.{Only, overwritten};
 ghost use Rattle.zb_disk.specs.Cause.{Rose};
 ghost use Rattle.zb_store.specs.Cause.{IsCaused, IsFullAt, UnlessDiskFault};
-ghost use Rattle.zb_store.specs.Calls.{LeavesOnly, OnlyReads, OnlyOpens};
+ghost use Rattle.zb_store.specs.Calls.{LeavesOnly, OnlyReads, OnlyOpens, IsAsOpened, Settles};
 ghost use Rattle.zb_store.specs.Log.{framed};
 ghost use Rattle.zb_store.specs.Stands.{Leads, Stands, IsCutAfter, StandsWithOrWithout};
 
@@ -62,6 +62,10 @@ impl<D: Disk> GateLog<D> {
         ensures opens { OnlyOpens D.tells D.tells_images D.view D.images D.since disk (disk_after result) }
         ensures gate { IsTrue D.tells → length (D.view disk).contents ≤ 1 → OnOk result ((D.view (disk_after result)).contents ≡ 0 ∷ []) }
         ensures durable { IsTrue D.tells_images → OnOk result (Only (D.view (disk_after result)).contents (D.images (disk_after result))) }
+
+        // From the first call of the disk on a crash leaves the file as it was, or at most one byte of one that had no more.
+        ensures settled { IsTrue D.tells_images → OnOk result (Settles (D.view disk).moment (D.view (disk_after result)).moment
+            (D.images disk) (D.since (disk_after result)) (IsAsOpened (D.view disk).contents)) }
 
         ensures later { (D.view disk).faults ≤ (D.view (disk_after result)).faults }
         ensures steady { IsTrue D.counts_failures → OnOk result ((D.view (disk_after result)).faults ≡ (D.view disk).faults) }

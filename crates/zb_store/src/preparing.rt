@@ -2,7 +2,7 @@
 ghost use Rattle.std.specs.Prelude.{◌≡◌, ◌<◌, ◌≤◌, ◌+◌, ◌^◌, ℕ, List, [], ◌∷◌, length, IsTrue, IfErr, IfOk, OnOk};
 ghost use Rattle.zb_disk.specs.Disk.{Only};
 ghost use Rattle.zb_store.specs.Cause.{IsCaused};
-ghost use Rattle.zb_store.specs.Calls.{OnlyOpens};
+ghost use Rattle.zb_store.specs.Calls.{OnlyOpens, IsAsOpened, Settles};
 
 use crate::fault::StoreFault;
 use zb_disk::Disk;
@@ -18,6 +18,8 @@ pub fn prepare<D: Disk>(disk: &mut D) -> Result<u64, StoreFault>
     ensures small { IfOk result (λ end. end < 2 ^ 58) }
     ensures gate { IsTrue D.tells → length (D.view disk.old).contents ≤ 1 → OnOk result ((D.view disk.new).contents ≡ 0 ∷ []) }
     ensures durable { IsTrue D.tells_images → OnOk result (Only (D.view disk.new).contents (D.images disk.new)) }
+    ensures settled { IsTrue D.tells_images → OnOk result (Settles (D.view disk.old).moment (D.view disk.new).moment
+        (D.images disk.old) (D.since disk.new) (IsAsOpened (D.view disk.old).contents)) }
     ensures opens { OnlyOpens D.tells D.tells_images D.view D.images D.since disk.old disk.new }
     ensures steady { IsTrue D.counts_failures → OnOk result ((D.view disk.new).faults ≡ (D.view disk.old).faults) }
     ensures cause { IfErr result (IsCaused D.counts_failures (D.view disk.old).faults (D.view disk.new).faults) }

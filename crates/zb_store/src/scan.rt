@@ -2,7 +2,7 @@
 ghost use Rattle.std.specs.Prelude.{◌≡◌, ◌<◌, ◌≤◌, ◌+◌, ◌^◌, ℕ, List, [], ◌∷◌, length, IsTrue, IsFalse, IfErr, IfOk, OnOk};
 ghost use Rattle.zb_disk.specs.Disk.{Only};
 ghost use Rattle.zb_store.specs.Cause.{IsCaused};
-ghost use Rattle.zb_store.specs.Calls.{OnlyReads, OnlyOpens};
+ghost use Rattle.zb_store.specs.Calls.{OnlyReads, OnlyOpens, IsAsOpened, Settles};
 ghost use Rattle.zb_store.specs.Stands.{Stands, IsCutAfter};
 ghost use Rattle.zb_store.specs.Window.{IsPieceOf};
 ghost use Rattle.zb_store.specs.GateLog as gates;
@@ -72,6 +72,10 @@ impl<D: Disk> Scan<D> {
 
         // What is to be found is on the disk, and a crash leaves nothing else.
         ensures durable { IsTrue D.tells_images → OnOk result (Only (D.view (disk_behind result)).contents (D.images (disk_behind result))) }
+
+        // From the first call of the disk on a crash leaves the file as it was, or at most one byte of one that had no more.
+        ensures settled { IsTrue D.tells_images → OnOk result (Settles (D.view disk).moment (D.view (disk_behind result)).moment
+            (D.images disk) (D.since (disk_behind result)) (IsAsOpened (D.view disk).contents)) }
 
         // No frame is changed: the file stands for what it stood for, and so does what a crash at any moment since
         // leaves, if all that one before might have left does.

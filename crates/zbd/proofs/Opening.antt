@@ -1,11 +1,12 @@
 -- How a run begins, or ends at once.
-use Rattle.std.proofs.Common.{◌≡◌, ℕ, ◌≤◌, List, [], ◌∷◌, IsTrue, refl, subst, arith, inl, ⊎_elim}
+use Rattle.std.proofs.Common.{◌≡◌, ◌⊎◌, ℕ, ◌≤◌, List, [], ◌∷◌, Bool, true, false, IsTrue, refl, subst, arith, inl, ⊎_elim}
+use Rattle.std.proofs.lemmas.Bool.{false≢true}
 use Rattle.zb_disk.specs.Disk.{DiskView}
 use Rattle.zb_disk.specs.declared.disk.Disk.{Ghosts}
 use Rattle.zb_lines.specs.Taken.{takes_nothing}
 use Rattle.zb_model.specs.declared.record.Batch.{Batch}
 use Rattle.zb_rules.specs.StepLaws.{are_steps_none}
-use Rattle.zb_store.specs.Calls.{OnlyOpens, LeftByOpening}
+use Rattle.zb_store.specs.Calls.{OnlyOpens, LeftByOpening, IsByFirstCall, Settles}
 use Rattle.zb_store.specs.Stands.{Stands}
 use Rattle.zb_partition.specs.Log.{bodies_of, AreBatches, IsApplied, IsBadAt}
 use Rattle.zb_partition.specs.Fault.{IsDiskCause}
@@ -38,15 +39,34 @@ made_none limit opened fit = record {
   fits = inl refl;
 }
 
+-- what is settled where it is told, from a moment that there is in any case
+settled_at : (tells : Bool) (began now : ℕ) (before : List ℕ → Type 0) (since : ℕ → List ℕ → Type 0) (P : List ℕ → Type 0) → (IsTrue tells → Settles began now before since P)
+    → (at : ℕ) × (IsTrue tells → IsByFirstCall began at × (at ≤ now) × ((image : List ℕ) → since at image → P image) × ((image : List ℕ) → since began image → before image ⊎ since at image))
+settled_at true began now before since P settled =
+    let s = settled refl in
+    (s.opened_at, λ t. (s.by_first, s.later, s.left, s.earlier))
+settled_at false began now before since P settled = (0, λ t. absurd (false≢true t))
+
+-- what no call was made of is settled as it is
+pub settled_still : (now : ℕ) (images : List ℕ → Type 0) (since : ℕ → List ℕ → Type 0) (P : List ℕ → Type 0) → ((image : List ℕ) → since now image → images image) → ((image : List ℕ) → images image → P image) → Settles now now images since P
+settled_still now images since P alone all = record {
+  opened_at = now;
+  by_first = (omega arith, omega arith);
+  later = omega arith;
+  left = λ image was. all image (alone image was);
+  earlier = λ image was. inl (alone image was);
+}
+
 -- nothing was read yet
 pub serving_first : (told : Told) (setting : Setting) (start : Start) (disk : DiskView) (before images : List ℕ → Type 0) (since : ℕ → List ℕ → Type 0) (Has : List Batch → Type 0) (clocks : Clocks) (opened : List Batch)
     → Has opened → AreBatches opened → IsStored told.disk told.images disk images opened → (IsTrue told.disk → Stands start.disk.contents (bodies_of opened)) → IsApplied 1 opened → AreAt setting.hours [] clocks
-    → start.disk.faults ≤ disk.faults → (IsTrue told.disk_counts → disk.faults ≡ start.disk.faults) → (IsTrue told.images → start.disk.moment ≤ disk.moment)
-    → (IsTrue told.images → (image : List ℕ) → since disk.moment image → images image)
-    → (IsTrue told.images → (image : List ℕ) → since start.disk.moment image → LeftByOpening start.disk.contents before image)
+    → start.disk.faults ≤ disk.faults → (IsTrue told.disk_counts → disk.faults ≡ start.disk.faults)
+    → (IsTrue told.images → Settles start.disk.moment disk.moment before since (λ image. Stands image (bodies_of opened)))
     → IsServing told setting start (now_of start.source start.sink disk) before images since Has [] clocks [] most_taken 1
 unfolding most_taken
-serving_first told setting start disk before images since Has clocks opened has fit stored stood applied at later steady moment now opening = record {
+serving_first told setting start disk before images since Has clocks opened has fit stored stood applied at later steady settled =
+    let open = settled_at told.images start.disk.moment disk.moment before since (λ image. Stands image (bodies_of opened)) settled in
+    record {
   opened = opened;
   taken = [];
   lines = [];
@@ -64,10 +84,11 @@ serving_first told setting start disk before images since Has clocks opened has 
   made = made_none setting.limit opened fit;
   has = subst Has (append_none opened) has;
   stored = subst (IsStored told.disk told.images disk images) (append_none opened) stored;
-  opened_at = disk.moment;
-  later = λ t. (moment t, omega arith);
-  ever = λ t image was. (0, subst (λ (l : List Batch). Stands image (bodies_of l)) (append_none opened) (stored.crash t image (now t image was)));
-  opening = λ t image was. inl (opening t image was);
+  opened_at = open.0;
+  by_first = λ t. (open.1 t).0;
+  later = λ t. (open.1 t).1;
+  ever = λ t image was. (0, subst (λ (l : List Batch). Stands image (bodies_of l)) (append_none opened) ((open.1 t).2 image was));
+  opening = λ t. (open.1 t).3;
   source_later = omega arith;
   sink_later = omega arith;
   disk_later = later;

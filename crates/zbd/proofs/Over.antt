@@ -9,7 +9,7 @@ use Rattle.std.specs.List.Sorted.{IsPermutation, IsStrictlyIncreasing}
 use Rattle.zb_disk.specs.Cause.{Rose}
 use Rattle.zb_model.specs.declared.record.Batch.{Batch}
 use Rattle.zb_rules.specs.Step.{IsStep}
-use Rattle.zb_store.specs.Calls.{LeftByOpening}
+use Rattle.zb_store.specs.Calls.{IsByFirstCall}
 use Rattle.zb_store.specs.Log.{extent}
 use Rattle.zb_store.specs.Stands.{Stands}
 use Rattle.zb_partition.specs.Log.{bodies_of, IsApplied}
@@ -167,6 +167,7 @@ undone_of hours run cause silent unlogged (inr first) = inr (record {
 -- a run is over
 pub over : (told : Told) (setting : Setting) (start : Start) (now : Now) (before images : List ℕ → Type 0) (since : ℕ → List ℕ → Type 0) (places : List ℕ) (cause : Cause)
     (served unserved : List (List ℕ)) (at_end : Bool) (answers : List Answer) (opened made silent : List Batch) (unlogged : Option Batch) (opened_at : ℕ)
+    → (IsTrue told.images → IsByFirstCall start.disk.moment opened_at)
     → made ≡ batches_of answers ++ silent
     → IsStream told.source start.source now.source served unserved at_end
     → AreAnswers setting.hours opened [] served answers
@@ -176,12 +177,12 @@ pub over : (told : Told) (setting : Setting) (start : Start) (now : Now) (before
     → IsMade setting.limit opened made places
     → IsHeld told (log_ends start now) images cause unlogged (opened ++ made)
     → (IsTrue told.images → (image : List ℕ) → since opened_at image → WasLeft told (log_ends start now) cause unlogged (record { opened = opened; made = made; opened_at = opened_at }) image)
-    → (IsTrue told.images → (image : List ℕ) → since start.disk.moment image → LeftByOpening start.disk.contents before image ⊎ since opened_at image)
+    → (IsTrue told.images → (image : List ℕ) → since start.disk.moment image → before image ⊎ since opened_at image)
     → IsNamed told setting.limit start now (opened ++ made) unlogged unserved at_end cause
     → IsLeftUndone setting.hours (opened ++ batches_of answers) served unserved cause silent unlogged
     → ((batch : Batch) → unlogged ≡ Some batch → IsLeftOver (opened ++ made) batch)
     → IsOver told setting start now before images since places cause
-over told setting start now before images since places cause served unserved at_end answers opened made silent unlogged opened_at split stream are sent stood applied are_made held ever opening named undone left =
+over told setting start now before images since places cause served unserved at_end answers opened made silent unlogged opened_at by_first split stream are sent stood applied are_made held ever opening named undone left =
     let growth : Growth = record { opened = opened; made = made; opened_at = opened_at } in
     let run : SessionRun = record {
       taken = stream.taken;
@@ -204,6 +205,7 @@ over told setting start now before images since places cause served unserved at_
         record {
           opened = stood;
           applied = applied;
+          by_first = by_first;
           fit = are_made.fit;
           steps = are_made.steps;
           contents = held.file;
@@ -245,5 +247,5 @@ over told setting start now before images since places cause served unserved at_
       crash_ever = λ tells place listed ends image is_log is_ends was.
           at_place (log_ends start now) growth (λ e g. since g.opened_at image → WasLeft told e cause unlogged g image) (ever tells image) place listed ends is_log is_ends was;
       crash_opening = λ tells place listed ends image is_log is_ends was.
-          at_place (log_ends start now) growth (λ e g. since e.disk.moment image → LeftByOpening e.disk.contents before image ⊎ since g.opened_at image) (opening tells image) place listed ends is_log is_ends was;
+          at_place (log_ends start now) growth (λ e g. since e.disk.moment image → before image ⊎ since g.opened_at image) (opening tells image) place listed ends is_log is_ends was;
     }

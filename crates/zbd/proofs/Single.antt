@@ -1,10 +1,9 @@
 -- A run of one session and one volume, as a run of lists of them.
-use Rattle.std.proofs.Common.{◌≡◌, ◌⊎◌, ℕ, zero, suc, List, [], ◌∷◌, ◌++◌, length, get_or, slice_get, IsTrue, Some, refl, sym, ap, subst, inl, inr, arith, length-append}
+use Rattle.std.proofs.Common.{◌≡◌, ◌⊎◌, ℕ, zero, suc, List, [], ◌∷◌, ◌++◌, length, get_or, slice_get, IsTrue, Some, refl, sym, ap, subst, inl, inr, ⊎_elim, arith, length-append}
 use Rattle.std.proofs.Math.ListN.{set}
 use Rattle.std.specs.List.{AllZip}
 use Rattle.zb_disk.specs.Disk.{DiskView}
 use Rattle.zb_outside.specs.Stream.{SourceView, SinkView}
-use Rattle.zb_store.specs.Calls.{LeftByOpening}
 use Rattle.zb_store.specs.declared.volume.Volume.{Volume}
 use Rattle.zbd.specs.Ends.{Told, SessionEnds, LogEnds, sessions_ends, logs_ends, images_at, since_at, IsSafe}
 use Rattle.zbd.specs.Hours.{Setting}
@@ -63,13 +62,6 @@ pub slots_single : {D : Type 0} (volume volume' : Volume D) (volumes volumes' : 
     → slots_in volume' ≡ slots_in volume → slots_of volumes' ≡ slots_of volumes
 slots_single volume volume' volumes volumes' e1 e2 same = rw (e1, e2) (ap (λ slots. slots ∷ []) same)
 
--- what opening might have left, where a crash before the run might have left more, and one since then too
-wider : (file : List ℕ) (before more since later : List ℕ → Type 0) (image : List ℕ) → (before image → more image) → (since image → later image)
-    → LeftByOpening file before image ⊎ since image → LeftByOpening file more image ⊎ later image
-wider file before more since later image so then (inl (inl was)) = inl (inl (so was))
-wider file before more since later image so then (inl (inr few)) = inl (inr few)
-wider file before more since later image so then (inr was) = inr (then was)
-
 -- the same run of one volume, where what crashes leave of it is told by its place among the volumes
 serves_fewer : (told : Told) (setting : Setting) (streams : List SessionEnds) (first : LogEnds) (before : List ℕ → Type 0) (more images fewer : ℕ → List ℕ → Type 0) (since : ℕ → List ℕ → Type 0) (later : (place moment : ℕ) → List ℕ → Type 0)
     (cause : Cause) (stamps : List (List ℕ)) → ((image : List ℕ) → before image → more 0 image) → ((place : ℕ) (image : List ℕ) → fewer place image → images place image)
@@ -96,9 +88,9 @@ serves_fewer told setting streams first before more images fewer since later cau
 }
   where
     opening : IsTrue told.images → (place : ℕ) (growth : Growth) (ends : LogEnds) (image : List ℕ) → slice_get s.logs place ≡ Some growth → slice_get (first ∷ []) place ≡ Some ends
-        → later place ends.disk.moment image → LeftByOpening ends.disk.contents (more place) image ⊎ later place growth.opened_at image
+        → later place ends.disk.moment image → more place image ⊎ later place growth.opened_at image
     opening tells zero growth ends image is_log is_ends was =
-        wider ends.disk.contents before (more 0) (since growth.opened_at) (later 0 growth.opened_at) image (so image) (again growth.opened_at image)
+        ⊎_elim (λ earlier. inl (so image earlier)) (λ then. inr (again growth.opened_at image then))
         (s.crash_opening tells 0 growth ends image is_log is_ends (gone 0 ends.disk.moment image was))
     opening tells (suc place) growth ends image is_log is_ends was = absurd (cc)
 

@@ -9,7 +9,7 @@ use Rattle.zb_model.specs.declared.record.Batch.{Batch}
 use Rattle.zb_model.specs.declared.stop.Stop.{Stop}
 use Rattle.zb_model.specs.declared.stop.Stop.TheVariants as stops
 use Rattle.zb_rules.specs.View.{last_moment}
-use Rattle.zb_store.specs.Calls.{LeavesOnly, LeftByOpening}
+use Rattle.zb_store.specs.Calls.{LeavesOnly}
 use Rattle.zb_partition.specs.Stopping.{IsLeft, IsHurt}
 use Rattle.zb_lines.specs.Taken.{Takes}
 use Rattle.zb_lines.specs.Line.{IsOneLine, ended, Comes, IsAtEnd}
@@ -60,7 +60,7 @@ module _ (told : Told) (setting : Setting) (start : Start) (before : List ℕ �
   ends_by : (cause : Cause) (unserved : List (List ℕ)) (at_end : Bool) → IsStream told.source start.source source s.lines unserved at_end → IsNamed told setting.limit start mid log None unserved at_end cause
       → IsOver told setting start mid before images gone places cause
   ends_by cause unserved at_end stream named =
-      over told setting start mid before images gone places cause s.lines unserved at_end s.answers s.opened (batches_of s.answers) [] None s.opened_at (append_none (batches_of s.answers))
+      over told setting start mid before images gone places cause s.lines unserved at_end s.answers s.opened (batches_of s.answers) [] None s.opened_at s.by_first (append_none (batches_of s.answers))
       stream s.are (λ t. inl (s.sent t)) s.stood s.applied s.made (held_stored told (log_ends start mid) images cause None log s.stored)
       (λ t image was. inl (s.ever t image was)) s.opening
       named (inl (refl, refl)) (none_left log)
@@ -138,13 +138,13 @@ module _ (told : Told) (setting : Setting) (start : Start) (before : List ℕ �
   ever_grown : (cause : Cause) (unlogged : Option Batch) (batches : List Batch) → (IsTrue told.images → LeavesOnly old.disk.moment disk.moment gone since (IsFront (s.opened ++ made) batches))
       → IsTrue told.images → (image : List ℕ) → since s.opened_at image → WasLeft told (log_ends start new) cause unlogged (record { opened = s.opened; made = made ++ batches; opened_at = s.opened_at }) image
   ever_grown cause unlogged batches time t image was =
-      inl (ever_more s.opened made batches s.opened_at old.disk.moment disk.moment gone since (s.later t).1 (s.ever t) (time t) image was)
+      inl (ever_more s.opened made batches s.opened_at old.disk.moment disk.moment gone since (s.later t) (s.ever t) (time t) image was)
 
   -- and since the run began
   opening_then : (P : List ℕ → Type 0) → (IsTrue told.images → LeavesOnly old.disk.moment disk.moment gone since P)
-      → IsTrue told.images → (image : List ℕ) → since start.disk.moment image → LeftByOpening start.disk.contents before image ⊎ since s.opened_at image
+      → IsTrue told.images → (image : List ℕ) → since start.disk.moment image → before image ⊎ since s.opened_at image
   opening_then P time t image was =
-      opening_more start.disk.contents before start.disk.moment s.opened_at old.disk.moment disk.moment gone since P (s.later t).0 (s.later t).1 (s.opening t) (time t) image was
+      opening_more before start.disk.moment s.opened_at old.disk.moment disk.moment gone since P (s.by_first t).0 (s.later t) (s.opening t) (time t) image was
 
   -- how the devices' counts stand
   disk_then : (IsTrue told.disk_counts → disk.faults ≡ old.disk.faults) → IsTrue told.disk_counts → disk.faults ≡ start.disk.faults
@@ -160,7 +160,7 @@ module _ (told : Told) (setting : Setting) (start : Start) (before : List ℕ �
       let a = unsent.answered in
       let answer : Answer = record { reading = a.reading; batches = a.batches; reply = unsent.reply } in
       let split : made ++ a.batches ≡ batches_of (s.answers ++ answer ∷ []) ++ [] = sym (batches_of_more s.answers answer) ∙ append_none (batches_of (s.answers ++ answer ∷ [])) in
-      over told setting start new before images' since places' (cause_of in_writing end) (s.lines ++ line ∷ []) unserved at_end (s.answers ++ answer ∷ []) s.opened (made ++ a.batches) [] None s.opened_at split
+      over told setting start new before images' since places' (cause_of in_writing end) (s.lines ++ line ∷ []) unserved at_end (s.answers ++ answer ∷ []) s.opened (made ++ a.batches) [] None s.opened_at s.by_first split
       (stream_on told.source start.source source s.lines line unserved at_end stream)
       (with_answer answer a.is)
       (λ t.
@@ -189,7 +189,7 @@ module _ (told : Told) (setting : Setting) (start : Start) (before : List ℕ �
   stops_grown : sink ≡ old.sink → (IsTrue told.disk_counts → disk.faults ≡ old.disk.faults) → (batches : List Batch) → IsGrown told.disk told.images setting.limit old.disk disk images' gone since Has' places' s.opened made batches
       → IsLeftUndone setting.hours (s.opened ++ made) s.lines (line ∷ unserved) causes.Memory batches None → IsOver told setting start new before images' since places' causes.Memory
   stops_grown same steady batches grown undone =
-      over told setting start new before images' since places' causes.Memory s.lines (line ∷ unserved) at_end s.answers s.opened (made ++ batches) batches None s.opened_at refl
+      over told setting start new before images' since places' causes.Memory s.lines (line ∷ unserved) at_end s.answers s.opened (made ++ batches) batches None s.opened_at s.by_first refl
       stream s.are (silent causes.Memory same) s.stood s.applied grown.made
       (held_stored told (log_ends start new) images' causes.Memory None (s.opened ++ (made ++ batches)) grown.stored)
       (ever_grown causes.Memory None batches grown.time)
@@ -225,13 +225,13 @@ module _ (told : Told) (setting : Setting) (start : Start) (before : List ℕ �
       let Left : List ℕ → Type 0 = IsLeft (IsHurt told.disk_memory old.disk.faults disk.faults) log in_writing in
       let kept : (image : List ℕ) → Left image → IsKept told (log_ends start new) cause h.refused log image =
       kept_by told setting.limit start middle new images' log h.refused in_writing s.disk_later in_writing refl stop h.cause in
-      over told setting start new before images' since places' cause s.lines (line ∷ unserved) at_end s.answers s.opened (made ++ cut.more) cut.more h.refused s.opened_at refl
+      over told setting start new before images' since places' cause s.lines (line ∷ unserved) at_end s.answers s.opened (made ++ cut.more) cut.more h.refused s.opened_at s.by_first refl
       stream s.are (silent cause same) s.stood s.applied h.made
       (halted_held told setting.limit start middle new images' log h.refused in_writing s.disk_later stop h.cause h.file h.crash)
       (λ t image was. ⊎_elim
       (λ earlier. inl (front_grows s.opened made cut.more image (s.ever t image earlier)))
       (λ later. ⊎_elim (λ front. inl (front_behind s.opened made cut.more image front)) (λ left. inr (kept image left)) later)
-      ((h.time t).nothing_else s.opened_at image (s.later t).1 was))
+      ((h.time t).nothing_else s.opened_at image (s.later t) was))
       (opening_then _ h.time)
       (halted_named told setting.limit start middle new images' log h.refused in_writing s.disk_later (line ∷ unserved) at_end stop h.cause (λ t other. steady t other ∙ s.steady.disk t))
       (inr (record {
@@ -275,7 +275,7 @@ module _ (told : Told) (setting : Setting) (start : Start) (before : List ℕ �
       let last : IsStream told.source start.source source (s.lines ++ line ∷ []) [] true =
       subst (λ (b : Bool). IsStream told.source start.source source (s.lines ++ line ∷ []) [] b) end
       (subst (λ (more : List (List ℕ)). IsStream told.source start.source source (s.lines ++ line ∷ []) more at_end) none (stream_on told.source start.source source s.lines line unserved at_end stream)) in
-      over told setting start new before images' since places' causes.Done (s.lines ++ line ∷ []) [] true (s.answers ++ answer ∷ []) s.opened (made ++ a.batches) [] None s.opened_at split last
+      over told setting start new before images' since places' causes.Done (s.lines ++ line ∷ []) [] true (s.answers ++ answer ∷ []) s.opened (made ++ a.batches) [] None s.opened_at s.by_first split last
       (with_answer answer a.is)
       (λ t. inl (replied.sent t ∙ ap (λ bs. bs ++ answer.reply) (s.sent t) ∙ append_assoc start.sink.written (replies_of s.answers) answer.reply ∙ ap (λ bs. start.sink.written ++ bs) (sym (replies_of_more s.answers answer))))
       s.stood s.applied a.grown.made

@@ -7,7 +7,7 @@ use Rattle.zb_disk.specs.Cause.{Rose}
 use Rattle.zb_disk.specs.Disk.{DiskView}
 use Rattle.zb_outside.specs.Stream.{SourceView, SinkView}
 use Rattle.zb_model.specs.declared.record.Batch.{Batch}
-use Rattle.zb_store.specs.Calls.{LeavesOnly, LeftByOpening}
+use Rattle.zb_store.specs.Calls.{LeavesOnly}
 use Rattle.zb_store.specs.Log.{extent}
 use Rattle.zb_partition.specs.Log.{bodies_of}
 use Rattle.zb_lines.specs.Taken.{Takes, takes_on}
@@ -33,10 +33,10 @@ ever_more opened made more at old new gone since later ever leaves image was =
     ⊎_elim (λ earlier. front_grows opened made more image (ever image earlier)) (λ front. front_behind opened made more image front) (leaves.nothing_else at image later was)
 
 -- what one might have left since the run began, once more calls were made
-pub opening_more : (file : List ℕ) (before : List ℕ → Type 0) (first at old new : ℕ) (gone since : ℕ → List ℕ → Type 0) (P : List ℕ → Type 0) → first ≤ at → at ≤ old
-    → ((image : List ℕ) → gone first image → LeftByOpening file before image ⊎ gone at image) → LeavesOnly old new gone since P
-    → (image : List ℕ) → since first image → LeftByOpening file before image ⊎ since at image
-opening_more file before first at old new gone since P sooner later opening leaves image was =
+pub opening_more : (before : List ℕ → Type 0) (first at old new : ℕ) (gone since : ℕ → List ℕ → Type 0) (P : List ℕ → Type 0) → first ≤ at → at ≤ old
+    → ((image : List ℕ) → gone first image → before image ⊎ gone at image) → LeavesOnly old new gone since P
+    → (image : List ℕ) → since first image → before image ⊎ since at image
+opening_more before first at old new gone since P sooner later opening leaves image was =
     ⊎_elim (λ earlier. ⊎_elim (λ left. inl left) (λ kept. inr (leaves.keeps at image later kept)) (opening image earlier)) (λ now. inr now) (leaves.splits first at image sooner later was)
 
 -- a line was served, and no device failed
@@ -101,11 +101,12 @@ module _ (told : Told) (setting : Setting) (start : Start) (before : List ℕ �
         has = subst (λ (l : List Batch). Has' (s.opened ++ l)) (sym log) a.grown.has;
         stored = subst (λ (l : List Batch). IsStored told.disk told.images disk images' (s.opened ++ l)) (sym log) a.grown.stored;
         opened_at = s.opened_at;
-        later = λ t. ((s.later t).0, omega (arith, (s.later t).1, (a.grown.time t).later));
+        by_first = s.by_first;
+        later = λ t. omega (arith, s.later t, (a.grown.time t).later);
         ever = λ t image was. subst (λ (l : List Batch). IsFront s.opened l image) (sym log)
-            (ever_more s.opened (batches_of s.answers) a.batches s.opened_at old.disk.moment disk.moment gone since (s.later t).1 (s.ever t) (a.grown.time t) image was);
+            (ever_more s.opened (batches_of s.answers) a.batches s.opened_at old.disk.moment disk.moment gone since (s.later t) (s.ever t) (a.grown.time t) image was);
         opening = λ t image was.
-            opening_more start.disk.contents before start.disk.moment s.opened_at old.disk.moment disk.moment gone since _ (s.later t).0 (s.later t).1 (s.opening t) (a.grown.time t) image was;
+            opening_more before start.disk.moment s.opened_at old.disk.moment disk.moment gone since _ (s.by_first t).0 (s.later t) (s.opening t) (a.grown.time t) image was;
         source_later = omega (arith, s.source_later, later.source_later);
         sink_later = omega (arith, s.sink_later, later.sink_later);
         disk_later = omega (arith, s.disk_later, later.disk_later);

@@ -3,6 +3,7 @@ use Rattle.std.specs.Prelude.{◌≡◌, ◌⊎◌, ◌<◌, ◌≤◌, ◌+◌,
 use Rattle.zb_disk.specs.Cause.{Rose}
 use Rattle.zb_model.specs.declared.record.Batch.{Batch}
 use Rattle.zb_model.specs.RecordFits.{IsBatch}
+use Rattle.zb_store.specs.Calls.{IsByFirstCall}
 use Rattle.zb_store.specs.Log.{extent}
 use Rattle.zb_store.specs.Stands.{Stands}
 use Rattle.zb_rules.specs.Step.{IsStep, AreStepsOn}
@@ -48,6 +49,8 @@ pub record IsLog (told : Told) (limit : ℕ) (cause : Cause) (unlogged : Option 
   -- the file stood for the batches that it had at opening, whose events apply
   pub opened : IsTrue told.disk → Stands ends.disk.contents (bodies_of growth.opened)
   pub applied : IsApplied number growth.opened
+  -- it was open from the first call of its disk on
+  pub by_first : IsTrue told.images → IsByFirstCall ends.disk.moment growth.opened_at
   -- its batches fit their spelling, so it is the one that its file stands for
   pub fit : AreBatches (whole_of growth)
   -- each batch that was made is a step on those before it

@@ -11,7 +11,6 @@ use Rattle.zbd.specs.Cause.{comes_before}
 use Rattle.zbd.specs.Order.{WasMet}
 use Rattle.zbd.specs.Session.{SessionRun, IsSession, batches_of}
 use Rattle.zb_partition.specs.Log.{IsBadAt}
-use Rattle.zb_store.specs.Calls.{LeftByOpening}
 use Rattle.zbd.specs.Hours.{Hours, is_manual, IsReadingOf, Setting}
 use Rattle.zbd.specs.Made.{AreMadeFor, IsMadeNext}
 use Rattle.zbd.specs.Log.{Growth, whole_of, IsLog, IsKept, WasLeft}
@@ -117,10 +116,10 @@ pub record Serves (told : Told) (setting : Setting) (streams : List SessionEnds)
   pub crash_ever : IsTrue told.images → (place : ℕ) (growth : Growth) (ends : LogEnds) (image : List ℕ)
       → slice_get logs place ≡ Some growth → slice_get volumes place ≡ Some ends → since place growth.opened_at image
       → WasLeft told ends cause unlogged growth image
-  -- one before, since the run began, left what opening leaves
+  -- one before, since the run began, left what one before the run might have left
   pub crash_opening : IsTrue told.images → (place : ℕ) (growth : Growth) (ends : LogEnds) (image : List ℕ)
       → slice_get logs place ≡ Some growth → slice_get volumes place ≡ Some ends → since place ends.disk.moment image
-      → LeftByOpening ends.disk.contents (before place) image ⊎ since place growth.opened_at image
+      → before place image ⊎ since place growth.opened_at image
 
 -- no call of a log's disk failed, as its count tells
 abbrev pub IsUntroubled : Told → LogEnds → Type 0

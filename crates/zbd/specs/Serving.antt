@@ -9,7 +9,7 @@ use Rattle.zb_outside.specs.declared.trouble.Trouble.TheVariants as troubles
 use Rattle.zb_model.specs.declared.record.Batch.{Batch}
 use Rattle.zb_model.specs.declared.stop.Stop.{Stop}
 use Rattle.zb_model.specs.declared.stop.Stop.TheVariants as stops
-use Rattle.zb_store.specs.Calls.{LeftByOpening}
+use Rattle.zb_store.specs.Calls.{IsByFirstCall}
 use Rattle.zb_store.specs.Stands.{Stands}
 use Rattle.zb_lines.specs.Taken.{Takes}
 use Rattle.zb_lines.specs.Line.{IsOneLine, ended}
@@ -99,11 +99,12 @@ pub record IsServing (told : Told) (setting : Setting) (start : Start) (now : No
   pub made : IsMade setting.limit opened (batches_of answers) places
   pub has : Has (opened ++ batches_of answers)
   pub stored : IsStored told.disk told.images now.disk images (opened ++ batches_of answers)
-  -- when the log was open: a crash since then left a front of it, and one before what opening leaves
+  -- when the log was open: a crash since then left a front of it, and one before what one before the run might have left
   pub opened_at : ℕ
-  pub later : IsTrue told.images → (start.disk.moment ≤ opened_at) × (opened_at ≤ now.disk.moment)
+  pub by_first : IsTrue told.images → IsByFirstCall start.disk.moment opened_at
+  pub later : IsTrue told.images → opened_at ≤ now.disk.moment
   pub ever : IsTrue told.images → (image : List ℕ) → since opened_at image → IsFront opened (batches_of answers) image
-  pub opening : IsTrue told.images → (image : List ℕ) → since start.disk.moment image → LeftByOpening start.disk.contents before image ⊎ since opened_at image
+  pub opening : IsTrue told.images → (image : List ℕ) → since start.disk.moment image → before image ⊎ since opened_at image
   pub source_later : start.source.faults ≤ now.source.faults
   pub sink_later : start.sink.faults ≤ now.sink.faults
   pub disk_later : start.disk.faults ≤ now.disk.faults

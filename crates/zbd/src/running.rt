@@ -1,6 +1,6 @@
 ghost use Rattle.std.specs.Prelude.{◌≡◌, ◌<◌, ◌≤◌, ◌^◌, List, ℕ, [], ◌∷◌, length, map, MatchOption, Option, IsTrue, vec_len, vec_capacity};
 ghost use Rattle.zb_model.specs.declared.record.Batch.{Batch};
-ghost use Rattle.zb_store.specs.Calls.{OnlyOpens};
+ghost use Rattle.zb_store.specs.Calls.{OnlyOpens, Settles};
 ghost use Rattle.zb_store.specs.Stands.{Stands};
 ghost use Rattle.zb_words.specs.declared.plan.ClockKind.TheVariants as kinds;
 ghost use Rattle.zb_partition.specs.Log.{bodies_of, IsApplied};
@@ -95,6 +95,8 @@ fn serve_partition<S: Source, K: Sink, D: Disk, C: Clock>(
     ensures run { (disk : D) (opened : List Batch) → IsOpen plan.limit partition opened → IsApplied 1 opened
         → (IsTrue D.tells → Stands (D.view disk).contents (bodies_of opened))
         → OnlyOpens D.tells D.tells_images D.view D.images D.since disk (disk_of partition)
+        → (IsTrue D.tells_images → Settles (D.view disk).moment (D.view (disk_of partition)).moment
+        (D.images disk) (D.since (disk_of partition)) (λ image. Stands image (bodies_of opened)))
         → (IsTrue D.counts_failures → (D.view (disk_of partition)).faults ≡ (D.view disk).faults)
         → IsRun
         (told S.tells K.tells D.tells D.tells_images K.takes_memory D.takes_memory S.counts_failures K.counts_failures D.counts_failures) (setting_of plan C.tells (C.moments clock.old))

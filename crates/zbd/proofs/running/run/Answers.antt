@@ -38,4 +38,5 @@ returns-in-Ok-open-clause-run g c =
     let said = c.in-Ok-open.ensures in
     let is_open : IsOpen c.args.plan.limit c.in-Ok-open.partition said.opened.0 = record { has = said.opened.1.has; live = said.live; place = said.place ∙ c.new.ensures; most = said.limit } in
     let applied = subst (λ (p : ℕ). IsApplied p said.opened.0) c.new.ensures said.opened.1.applied in
-    c.serve_partition.ensures.run c.args.volume.log said.opened.0 is_open applied said.opened.1.stood said.opens said.steady
+    c.serve_partition.ensures.run c.args.volume.log said.opened.0 is_open applied said.opened.1.stood said.opens
+    (λ tells. said.settled tells said.opened.0 (said.opened.1.stood (g.met.D.Disk.images_told tells))) said.steady

@@ -1,9 +1,9 @@
-use Rattle.std.proofs.Common.{refl, inl, arith}
+use Rattle.std.proofs.Common.{refl, arith}
 use Rattle.zb_partition.specs.Partition.{disk_of}
 use Rattle.zbd.specs.Hours.{setting_of}
 use Rattle.zbd.specs.Serving.{start_of}
 use Rattle.zbd.proofs.Clocks.{at_first}
-use Rattle.zbd.proofs.Opening.{serving_first, opened_ever}
+use Rattle.zbd.proofs.Opening.{serving_first, settled_still}
 use Rattle.zbd.proofs.Logs.{has_stored}
 use Rattle.zbd.proofs.running.serve_partition.Goals as goal
 
@@ -18,19 +18,18 @@ serve_session-end-requires g c =
       start,
       disk,
       rw (c.new.ensures.items, c.new-dial.ensures) (serving_first _ setting start _ (g.D.Disk.images disk) _ (g.D.Disk.since disk) _ _ o.0 o.1 o.1.has.fits stored stored.file o.2
-          (at_first c.args.plan.clock g.C.Clock.tells (g.C.Clock.moments c.args.clock.now)) (omega arith) (λ t. refl) (λ t. omega arith) (λ t image was. g.met.D.Disk.only_now disk image t was)
-          (λ t image was. inl (g.met.D.Disk.only_now disk image t was))),
+          (at_first c.args.plan.clock g.C.Clock.tells (g.C.Clock.moments c.args.clock.now)) (omega arith) (λ t. refl)
+          (λ t. settled_still (g.D.Disk.view disk).moment (g.D.Disk.images disk) (g.D.Disk.since disk) _ (λ image was. g.met.D.Disk.only_now disk image t was) (stored.crash t))),
     )
 
 pub returns-clause-run : goal.returns-clause-run
-returns-clause-run g c = λ disk opened is_open applied stood opens steady.
+returns-clause-run g c = λ disk opened is_open applied stood opens settled steady.
     let now = disk_of c.args.partition in
     let stored = has_stored opened c.args.partition g.met.D.Disk.images_told is_open.has in
     let start = start_of (g.S.Source.view c.args.session.now.source) (g.K.Sink.view c.args.session.now.sink) (g.D.Disk.view disk) in
     let setting = setting_of c.args.plan g.C.Clock.tells (g.C.Clock.moments c.args.clock.now) in
     let first = serving_first _ setting start _ (g.D.Disk.images disk) _ (g.D.Disk.since now) _ _ opened is_open is_open.has.fits stored stood applied
-    (at_first c.args.plan.clock g.C.Clock.tells (g.C.Clock.moments c.args.clock.now)) opens.later steady (λ t. (opens.time t).later) (λ t image was. g.met.D.Disk.only_now now image t was)
-    (λ t image was. opened_ever g.D.Disk disk now opens (λ left. g.met.D.Disk.only_now disk left t) t image was) in
+    (at_first c.args.plan.clock g.C.Clock.tells (g.C.Clock.moments c.args.clock.now)) opens.later steady settled in
     rw (c.push_reserved.ensures.items, c.requires.none, c.cause.ensures, c.close-stopped.ensures.log, c.close-stopped.ensures.in_writing, c.close-stopped.ensures.stamps)
     (c.serve_session-end.ensures.over setting start disk (rw (c.new.ensures.items, c.new-dial.ensures) first))
 
