@@ -9,8 +9,6 @@ mod file;
 mod image;
 mod memory;
 mod sound;
-#[cfg(test)]
-mod tests;
 
 pub use disk::{Disk, Trouble};
 pub use file::FileDisk;

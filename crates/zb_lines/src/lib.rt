@@ -6,6 +6,3 @@ mod sender;
 
 pub use reader::{LineReader, Next};
 pub use sender::send;
-
-#[cfg(test)]
-mod tests;

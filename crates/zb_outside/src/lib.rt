@@ -26,6 +26,3 @@ pub use std_sink::StdSink;
 pub use std_source::StdSource;
 pub use trouble::Trouble;
 pub use watch::Watch;
-
-#[cfg(test)]
-mod tests;

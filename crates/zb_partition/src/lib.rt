@@ -6,8 +6,6 @@ mod laws;
 mod opening;
 mod partition;
 mod record;
-#[cfg(test)]
-mod tests;
 
 pub use fault::OpenFault;
 pub use laws::one_log;

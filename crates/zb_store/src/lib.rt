@@ -8,8 +8,6 @@ mod preparing;
 mod reading;
 mod scan;
 mod step;
-#[cfg(test)]
-mod tests;
 mod volume;
 mod walking;
 mod window;

@@ -4,7 +4,5 @@
 mod asked;
 mod plan;
 mod setting;
-#[cfg(test)]
-mod tests;
 
 pub use plan::{ClockKind, Plan, plan_of};

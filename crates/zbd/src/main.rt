@@ -4,31 +4,20 @@
 
 ghost use Rattle.std.specs.Prelude.{◌≡◌, length, IfOk};
 
-mod answer;
-mod dial;
 mod files;
-mod ledger;
-mod line;
-mod run;
-mod running;
-mod session;
 mod start_error;
 mod streams;
-#[cfg(test)]
-mod tests;
-mod top;
 
 use files::{open_volumes, report_faults};
-use run::{Cause, Session};
 use start_error::StartError;
 use std::env;
 use std::fs::File;
 use std::io::{self, ErrorKind, Stdin, Stdout};
 use std::process::ExitCode;
 use streams::hold_standard_streams;
-use top::{plan_for, serve};
 use zb_disk::FileDisk;
 use zb_outside::{OpenDoor, StdClock, StdSink, StdSource};
+use zb_serve::{Cause, Session, plan_for, serve};
 use zb_store::Volume;
 
 /// How the program is called, as it is told where other words were given.

@@ -1,0 +1,120 @@
+use std::alloc::{AllocError, Global};
+use std::process::Abort;
+use std::test::Fail;
+use zb_words::{ClockKind, Plan, plan_of};
+
+const DEFAULT: u64 = 1_073_741_824;
+
+/// The words of these lines, each behind a space, with the clock and the limit.
+const PLANNED: &[(&str, ClockKind, u64)] = &[
+    ("serve", ClockKind::Real, DEFAULT),
+    ("serve --clock real", ClockKind::Real, DEFAULT),
+    ("serve --clock=real", ClockKind::Real, DEFAULT),
+    ("serve --clock manual", ClockKind::Manual, DEFAULT),
+    ("serve --clock=manual", ClockKind::Manual, DEFAULT),
+    ("serve --limit 64", ClockKind::Real, 64),
+    ("serve --limit=64", ClockKind::Real, 64),
+    ("serve --limit 4294967296", ClockKind::Real, 4_294_967_296),
+    ("serve --limit=00000000000000000064", ClockKind::Real, 64),
+    (
+        "serve --limit 00000000004294967296",
+        ClockKind::Real,
+        4_294_967_296,
+    ),
+    ("serve --clock manual --limit 100", ClockKind::Manual, 100),
+    ("serve --clock=manual --limit=100", ClockKind::Manual, 100),
+    ("serve --clock real --limit=100", ClockKind::Real, 100),
+    ("serve --limit 100 --clock=manual", ClockKind::Manual, 100),
+    ("serve --limit=100 --clock manual", ClockKind::Manual, 100),
+];
+
+/// Lines whose words are those of no plan.
+const UNPLANNED: &[&str] = &[
+    "",
+    " serve",
+    "serve ",
+    "Serve",
+    "run",
+    "serve serve",
+    "--clock real",
+    "--clock real serve",
+    "serve --",
+    "serve -- --clock real",
+    "serve log.zb",
+    "serve --clock real log.zb",
+    "serve --help",
+    "serve -h",
+    "serve --clock",
+    "serve --clock=",
+    "serve --clock ",
+    "serve --clock= real",
+    "serve --clock =real",
+    "serve --clock==real",
+    "serve --clock Real",
+    "serve --clock=reals",
+    "serve --clock -real",
+    "serve --clock --limit",
+    "serve --clock --limit 64",
+    "serve --clock real manual",
+    "serve --clocks real",
+    "serve -clock real",
+    "serve --clockreal",
+    "serve --clock real --clock real",
+    "serve --clock=real --clock manual",
+    "serve --limit 64 --limit=64",
+    "serve --limit 64 --clock real --limit 64",
+    "serve --limit",
+    "serve --limit=",
+    "serve --limit ",
+    "serve --clock real --limit",
+    "serve --limit 0",
+    "serve --limit 63",
+    "serve --limit 4294967297",
+    "serve --limit 99999999999999999999",
+    "serve --limit 18446744073709551680",
+    "serve --limit 000000000000000000064",
+    "serve --limit=000000000000000000064",
+    "serve --limit +64",
+    "serve --limit=-64",
+    "serve --limit 6 4",
+    "serve --limit 64=64",
+    "serve --limit 0x40",
+    "serve --limit 64.0",
+    "serve --limit 64b",
+    "serve --limit ６４",
+];
+
+/// Wants the words of a line to have this plan.
+fn expect_plan(
+    rt: &impl Abort,
+    alloc: Global,
+    line: &str,
+    plan: Option<Plan>,
+) -> Result<(), AllocError> {
+    let mut words = Vec::new(alloc);
+    for word in line.split(' ') {
+        words.push(String::from_str(alloc, word)?)?;
+    }
+    assert_eq!(rt; plan_of(&words), plan, "at {line}");
+    Ok(())
+}
+
+#[test]
+fn reads_words(rt: HostRuntime) -> Result<(), Fail> {
+    assert_eq!(rt; plan_of(&[]), None);
+    for (line, clock, limit) in PLANNED {
+        expect_plan(
+            &rt,
+            rt.alloc(),
+            *line,
+            Some(Plan {
+                clock: *clock,
+                limit: *limit,
+            }),
+        )?;
+    }
+    for line in UNPLANNED {
+        expect_plan(&rt, rt.alloc(), *line, None)?;
+    }
+    Ok(())
+}
