@@ -140,7 +140,7 @@ def sources_of(top):
         order = []
         if os.path.isfile(f"{top}/crates/{crate}/specs/Lib.antt"):
             with open(f"{top}/crates/{crate}/specs/Lib.antt", encoding="utf-8") as it:
-                order = re.findall(r"^pub mod (\S+)", it.read(), re.M)
+                order = re.findall(r"^(?:pub )?mod (\S+)", it.read(), re.M)
         read = [Source(top, it) for it in files]
         found += sorted(read, key=lambda it: (order.index(it.module) if it.module in order else len(order), it.module))
     return found
