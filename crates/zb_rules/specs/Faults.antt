@@ -62,9 +62,17 @@ flow_end m = option_map (λ f. f.id) (find (λ f. is_at m f.to is_start || is_at
 abbrev pub no_incoming : Model → Option (List ℕ)
 no_incoming m = option_map (λ n. n.id) (find (λ n. not (is_start n.kind) && not (list_any (λ f. bytes_eq f.to n.id) m.flows)) m.nodes)
 
--- more than 1,000 nodes or 2,000 flows
+-- how many nodes a model may have
+abbrev pub most_nodes : ℕ
+most_nodes = 1000
+
+-- how many flows a model may have
+abbrev pub most_flows : ℕ
+most_flows = 2000
+
+-- more nodes or flows than a model may have
 abbrev pub too_large : Model → Option (List ℕ)
-too_large m = if nat_lt 1000 (length m.nodes) || nat_lt 2000 (length m.flows) then Some m.process else None
+too_large m = if nat_lt most_nodes (length m.nodes) || nat_lt most_flows (length m.flows) then Some m.process else None
 
 -- the first offender of a fault; None where the model hasn't that fault
 abbrev pub offender : Fault → Model → Option (List ℕ)
