@@ -11,6 +11,7 @@ use zb_model::{Flow, Model, Node, NodeKind, Text};
 
 // How many nodes and flows a model may have.
 const MOST_NODES: usize = 1000;
+
 const MOST_FLOWS: usize = 2000;
 
 /// The first id that is empty.
