@@ -9,9 +9,10 @@ ghost use Rattle.zb_rules.specs.Faults.{ends, is_at, empty_id, double_id, dangli
 use crate::ids::{first_empty, first_used, has_id, is_empty};
 use zb_model::{Flow, Model, Node, NodeKind, Text};
 
-// How many nodes and flows a model may have.
+// How many nodes a model may have.
 const MOST_NODES: usize = 1000;
 
+// How many flows a model may have.
 const MOST_FLOWS: usize = 2000;
 
 /// The first id that is empty.
