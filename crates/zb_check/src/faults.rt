@@ -9,6 +9,12 @@ ghost use Rattle.zb_rules.specs.Faults.{ends, is_at, empty_id, double_id, dangli
 use crate::ids::{first_empty, first_used, has_id, is_empty};
 use zb_model::{Flow, Model, Node, NodeKind, Text};
 
+// How many nodes a model may have.
+const MOST_NODES: usize = 1000;
+
+// How many flows a model may have.
+const MOST_FLOWS: usize = 2000;
+
 /// The first id that is empty.
 #[tactic(auto, using(crate::proofs::Listing::two_lists))]
 pub fn empty_id(model: &Model) -> Option<&Text>
@@ -78,7 +84,7 @@ pub fn no_incoming(model: &Model) -> Option<&Text>
 pub fn too_large(model: &Model) -> Option<&Text>
     ensures { option_copied result ≡ too_large model.now }
 {
-    if model.nodes.as_slice().len() > 1000 || model.flows.as_slice().len() > 2000 {
+    if model.nodes.as_slice().len() > MOST_NODES || model.flows.as_slice().len() > MOST_FLOWS {
         return Some(&model.process);
     }
     None

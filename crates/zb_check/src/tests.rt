@@ -3,7 +3,7 @@ use std::alloc::{AllocError, Global};
 use std::test::Fail;
 use zb_model::{List, Model, Node, NodeKind, Text};
 
-/// The process `p` of one node without flows.
+// The process `p` of one node without flows.
 fn model(alloc: Global, id: &str, kind: NodeKind) -> Result<Model, AllocError> {
     let mut nodes = List::empty(alloc);
     nodes.push(Node {
@@ -29,7 +29,7 @@ fn model(alloc: Global, id: &str, kind: NodeKind) -> Result<Model, AllocError> {
     })
 }
 
-/// Whether this fault is found first, at this id.
+// Whether this fault is found first, at this id.
 fn has(alloc: Global, model: &Model, name: &str, offender: &str) -> bool {
     match check(alloc, model) {
         Err(ModelFault::Bad { fault, id }) => fault.name() == name && id.as_str() == offender,

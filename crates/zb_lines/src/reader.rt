@@ -9,7 +9,7 @@ use std::alloc::{AllocError, Global};
 use std::marker::Model;
 use zb_outside::{Source, Trouble};
 
-/// How many bytes are asked of a source at a time.
+// How many bytes are asked of a source at a time.
 const PIECE: usize = 65_536;
 
 /// How a stream went on.
@@ -25,7 +25,7 @@ pub enum Next {
     Full,
 }
 
-/// What came of a wish for more bytes.
+// What came of a wish for more bytes.
 #[derive(Clone, Copy)]
 enum Supply {
     /// The next piece.
@@ -109,14 +109,14 @@ impl LineReader {
         }
     }
 
-    /// Whether bytes were taken that have not been handed out.
+    // Whether bytes were taken that have not been handed out.
     fn holds_some(&self) -> bool
         ensures { IsTrue result ↔ (0 < length self.now) }
     {
         self.at < self.end
     }
 
-    /// Hands out what is held up to the first newline, or all of it, and answers whether there was one.
+    // Hands out what is held up to the first newline, or all of it, and answers whether there was one.
     fn hand_out(&mut self, most: usize, line: &mut Vec<u8>) -> Result<bool, AllocError>
         ensures hands_out { HandsOut most result self.old self.new line.old.items line.new.items }
         ensures room { KeepsRoom most (vec_len line.old) (vec_capacity line.old) (vec_len line.new) (vec_capacity line.new) result }
@@ -136,7 +136,7 @@ impl LineReader {
         }
     }
 
-    /// Takes the next piece from the source, as far as the budget goes.
+    // Takes the next piece from the source, as far as the budget goes.
     fn refill<S: Source>(&mut self, source: &mut S, budget: &mut u64) -> Result<Supply, Trouble>
         requires { self.old ≡ [] }
         ensures refills { Refills S.tells result (S.view source.old) (S.view source.new) budget.old budget.new self.new }
@@ -158,7 +158,7 @@ impl LineReader {
     }
 }
 
-/// Reads into the front of the piece, as far as the budget goes, and takes what was read off the budget.
+// Reads into the front of the piece, as far as the budget goes, and takes what was read off the budget.
 fn read_within<S: Source>(
     source: &mut S,
     budget: &mut u64,
@@ -184,14 +184,14 @@ fn read_within<S: Source>(
     }
 }
 
-/// The place of the first newline.
+// The place of the first newline.
 fn newline_of(bytes: &[u8]) -> Option<usize>
     ensures { MatchOption result (IsOneLine bytes.now) (BreaksAt bytes.now) }
 {
     memchr(b'\n', bytes)
 }
 
-/// Appends a part of a line, of which at most `most` bytes are kept.
+// Appends a part of a line, of which at most `most` bytes are kept.
 fn keep(most: usize, part: &[u8], line: &mut Vec<u8>) -> Result<(), AllocError>
     ensures kept { OnOk result (line.new.items ≡ kept most line.old.items part.now) }
     ensures room { KeepsRoom most (vec_len line.old) (vec_capacity line.old) (vec_len line.new) (vec_capacity line.new) result }

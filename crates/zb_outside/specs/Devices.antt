@@ -8,23 +8,26 @@ use Rattle.zb_outside.specs.declared.list_clock.ListClock.{ListClock}
 abbrev pub piece_of : MemSource → ℕ
 piece_of source = source.piece
 
--- the numbers of the reads that fail, and how many reads there were
+-- the numbers of the reads that fail
 abbrev pub failing_reads : MemSource → List ℕ
 failing_reads source = source.fails.items
 
+-- how often the source was read
 abbrev pub reads_made : MemSource → ℕ
 reads_made source = source.reads
 
--- the numbers of the calls of a sink that fail, and how many calls there were
+-- the numbers of the calls of a sink that fail
 abbrev pub failing_calls : MemSink → List ℕ
 failing_calls sink = sink.fails.items
 
+-- how often the sink was called
 abbrev pub calls_made : MemSink → ℕ
 calls_made sink = sink.calls
 
--- the moments that a clock reads one after another, and how many readings there were
+-- the moments that a clock reads one after another
 abbrev pub moments_listed : ListClock → List ℕ
 moments_listed clock = clock.moments.items
 
+-- how often the clock was read
 abbrev pub readings_made : ListClock → ℕ
 readings_made clock = clock.readings

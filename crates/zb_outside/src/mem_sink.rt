@@ -41,7 +41,7 @@ impl MemSink {
         &self.bytes
     }
 
-    /// Counts a call, and fails where it was listed.
+    // Counts a call, and fails where it was listed.
     fn begin(&mut self) -> Result<(), Trouble>
         ensures stays { self.new.bytes ≡ self.old.bytes }
         ensures cause { HasCause true false self.old.faults self.new.faults result }

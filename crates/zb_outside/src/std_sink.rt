@@ -22,7 +22,7 @@ impl<W: Write> StdSink<W> {
         StdSink { writer, faults: 0 }
     }
 
-    /// Counts a fault.
+    // Counts a fault.
     fn fail(&mut self) -> Trouble
         ensures failed { result ≡ Trouble.Failed }
         ensures rises { Rose self.old.faults self.new.faults }

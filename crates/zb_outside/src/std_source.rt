@@ -6,7 +6,7 @@ ghost use Rattle.zb_outside.specs.Stream.{SourceView};
 use crate::{Source, Trouble};
 use std::io::Read;
 
-/// How many bytes a source may not give: 2^63.
+// How many bytes a source may not give: 2^63.
 const TOO_MANY: u64 = 1 << 63;
 
 /// A source over a reader of the standard library.

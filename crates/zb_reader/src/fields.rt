@@ -53,7 +53,7 @@ pub fn place_at_unread(alloc: Global, value: &Json, name: &str) -> Result<Option
     }
 }
 
-/// Where a value fails to be a text of at most so many bytes.
+// Where a value fails to be a text of at most so many bytes.
 fn place_in_text(alloc: Global, value: &Json, most: usize) -> Option<Text>
     ensures { result ≡ place_in_text most (view value.now) }
 {

@@ -44,7 +44,7 @@ pub fn place_in<L: Layout>(alloc: Global, value: &Json) -> Result<Option<Text>, 
     Ok(first.or(unknown))
 }
 
-/// The first member, in byte order, that is none of the fields.
+// The first member, in byte order, that is none of the fields.
 fn unknown_place<L: Layout>(
     alloc: Global,
     value: &Json,
@@ -76,7 +76,7 @@ pub fn place_at_list<L: Layout>(
     }
 }
 
-/// Where a value fails to be a list.
+// Where a value fails to be a list.
 fn place_in_list<L: Layout>(alloc: Global, value: &Json) -> Result<Option<Text>, AllocError>
     ensures { IfOk result
         (λ place. place ≡ spec.place_in_list (spec.place_in_object L.fields) (view value.now)) }
@@ -87,7 +87,7 @@ fn place_in_list<L: Layout>(alloc: Global, value: &Json) -> Result<Option<Text>,
     }
 }
 
-/// Where the items fail first.
+// Where the items fail first.
 fn place_in_items<L: Layout>(alloc: Global, items: &[Json]) -> Result<Option<Text>, AllocError>
     ensures { IfOk result
         (λ place. place ≡ spec.place_from (spec.place_in_object L.fields) 0 (items_view items.now)) }
@@ -110,7 +110,7 @@ pub fn list_at<L: Layout>(alloc: Global, value: &Json, field: &str) -> Result<Li
     }
 }
 
-/// What the items are, in order.
+// What the items are, in order.
 fn made_of<L: Layout>(alloc: Global, items: &[Json]) -> Result<List<L>, AllocError>
     ensures { IfOk result (λ list. list ≡ layout.made_of L.made (items_view items.now)) }
 {

@@ -7,7 +7,7 @@ use std::alloc::{AllocError, Global};
 use zb_base::Text;
 use zb_process::{Flow, Model, Node};
 
-/// A version tag has at most so many bytes.
+// A version tag has at most so many bytes.
 const LONGEST_TAG: usize = 32_768;
 
 impl Layout for Model {

@@ -48,7 +48,7 @@ impl Layout for Node {
     }
 }
 
-/// The kind of a node by its name.
+// The kind of a node by its name.
 fn kind_named(name: &str) -> Option<NodeKind>
     ensures { result ≡ spec.kind_named name.now }
 {
@@ -59,14 +59,14 @@ fn kind_named(name: &str) -> Option<NodeKind>
     }
 }
 
-/// The kind that a node names.
+// The kind that a node names.
 fn kind_at(value: &Json) -> Option<NodeKind>
     ensures { result ≡ spec.kind_at (view value.now) }
 {
     kind_named(value.get("kind").and_then(Json::as_str)?)
 }
 
-/// Where a node fails at its kind.
+// Where a node fails at its kind.
 fn place_at_kind(alloc: Global, value: &Json) -> Result<Option<Text>, AllocError>
     ensures { IfOk result
         (λ place. place ≡ place_at (view value.now) (must (codes "kind") spec.place_in_kind)) }
@@ -74,7 +74,7 @@ fn place_at_kind(alloc: Global, value: &Json) -> Result<Option<Text>, AllocError
     behind(alloc, "kind", here_unless(alloc, kind_at(value).is_some()))
 }
 
-/// Where a node fails at its parent.
+// Where a node fails at its parent.
 fn place_at_parent(alloc: Global, value: &Json) -> Result<Option<Text>, AllocError>
     ensures { IfOk result
         (λ place. place ≡ place_at (view value.now) (may (codes "parent") spec.place_in_parent)) }
@@ -89,7 +89,7 @@ fn place_at_parent(alloc: Global, value: &Json) -> Result<Option<Text>, AllocErr
     }
 }
 
-/// Where a node fails at the first of the fields that its kind has of its own.
+// Where a node fails at the first of the fields that its kind has of its own.
 fn first_own_place(alloc: Global, value: &Json) -> Result<Option<Text>, AllocError>
     ensures { IfOk result (λ place. place
         ≡ first_place (view value.now) (spec.fields_of (spec.kind_at (view value.now)))) }
@@ -101,7 +101,7 @@ fn first_own_place(alloc: Global, value: &Json) -> Result<Option<Text>, AllocErr
     }
 }
 
-/// Where an end event fails at the first of its own fields.
+// Where an end event fails at the first of its own fields.
 fn first_end_place(alloc: Global, value: &Json) -> Result<Option<Text>, AllocError>
     ensures { IfOk result (λ place. place
         ≡ first_place (view value.now) (spec.fields_of (Some kinds.EndEvent))) }
@@ -111,7 +111,7 @@ fn first_end_place(alloc: Global, value: &Json) -> Result<Option<Text>, AllocErr
     Ok(terminate.or(compensate))
 }
 
-/// Whether a node's kind has a field of this name of its own.
+// Whether a node's kind has a field of this name of its own.
 fn has_own_field(value: &Json, name: &str) -> bool
     ensures { result ≡ has_field (spec.fields_of (spec.kind_at (view value.now))) name.now }
 {

@@ -29,7 +29,7 @@ pub fn behind_item(alloc: Global, index: usize, place: Text) -> Result<Option<Te
     behind(alloc, index.to_string(alloc)?.as_str(), Some(place))
 }
 
-/// The pointer that has this name first.
+// The pointer that has this name first.
 fn joined(alloc: Global, name: &str, rest: &str) -> Result<Text, AllocError>
     ensures { IfOk result (λ path. Some path ≡ spec.behind name.now (Some rest.now)) }
 {
@@ -40,7 +40,7 @@ fn joined(alloc: Global, name: &str, rest: &str) -> Result<Text, AllocError>
     Text::of(alloc, path.as_str())
 }
 
-/// Appends a name as it stands in a pointer.
+// Appends a name as it stands in a pointer.
 fn push_escaped(path: &mut String, name: &str) -> Result<(), AllocError>
     ensures { OnOk result (string_bytes path.new ≡ string_bytes path.old ++ spec.escaped name.now) }
 {
@@ -50,7 +50,7 @@ fn push_escaped(path: &mut String, name: &str) -> Result<(), AllocError>
     Ok(())
 }
 
-/// Appends a character as it stands in a pointer.
+// Appends a character as it stands in a pointer.
 #[tactic(auto, using(crate::proofs::Escapes::escaped_encode))]
 fn push_char(path: &mut String, c: char) -> Result<(), AllocError>
     ensures { OnOk result

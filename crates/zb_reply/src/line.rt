@@ -7,7 +7,7 @@ use std::alloc::{AllocError, Global};
 use zb_model::{Rejection, RejectionKind};
 use zb_wire::LineFault;
 
-/// So many bytes are room for the line of most replies.
+// So many bytes are room for the line of most replies.
 const LINE_ROOM: usize = 96;
 
 /// Appends the line of a reply with its newline, and `units` as its last field where it is given. After a
@@ -26,7 +26,7 @@ pub fn reply_text(
     bytes.extend_from_slice(line.as_bytes())
 }
 
-/// The line of a reply.
+// The line of a reply.
 #[tactic(auto, unfolding(crate::specs::Reply::line_of))]
 fn line(alloc: Global, reply: &Reply, units: Option<u64>) -> Result<String, AllocError>
     ensures { IfOk result (λ line. string_bytes line ≡ line_of reply.now units) }
@@ -42,7 +42,7 @@ fn line(alloc: Global, reply: &Reply, units: Option<u64>) -> Result<String, Allo
     }
 }
 
-/// The line of a deployment, which tells of its definition.
+// The line of a deployment, which tells of its definition.
 fn deploy_line(alloc: Global, deployed: &Deployed, units: Option<u64>) -> Result<String, AllocError>
     ensures { IfOk result (λ line. string_bytes line ≡ ok_line (deployed_text deployed.now) units) }
 {
@@ -55,7 +55,7 @@ fn deploy_line(alloc: Global, deployed: &Deployed, units: Option<u64>) -> Result
     Ok(line)
 }
 
-/// Appends what a line tells of a definition.
+// Appends what a line tells of a definition.
 fn push_deployed(alloc: Global, line: &mut String, deployed: &Deployed) -> Result<(), AllocError>
     ensures { OnOk result (string_bytes line.new ≡ string_bytes line.old ++ deployed_text deployed.now) }
 {
@@ -68,7 +68,7 @@ fn push_deployed(alloc: Global, line: &mut String, deployed: &Deployed) -> Resul
     Ok(())
 }
 
-/// The line of a create, which tells of its instance.
+// The line of a create, which tells of its instance.
 fn create_line(alloc: Global, created: Created, units: Option<u64>) -> Result<String, AllocError>
     ensures { IfOk result (λ line. string_bytes line ≡ ok_line (created_text created) units) }
 {
@@ -81,7 +81,7 @@ fn create_line(alloc: Global, created: Created, units: Option<u64>) -> Result<St
     Ok(line)
 }
 
-/// Appends what a line tells of an instance.
+// Appends what a line tells of an instance.
 fn push_created(line: &mut String, created: Created) -> Result<(), AllocError>
     ensures { OnOk result (string_bytes line.new ≡ string_bytes line.old ++ created_text created) }
 {
@@ -92,7 +92,7 @@ fn push_created(line: &mut String, created: Created) -> Result<(), AllocError>
     Ok(())
 }
 
-/// The line of a request that was done, which tells this number by its name.
+// The line of a request that was done, which tells this number by its name.
 fn number_line(
     alloc: Global,
     name: &str,
@@ -110,7 +110,7 @@ fn number_line(
     Ok(line)
 }
 
-/// Appends what a line tells of a number that has a name.
+// Appends what a line tells of a number that has a name.
 fn push_number(line: &mut String, name: &str, number: u64) -> Result<(), AllocError>
     ensures { OnOk result (string_bytes line.new
         ≡ string_bytes line.old ++ number_text name.now number) }
@@ -122,7 +122,7 @@ fn push_number(line: &mut String, name: &str, number: u64) -> Result<(), AllocEr
     Ok(())
 }
 
-/// The line of a request that was rejected.
+// The line of a request that was rejected.
 fn rejected_line(
     alloc: Global,
     rejection: &Rejection,
@@ -141,7 +141,7 @@ fn rejected_line(
     Ok(line)
 }
 
-/// The line of a fault.
+// The line of a fault.
 fn fault_line(alloc: Global, number: u64, fault: &LineFault) -> Result<String, AllocError>
     ensures { IfOk result (λ line. string_bytes line ≡ fault_line number fault.now) }
 {
@@ -157,7 +157,7 @@ fn fault_line(alloc: Global, number: u64, fault: &LineFault) -> Result<String, A
     Ok(line)
 }
 
-/// Appends the field that a fault names.
+// Appends the field that a fault names.
 fn push_field(alloc: Global, line: &mut String, fault: &LineFault) -> Result<(), AllocError>
     ensures { OnOk result (string_bytes line.new ≡ string_bytes line.old ++ fault_field fault.now) }
 {
@@ -170,7 +170,7 @@ fn push_field(alloc: Global, line: &mut String, fault: &LineFault) -> Result<(),
     }
 }
 
-/// Appends the place in the field's value that a fault names.
+// Appends the place in the field's value that a fault names.
 fn push_path(alloc: Global, line: &mut String, fault: &LineFault) -> Result<(), AllocError>
     ensures { OnOk result (string_bytes line.new ≡ string_bytes line.old ++ fault_path fault.now) }
 {
@@ -186,7 +186,7 @@ fn push_path(alloc: Global, line: &mut String, fault: &LineFault) -> Result<(), 
     }
 }
 
-/// Appends a text in quotes.
+// Appends a text in quotes.
 #[tactic(auto, unfolding(crate::specs::Reply::quoted))]
 fn push_quoted(alloc: Global, line: &mut String, text: &str) -> Result<(), AllocError>
     ensures { OnOk result (string_bytes line.new ≡ string_bytes line.old ++ quoted text.now) }
@@ -195,7 +195,7 @@ fn push_quoted(alloc: Global, line: &mut String, text: &str) -> Result<(), Alloc
     line.push_str(text.to_string(alloc)?.as_str())
 }
 
-/// Appends the last field of a reply, where it is given.
+// Appends the last field of a reply, where it is given.
 fn push_units(line: &mut String, units: Option<u64>) -> Result<(), AllocError>
     ensures { OnOk result (string_bytes line.new ≡ string_bytes line.old ++ units_of units) }
 {
@@ -206,7 +206,7 @@ fn push_units(line: &mut String, units: Option<u64>) -> Result<(), AllocError>
     line.write(units)
 }
 
-/// The name of a kind of rejection in a reply.
+// The name of a kind of rejection in a reply.
 fn name_of_kind(kind: RejectionKind) -> &'static str
     ensures { result.now ≡ kind_name kind }
 {
@@ -218,7 +218,7 @@ fn name_of_kind(kind: RejectionKind) -> &'static str
     }
 }
 
-/// The name of a fault in a reply; want of memory has none.
+// The name of a fault in a reply; want of memory has none.
 fn name_of_fault(fault: &LineFault) -> &'static str
     ensures { result.now ≡ fault_name fault.now }
 {

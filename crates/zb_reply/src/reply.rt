@@ -77,7 +77,7 @@ pub fn reply_of(alloc: Global, batch: &Batch) -> Result<Reply, AllocError>
     }
 }
 
-/// The first definition that the events make.
+// The first definition that the events make.
 fn first_definition(events: &[Event]) -> Option<&ProcessCreated>
     ensures { option_map (λ e. e.now) result ≡ definition_in events.now }
 {
@@ -89,7 +89,7 @@ fn first_definition(events: &[Event]) -> Option<&ProcessCreated>
     None
 }
 
-/// The first instance that the events make.
+// The first instance that the events make.
 fn first_instance(events: &[Event]) -> Option<ProcessInstanceCreationCreated>
     ensures { result ≡ instance_in events.now }
 {
@@ -101,7 +101,7 @@ fn first_instance(events: &[Event]) -> Option<ProcessInstanceCreationCreated>
     None
 }
 
-/// The key of the first message that the events publish.
+// The key of the first message that the events publish.
 fn first_message(events: &[Event]) -> Option<Key>
     ensures { result ≡ message_in events.now }
 {
@@ -113,7 +113,7 @@ fn first_message(events: &[Event]) -> Option<Key>
     None
 }
 
-/// What is told of a definition.
+// What is told of a definition.
 fn deployed_of(alloc: Global, created: &ProcessCreated) -> Result<Deployed, AllocError>
     ensures { IfOk result (λ deployed. deployed ≡ deployed_of created.now) }
 {
@@ -124,7 +124,7 @@ fn deployed_of(alloc: Global, created: &ProcessCreated) -> Result<Deployed, Allo
     })
 }
 
-/// What is told of an instance.
+// What is told of an instance.
 fn created_of(created: ProcessInstanceCreationCreated) -> Created
     ensures { result ≡ created_of created }
 {

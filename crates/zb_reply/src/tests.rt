@@ -47,7 +47,7 @@ fn published(alloc: Global) -> Result<MessagePublished, AllocError> {
     })
 }
 
-/// A batch of a publish whose message is published behind another event.
+// A batch of a publish whose message is published behind another event.
 #[tactic(auto, unfolding(crate::specs::Reply::answer_of))]
 fn batch(alloc: Global) -> Result<Batch, AllocError>
     ensures { IfOk result (λ batch. IsSome (answer_of batch)) }

@@ -35,7 +35,7 @@ model_at b key = option_map (λ d. d.model) (first (λ d. d.key == key) b.models
 abbrev pub node_at : Model → List ℕ → Option Node
 node_at m id = first (λ n. bytes_eq n.id id) m.nodes
 
--- the ids of the flows out of a node, in the order of the model
+-- the ids of the flows out of a node, in the order of the model (BPMN 2.0.2, 8.4.13)
 abbrev pub flows_out : Model → List ℕ → List (List ℕ)
 flows_out m id = map (λ f. f.id) (filter (λ f. bytes_eq f.from id) m.flows)
 
@@ -49,7 +49,7 @@ is_start kinds.StartEvent = true
 is_start kinds.MessageStartEvent = true
 is_start kind = false
 
--- the start event of a scope with this id, empty at the top
+-- the start event of a scope with this id, empty at the top (BPMN 2.0.2, 10.5.2)
 abbrev pub start_in : Model → List ℕ → Option Node
 start_in m scope = first (λ n. is_start n.kind && bytes_eq n.parent scope) m.nodes
 
@@ -85,6 +85,7 @@ is_spot a b = false
 abbrev pub with_cells : Board → List Cell → Board
 with_cells b cells = record { models = b.models; cells = cells; tokens = b.tokens; variables = b.variables }
 
+-- the board with these tokens
 abbrev pub with_tokens : Board → List Token → Board
 with_tokens b tokens = record { models = b.models; cells = b.cells; tokens = tokens; variables = b.variables }
 

@@ -27,6 +27,7 @@ reason_by None asked c = Some (record { kind = kinds.NotFound; reason = no_proce
 reason_by (Some latest) None c = Some (record { kind = kinds.NotFound; reason = no_version c.process c.version })
 reason_by (Some latest) (Some asked) c = None
 
+-- the rejection of a create, if there is a reason for one
 abbrev pub reason_to_create : List Event → ProcessInstanceCreationCreate → Option Rejection
 reason_to_create before c = reason_by (definition_for c.process 0 before) (definition_for c.process c.version before) c
 
@@ -51,6 +52,6 @@ instance_under key definition c = events.ProcessInstanceCreationCreated (record 
     ∷ events.ElementActivating (record { key = key; scope = 0; definition = definition; node = c.process; role = roles.Plain; via = []; started = [] })
     ∷ map (variable_of key) c.variables
 
--- what it makes
+-- what it makes (BPMN 2.0.2, 13.2; Zeebe, the records)
 abbrev pub created : ℕ → List Event → ProcessInstanceCreationCreate → Option (List Event)
 created p before c = option_map (λ d. instance_under (next_key p before) d.key c) (definition_for c.process c.version before)

@@ -5,7 +5,7 @@ use Rattle.zb_model.specs.declared.record.Event.{Event}
 use Rattle.zb_model.specs.declared.record.Event.TheVariants as events
 use Rattle.zb_rules.specs.declared.definition.Definition.{Definition}
 
--- the definition that an event makes
+-- the definition that an event makes (Zeebe)
 abbrev pub definition_told : Event → List Definition
 definition_told (events.ProcessCreated e) = record { key = e.key; version = e.version; process = e.model.process } ∷ []
 definition_told _ = []
@@ -15,7 +15,7 @@ abbrev pub definitions : List Event → List Definition
 definitions [] = []
 definitions (e ∷ es) = definition_told e ++ definitions es
 
--- the greatest version of a process, or 0
+-- the greatest version of a process, or 0 (Zeebe)
 abbrev pub greatest_version : List ℕ → List Definition → ℕ
 greatest_version process [] = 0
 greatest_version process (d ∷ ds) = if bytes_eq d.process process then max d.version (greatest_version process ds) else greatest_version process ds
@@ -30,7 +30,7 @@ abbrev pub version_of : List ℕ → ℕ → List Definition → Option Definiti
 version_of process version [] = None
 version_of process version (d ∷ ds) = if bytes_eq d.process process && (d.version == version) then later_of d (version_of process version ds) else version_of process version ds
 
--- the definition that is asked for: version 0 is the latest one
+-- the definition that is asked for: version 0 is the latest one (Zeebe)
 abbrev pub definition_for : List ℕ → ℕ → List Event → Option Definition
 definition_for process version es =
     let ds = definitions es in

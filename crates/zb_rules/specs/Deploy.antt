@@ -21,7 +21,7 @@ version_behind version = min (version + 1) (2 ^ 32 - 1)
 abbrev pub definition_of : ℕ → List Event → Model → Event
 definition_of p before m = events.ProcessCreated (record { key = next_key p before; version = version_behind (greatest_version m.process (definitions before)); model = m })
 
--- and the deployment has a key of its own
+-- and the deployment has a key of its own (Zeebe, the records)
 abbrev pub deployed : ℕ → List Event → Model → List Event
 deployed p before m =
     let first = definition_of p before m in

@@ -159,6 +159,7 @@ module _ (now : ℕ) (es : List Event) where
       let any = any_of (λ x. is_due now x && Beats x) (buffered es) other has (rw (is, before) refl) in
       absurd (let kept = any_kept Beats (is_due now) (buffered es) in cc)
 
+  -- the message that is due is due first
   pub due_is_first : (m : MessagePublished) → due_message now es ≡ Some m → IsFirstDue now es m
   due_is_first m is =
       let found = earliest_found place_in_time (filter (is_due now) (buffered es)) m is in
@@ -179,6 +180,7 @@ module _ (now : ℕ) (es : List Event) where
       by_test behind true due none = absurd (cc)
       by_test behind false late none = All-cons (λ m. now < m.deadline) m ms (grind (arith, nat_tests)) (behind none)
 
+  -- where no message is due, each deadline lies ahead
   pub none_is_due : due_message now es ≡ None → All (λ m. now < m.deadline) (buffered es)
   none_is_due none = none_kept (buffered es) (earliest_none place_in_time (filter (is_due now) (buffered es)) none)
 
@@ -188,6 +190,7 @@ module _ (now : ℕ) (es : List Event) where
   by_message None command found is = absurd (cc)
   by_message (Some m) command found is = (m, (let same : commands.MessageExpire m.key ≡ command = cc in sym same), due_is_first m found)
 
+  -- the command that is due expires the message that is due first
   pub due_command_first : (command : Command) → due_command now es ≡ Some command → (m : MessagePublished) × (command ≡ commands.MessageExpire m.key) × IsFirstDue now es m
   due_command_first command is = by_message (due_message now es) command refl is
 
@@ -195,6 +198,7 @@ module _ (now : ℕ) (es : List Event) where
   no_message None is = refl
   no_message (Some m) is = absurd (cc)
 
+  -- where no command is due, each deadline lies ahead
   pub due_command_none : due_command now es ≡ None → All (λ m. now < m.deadline) (buffered es)
   due_command_none is = none_is_due (no_message (due_message now es) is)
 
@@ -209,5 +213,6 @@ module _ (now : ℕ) (es : List Event) where
       let due : is_due_at moment m.key es ≡ true = any_of (λ x. (x.key == m.key) && is_due moment x) (buffered es) m r.2.waits (rw (same, come) refl) in
       rw (r.1, there, due) refl
 
+  -- a command that is due is one that is run so far
   pub due_command_is_run : (command : Command) → due_command now es ≡ Some command → IsRun command
   due_command_is_run command is = let r = due_command_first command is in subst IsRun (sym r.1) tt

@@ -26,6 +26,6 @@ reason_to_expire before moment key = if not (is_buffered key before) then Some (
     else if not (is_due_at moment key before) then Some (record { kind = kinds.InvalidState; reason = not_due key })
     else None
 
--- the message expires
+-- the message expires (Zeebe, the records)
 abbrev pub expired : ℕ → List Event
 expired key = events.MessageExpired key ∷ []

@@ -50,21 +50,29 @@ double_id m = repeated [] (ids_of m)
 abbrev pub dangling : Model → Option (List ℕ)
 dangling m = option_map (λ f. f.id) (find (λ f. not (has_node m f.from) || not (has_node m f.to)) m.flows)
 
--- the process hasn't exactly one start event
+-- the process hasn't exactly one start event (BPMN 2.0.2, 10.5.2)
 abbrev pub bad_start : Model → Option (List ℕ)
 bad_start m = if count_by (λ n. is_start n.kind && bytes_eq n.parent []) m.nodes == 1 then None else Some m.process
 
--- a flow into a start event, or out of an end event
+-- a flow into a start event, or out of an end event (BPMN 2.0.2, 10.5.2 and 10.5.3)
 abbrev pub flow_end : Model → Option (List ℕ)
 flow_end m = option_map (λ f. f.id) (find (λ f. is_at m f.to is_start || is_at m f.from ends) m.flows)
 
--- a node without incoming flow that is no start event
+-- a node without incoming flow that is no start event (BPMN 2.0.2, 10.5.2)
 abbrev pub no_incoming : Model → Option (List ℕ)
 no_incoming m = option_map (λ n. n.id) (find (λ n. not (is_start n.kind) && not (list_any (λ f. bytes_eq f.to n.id) m.flows)) m.nodes)
 
--- more than 1,000 nodes or 2,000 flows
+-- how many nodes a model may have
+abbrev pub most_nodes : ℕ
+most_nodes = 1000
+
+-- how many flows a model may have
+abbrev pub most_flows : ℕ
+most_flows = 2000
+
+-- more nodes or flows than a model may have
 abbrev pub too_large : Model → Option (List ℕ)
-too_large m = if nat_lt 1000 (length m.nodes) || nat_lt 2000 (length m.flows) then Some m.process else None
+too_large m = if nat_lt most_nodes (length m.nodes) || nat_lt most_flows (length m.flows) then Some m.process else None
 
 -- the first offender of a fault; None where the model hasn't that fault
 abbrev pub offender : Fault → Model → Option (List ℕ)
@@ -90,6 +98,7 @@ abbrev pub first_of : List Fault → Model → Option (Fault × List ℕ)
 first_of [] m = None
 first_of (fault ∷ later) m = or_found fault (offender fault m) (first_of later m)
 
+-- the first fault that a model has, with its offender
 abbrev pub first_fault : Model → Option (Fault × List ℕ)
 first_fault m = first_of all_faults m
 

@@ -23,7 +23,7 @@ abbrev pub take_first : ℕ → List (List ℕ) → Option Move
 take_first key [] = None
 take_first key (flow ∷ owed) = Some (moves.Take (record { key = key; flow = flow }))
 
--- the one move that a cell is forced to, by its phase
+-- the one move that a cell is forced to, by its phase (BPMN 2.0.2, 13)
 abbrev pub forced_in : Board → Cell → Phase → Option Move
 forced_in b c phases.Activating = Some (moves.Open c.key)
 forced_in b c phases.Active = if can_finish b c.key then Some (moves.Finish c.key) else None
@@ -41,6 +41,7 @@ later_of key None rest = rest
 later_of key (Some move) None = Some (key, move)
 later_of key (Some move) (Some found) = if nat_le key found.0 then Some found else Some (key, move)
 
+-- the answer for the cell with the greatest key that has one, with that key
 abbrev pub newest : (Cell → Option Move) → List Cell → Option (ℕ × Move)
 newest f [] = None
 newest f (c ∷ cells) = later_of c.key (f c) (newest f cells)

@@ -75,7 +75,7 @@ phase_legal b c phases.Leaving move at found is = by_owed c.owed refl is
         subst (λ (m : Move). IsTrue (can b m)) (some_move (moves.Take (record { key = c.key; flow = flow })) move is) (rw (found, at, owes, same_bytes flow) refl)
 phase_legal b c phases.Terminating move at found is = absurd (cc)
 
--- a doomed cell is forced to no move
+-- a doomed cell is forced to no move (BPMN 2.0.2, 13.3.2)
 pub doomed_rests : (b : Board) (c : Cell) → IsTrue (is_doomed b c) → forced_at b c ≡ None
 doomed_rests b c is = rw is refl
 
@@ -114,7 +114,7 @@ cells_legal b None move found_is up is = absurd (cc)
 cells_legal b (Some found) move found_is up is =
     subst (λ (m : Move). IsTrue (can b m)) (some_move found.1 move is) (forced_of_cells_legal b found.0 found.1 up found_is)
 
--- a forced move is legal
+-- a forced move is legal (BPMN 2.0.2, 13)
 pub forced_legal : (b : Board) (key : ℕ) (move : Move) → Ascend 0 b.cells → next_forced b key ≡ Some move → IsTrue (can b move)
 forced_legal b key move up is =
     or_later_legal b (move_of (newest (forced_at b) b.cells)) (first_entry b key b.tokens) move
@@ -160,7 +160,7 @@ no_move : (found : Option (ℕ × Move)) → move_of found ≡ None → found �
 no_move None is = refl
 no_move (Some found) is = absurd (cc)
 
--- in a quiet game no cell is forced to a move, and no token can enter
+-- in a quiet game no cell is forced to a move, and no token can enter (BPMN 2.0.2, 13)
 pub quiet_rests : (b : Board) (key : ℕ) → IsQuiet b key → NoneForced b b.cells × NoneEnters b key b.tokens
 quiet_rests b key is =
     let r = no_later (move_of (newest (forced_at b) b.cells)) (first_entry b key b.tokens) is in

@@ -16,7 +16,7 @@ use Rattle.zb_rules.specs.MoveAssign.{can_assign, play_assign}
 abbrev pub empty_board : Board
 empty_board = record { models = []; cells = []; tokens = []; variables = [] }
 
--- when a move may be made
+-- when a move may be made (BPMN 2.0.2, 13)
 abbrev pub can : Board → Move → Bool
 can b (moves.Stand d) = can_stand b d
 can b (moves.Start s) = can_start b s
@@ -27,7 +27,7 @@ can b (moves.Leave l) = can_leave b l
 can b (moves.Take t) = can_take b t
 can b (moves.Assign a) = can_assign b a
 
--- the board after a move; None where it names a cell or a token that isn't there
+-- the board after a move; None where it names a cell or a token that isn't there (BPMN 2.0.2, 13)
 abbrev pub played : Board → Move → Option Board
 played b (moves.Stand d) = play_stand b d
 played b (moves.Start s) = play_start b s

@@ -106,5 +106,6 @@ take_by : (b after : Board) (t : Take) (found : Option Cell) → option_and_then
 take_by b after t None is = absurd (cc)
 take_by b after t (Some c) is = (c, refl, token_by b after c.scope t.flow (leaving (rest_of c.owed) t.key b) (λ l left. leaving_keeps b l (rest_of c.owed) t.key left) is)
 
+-- a flow that is taken makes exactly one token, on that flow (BPMN 2.0.2, 13.3.1)
 pub take_makes_one : (b after : Board) (t : Take) → play_take b t ≡ Some after → (c : Cell) × (cell_at b t.key ≡ Some c) × (after.tokens ≡ b.tokens ++ record { scope = c.scope; spot = spots.OnFlow t.flow } ∷ [])
 take_makes_one b after t is = take_by b after t (cell_at b t.key) is

@@ -35,6 +35,7 @@ board_from_more : (es : List Event) (e : Event) (b : Board) → board_from b (es
 board_from_more [] e b = last_step (after_shown b (shown e))
 board_from_more (x ∷ es) e b = after_step (after_shown b (shown x)) es e (board_from_more es e)
 
+-- the board behind one event more is the board before it after the move that the event shows
 pub board_of_more : (es : List Event) (e : Event) → board_of (es ++ e ∷ []) ≡ option_and_then (λ b. after_shown b (shown e)) (board_of es)
 board_of_more es e = board_from_more es e empty_board
 

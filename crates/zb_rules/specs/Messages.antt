@@ -26,7 +26,7 @@ abbrev pub unexpired : Option MessagePublished → List Event → List MessagePu
 unexpired None after = []
 unexpired (Some m) after = if has_expired m.key after then [] else m ∷ []
 
--- the buffered messages: those that were published and haven't expired after, in the order of their publishing
+-- the buffered messages: those that were published and haven't expired after, in the order of their publishing (Zeebe)
 abbrev pub buffered : List Event → List MessagePublished
 buffered [] = []
 buffered (e ∷ after) = unexpired (message_told e) after ++ buffered after

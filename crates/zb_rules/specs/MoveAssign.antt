@@ -9,10 +9,10 @@ use Rattle.zb_rules.specs.Board.{Board, cell_at}
 abbrev pub variable_at : Board → ℕ → List ℕ → Option Assigned
 variable_at b scope name = first (λ v. (v.scope == scope) && bytes_eq v.name name) b.variables
 
--- when: the cell is there, and has no variable with this name
+-- when: the cell is there, and has no variable with this name (BPMN 2.0.2, 10.4.1)
 abbrev pub can_assign : Board → Assigned → Bool
 can_assign b a = is_some (cell_at b a.scope) && not (is_some (variable_at b a.scope a.name))
 
--- effect: the cell has it, with this value
+-- effect: the cell has it, with this value (BPMN 2.0.2, 10.4.1)
 abbrev pub play_assign : Board → Assigned → Option Board
 play_assign b a = option_map (λ c. record { models = b.models; cells = b.cells; tokens = b.tokens; variables = b.variables ++ a ∷ [] }) (cell_at b a.scope)

@@ -23,12 +23,12 @@ arrives m node (byte ∷ flow) = leads_to m (byte ∷ flow) node
 abbrev pub comes_by : Board → ℕ → Enter → Bool
 comes_by b definition e = option_map_or (λ m. is_some (node_at m e.node) && arrives m e.node e.via) (model_at b definition) false
 
--- when: such a token is there, and neither its scope nor a cell above that is terminating
+-- when: such a token is there, and neither its scope nor a cell above that is terminating (BPMN 2.0.2, 13.3.2)
 abbrev pub can_enter : Board → Enter → Bool
 can_enter b e = is_some (first (enters e) b.tokens)
     && option_map_or (λ c. not (is_called_off b.cells b e.scope) && comes_by b c.definition e) (cell_at b e.scope) false
 
--- effect: the first such token goes, and a new cell is there
+-- effect: the first such token goes, and a new cell is there (BPMN 2.0.2, 13.3.2)
 abbrev pub play_enter : Board → Enter → Option Board
 play_enter b e = option_and_then (λ c. option_map (λ tokens. record {
   models = b.models;

@@ -32,10 +32,10 @@ goes_on b c = option_map_or (λ n. waits_for_nothing n.kind) (option_and_then (�
 abbrev pub is_done : Board → Cell → Bool
 is_done b c = if is_root c then is_empty b c.key else goes_on b c
 
--- when: it is active, and waits for nothing
+-- when: it is active, and waits for nothing (BPMN 2.0.2, 13.3.2; a process: 13.2)
 abbrev pub can_finish : Board → ℕ → Bool
 can_finish b key = option_map_or (λ c. is_phase c.phase phases.Active && is_done b c) (cell_at b key) false
 
--- effect: it is completing
+-- effect: it is completing (BPMN 2.0.2, 13.3.2; a process: 13.2)
 abbrev pub play_finish : Board → ℕ → Option Board
 play_finish b key = option_map (with_cells b) (edited (λ c. c.key == key) (in_phase phases.Completing []) b.cells)

@@ -18,7 +18,7 @@ ids_eq [] [] = true
 ids_eq (x ∷ xs) (y ∷ ys) = bytes_eq x y && ids_eq xs ys
 ids_eq xs ys = false
 
--- when: it is completing, and these are its flows
+-- when: it is completing, and these are its flows (BPMN 2.0.2, 13.3.1)
 abbrev pub can_leave : Board → Leave → Bool
 can_leave b l = option_map_or (λ c. is_phase c.phase phases.Completing && ids_eq l.owed (owed_by b c)) (cell_at b l.key) false
 
@@ -27,6 +27,6 @@ abbrev pub leaving : List (List ℕ) → ℕ → Board → Option Board
 leaving [] key b = option_map (without_cell b key) (removed (λ c. c.key == key) b.cells)
 leaving (flow ∷ owed) key b = option_map (with_cells b) (edited (λ c. c.key == key) (in_phase phases.Leaving (flow ∷ owed)) b.cells)
 
--- effect: it owes them and is leaving; it is gone where there are none
+-- effect: it owes them and is leaving; it is gone where there are none (BPMN 2.0.2, 13.3.1)
 abbrev pub play_leave : Board → Leave → Option Board
 play_leave b l = leaving l.owed l.key b

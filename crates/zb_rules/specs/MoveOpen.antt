@@ -14,11 +14,11 @@ first_tokens b c = if is_root c
     then option_map_or (λ n. record { scope = c.key; spot = spots.BeforeNode n.id } ∷ []) (option_and_then (λ m. start_in m []) (model_at b c.definition)) []
     else []
 
--- when: it is activating
+-- when: it is activating (BPMN 2.0.2, 13.3.2)
 abbrev pub can_open : Board → ℕ → Bool
 can_open b key = option_map_or (λ c. is_phase c.phase phases.Activating) (cell_at b key) false
 
--- effect: it is active
+-- effect: it is active (BPMN 2.0.2, 13.3.2; a process: 13.2)
 abbrev pub play_open : Board → ℕ → Option Board
 play_open b key = option_and_then (λ c. option_map (λ cells. with_tokens (with_cells b cells) (b.tokens ++ first_tokens b c))
     (edited (λ x. x.key == key) (in_phase phases.Active []) b.cells)) (cell_at b key)

@@ -18,7 +18,7 @@ abbrev pub rest_of : List (List ℕ) → List (List ℕ)
 rest_of [] = []
 rest_of (first ∷ owed) = owed
 
--- when: the cell is leaving, and owes this flow first
+-- when: the cell is leaving, and owes this flow first (BPMN 2.0.2, 13.3.1)
 abbrev pub can_take : Board → Take → Bool
 can_take b t = option_map_or (λ c. is_phase c.phase phases.Leaving && is_first t.flow c.owed) (cell_at b t.key) false
 
@@ -26,6 +26,6 @@ can_take b t = option_map_or (λ c. is_phase c.phase phases.Leaving && is_first 
 abbrev pub with_token : ℕ → List ℕ → Board → Board
 with_token scope flow b = with_tokens b (b.tokens ++ record { scope = scope; spot = spots.OnFlow flow } ∷ [])
 
--- effect: a token on that flow; with the last one the cell is gone
+-- effect: a token on that flow; with the last one the cell is gone (BPMN 2.0.2, 13.3.1)
 abbrev pub play_take : Board → Take → Option Board
 play_take b t = option_and_then (λ c. option_map (with_token c.scope t.flow) (leaving (rest_of c.owed) t.key b)) (cell_at b t.key)

@@ -23,7 +23,7 @@ is_repeated before c = not (bytes_eq c.id []) && list_any (is_same c) (buffered 
 unfoldable pub buffered_text : MessagePublish → List ℕ
 buffered_text c = codes "message " ++ (c.name ++ (codes " " ++ (c.correlation_key ++ (codes " " ++ (c.id ++ codes " is buffered")))))
 
--- the rejection of a publish, if there is a reason for one
+-- the rejection of a publish, if there is a reason for one (Zeebe)
 abbrev pub reason_to_publish : List Event → MessagePublish → Option Rejection
 reason_to_publish before c = if is_repeated before c then Some (record { kind = kinds.AlreadyExists; reason = buffered_text c }) else None
 
@@ -42,6 +42,6 @@ message_under key moment c = record {
 abbrev pub expiry_of : ℕ → MessagePublish → List Event
 expiry_of key c = if c.time_to_live == 0 then events.MessageExpired key ∷ [] else []
 
--- the message is published under this key
+-- the message is published under this key (Zeebe)
 abbrev pub published_under : ℕ → ℕ → MessagePublish → List Event
 published_under key moment c = events.MessagePublished (message_under key moment c) ∷ expiry_of key c

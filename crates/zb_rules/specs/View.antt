@@ -79,7 +79,7 @@ greatest_among p (key ∷ keys) = max (counter_at p key) (greatest_among p keys)
 abbrev pub greatest_counter : ℕ → List Event → ℕ
 greatest_counter p events = greatest_among p (flat_map keys_in events)
 
--- the key that partition p draws next
+-- the key that partition p draws next (Zeebe)
 abbrev pub next_key : ℕ → List Event → ℕ
 next_key p events = key_of p (greatest_counter p events + 1)
 

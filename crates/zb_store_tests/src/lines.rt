@@ -6,7 +6,7 @@ use std::test::Fail;
 use zb_lines::{LineReader, Next, send};
 use zb_outside::{MemSink, MemSource, Trouble};
 
-/// Reads a stream in pieces of this size, keeps four bytes of each line, and wants these answers.
+// Reads a stream in pieces of this size, keeps four bytes of each line, and wants these answers.
 fn expect_lines(
     rt: &impl Abort,
     alloc: Global,

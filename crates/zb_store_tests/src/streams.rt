@@ -3,7 +3,7 @@ use std::process::Abort;
 use std::test::Fail;
 use zb_outside::{Clock, MemSink, Sink, Source, StdClock, StdSink, StdSource, Trouble};
 
-/// Reads once, at most three bytes, and wants this answer and these bytes.
+// Reads once, at most three bytes, and wants this answer and these bytes.
 fn expect_read<S: Source>(
     rt: &impl Abort,
     source: &mut S,
@@ -26,7 +26,7 @@ fn a_sink_in_memory(rt: HostRuntime) -> Result<(), Fail> {
     Ok(())
 }
 
-/// A reader that fails and a writer that takes nothing.
+// A reader that fails and a writer that takes nothing.
 #[derive(Drop)]
 struct Broken;
 

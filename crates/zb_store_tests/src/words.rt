@@ -5,7 +5,7 @@ use zb_words::{ClockKind, Plan, plan_of};
 
 const DEFAULT: u64 = 1_073_741_824;
 
-/// The words of these lines, each behind a space, with the clock and the limit.
+// The words of these lines, each behind a space, with the clock and the limit.
 const PLANNED: &[(&str, ClockKind, u64)] = &[
     ("serve", ClockKind::Real, DEFAULT),
     ("serve --clock real", ClockKind::Real, DEFAULT),
@@ -28,7 +28,7 @@ const PLANNED: &[(&str, ClockKind, u64)] = &[
     ("serve --limit=100 --clock manual", ClockKind::Manual, 100),
 ];
 
-/// Lines whose words are those of no plan.
+// Lines whose words are those of no plan.
 const UNPLANNED: &[&str] = &[
     "",
     " serve",
@@ -84,7 +84,7 @@ const UNPLANNED: &[&str] = &[
     "serve --limit ６４",
 ];
 
-/// Wants the words of a line to have this plan.
+// Wants the words of a line to have this plan.
 fn expect_plan(
     rt: &impl Abort,
     alloc: Global,

@@ -25,7 +25,7 @@ is_version d = is_some (version_in d)
 abbrev pub is_partition : Data → Bool
 is_partition d = option_map_or (λ n. n == 1) (unsigned_of d) false
 
--- its fields, in order (own)
+-- its fields, in order (Zeebe, the fields)
 abbrev pub create_fields : List Field
 create_fields =
     must (codes "process") is_text is_name

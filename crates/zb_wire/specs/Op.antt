@@ -12,6 +12,7 @@ pub record Op : Type 0 where
   pub request : Data → Request
 
 infixl 10 ◌>>=◌
+-- what follows where there is no fault; a fault stays
 abbrev pub ◌>>=◌ : {A B : Type 0} → Result A LineFault → (A → Result B LineFault) → Result B LineFault
 Ok a >>= f = f a
 Err fault >>= f = Err fault

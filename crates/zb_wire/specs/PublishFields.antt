@@ -6,7 +6,7 @@ use Rattle.zb_wire.specs.Fields.{Field, must, may, is_text, is_name, is_count, i
 use Rattle.zb_wire.specs.Op.{Op}
 use Rattle.zb_wire.specs.declared.request.Request.TheVariants as requests
 
--- its fields, in order (own)
+-- its fields, in order (Zeebe, the fields)
 abbrev pub publish_fields : List Field
 publish_fields =
     must (codes "name") is_text is_name

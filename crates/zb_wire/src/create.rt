@@ -37,7 +37,7 @@ pub fn create_in(
     }
 }
 
-/// The instance that the fields ask for.
+// The instance that the fields ask for.
 fn creation_in(alloc: Global, value: &Json) -> Result<ProcessInstanceCreationCreate, AllocError>
     ensures { IfOk result (λ creation. creation ≡ creation_of (view value.now)) }
 {

@@ -31,7 +31,7 @@ pub fn deploy_in(
     }
 }
 
-/// The model of a deploy, or where it fails.
+// The model of a deploy, or where it fails.
 fn model_at(alloc: Global, value: &Json) -> Result<Model, ReadFault>
     ensures { Reads result (model_at (view value.now)) }
 {

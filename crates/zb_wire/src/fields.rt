@@ -20,7 +20,7 @@ pub enum Field {
 }
 
 impl Field {
-    /// Its name.
+    // Its name.
     fn name(self) -> &'static str
         ensures { result.now ≡ (field_of self).name }
     {
@@ -29,7 +29,7 @@ impl Field {
         }
     }
 
-    /// Whether the value has the field with a value of its kind, or needn't have it and hasn't.
+    // Whether the value has the field with a value of its kind, or needn't have it and hasn't.
     fn is_right(self, value: &Json) -> bool
         ensures { result ≡ spec.is_right (view value.now) (field_of self) }
     {
@@ -39,7 +39,7 @@ impl Field {
         }
     }
 
-    /// Whether the field is within its limits, or isn't there.
+    // Whether the field is within its limits, or isn't there.
     fn is_within(self, value: &Json) -> bool
         ensures { result ≡ spec.is_within (view value.now) (field_of self) }
     {
@@ -81,7 +81,7 @@ pub fn fault_in(
     Some(range_fault(alloc, field))
 }
 
-/// The first field that is missing or of the wrong kind.
+// The first field that is missing or of the wrong kind.
 fn wrong_field(fields: &[Field], value: &Json) -> Option<&'static str>
     ensures { option_map (λ s. s.now) result
         ≡ spec.first_failing (spec.is_right (view value.now)) (map field_of fields.now) }
@@ -94,7 +94,7 @@ fn wrong_field(fields: &[Field], value: &Json) -> Option<&'static str>
     None
 }
 
-/// The first field that is outside its limits.
+// The first field that is outside its limits.
 fn field_outside(fields: &[Field], value: &Json) -> Option<&'static str>
     ensures { option_map (λ s. s.now) result
         ≡ spec.first_failing (spec.is_within (view value.now)) (map field_of fields.now) }
@@ -120,7 +120,7 @@ pub fn unknown_field<'m, N: AsStr>(fields: &[N], members: &'m Map<String, Json>)
     None
 }
 
-/// Whether it is `op` or one of the fields.
+// Whether it is `op` or one of the fields.
 fn is_known<N: AsStr>(fields: &[N], name: &str) -> bool
     ensures { result ≡ spec.is_known (map N.text fields.now) name.now }
 {

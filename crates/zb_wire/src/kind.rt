@@ -11,10 +11,10 @@ use serde_json::Value as Json;
 /// A name or an id has at most so many bytes.
 pub const LONGEST_NAME: usize = 255;
 
-/// The longest time, in milliseconds.
+// The longest time, in milliseconds.
 const LONGEST_DURATION: u64 = 4_000_000_000_000;
 
-/// The only partition so far.
+// The only partition so far.
 const ONLY_PARTITION: u64 = 1;
 
 /// What the value of a field may be, and the limits that it has.

@@ -38,7 +38,7 @@ pub fn publish_in(
     }
 }
 
-/// The message that the fields ask to publish.
+// The message that the fields ask to publish.
 fn message_in(alloc: Global, value: &Json) -> Result<MessagePublish, AllocError>
     ensures { IfOk result (λ message. message ≡ message_of (view value.now)) }
 {

@@ -41,7 +41,7 @@ pub fn read_line(alloc: Global, line: &[u8], manual: bool) -> Result<Request, Li
     }
 }
 
-/// The JSON value that a text is.
+// The JSON value that a text is.
 #[tactic(auto, using(crate::proofs::LineValues::value_laws))]
 fn value_in(alloc: Global, text: &[u8]) -> Result<Json, LineFault>
     ensures { Reads result (value_in text.now) }
@@ -52,7 +52,7 @@ fn value_in(alloc: Global, text: &[u8]) -> Result<Json, LineFault>
     }
 }
 
-/// What an error of the JSON reader says of a line.
+// What an error of the JSON reader says of a line.
 fn fault_of(error: &Error) -> LineFault
     ensures { Blames result error.now }
 {
@@ -62,7 +62,7 @@ fn fault_of(error: &Error) -> LineFault
     }
 }
 
-/// The request that a value is.
+// The request that a value is.
 fn request_in(alloc: Global, value: &Json, manual: bool) -> Result<Request, LineFault>
     ensures { Gives result (request_in manual (view value.now)) }
 {

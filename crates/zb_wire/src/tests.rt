@@ -4,12 +4,12 @@ use std::alloc::Global;
 use std::test::Fail;
 use zb_model::{Command, MessagePublish, Value};
 
-/// A publish with variables of each kind.
+// A publish with variables of each kind.
 const PAID: &[u8] =
     br#"{"op":"publish","name":"paid","correlationKey":"o-1","timeToLive":60000,"variables":
     {"n":9223372036854775807,"m":-9223372036854775808,"b":true,"":"\u00e9","l":[0,-1],"b":false,"e":[]}}"#;
 
-/// The message that a line asks to publish.
+// The message that a line asks to publish.
 fn message_of(alloc: Global, line: &[u8]) -> Result<MessagePublish, LineFault> {
     match read_line(alloc, line, false) {
         Ok(Request::Publish(message)) => Ok(message),

@@ -50,7 +50,7 @@ pub fn variables_at(alloc: Global, value: &Json, field: &str) -> Result<Vars, Al
     Ok(found.unwrap_or(Vars::empty(alloc)))
 }
 
-/// The variables that a value stands for, if each is within its limits.
+// The variables that a value stands for, if each is within its limits.
 fn variables_in(alloc: Global, value: &Json) -> Result<Option<Vars>, AllocError>
     ensures { IfOk result (λ variables. variables ≡ spec.variables_in (view value.now)) }
 {

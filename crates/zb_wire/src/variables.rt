@@ -8,7 +8,7 @@ use serde_json::{Map, Value as Json};
 use std::alloc::{AllocError, Global};
 use zb_model::{List, Text, Value, Variable, Vars};
 
-/// The text of a variable has at most so many bytes.
+// The text of a variable has at most so many bytes.
 const LONGEST_TEXT: usize = 32_768;
 
 /// Whether each member is of a kind that a variable may have.
@@ -23,7 +23,7 @@ pub fn all_variables(members: &Map<String, Json>) -> bool
     true
 }
 
-/// Whether the value is of a kind that a variable may have.
+// Whether the value is of a kind that a variable may have.
 fn is_variable(value: &Json) -> bool
     ensures { result ≡ spec.is_variable (view value.now) }
 {
@@ -35,7 +35,7 @@ fn is_variable(value: &Json) -> bool
     }
 }
 
-/// Whether each item is a whole number.
+// Whether each item is a whole number.
 fn are_whole(items: &[Json]) -> bool
     ensures { result ≡ spec.are_whole (items_view items.now) }
 {
@@ -47,7 +47,7 @@ fn are_whole(items: &[Json]) -> bool
     true
 }
 
-/// Whether the value is a whole number of 64 bits.
+// Whether the value is a whole number of 64 bits.
 fn is_whole(value: &Json) -> bool
     ensures { result ≡ spec.is_whole (view value.now) }
 {
@@ -66,7 +66,7 @@ pub fn all_within(members: &Map<String, Json>) -> bool
     true
 }
 
-/// Whether the value is within the limits of what a variable may hold.
+// Whether the value is within the limits of what a variable may hold.
 fn is_within(value: &Json) -> bool
     ensures { result ≡ is_some (spec.value_of (view value.now)) }
 {
@@ -79,7 +79,7 @@ fn is_within(value: &Json) -> bool
     }
 }
 
-/// Whether each item is a number of 64 bits with sign.
+// Whether each item is a number of 64 bits with sign.
 fn are_signed(items: &[Json]) -> bool
     ensures { result ≡ is_some (spec.numbers_of (items_view items.now)) }
 {
@@ -105,7 +105,7 @@ pub fn variables_of(alloc: Global, members: &Map<String, Json>) -> Result<Option
     Ok(Vars::of(variables))
 }
 
-/// The variable that a member is, if it is within its limits.
+// The variable that a member is, if it is within its limits.
 fn variable_of(alloc: Global, name: &str, value: &Json) -> Result<Option<Variable>, AllocError>
     ensures { IfOk result (λ variable. variable ≡ spec.variable_of name.now (view value.now)) }
 {
@@ -119,7 +119,7 @@ fn variable_of(alloc: Global, name: &str, value: &Json) -> Result<Option<Variabl
     Ok(Some(Variable { name, value }))
 }
 
-/// What a variable of this value holds, if it is within its limits.
+// What a variable of this value holds, if it is within its limits.
 fn value_of(alloc: Global, value: &Json) -> Result<Option<Value>, AllocError>
     ensures { IfOk result (λ held. held ≡ spec.value_of (view value.now)) }
 {
@@ -132,7 +132,7 @@ fn value_of(alloc: Global, value: &Json) -> Result<Option<Value>, AllocError>
     }
 }
 
-/// The text as a variable's value, if it isn't too long.
+// The text as a variable's value, if it isn't too long.
 fn text_of(alloc: Global, text: &str) -> Result<Option<Value>, AllocError>
     ensures { IfOk result (λ value. value ≡ option_map values.Text (spec.short_text text.now)) }
 {
@@ -142,7 +142,7 @@ fn text_of(alloc: Global, text: &str) -> Result<Option<Value>, AllocError>
     Ok(Some(Value::Text(Text::of(alloc, text)?)))
 }
 
-/// The numbers as a variable's value, if each is a number of 64 bits with sign.
+// The numbers as a variable's value, if each is a number of 64 bits with sign.
 fn list_of(alloc: Global, items: &[Json]) -> Result<Option<Value>, AllocError>
     ensures { IfOk result (λ value. value ≡ option_map values.List (spec.numbers_of (items_view items.now))) }
 {

@@ -40,11 +40,12 @@ abbrev pub GiveAll : List (List ℕ) → List Setting → Type 0
 GiveAll words [] = words ≡ []
 GiveAll words (setting ∷ settings) = (front rest : List (List ℕ)) × (words ≡ front ++ rest) × Gives front setting × GiveAll rest settings
 
--- the clock that the setting asks for, and the limit
+-- the clock that the setting asks for
 abbrev pub clock_in : Setting → Option ClockKind
 clock_in (Clock kind) = Some kind
 clock_in (Limit bytes) = None
 
+-- the limit that the setting asks for
 abbrev pub limit_in : Setting → Option ℕ
 limit_in (Clock kind) = None
 limit_in (Limit bytes) = Some bytes

@@ -21,10 +21,10 @@ pub struct Plan {
     pub limit: u64,
 }
 
-/// The clock of a server whose words name none.
+// The clock of a server whose words name none.
 const DEFAULT_CLOCK: ClockKind = ClockKind::Real;
 
-/// The limit of a server whose words name none, in bytes.
+// The limit of a server whose words name none, in bytes.
 const DEFAULT_LIMIT: u64 = 1_073_741_824;
 
 /// Reads the words of a server's command line, those after the program's name; `None` for any others.

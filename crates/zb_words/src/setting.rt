@@ -12,13 +12,13 @@ pub enum Setting {
     Limit(u64),
 }
 
-/// The least limit that may be asked for, in bytes.
+// The least limit that may be asked for, in bytes.
 const LEAST: u64 = 64;
 
-/// The greatest limit that may be asked for, in bytes.
+// The greatest limit that may be asked for, in bytes.
 const GREATEST: u64 = 4_294_967_296;
 
-/// The most digits that a limit may be written in.
+// The most digits that a limit may be written in.
 const MOST_DIGITS: usize = 20;
 
 /// The setting that these words begin with, and how many of them give it.
