@@ -65,16 +65,3 @@ impl TryCopy for Key {
         Ok(*self)
     }
 }
-
-#[cfg(test)]
-mod tests {
-    use super::*;
-
-    #[test]
-    fn first_key_of_the_first_partition(rt: HostRuntime) {
-        let key = Key::make(PartitionId::new(1), 1);
-        assert_eq!(rt; key.number(), 2_251_799_813_685_249);
-        assert_eq!(rt; key.partition(), 1);
-        assert_eq!(rt; key.counter(), 1);
-    }
-}

@@ -42,15 +42,3 @@ impl Moment {
         Moment(self.0.saturating_add(ms).min(Moment::LAST))
     }
 }
-
-#[cfg(test)]
-mod tests {
-    use super::*;
-
-    #[test]
-    fn later_up_to_the_last(rt: HostRuntime) {
-        for (from, later) in [(1_000, 61_000), (249_999_999_999_999, 250_000_000_000_000)] {
-            assert_eq!(rt; Moment::new(from).plus(60_000).ms(), later);
-        }
-    }
-}

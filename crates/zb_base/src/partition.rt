@@ -52,30 +52,3 @@ pub fn home_of(key: &[u8], partitions: u32) -> PartitionId
     }
     PartitionId(hash % partitions + 1)
 }
-
-#[cfg(test)]
-mod tests {
-    use super::*;
-
-    #[test]
-    fn homes(rt: HostRuntime) {
-        for (key, partitions, home) in [
-            ("o-1", 1, 1),
-            ("o-2", 1, 1),
-            ("k-7", 1, 1),
-            ("o-1", 3, 2),
-            ("o-2", 3, 3),
-            ("k-7", 3, 1),
-            ("o-1", 16, 4),
-            ("o-2", 16, 5),
-            ("k-7", 16, 6),
-        ] {
-            assert!(rt; partitions >= 1 && partitions <= 16);
-            assert_eq!(rt;
-                home_of(key.as_bytes(), partitions).number(),
-                home,
-                "{key} of {partitions}"
-            );
-        }
-    }
-}

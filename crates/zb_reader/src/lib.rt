@@ -10,6 +10,3 @@ mod place;
 mod reading;
 
 pub use reading::{ReadFault, read_model};
-
-#[cfg(test)]
-mod tests;

@@ -3,8 +3,6 @@
 
 mod line;
 mod reply;
-#[cfg(test)]
-mod tests;
 
 pub use line::reply_text;
 pub use reply::{Created, Deployed, Reply, reply_of};

@@ -10,8 +10,6 @@ mod kind;
 mod publish;
 mod reading;
 mod request;
-#[cfg(test)]
-mod tests;
 mod values;
 mod variables;
 

@@ -1,8 +1,8 @@
 // Lines with their replies are run by the program (crates/zbd/stdin). What no reply shows stands here.
-use crate::{LineFault, Request, longest_shown, read_line};
 use std::alloc::Global;
 use std::test::Fail;
 use zb_model::{Command, MessagePublish, Value};
+use zb_wire::{LineFault, Request, longest_shown, read_line};
 
 // A publish with variables of each kind.
 const PAID: &[u8] =

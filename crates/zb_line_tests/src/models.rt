@@ -1,9 +1,9 @@
 // The places of wrong models are run by the program (crates/zbd/stdin). What no reply shows stands here.
-use crate::{ReadFault, read_model};
 use serde_json::Value as Json;
 use std::process::Abort;
 use std::test::Fail;
 use zb_process::{Flow, Node, NodeKind};
+use zb_reader::{ReadFault, read_model};
 
 #[test]
 fn reads_a_model(rt: HostRuntime) -> Result<(), Fail> {

@@ -2,13 +2,13 @@
 ghost use Rattle.std.specs.Prelude.{IfOk, IsSome};
 ghost use Rattle.zb_reply.specs.Reply.{answer_of};
 
-use crate::{Reply, reply_of, reply_text};
 use std::alloc::{AllocError, Global};
 use std::test::Fail;
 use zb_model::{
     Batch, Command, Event, Key, List, MessagePublish, MessagePublished, Moment, Outcome, Rejection,
     RejectionKind, Text, Vars,
 };
+use zb_reply::{Reply, reply_of, reply_text};
 
 #[test]
 fn writes_replies(rt: HostRuntime) -> Result<(), Fail> {
@@ -48,7 +48,7 @@ fn published(alloc: Global) -> Result<MessagePublished, AllocError> {
 }
 
 // A batch of a publish whose message is published behind another event.
-#[tactic(auto, unfolding(crate::specs::Reply::answer_of))]
+#[tactic(auto, unfolding(zb_reply::specs::Reply::answer_of))]
 fn batch(alloc: Global) -> Result<Batch, AllocError>
     ensures { IfOk result (λ batch. IsSome (answer_of batch)) }
 {

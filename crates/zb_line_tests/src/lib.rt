@@ -1,0 +1,11 @@
+//! Tests of what no clause says of values, models, lines and replies: each public call with ample memory.
+#![tactic(auto)]
+
+#[cfg(test)]
+mod lines;
+#[cfg(test)]
+mod models;
+#[cfg(test)]
+mod replies;
+#[cfg(test)]
+mod values;
