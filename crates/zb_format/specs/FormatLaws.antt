@@ -9,13 +9,12 @@ use Rattle.std.proofs.lemmas.List.{take_at, drop_at, take-append-drop, length-ap
 use Rattle.std.proofs.lemmas.List.Concat.{flat_map-cons}
 use Rattle.std.proofs.lemmas.Nat.{be_bytes_4, be_bytes_8, from_be_bytes-to_be_bytes_4, from_be_bytes-to_be_bytes_8}
 use Rattle.std.proofs.lemmas.Int.{of_z-to_z, to_z-of_z, ints}
-use Rattle.zb_format.specs.Field.{number, long, signed, truth_byte, flag, text, counted, optional, value, variable, pair}
-use Rattle.zb_format.specs.Fits.{IsAny, IsNumber, IsLong, IsSigned, IsText, AreCounted, IsOptional, IsValue, IsVariable, AreVariables, IsPair}
+use Rattle.zb_format.specs.Field.{number, long, signed, truth_byte, flag, text, counted, optional, value}
+use Rattle.zb_format.specs.Fits.{IsAny, IsNumber, IsLong, IsSigned, IsText, AreCounted, IsOptional, IsValue}
 use Rattle.zb_base.specs.declared.value.Value.{Value}
 use Rattle.zb_base.specs.declared.value.Value.TheVariants as values
-use Rattle.zb_base.specs.Vars.{is_ascending}
 use Rattle.zb_format.specs.Law.{IsBytes, Takes, IsFormat}
-use Rattle.zb_format.specs.Reading.{◌>>=◌, Reader, passing, empty_at, tagged_at, arm, no_arm, front_at, byte_at, both_at, made_at, chosen_at, one_of, flag_at, many_at, counted_at, number_at, long_at, signed_at, text_at, optional_at, value_at, variable_at, variables_at, pair_at}
+use Rattle.zb_format.specs.Reading.{◌>>=◌, Reader, passing, empty_at, tagged_at, arm, no_arm, front_at, byte_at, both_at, made_at, chosen_at, one_of, flag_at, many_at, counted_at, number_at, long_at, signed_at, text_at, optional_at, value_at}
 
 -- ---- bytes
 
@@ -78,6 +77,10 @@ made_format {make = make} {f = f} {P = P} {Q = Q} {r = r} from apart together on
       let t = apart x h in
       rw (one.again (from x) rest t.1) (ap (λ y. Some (y, rest)) t.0);
 }
+
+-- what fits, fits also taken apart and made again
+pub fits_again : {A B : Type 0} (from : B → A) (make : A → B) (fits : A → Type 0) (a : A) → from (make a) ≡ a → fits a → fits (from (make a))
+fits_again from make fits a same h = subst fits (sym same) h
 
 -- ---- numbers
 
@@ -295,7 +298,7 @@ optional_format {f = f} {P = P} {r = r} one = tagged_format
     no_arm_tagged))
     (optional_again f P r one)
 
--- ---- variables
+-- ---- values of variables
 
 value_again : (x : Value) (rest : List ℕ) → IsValue x → value_at (value x ++ rest) ≡ Some (x, rest)
 unfolding value value_at
@@ -313,15 +316,3 @@ value_format = tagged_format
     (arm_tagged 3 values.List (counted_format signed_format) (λ a. refl) (λ a h. h)
     no_arm_tagged))))
     value_again
-
-pub variable_format : IsFormat variable IsVariable variable_at
-unfolding variable variable_at
-variable_format = made_format (λ v. (v.name, v.value)) (λ b h. (refl, h)) (λ a h. (refl, h)) (both_format text_format value_format)
-
-pub variables_format : IsFormat (counted variable) AreVariables variables_at
-unfolding variables_at
-variables_format = passing_format is_ascending (counted_format variable_format)
-
-pub pair_format : IsFormat pair IsPair pair_at
-unfolding pair pair_at
-pair_format = made_format (λ p. (p.from, p.to)) (λ b h. (refl, h)) (λ a h. (refl, h)) (both_format text_format text_format)

@@ -1,0 +1,78 @@
+-- Pieces that are added to an encoder, one after another.
+use Rattle.std.proofs.Common.{OnOk, Result, Ok, Err, ◌≡◌, ℕ, suc, ◌+◌, ◌^◌, ◌≤◌, ◌<◌, List, [], ◌∷◌, ◌++◌, length, take, slice_index_or, length-append, append_assoc, ◌∙◌, sym, ap, subst, arith}
+use Rattle.std.proofs.Math.Seq.{take-suc}
+use Rattle.std.proofs.lemmas.List.{append-nil}
+use Rattle.std.proofs.lemmas.List.Concat.{flat_map-cons}
+use Rattle.std.specs.List.{flat_map, AllByRecursion}
+use Rattle.zb_format.specs.Encoded.{Adds, Keeps, IsCounting}
+use Rattle.zb_format.specs.declared.encoder.Encoder.{Encoder}
+use Rattle.zb_format.specs.declared.encoder.Encoder.TheVariants.{Bytes, Count}
+
+-- one piece, and then another
+pub adds_then : (a : Encoder) (x : List ℕ) (b : Encoder) (y : List ℕ) (c : Encoder) → Adds a x b → Adds b y c → Adds a (x ++ y) c
+unfolding Adds
+adds_then (Bytes a) x (Bytes b) y (Bytes c) p q = q ∙ ap (λ (t : List ℕ). t ++ y) p ∙ append_assoc a.items x y
+adds_then (Count a) x (Count b) y (Count c) p q = omega (arith, p, q, length-append x y)
+adds_then (Bytes a) x (Bytes b) y (Count c) p q = absurd q
+adds_then (Bytes a) x (Count b) y c p q = absurd p
+adds_then (Count a) x (Bytes b) y c p q = absurd p
+adds_then (Count a) x (Count b) y (Bytes c) p q = absurd q
+
+pub keeps_then : (a b c : Encoder) → Keeps a b → Keeps b c → Keeps a c
+unfolding Keeps
+keeps_then (Bytes a) (Bytes b) (Bytes c) p q = λ front h. q front (p front h)
+keeps_then (Count a) (Count b) (Count c) p q = omega (arith, p, q)
+keeps_then (Bytes a) (Bytes b) (Count c) p q = absurd q
+keeps_then (Bytes a) (Count b) c p q = absurd p
+keeps_then (Count a) (Bytes b) c p q = absurd p
+keeps_then (Count a) (Count b) (Bytes c) p q = absurd q
+
+-- an encoder that counts goes on counting
+pub counts_on : (a b : Encoder) → Keeps a b → IsCounting a → IsCounting b
+unfolding Keeps IsCounting
+counts_on (Bytes a) b p h = absurd h
+counts_on (Count a) (Bytes b) p h = absurd p
+counts_on (Count a) (Count b) p h = tt
+
+pub ruleset pieces = (adds_then, keeps_then)
+
+-- what follows where a call succeeds
+pub on_ok : {T E : Type 0} (result : Result T E) (P Q : Type 0) → (P → Q) → OnOk result P → OnOk result Q
+on_ok (Ok x) P Q so p = so p
+on_ok (Err e) P Q so p = p
+
+-- behind a front, these items have been added one after another; each has a byte and fits
+pub record Written {A : Type 0} (spelling : A → List ℕ) (fits : A → Type 0) (before : Encoder) (front : List ℕ) (items : List A) (after : Encoder) : Type 0 where
+  pub added : Adds before (front ++ flat_map spelling items) after
+  pub kept : Keeps before after
+  pub some : length items ≤ length (flat_map spelling items)
+  pub fitting : length (flat_map spelling items) < 2 ^ 32 → AllByRecursion fits items
+
+flat_map_last : {A : Type 0} (f : A → List ℕ) (items : List A) (x : A) → flat_map f (items ++ x ∷ []) ≡ flat_map f items ++ f x
+flat_map_last f [] x = append-nil (f x)
+flat_map_last f (y ∷ ys) x = flat_map-cons f y (ys ++ x ∷ []) ∙ ap (λ (z : List ℕ). f y ++ z) (flat_map_last f ys x) ∙ sym (append_assoc (f y) (flat_map f ys) (f x)) ∙ ap (λ (z : List ℕ). z ++ f x) (sym (flat_map-cons f y ys))
+
+all_last : {A : Type 0} (fits : A → Type 0) (items : List A) (x : A) → AllByRecursion fits items → fits x → AllByRecursion fits (items ++ x ∷ [])
+all_last fits [] x all one = (one, tt)
+all_last fits (y ∷ ys) x all one = (all.0, all_last fits ys x all.1 one)
+
+-- one more item
+pub written_more : {A : Type 0} (spelling : A → List ℕ) (fits : A → Type 0) (before : Encoder) (front : List ℕ) (items : List A) (between : Encoder) (x : A) (after : Encoder)
+    → Written spelling fits before front items between → Adds between (spelling x) after → Keeps between after → 1 ≤ length (spelling x) → (length (spelling x) < 2 ^ 32 → fits x) → Written spelling fits before front (items ++ x ∷ []) after
+written_more spelling fits before front items between x after so_far added kept some fitting =
+    let spelled : flat_map spelling (items ++ x ∷ []) ≡ flat_map spelling items ++ spelling x = flat_map_last spelling items x in
+    let long : length (flat_map spelling (items ++ x ∷ [])) ≡ length (flat_map spelling items) + length (spelling x) = ap length spelled ∙ length-append (flat_map spelling items) (spelling x) in
+    record {
+      added = subst (λ (z : List ℕ). Adds before z after) (append_assoc front (flat_map spelling items) (spelling x) ∙ ap (λ (z : List ℕ). front ++ z) (sym spelled)) (adds_then before (front ++ flat_map spelling items) between (spelling x) after so_far.added added);
+      kept = keeps_then before between after so_far.kept kept;
+      some = omega (arith, long, some, so_far.some, length-append items (x ∷ []));
+      fitting = λ less. all_last fits items x (so_far.fitting (omega (arith, long, less))) (fitting (omega (arith, long, less)));
+    }
+
+-- the next item of a list
+pub written_next : {A : Type 0} (spelling : A → List ℕ) (fits : A → Type 0) (before : Encoder) (front : List ℕ) (items : List A) (i : ℕ) (between : Encoder) (x : A) (after : Encoder)
+    → i < length items → x ≡ slice_index_or items i x → Written spelling fits before front (take i items) between → Adds between (spelling x) after → Keeps between after → 1 ≤ length (spelling x) → (length (spelling x) < 2 ^ 32 → fits x) → Written spelling fits before front (take (i + 1) items) after
+written_next spelling fits before front items i between x after within is so_far added kept some fitting =
+    let next : suc i ≡ i + 1 = omega arith in
+    let last : take i items ++ x ∷ [] ≡ take (i + 1) items = ap (λ (y : _). take i items ++ y ∷ []) is ∙ sym (take-suc items i x within) ∙ ap (λ (k : ℕ). take k items) next in
+    subst (λ xs. Written spelling fits before front xs after) last (written_more spelling fits before front (take i items) between x after so_far added kept some fitting)
