@@ -4,7 +4,7 @@ use Rattle.std.proofs.Math.Seq.{take-suc}
 use Rattle.std.proofs.lemmas.List.{append-nil}
 use Rattle.std.proofs.lemmas.List.Concat.{flat_map-cons}
 use Rattle.std.specs.List.{flat_map, AllByRecursion}
-use Rattle.zb_format.specs.Encoded.{Adds, Keeps, IsCounting}
+use Rattle.zb_format.specs.Encoded.{Adds, Keeps}
 use Rattle.zb_format.specs.declared.encoder.Encoder.{Encoder}
 use Rattle.zb_format.specs.declared.encoder.Encoder.TheVariants.{Bytes, Count}
 
@@ -19,22 +19,13 @@ adds_then (Count a) x (Bytes b) y c p q = absurd p
 adds_then (Count a) x (Count b) y (Bytes c) p q = absurd q
 
 pub keeps_then : (a b c : Encoder) → Keeps a b → Keeps b c → Keeps a c
-unfolding Keeps
-keeps_then (Bytes a) (Bytes b) (Bytes c) p q = λ front h. q front (p front h)
-keeps_then (Count a) (Count b) (Count c) p q = omega (arith, p, q)
-keeps_then (Bytes a) (Bytes b) (Count c) p q = absurd q
-keeps_then (Bytes a) (Count b) c p q = absurd p
-keeps_then (Count a) (Bytes b) c p q = absurd p
-keeps_then (Count a) (Count b) (Bytes c) p q = absurd q
+keeps_then a b c p q = (λ front h. q.0 front (p.0 front h), λ h. q.1 (p.1 h))
 
--- an encoder that counts goes on counting
-pub counts_on : (a b : Encoder) → Keeps a b → IsCounting a → IsCounting b
-unfolding Keeps IsCounting
-counts_on (Bytes a) b p h = absurd h
-counts_on (Count a) (Bytes b) p h = absurd p
-counts_on (Count a) (Count b) p h = tt
+-- a byte, and then a piece
+pub adds_byte : (a : Encoder) (byte : ℕ) (b : Encoder) (y : List ℕ) (c : Encoder) → Adds a (byte ∷ []) b → Adds b y c → Adds a (byte ∷ y) c
+adds_byte a byte b y c p q = adds_then a (byte ∷ []) b y c p q
 
-pub ruleset pieces = (adds_then, keeps_then)
+pub ruleset pieces = (adds_then, adds_byte)
 
 -- what follows where a call succeeds
 pub on_ok : {T E : Type 0} (result : Result T E) (P Q : Type 0) → (P → Q) → OnOk result P → OnOk result Q

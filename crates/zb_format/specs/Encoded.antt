@@ -11,14 +11,16 @@ Adds (Count before) piece (Count after) = after ≡ min (before + length piece) 
 Adds (Bytes before) piece (Count after) = ⊥
 Adds (Count before) piece (Bytes after) = ⊥
 
--- what was there before is there still
-unfoldable pub Keeps : Encoder → Encoder → Type 0
-Keeps (Bytes before) (Bytes after) = fronts.Keeps before.items after.items
-Keeps (Count before) (Count after) = before ≤ after
-Keeps (Bytes before) (Count after) = ⊥
-Keeps (Count before) (Bytes after) = ⊥
+-- it holds this front, or has counted as many bytes
+unfoldable pub Holds : List ℕ → Encoder → Type 0
+Holds front (Bytes bytes) = fronts.Begins front bytes.items
+Holds front (Count count) = length front ≤ count
 
 -- it only counts, which no want of memory stops
 unfoldable pub IsCounting : Encoder → Type 0
 IsCounting (Bytes bytes) = ⊥
 IsCounting (Count count) = Unit {0}
+
+-- whatever it held before it holds still, and it counts where it counted
+abbrev pub Keeps : Encoder → Encoder → Type 0
+Keeps before after = ((front : List ℕ) → Holds front before → Holds front after) × (IsCounting before → IsCounting after)

@@ -1,15 +1,9 @@
 use Rattle.std.proofs.Common.{◌≡◌, ◌++◌, length}
 use Rattle.zb_format.specs.Encoded.{Adds}
-use Rattle.zb_format.proofs.Adding.{adds_then, keeps_then, counts_on, on_ok}
+use Rattle.zb_format.proofs.Adding.{adds_then, on_ok}
 use Rattle.zb_format.specs.Layout.{text}
 use Rattle.zb_format.specs.Field as fields
 use Rattle.zb_format.proofs.field.TextFormat.write.Goals as goal
-
-pub returns-clause-kept : goal.returns-clause-kept
-returns-clause-kept c = keeps_then _ _ _ c.in_ok-write_count.ensures.kept c.add.ensures.kept
-
-pub returns-clause-counts : goal.returns-clause-counts
-returns-clause-counts c = λ h. c.add.ensures.counts (counts_on _ _ c.in_ok-write_count.ensures.kept h)
 
 pub returns-clause-added : goal.returns-clause-added
 unfolding text fields.text
