@@ -43,6 +43,10 @@ text = record { spelling = fields.text; fits = fit.IsText; reading = readings.te
 unfoldable pub value : Layout Value
 value = record { spelling = fields.value; fits = fit.IsValue; reading = readings.value_at; law = laws.value_format }
 
+-- nothing, in no bytes
+abbrev pub empty : Layout (Unit {0})
+empty = record { spelling = λ u. []; fits = fit.IsAny; reading = readings.empty_at; law = laws.empty_format }
+
 -- one of these values, each by its byte
 abbrev pub by_byte : {A : Type 0} (byte : A → ℕ) (all : List A) → ((x : A) → readings.one_of byte all (byte x) ≡ Some x) → Layout A
 by_byte byte all known = record {

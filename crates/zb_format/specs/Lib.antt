@@ -3,6 +3,7 @@ pub mod Field
 pub mod Fits
 pub mod FormatLaws
 pub mod Front
+pub mod Kinds
 pub mod Law
 pub mod Layout
 pub mod Reading
