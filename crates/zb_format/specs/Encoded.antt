@@ -1,5 +1,5 @@
 -- What an encoder has, before and after bytes are added.
-use Rattle.std.specs.Prelude.{◌≡◌, ℕ, ◌+◌, ◌-◌, ◌^◌, ◌≤◌, min, List, ◌++◌, length}
+use Rattle.std.specs.Prelude.{◌≡◌, ℕ, ◌+◌, ◌-◌, ◌^◌, min, List, ◌++◌, length}
 use Rattle.zb_format.specs.Front as fronts
 use Rattle.zb_format.specs.declared.encoder.Encoder.{Encoder}
 use Rattle.zb_format.specs.declared.encoder.Encoder.TheVariants.{Bytes, Count}
@@ -11,10 +11,10 @@ Adds (Count before) piece (Count after) = after ≡ min (before + length piece) 
 Adds (Bytes before) piece (Count after) = ⊥
 Adds (Count before) piece (Bytes after) = ⊥
 
--- it holds this front, or has counted as many bytes
+-- it holds bytes that begin with this front, which one that only counts doesn't
 unfoldable pub Holds : List ℕ → Encoder → Type 0
 Holds front (Bytes bytes) = fronts.Begins front bytes.items
-Holds front (Count count) = length front ≤ count
+Holds front (Count count) = ⊥
 
 -- it only counts, which no want of memory stops
 unfoldable pub IsCounting : Encoder → Type 0

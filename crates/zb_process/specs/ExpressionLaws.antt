@@ -9,7 +9,7 @@ use Rattle.zb_format.specs.Field.{counted}
 use Rattle.zb_format.specs.Fits.{IsSigned, IsText, AreCounted}
 use Rattle.zb_format.specs.Law.{Takes, IsFormat}
 use Rattle.zb_format.specs.Reading.{Reader, both_at, made_at, one_of}
-use Rattle.zb_format.specs.Formats.{bind_some, IsTagged, arm_tagged, tagged_format, both_format, counted_format, signed_format, flag_format, text_format, one_is, made_takes}
+use Rattle.zb_format.specs.FormatLaws.{bind_some, IsTagged, arm_tagged, tagged_format, both_format, counted_format, signed_format, flag_format, text_format, one_is, made_takes}
 use Rattle.zb_process.specs.Expression.{operator, members, tree, trees, IsTree, AreTrees, IsBelow, IsExpression, each_operator, operator_arm, tree_with, tree_at, expression_at}
 
 -- ---- members as a list

@@ -20,4 +20,4 @@ returns-in-Count-clause-added c = rw c.in-Count.is (omega arith)
 
 pub returns-in-Count-clause-kept : goal.returns-in-Count-clause-kept
 unfolding Holds IsCounting
-returns-in-Count-clause-kept c = rw c.in-Count.is (λ front h. omega (arith, h), λ h. h)
+returns-in-Count-clause-kept c = rw c.in-Count.is (λ front h. absurd h, λ h. h)
