@@ -1,10 +1,11 @@
 -- Pieces that are added to an encoder, one after another.
 use Rattle.std.proofs.Common.{OnOk, Result, Ok, Err, ◌≡◌, ℕ, suc, ◌+◌, ◌^◌, ◌≤◌, ◌<◌, List, [], ◌∷◌, ◌++◌, length, take, slice_index_or, length-append, append_assoc, ◌∙◌, sym, ap, subst, arith}
-use Rattle.std.proofs.Math.Seq.{take-suc}
+use Rattle.std.proofs.Math.Seq.{take-suc, take-length}
+use Rattle.zb_format.specs.Front.{Begins}
 use Rattle.std.proofs.lemmas.List.{append-nil}
 use Rattle.std.proofs.lemmas.List.Concat.{flat_map-cons}
 use Rattle.std.specs.List.{flat_map, AllByRecursion}
-use Rattle.zb_format.specs.Encoded.{Adds, Keeps}
+use Rattle.zb_format.specs.Encoded.{Adds, Holds, Keeps}
 use Rattle.zb_format.specs.declared.encoder.Encoder.{Encoder}
 use Rattle.zb_format.specs.declared.encoder.Encoder.TheVariants.{Bytes, Count}
 
@@ -67,3 +68,15 @@ written_next spelling fits before front items i between x after within is so_far
     let next : suc i ≡ i + 1 = omega arith in
     let last : take i items ++ x ∷ [] ≡ take (i + 1) items = ap (λ (y : _). take i items ++ y ∷ []) is ∙ sym (take-suc items i x within) ∙ ap (λ (k : ℕ). take k items) next in
     subst (λ xs. Written spelling fits before front xs after) last (written_more spelling fits before front (take i items) between x after so_far added kept some fitting)
+
+-- bytes that were kept stand at the front, and aren't counted alone
+abbrev pub Front : Encoder → Encoder → Type 0
+Front (Bytes before) (Bytes after) = Begins before.items after.items
+Front (Bytes before) (Count after) = ⊥
+Front (Count before) after = Unit {0}
+
+pub kept_front : (a b : Encoder) → Keeps a b → Front a b
+unfolding Holds
+kept_front (Bytes a) (Bytes b) p = p.0 a.items (record { front_of = take-length a.items })
+kept_front (Bytes a) (Count b) p = absurd (p.0 a.items (record { front_of = take-length a.items }))
+kept_front (Count a) b p = tt

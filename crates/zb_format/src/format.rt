@@ -1,10 +1,11 @@
-ghost use Rattle.std.specs.Prelude.{◌≡◌, ◌-◌, ◌^◌, ◌<◌, ◌≤◌, length, min, IsOk, OnOk};
+ghost use Rattle.std.specs.Prelude.{◌≡◌, ◌-◌, ◌^◌, ◌<◌, ◌≤◌, ◌++◌, length, min, IsOk, OnOk, OnErr};
 ghost use Rattle.zb_format.specs.Encoded.{Adds, Keeps, IsCounting};
 ghost use Rattle.zb_format.specs.Layout.{Layout};
 ghost use Rattle.zb_format.specs.Reading.{Reads};
 
 use crate::{Cursor, Encoder, ReadFault};
 use std::alloc::{AllocError, Global};
+use std::mem;
 
 /// What is stored as bytes.
 pub trait Format: Drop {
@@ -35,5 +36,28 @@ pub fn size<T: Format>(value: &T) -> u64
     match (value.write(&mut encoder), encoder) {
         (Ok(()), Encoder::Count(count)) => count,
         _ => 1,
+    }
+}
+
+/// Appends the spelling of a value. After a refusal `bytes` is as before. It takes a step for each byte.
+#[tactic(auto, unfolding(crate::specs::Encoded::Adds))]
+pub fn append<T: Format>(value: &T, bytes: &mut Vec<u8>) -> Result<(), AllocError>
+    ensures ok { OnOk result (bytes.new.items ≡ bytes.old.items ++ T.layout.spelling value.now) }
+    ensures err { OnErr result (bytes.new.items ≡ bytes.old.items) }
+{
+    let before = bytes.len();
+    let alloc = *bytes.allocator();
+    let mut encoder = Encoder::Bytes(mem::replace(bytes, Vec::new(alloc)));
+    match (value.write(&mut encoder), encoder) {
+        (Ok(()), Encoder::Bytes(held)) => {
+            *bytes = held;
+            Ok(())
+        }
+        (Err(refusal), Encoder::Bytes(mut held)) => {
+            held.truncate(before);
+            *bytes = held;
+            Err(refusal)
+        }
+        (written, Encoder::Count(_)) => written,
     }
 }

@@ -24,5 +24,5 @@ pub use cursor::Cursor;
 pub use encoder::Encoder;
 pub use fault::ReadFault;
 pub use fields::Fields;
-pub use format::{Format, size};
+pub use format::{Format, append, size};
 pub use front::{write_count, write_tagged};
