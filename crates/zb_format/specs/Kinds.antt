@@ -22,25 +22,28 @@ kind n make parts others = record {
   law = λ spelling fits are. arm_tagged n make parts.law are.0 are.1.0 (others.law spelling fits are.1.1);
 }
 
--- a value of one of these kinds: its spelling, what has one, and that it is read back
-pub record Told {B : Type 0} (kinds : Kinds B) (x : B) : Type 1 where
+-- a value as it is told: its spelling, and what has one
+pub record Told : Type 1 where
   pub spelled : List ℕ
   pub fit : Type 0
-  pub again : (rest : List ℕ) → fit → tagged_at kinds.behind (spelled ++ rest) ≡ Some (x, rest)
 
--- a value of the kind with this byte
-abbrev pub told : {A B : Type 0} {kinds : Kinds B} (n : ℕ) (make : A → B) (parts : Layout A) (a : A) → ((bytes : List ℕ) → kinds.behind n bytes ≡ made_at make parts.reading bytes) → Told kinds (make a)
-told n make parts a found = record {
-  spelled = n ∷ parts.spelling a;
-  fit = parts.fits a;
-  again = λ rest fits. found (parts.spelling a ++ rest) ∙ rw (parts.law.again a rest fits) refl;
-}
+-- a value of the kind with this byte, of these parts
+abbrev pub told : {A : Type 0} → ℕ → Layout A → A → Told
+told n parts a = record { spelled = n ∷ parts.spelling a; fit = parts.fits a }
 
--- the layout of values of these kinds
-abbrev pub of_kinds : {B : Type 0} (kinds : Kinds B) (tell : (x : B) → Told kinds x) → kinds.AreOf (λ x. (tell x).spelled) (λ x. (tell x).fit) → Layout B
-of_kinds kinds tell are = record {
+-- each value is read back by these kinds
+abbrev pub AreReadBack : {B : Type 0} → Kinds B → (B → Told) → Type 0
+AreReadBack {B = B} kinds tell = (x : B) (rest : List ℕ) → (tell x).fit → tagged_at kinds.behind ((tell x).spelled ++ rest) ≡ Some (x, rest)
+
+-- a value of the kind with this byte is read back
+pub again : {A B : Type 0} (kinds : Kinds B) (n : ℕ) (make : A → B) (parts : Layout A) (a : A) (rest : List ℕ) → ((bytes : List ℕ) → kinds.behind n bytes ≡ made_at make parts.reading bytes) → parts.fits a → tagged_at kinds.behind ((n ∷ parts.spelling a) ++ rest) ≡ Some (make a, rest)
+again kinds n make parts a rest found fits = found (parts.spelling a ++ rest) ∙ rw (parts.law.again a rest fits) refl
+
+-- the layout of values of these kinds, each as it is told
+abbrev pub of_kinds : {B : Type 0} (kinds : Kinds B) (tell : B → Told) → kinds.AreOf (λ x. (tell x).spelled) (λ x. (tell x).fit) → AreReadBack kinds tell → Layout B
+of_kinds kinds tell are back = record {
   spelling = λ x. (tell x).spelled;
   fits = λ x. (tell x).fit;
   reading = tagged_at kinds.behind;
-  law = tagged_format (kinds.law (λ x. (tell x).spelled) (λ x. (tell x).fit) are) (λ x rest h. (tell x).again rest h);
+  law = tagged_format (kinds.law (λ x. (tell x).spelled) (λ x. (tell x).fit) are) back;
 }
