@@ -16,7 +16,7 @@ pub fn size(batch: &Batch) -> u64
     ensures size { result ≡ min (length (bytes_of batch.now)) (2 ^ 64 - 1) }
     ensures fits { length (bytes_of batch.now) < 2 ^ 32 → IsBatch batch.now }
 {
-    batch.size()
+    zb_format::size(batch)
 }
 
 /// Appends the bytes of a batch. After a refusal `bytes` is as before. It takes a step for each byte.
@@ -25,14 +25,7 @@ pub fn write(batch: &Batch, bytes: &mut Vec<u8>) -> Result<(), AllocError>
     ensures ok { OnOk result (bytes.new.items ≡ bytes.old.items ++ bytes_of batch.now) }
     ensures err { OnErr result (bytes.new.items ≡ bytes.old.items) }
 {
-    let before = bytes.len();
-    match batch.write(bytes) {
-        Ok(()) => Ok(()),
-        Err(refusal) => {
-            bytes.truncate(before);
-            Err(refusal)
-        }
-    }
+    zb_format::append(batch, bytes)
 }
 
 /// The batch that these bytes spell, all of them. None where no batch has these bytes. It takes a step for each

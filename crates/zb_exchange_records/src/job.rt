@@ -1,6 +1,9 @@
 // Records: jobs and their workers.
+ghost use Rattle.zb_exchange_records.specs.Layouts as layouts;
+
 use std::alloc::{AllocError, Global};
-use zb_base::{Key, List, Moment, Text, TryCopy, Vars};
+use zb_base::{Key, List, Moment, Text, Vars};
+use zb_format::{Cursor, Encoder, Fields, Format, ReadFault, pairs};
 
 /// What JOB_BATCH ACTIVATE asks for: jobs of a kind for a worker.
 #[derive(Drop)]
@@ -13,13 +16,21 @@ pub struct JobBatchActivate {
     pub most: u32,
 }
 
-impl TryCopy for JobBatchActivate {
-    fn copy(&self, alloc: Global) -> Result<JobBatchActivate, AllocError> {
+#[tactic(auto, unfolding(crate::specs::Layouts::job_batch_activate))]
+impl Format for JobBatchActivate {
+    ghost layout = { layouts.job_batch_activate };
+
+    fn write(&self, encoder: &mut Encoder) -> Result<(), AllocError> {
+        pairs!(&self.kind, &self.worker, &self.timeout, &self.most).encode(encoder)
+    }
+
+    fn read(alloc: Global, cursor: &mut Cursor<'_>) -> Result<JobBatchActivate, ReadFault> {
+        let pairs!(kind, worker, timeout, most) = Format::read(alloc, cursor)?;
         Ok(JobBatchActivate {
-            kind: self.kind.copy(alloc)?,
-            worker: self.worker.copy(alloc)?,
-            timeout: self.timeout,
-            most: self.most,
+            kind,
+            worker,
+            timeout,
+            most,
         })
     }
 }
@@ -31,12 +42,17 @@ pub struct JobComplete {
     pub variables: Vars,
 }
 
-impl TryCopy for JobComplete {
-    fn copy(&self, alloc: Global) -> Result<JobComplete, AllocError> {
-        Ok(JobComplete {
-            key: self.key,
-            variables: self.variables.copy(alloc)?,
-        })
+#[tactic(auto, unfolding(crate::specs::Layouts::job_complete))]
+impl Format for JobComplete {
+    ghost layout = { layouts.job_complete };
+
+    fn write(&self, encoder: &mut Encoder) -> Result<(), AllocError> {
+        (&self.key, &self.variables).encode(encoder)
+    }
+
+    fn read(alloc: Global, cursor: &mut Cursor<'_>) -> Result<JobComplete, ReadFault> {
+        let (key, variables) = Format::read(alloc, cursor)?;
+        Ok(JobComplete { key, variables })
     }
 }
 
@@ -49,13 +65,17 @@ pub struct JobFail {
     pub text: Text,
 }
 
-impl TryCopy for JobFail {
-    fn copy(&self, alloc: Global) -> Result<JobFail, AllocError> {
-        Ok(JobFail {
-            key: self.key,
-            retries: self.retries,
-            text: self.text.copy(alloc)?,
-        })
+#[tactic(auto, unfolding(crate::specs::Layouts::job_fail))]
+impl Format for JobFail {
+    ghost layout = { layouts.job_fail };
+
+    fn write(&self, encoder: &mut Encoder) -> Result<(), AllocError> {
+        pairs!(&self.key, &self.retries, &self.text).encode(encoder)
+    }
+
+    fn read(alloc: Global, cursor: &mut Cursor<'_>) -> Result<JobFail, ReadFault> {
+        let pairs!(key, retries, text) = Format::read(alloc, cursor)?;
+        Ok(JobFail { key, retries, text })
     }
 }
 
@@ -66,12 +86,17 @@ pub struct JobThrowError {
     pub code: Text,
 }
 
-impl TryCopy for JobThrowError {
-    fn copy(&self, alloc: Global) -> Result<JobThrowError, AllocError> {
-        Ok(JobThrowError {
-            key: self.key,
-            code: self.code.copy(alloc)?,
-        })
+#[tactic(auto, unfolding(crate::specs::Layouts::job_throw_error))]
+impl Format for JobThrowError {
+    ghost layout = { layouts.job_throw_error };
+
+    fn write(&self, encoder: &mut Encoder) -> Result<(), AllocError> {
+        (&self.key, &self.code).encode(encoder)
+    }
+
+    fn read(alloc: Global, cursor: &mut Cursor<'_>) -> Result<JobThrowError, ReadFault> {
+        let (key, code) = Format::read(alloc, cursor)?;
+        Ok(JobThrowError { key, code })
     }
 }
 
@@ -80,6 +105,20 @@ impl TryCopy for JobThrowError {
 pub struct JobUpdateRetries {
     pub key: Key,
     pub retries: u32,
+}
+
+#[tactic(auto, unfolding(crate::specs::Layouts::job_update_retries))]
+impl Format for JobUpdateRetries {
+    ghost layout = { layouts.job_update_retries };
+
+    fn write(&self, encoder: &mut Encoder) -> Result<(), AllocError> {
+        (&self.key, &self.retries).encode(encoder)
+    }
+
+    fn read(alloc: Global, cursor: &mut Cursor<'_>) -> Result<JobUpdateRetries, ReadFault> {
+        let (key, retries) = Format::read(alloc, cursor)?;
+        Ok(JobUpdateRetries { key, retries })
+    }
 }
 
 /// JOB CREATED: the element waits for this job.
@@ -91,13 +130,21 @@ pub struct JobCreated {
     pub retries: u32,
 }
 
-impl TryCopy for JobCreated {
-    fn copy(&self, alloc: Global) -> Result<JobCreated, AllocError> {
+#[tactic(auto, unfolding(crate::specs::Layouts::job_created))]
+impl Format for JobCreated {
+    ghost layout = { layouts.job_created };
+
+    fn write(&self, encoder: &mut Encoder) -> Result<(), AllocError> {
+        pairs!(&self.key, &self.cell, &self.kind, &self.retries).encode(encoder)
+    }
+
+    fn read(alloc: Global, cursor: &mut Cursor<'_>) -> Result<JobCreated, ReadFault> {
+        let pairs!(key, cell, kind, retries) = Format::read(alloc, cursor)?;
         Ok(JobCreated {
-            key: self.key,
-            cell: self.cell,
-            kind: self.kind.copy(alloc)?,
-            retries: self.retries,
+            key,
+            cell,
+            kind,
+            retries,
         })
     }
 }
@@ -115,17 +162,37 @@ pub struct JobActivated {
     pub variables: Vars,
 }
 
-impl TryCopy for JobActivated {
-    fn copy(&self, alloc: Global) -> Result<JobActivated, AllocError> {
+#[tactic(auto, unfolding(crate::specs::Layouts::job_activated))]
+impl Format for JobActivated {
+    ghost layout = { layouts.job_activated };
+
+    fn write(&self, encoder: &mut Encoder) -> Result<(), AllocError> {
+        pairs!(
+            &self.key,
+            &self.worker,
+            &self.deadline,
+            &self.instance,
+            &self.node,
+            &self.kind,
+            &self.retries,
+            &self.variables
+        )
+        .encode(encoder)
+    }
+
+    fn read(alloc: Global, cursor: &mut Cursor<'_>) -> Result<JobActivated, ReadFault> {
+        let pairs!(
+            key, worker, deadline, instance, node, kind, retries, variables
+        ) = Format::read(alloc, cursor)?;
         Ok(JobActivated {
-            key: self.key,
-            worker: self.worker.copy(alloc)?,
-            deadline: self.deadline,
-            instance: self.instance,
-            node: self.node.copy(alloc)?,
-            kind: self.kind.copy(alloc)?,
-            retries: self.retries,
-            variables: self.variables.copy(alloc)?,
+            key,
+            worker,
+            deadline,
+            instance,
+            node,
+            kind,
+            retries,
+            variables,
         })
     }
 }
@@ -139,13 +206,17 @@ pub struct JobFailed {
     pub text: Text,
 }
 
-impl TryCopy for JobFailed {
-    fn copy(&self, alloc: Global) -> Result<JobFailed, AllocError> {
-        Ok(JobFailed {
-            key: self.key,
-            retries: self.retries,
-            text: self.text.copy(alloc)?,
-        })
+#[tactic(auto, unfolding(crate::specs::Layouts::job_failed))]
+impl Format for JobFailed {
+    ghost layout = { layouts.job_failed };
+
+    fn write(&self, encoder: &mut Encoder) -> Result<(), AllocError> {
+        pairs!(&self.key, &self.retries, &self.text).encode(encoder)
+    }
+
+    fn read(alloc: Global, cursor: &mut Cursor<'_>) -> Result<JobFailed, ReadFault> {
+        let pairs!(key, retries, text) = Format::read(alloc, cursor)?;
+        Ok(JobFailed { key, retries, text })
     }
 }
 
@@ -156,12 +227,17 @@ pub struct JobErrorThrown {
     pub code: Text,
 }
 
-impl TryCopy for JobErrorThrown {
-    fn copy(&self, alloc: Global) -> Result<JobErrorThrown, AllocError> {
-        Ok(JobErrorThrown {
-            key: self.key,
-            code: self.code.copy(alloc)?,
-        })
+#[tactic(auto, unfolding(crate::specs::Layouts::job_error_thrown))]
+impl Format for JobErrorThrown {
+    ghost layout = { layouts.job_error_thrown };
+
+    fn write(&self, encoder: &mut Encoder) -> Result<(), AllocError> {
+        (&self.key, &self.code).encode(encoder)
+    }
+
+    fn read(alloc: Global, cursor: &mut Cursor<'_>) -> Result<JobErrorThrown, ReadFault> {
+        let (key, code) = Format::read(alloc, cursor)?;
+        Ok(JobErrorThrown { key, code })
     }
 }
 
@@ -172,6 +248,20 @@ pub struct JobRetriesUpdated {
     pub retries: u32,
 }
 
+#[tactic(auto, unfolding(crate::specs::Layouts::job_retries_updated))]
+impl Format for JobRetriesUpdated {
+    ghost layout = { layouts.job_retries_updated };
+
+    fn write(&self, encoder: &mut Encoder) -> Result<(), AllocError> {
+        (&self.key, &self.retries).encode(encoder)
+    }
+
+    fn read(alloc: Global, cursor: &mut Cursor<'_>) -> Result<JobRetriesUpdated, ReadFault> {
+        let (key, retries) = Format::read(alloc, cursor)?;
+        Ok(JobRetriesUpdated { key, retries })
+    }
+}
+
 /// JOB_BATCH ACTIVATED: these jobs were given to a worker.
 #[derive(Drop)]
 pub struct JobBatchActivated {
@@ -179,11 +269,16 @@ pub struct JobBatchActivated {
     pub jobs: List<Key>,
 }
 
-impl TryCopy for JobBatchActivated {
-    fn copy(&self, alloc: Global) -> Result<JobBatchActivated, AllocError> {
-        Ok(JobBatchActivated {
-            key: self.key,
-            jobs: self.jobs.copy(alloc)?,
-        })
+#[tactic(auto, unfolding(crate::specs::Layouts::job_batch_activated))]
+impl Format for JobBatchActivated {
+    ghost layout = { layouts.job_batch_activated };
+
+    fn write(&self, encoder: &mut Encoder) -> Result<(), AllocError> {
+        (&self.key, &self.jobs).encode(encoder)
+    }
+
+    fn read(alloc: Global, cursor: &mut Cursor<'_>) -> Result<JobBatchActivated, ReadFault> {
+        let (key, jobs) = Format::read(alloc, cursor)?;
+        Ok(JobBatchActivated { key, jobs })
     }
 }

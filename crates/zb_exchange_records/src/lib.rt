@@ -1,13 +1,10 @@
-//! Records of what goes out and comes in, jobs and messages, and of who waits for it: how they are copied, and how
-//! they are spelled in bytes.
+//! Records of what goes out and comes in, jobs and messages, and of who waits for it: their fields, and
+//! how they stand in bytes.
 #![tactic(auto)]
 
 mod job;
-mod job_format;
 mod message;
-mod message_format;
 mod subscription;
-mod subscription_format;
 
 pub use job::{
     JobActivated, JobBatchActivate, JobBatchActivated, JobComplete, JobCreated, JobErrorThrown,

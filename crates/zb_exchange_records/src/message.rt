@@ -1,6 +1,9 @@
 // Records: messages.
+ghost use Rattle.zb_exchange_records.specs.Layouts as layouts;
+
 use std::alloc::{AllocError, Global};
 use zb_base::{Key, Moment, Text, TryCopy, Vars};
+use zb_format::{Cursor, Encoder, Fields, Format, ReadFault, pairs};
 
 /// What MESSAGE PUBLISH asks for: a message that waits for whoever wants it.
 #[derive(Drop)]
@@ -13,14 +16,31 @@ pub struct MessagePublish {
     pub variables: Vars,
 }
 
-impl TryCopy for MessagePublish {
-    fn copy(&self, alloc: Global) -> Result<MessagePublish, AllocError> {
+#[tactic(auto, unfolding(crate::specs::Layouts::message_publish))]
+impl Format for MessagePublish {
+    ghost layout = { layouts.message_publish };
+
+    fn write(&self, encoder: &mut Encoder) -> Result<(), AllocError> {
+        pairs!(
+            &self.name,
+            &self.correlation_key,
+            &self.time_to_live,
+            &self.id,
+            &self.variables
+        )
+        .encode(encoder)
+    }
+
+    fn read(alloc: Global, cursor: &mut Cursor<'_>) -> Result<MessagePublish, ReadFault> {
+        let pairs!(name, correlation_key, time_to_live, id, variables) = Format::read(
+            alloc, cursor,
+        )?;
         Ok(MessagePublish {
-            name: self.name.copy(alloc)?,
-            correlation_key: self.correlation_key.copy(alloc)?,
-            time_to_live: self.time_to_live,
-            id: self.id.copy(alloc)?,
-            variables: self.variables.copy(alloc)?,
+            name,
+            correlation_key,
+            time_to_live,
+            id,
+            variables,
         })
     }
 }
@@ -34,6 +54,37 @@ pub struct MessagePublished {
     pub id: Text,
     pub deadline: Moment,
     pub variables: Vars,
+}
+
+#[tactic(auto, unfolding(crate::specs::Layouts::message_published))]
+impl Format for MessagePublished {
+    ghost layout = { layouts.message_published };
+
+    fn write(&self, encoder: &mut Encoder) -> Result<(), AllocError> {
+        pairs!(
+            &self.key,
+            &self.name,
+            &self.correlation_key,
+            &self.id,
+            &self.deadline,
+            &self.variables
+        )
+        .encode(encoder)
+    }
+
+    fn read(alloc: Global, cursor: &mut Cursor<'_>) -> Result<MessagePublished, ReadFault> {
+        let pairs!(key, name, correlation_key, id, deadline, variables) = Format::read(
+            alloc, cursor,
+        )?;
+        Ok(MessagePublished {
+            key,
+            name,
+            correlation_key,
+            id,
+            deadline,
+            variables,
+        })
+    }
 }
 
 impl TryCopy for MessagePublished {

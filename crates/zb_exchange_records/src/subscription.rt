@@ -1,6 +1,9 @@
 // Records: who waits for messages, here and at the partition where the messages live.
+ghost use Rattle.zb_exchange_records.specs.Layouts as layouts;
+
 use std::alloc::{AllocError, Global};
-use zb_base::{Key, List, Text, TryCopy, Vars};
+use zb_base::{Key, List, Text, Vars};
+use zb_format::{Cursor, Encoder, Fields, Format, ReadFault, pairs};
 
 /// What MESSAGE_SUBSCRIPTION CREATE asks for: messages of this name and correlation key are wanted.
 #[derive(Drop)]
@@ -13,14 +16,34 @@ pub struct MessageSubscriptionCreate {
     pub cancel: bool,
 }
 
-impl TryCopy for MessageSubscriptionCreate {
-    fn copy(&self, alloc: Global) -> Result<MessageSubscriptionCreate, AllocError> {
+#[tactic(auto, unfolding(crate::specs::Layouts::message_subscription_create))]
+impl Format for MessageSubscriptionCreate {
+    ghost layout = { layouts.message_subscription_create };
+
+    fn write(&self, encoder: &mut Encoder) -> Result<(), AllocError> {
+        pairs!(
+            &self.subscription,
+            &self.name,
+            &self.correlation_key,
+            &self.process,
+            &self.cancel
+        )
+        .encode(encoder)
+    }
+
+    fn read(
+        alloc: Global,
+        cursor: &mut Cursor<'_>,
+    ) -> Result<MessageSubscriptionCreate, ReadFault> {
+        let pairs!(subscription, name, correlation_key, process, cancel) = Format::read(
+            alloc, cursor,
+        )?;
         Ok(MessageSubscriptionCreate {
-            subscription: self.subscription,
-            name: self.name.copy(alloc)?,
-            correlation_key: self.correlation_key.copy(alloc)?,
-            process: self.process.copy(alloc)?,
-            cancel: self.cancel,
+            subscription,
+            name,
+            correlation_key,
+            process,
+            cancel,
         })
     }
 }
@@ -32,11 +55,51 @@ pub struct MessageSubscriptionCorrelate {
     pub message: Key,
 }
 
+#[tactic(auto, unfolding(crate::specs::Layouts::message_subscription_correlate))]
+impl Format for MessageSubscriptionCorrelate {
+    ghost layout = { layouts.message_subscription_correlate };
+
+    fn write(&self, encoder: &mut Encoder) -> Result<(), AllocError> {
+        (&self.subscription, &self.message).encode(encoder)
+    }
+
+    fn read(
+        alloc: Global,
+        cursor: &mut Cursor<'_>,
+    ) -> Result<MessageSubscriptionCorrelate, ReadFault> {
+        let (subscription, message) = Format::read(alloc, cursor)?;
+        Ok(MessageSubscriptionCorrelate {
+            subscription,
+            message,
+        })
+    }
+}
+
 /// What MESSAGE_SUBSCRIPTION REJECT tells: the message was not taken.
 #[derive(Clone, Copy)]
 pub struct MessageSubscriptionReject {
     pub subscription: Key,
     pub message: Key,
+}
+
+#[tactic(auto, unfolding(crate::specs::Layouts::message_subscription_reject))]
+impl Format for MessageSubscriptionReject {
+    ghost layout = { layouts.message_subscription_reject };
+
+    fn write(&self, encoder: &mut Encoder) -> Result<(), AllocError> {
+        (&self.subscription, &self.message).encode(encoder)
+    }
+
+    fn read(
+        alloc: Global,
+        cursor: &mut Cursor<'_>,
+    ) -> Result<MessageSubscriptionReject, ReadFault> {
+        let (subscription, message) = Format::read(alloc, cursor)?;
+        Ok(MessageSubscriptionReject {
+            subscription,
+            message,
+        })
+    }
 }
 
 /// What MESSAGE_SUBSCRIPTION DELETE asks for: no message is wanted any longer. These were taken.
@@ -46,12 +109,20 @@ pub struct MessageSubscriptionDelete {
     pub keys: List<Key>,
 }
 
-impl TryCopy for MessageSubscriptionDelete {
-    fn copy(&self, alloc: Global) -> Result<MessageSubscriptionDelete, AllocError> {
-        Ok(MessageSubscriptionDelete {
-            subscription: self.subscription,
-            keys: self.keys.copy(alloc)?,
-        })
+#[tactic(auto, unfolding(crate::specs::Layouts::message_subscription_delete))]
+impl Format for MessageSubscriptionDelete {
+    ghost layout = { layouts.message_subscription_delete };
+
+    fn write(&self, encoder: &mut Encoder) -> Result<(), AllocError> {
+        (&self.subscription, &self.keys).encode(encoder)
+    }
+
+    fn read(
+        alloc: Global,
+        cursor: &mut Cursor<'_>,
+    ) -> Result<MessageSubscriptionDelete, ReadFault> {
+        let (subscription, keys) = Format::read(alloc, cursor)?;
+        Ok(MessageSubscriptionDelete { subscription, keys })
     }
 }
 
@@ -63,12 +134,23 @@ pub struct ProcessMessageSubscriptionCorrelate {
     pub variables: Vars,
 }
 
-impl TryCopy for ProcessMessageSubscriptionCorrelate {
-    fn copy(&self, alloc: Global) -> Result<ProcessMessageSubscriptionCorrelate, AllocError> {
+#[tactic(auto, unfolding(crate::specs::Layouts::process_message_subscription_correlate))]
+impl Format for ProcessMessageSubscriptionCorrelate {
+    ghost layout = { layouts.process_message_subscription_correlate };
+
+    fn write(&self, encoder: &mut Encoder) -> Result<(), AllocError> {
+        pairs!(&self.subscription, &self.message, &self.variables).encode(encoder)
+    }
+
+    fn read(
+        alloc: Global,
+        cursor: &mut Cursor<'_>,
+    ) -> Result<ProcessMessageSubscriptionCorrelate, ReadFault> {
+        let pairs!(subscription, message, variables) = Format::read(alloc, cursor)?;
         Ok(ProcessMessageSubscriptionCorrelate {
-            subscription: self.subscription,
-            message: self.message,
-            variables: self.variables.copy(alloc)?,
+            subscription,
+            message,
+            variables,
         })
     }
 }
@@ -79,6 +161,27 @@ pub struct MessageStartEventSubscriptionCorrelated {
     pub message: Key,
     pub definition: Key,
     pub instance: Key,
+}
+
+#[tactic(auto, unfolding(crate::specs::Layouts::message_start_event_subscription_correlated))]
+impl Format for MessageStartEventSubscriptionCorrelated {
+    ghost layout = { layouts.message_start_event_subscription_correlated };
+
+    fn write(&self, encoder: &mut Encoder) -> Result<(), AllocError> {
+        pairs!(&self.message, &self.definition, &self.instance).encode(encoder)
+    }
+
+    fn read(
+        alloc: Global,
+        cursor: &mut Cursor<'_>,
+    ) -> Result<MessageStartEventSubscriptionCorrelated, ReadFault> {
+        let pairs!(message, definition, instance) = Format::read(alloc, cursor)?;
+        Ok(MessageStartEventSubscriptionCorrelated {
+            message,
+            definition,
+            instance,
+        })
+    }
 }
 
 /// MESSAGE_SUBSCRIPTION CREATED: messages of this name and correlation key are wanted.
@@ -92,14 +195,34 @@ pub struct MessageSubscriptionCreated {
     pub cancel: bool,
 }
 
-impl TryCopy for MessageSubscriptionCreated {
-    fn copy(&self, alloc: Global) -> Result<MessageSubscriptionCreated, AllocError> {
+#[tactic(auto, unfolding(crate::specs::Layouts::message_subscription_created))]
+impl Format for MessageSubscriptionCreated {
+    ghost layout = { layouts.message_subscription_created };
+
+    fn write(&self, encoder: &mut Encoder) -> Result<(), AllocError> {
+        pairs!(
+            &self.subscription,
+            &self.name,
+            &self.correlation_key,
+            &self.process,
+            &self.cancel
+        )
+        .encode(encoder)
+    }
+
+    fn read(
+        alloc: Global,
+        cursor: &mut Cursor<'_>,
+    ) -> Result<MessageSubscriptionCreated, ReadFault> {
+        let pairs!(subscription, name, correlation_key, process, cancel) = Format::read(
+            alloc, cursor,
+        )?;
         Ok(MessageSubscriptionCreated {
-            subscription: self.subscription,
-            name: self.name.copy(alloc)?,
-            correlation_key: self.correlation_key.copy(alloc)?,
-            process: self.process.copy(alloc)?,
-            cancel: self.cancel,
+            subscription,
+            name,
+            correlation_key,
+            process,
+            cancel,
         })
     }
 }
@@ -112,12 +235,23 @@ pub struct MessageSubscriptionCorrelating {
     pub variables: Vars,
 }
 
-impl TryCopy for MessageSubscriptionCorrelating {
-    fn copy(&self, alloc: Global) -> Result<MessageSubscriptionCorrelating, AllocError> {
+#[tactic(auto, unfolding(crate::specs::Layouts::message_subscription_correlating))]
+impl Format for MessageSubscriptionCorrelating {
+    ghost layout = { layouts.message_subscription_correlating };
+
+    fn write(&self, encoder: &mut Encoder) -> Result<(), AllocError> {
+        pairs!(&self.subscription, &self.message, &self.variables).encode(encoder)
+    }
+
+    fn read(
+        alloc: Global,
+        cursor: &mut Cursor<'_>,
+    ) -> Result<MessageSubscriptionCorrelating, ReadFault> {
+        let pairs!(subscription, message, variables) = Format::read(alloc, cursor)?;
         Ok(MessageSubscriptionCorrelating {
-            subscription: self.subscription,
-            message: self.message,
-            variables: self.variables.copy(alloc)?,
+            subscription,
+            message,
+            variables,
         })
     }
 }
@@ -129,11 +263,51 @@ pub struct MessageSubscriptionCorrelated {
     pub message: Key,
 }
 
+#[tactic(auto, unfolding(crate::specs::Layouts::message_subscription_correlated))]
+impl Format for MessageSubscriptionCorrelated {
+    ghost layout = { layouts.message_subscription_correlated };
+
+    fn write(&self, encoder: &mut Encoder) -> Result<(), AllocError> {
+        (&self.subscription, &self.message).encode(encoder)
+    }
+
+    fn read(
+        alloc: Global,
+        cursor: &mut Cursor<'_>,
+    ) -> Result<MessageSubscriptionCorrelated, ReadFault> {
+        let (subscription, message) = Format::read(alloc, cursor)?;
+        Ok(MessageSubscriptionCorrelated {
+            subscription,
+            message,
+        })
+    }
+}
+
 /// MESSAGE_SUBSCRIPTION REJECTED: the message was not taken.
 #[derive(Clone, Copy)]
 pub struct MessageSubscriptionRejected {
     pub subscription: Key,
     pub message: Key,
+}
+
+#[tactic(auto, unfolding(crate::specs::Layouts::message_subscription_rejected))]
+impl Format for MessageSubscriptionRejected {
+    ghost layout = { layouts.message_subscription_rejected };
+
+    fn write(&self, encoder: &mut Encoder) -> Result<(), AllocError> {
+        (&self.subscription, &self.message).encode(encoder)
+    }
+
+    fn read(
+        alloc: Global,
+        cursor: &mut Cursor<'_>,
+    ) -> Result<MessageSubscriptionRejected, ReadFault> {
+        let (subscription, message) = Format::read(alloc, cursor)?;
+        Ok(MessageSubscriptionRejected {
+            subscription,
+            message,
+        })
+    }
 }
 
 /// PROCESS_MESSAGE_SUBSCRIPTION CREATING: the element waits for a message at this node.
@@ -149,16 +323,44 @@ pub struct ProcessMessageSubscriptionCreating {
     pub cancel: bool,
 }
 
-impl TryCopy for ProcessMessageSubscriptionCreating {
-    fn copy(&self, alloc: Global) -> Result<ProcessMessageSubscriptionCreating, AllocError> {
+#[tactic(auto, unfolding(crate::specs::Layouts::process_message_subscription_creating))]
+impl Format for ProcessMessageSubscriptionCreating {
+    ghost layout = { layouts.process_message_subscription_creating };
+
+    fn write(&self, encoder: &mut Encoder) -> Result<(), AllocError> {
+        pairs!(
+            &self.subscription,
+            &self.cell,
+            &self.node,
+            &self.name,
+            &self.correlation_key,
+            &self.process,
+            &self.cancel
+        )
+        .encode(encoder)
+    }
+
+    fn read(
+        alloc: Global,
+        cursor: &mut Cursor<'_>,
+    ) -> Result<ProcessMessageSubscriptionCreating, ReadFault> {
+        let pairs!(
+            subscription,
+            cell,
+            node,
+            name,
+            correlation_key,
+            process,
+            cancel
+        ) = Format::read(alloc, cursor)?;
         Ok(ProcessMessageSubscriptionCreating {
-            subscription: self.subscription,
-            cell: self.cell,
-            node: self.node.copy(alloc)?,
-            name: self.name.copy(alloc)?,
-            correlation_key: self.correlation_key.copy(alloc)?,
-            process: self.process.copy(alloc)?,
-            cancel: self.cancel,
+            subscription,
+            cell,
+            node,
+            name,
+            correlation_key,
+            process,
+            cancel,
         })
     }
 }
@@ -170,6 +372,26 @@ pub struct ProcessMessageSubscriptionCorrelated {
     pub message: Key,
 }
 
+#[tactic(auto, unfolding(crate::specs::Layouts::process_message_subscription_correlated))]
+impl Format for ProcessMessageSubscriptionCorrelated {
+    ghost layout = { layouts.process_message_subscription_correlated };
+
+    fn write(&self, encoder: &mut Encoder) -> Result<(), AllocError> {
+        (&self.subscription, &self.message).encode(encoder)
+    }
+
+    fn read(
+        alloc: Global,
+        cursor: &mut Cursor<'_>,
+    ) -> Result<ProcessMessageSubscriptionCorrelated, ReadFault> {
+        let (subscription, message) = Format::read(alloc, cursor)?;
+        Ok(ProcessMessageSubscriptionCorrelated {
+            subscription,
+            message,
+        })
+    }
+}
+
 /// PROCESS_MESSAGE_SUBSCRIPTION DELETING: no message is wanted any longer. These were taken.
 #[derive(Drop)]
 pub struct ProcessMessageSubscriptionDeleting {
@@ -178,12 +400,23 @@ pub struct ProcessMessageSubscriptionDeleting {
     pub keys: List<Key>,
 }
 
-impl TryCopy for ProcessMessageSubscriptionDeleting {
-    fn copy(&self, alloc: Global) -> Result<ProcessMessageSubscriptionDeleting, AllocError> {
+#[tactic(auto, unfolding(crate::specs::Layouts::process_message_subscription_deleting))]
+impl Format for ProcessMessageSubscriptionDeleting {
+    ghost layout = { layouts.process_message_subscription_deleting };
+
+    fn write(&self, encoder: &mut Encoder) -> Result<(), AllocError> {
+        pairs!(&self.subscription, &self.correlation_key, &self.keys).encode(encoder)
+    }
+
+    fn read(
+        alloc: Global,
+        cursor: &mut Cursor<'_>,
+    ) -> Result<ProcessMessageSubscriptionDeleting, ReadFault> {
+        let pairs!(subscription, correlation_key, keys) = Format::read(alloc, cursor)?;
         Ok(ProcessMessageSubscriptionDeleting {
-            subscription: self.subscription,
-            correlation_key: self.correlation_key.copy(alloc)?,
-            keys: self.keys.copy(alloc)?,
+            subscription,
+            correlation_key,
+            keys,
         })
     }
 }

@@ -1,3 +1,4 @@
+pub mod Adding
 pub mod Many
 pub mod Pieces
 pub mod Sizes

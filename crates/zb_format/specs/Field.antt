@@ -4,8 +4,6 @@ use Rattle.std.specs.List.{flat_map}
 use Rattle.std.specs.Int.{w32, w64, to_be_bytes, cast_unsigned}
 use Rattle.zb_base.specs.declared.value.Value.{Value}
 use Rattle.zb_base.specs.declared.value.Value.TheVariants as values
-use Rattle.zb_base.specs.declared.vars.Variable.{Variable}
-use Rattle.zb_base.specs.declared.pair.Pair.{Pair}
 
 -- a number, in four bytes
 unfoldable pub number : ℕ → List ℕ
@@ -42,18 +40,6 @@ value (values.Int z) = 0 ∷ signed z
 value (values.Bool b) = 1 ∷ flag b
 value (values.Text t) = 2 ∷ text t
 value (values.List zs) = 3 ∷ counted signed zs
-
--- a variable
-unfoldable pub variable : Variable → List ℕ
-variable v = text v.name ++ value v.value
-
--- variables, their names strictly ascending
-abbrev pub variables : List Variable → List ℕ
-variables vs = counted variable vs
-
--- a pair of texts
-unfoldable pub pair : Pair → List ℕ
-pair p = text p.from ++ text p.to
 
 -- what may be absent
 abbrev pub optional : {A : Type 0} → (A → List ℕ) → Option A → List ℕ

@@ -5,9 +5,6 @@ use Rattle.std.specs.Int.{w64}
 use Rattle.std.specs.Str.{is_utf8}
 use Rattle.zb_base.specs.declared.value.Value.{Value}
 use Rattle.zb_base.specs.declared.value.Value.TheVariants as values
-use Rattle.zb_base.specs.declared.vars.Variable.{Variable}
-use Rattle.zb_base.specs.declared.pair.Pair.{Pair}
-use Rattle.zb_base.specs.Vars.{is_ascending}
 
 -- each value of the type has a spelling
 abbrev pub IsAny : {A : Type 0} → A → Type 0
@@ -38,13 +35,3 @@ IsValue (values.Int z) = IsSigned z
 IsValue (values.Bool b) = Unit {0}
 IsValue (values.Text t) = IsText t
 IsValue (values.List zs) = AreCounted IsSigned zs
-
-abbrev pub IsVariable : Variable → Type 0
-IsVariable v = IsText v.name × IsValue v.value
-
--- their names strictly ascend
-abbrev pub AreVariables : List Variable → Type 0
-AreVariables vs = AreCounted IsVariable vs × IsTrue (is_ascending vs)
-
-abbrev pub IsPair : Pair → Type 0
-IsPair p = IsText p.from × IsText p.to

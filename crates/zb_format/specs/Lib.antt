@@ -1,6 +1,9 @@
+pub mod Encoded
 pub mod Field
 pub mod Fits
-pub mod Formats
+pub mod FormatLaws
 pub mod Front
+pub mod Kinds
 pub mod Law
+pub mod Layout
 pub mod Reading

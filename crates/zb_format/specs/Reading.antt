@@ -4,9 +4,6 @@ use Rattle.std.specs.Int.{w32, w64, from_be_bytes, cast_signed}
 use Rattle.std.specs.Str.{is_utf8}
 use Rattle.zb_base.specs.declared.value.Value.{Value}
 use Rattle.zb_base.specs.declared.value.Value.TheVariants as values
-use Rattle.zb_base.specs.declared.vars.Variable.{Variable}
-use Rattle.zb_base.specs.declared.pair.Pair.{Pair}
-use Rattle.zb_base.specs.Vars.{is_ascending}
 use Rattle.zb_format.specs.Field.{truth_byte}
 use Rattle.zb_format.specs.declared.fault.ReadFault.{ReadFault}
 use Rattle.zb_format.specs.declared.fault.ReadFault.TheVariants as faults
@@ -130,15 +127,3 @@ optional_at read = tagged_at (arm 0 (λ u. None) empty_at (arm 1 Some read no_ar
 -- the value of a variable
 unfoldable pub value_at : Reader Value
 value_at = tagged_at (arm 0 values.Int signed_at (arm 1 values.Bool flag_at (arm 2 values.Text text_at (arm 3 values.List (counted_at signed_at) no_arm))))
-
--- a variable
-unfoldable pub variable_at : Reader Variable
-variable_at = made_at (λ p. record { name = p.0; value = p.1 }) (both_at text_at value_at)
-
--- variables, their names strictly ascending
-unfoldable pub variables_at : Reader (List Variable)
-variables_at = chosen_at (passing is_ascending) (counted_at variable_at)
-
--- a pair of texts
-unfoldable pub pair_at : Reader Pair
-pair_at = made_at (λ p. record { from = p.0; to = p.1 }) (both_at text_at text_at)

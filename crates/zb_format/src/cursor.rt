@@ -34,6 +34,13 @@ impl<'a> Cursor<'a> {
         self.left.is_empty()
     }
 
+    /// How many bytes are left.
+    pub fn len(&self) -> usize
+        ensures { result ≡ length self.now }
+    {
+        self.left.len()
+    }
+
     /// Takes the first `count` bytes.
     pub fn front(&mut self, count: usize) -> Result<&'a [u8], ReadFault>
         ensures ok { IfOk result (λ front. front_at count self.old ≡ Some (front.now, self.new)) }

@@ -1,44 +1,25 @@
-ghost use Rattle.zb_format.specs.Field as fields;
-ghost use Rattle.zb_format.specs.Fits as fits;
-ghost use Rattle.zb_format.specs.Formats as formats;
-ghost use Rattle.zb_format.specs.Reading as readings;
+ghost use Rattle.zb_format.specs.Layout as layouts;
 
-use crate::front::{append, write_tagged};
-use crate::list::{size_of_all, write_all};
-use crate::{Cursor, Format, ReadFault};
+use crate::front::write_tagged;
+use crate::list::write_all;
+use crate::{Cursor, Encoder, Fields, Format, ReadFault};
 use std::alloc::{AllocError, Global};
 use zb_base::{List, Pair, Text, Value, Variable, Vars};
 
 impl Format for Value {
-    ghost spelling = { fields.value };
+    ghost layout = { layouts.value };
 
-    ghost fits = { fits.IsValue };
-
-    ghost reading = { readings.value_at };
-
-    ghost is_format = { formats.value_format };
-
-    #[tactic(auto, using(crate::proofs::Sizes::pieces), unfolding(crate::specs::Field::value))]
-    fn size(&self) -> u64 {
+    #[tactic(auto, unfolding(crate::specs::Layout::value, crate::specs::Field::value, crate::specs::Layout::signed, crate::specs::Layout::flag, crate::specs::Layout::text))]
+    fn write(&self, encoder: &mut Encoder) -> Result<(), AllocError> {
         match self {
-            Value::Int(number) => number.size().saturating_add(1),
-            Value::Bool(flag) => flag.size().saturating_add(1),
-            Value::Text(text) => text.size().saturating_add(1),
-            Value::List(list) => list.size().saturating_add(1),
+            Value::Int(number) => write_tagged(0, number, encoder),
+            Value::Bool(flag) => write_tagged(1, flag, encoder),
+            Value::Text(text) => write_tagged(2, text, encoder),
+            Value::List(list) => write_tagged(3, list, encoder),
         }
     }
 
-    #[tactic(auto, unfolding(crate::specs::Field::value))]
-    fn write(&self, bytes: &mut Vec<u8>) -> Result<(), AllocError> {
-        match self {
-            Value::Int(number) => write_tagged(0, number, bytes),
-            Value::Bool(flag) => write_tagged(1, flag, bytes),
-            Value::Text(text) => write_tagged(2, text, bytes),
-            Value::List(list) => write_tagged(3, list, bytes),
-        }
-    }
-
-    #[tactic(auto, unfolding(crate::specs::Reading::value_at))]
+    #[tactic(auto, unfolding(crate::specs::Layout::value, crate::specs::Reading::value_at, crate::specs::Layout::signed, crate::specs::Layout::flag, crate::specs::Layout::text))]
     fn read(alloc: Global, cursor: &mut Cursor<'_>) -> Result<Value, ReadFault> {
         match cursor.byte()? {
             0 => Ok(Value::Int(i64::read(alloc, cursor)?)),
@@ -50,53 +31,29 @@ impl Format for Value {
     }
 }
 
+#[tactic(auto, unfolding(crate::specs::Layout::variable))]
 impl Format for Variable {
-    ghost spelling = { fields.variable };
+    ghost layout = { layouts.variable };
 
-    ghost fits = { fits.IsVariable };
-
-    ghost reading = { readings.variable_at };
-
-    ghost is_format = { formats.variable_format };
-
-    #[tactic(auto, using(crate::proofs::Sizes::pieces), unfolding(crate::specs::Field::variable))]
-    fn size(&self) -> u64 {
-        self.name.size().saturating_add(self.value.size())
+    fn write(&self, encoder: &mut Encoder) -> Result<(), AllocError> {
+        (&self.name, &self.value).encode(encoder)
     }
 
-    #[tactic(auto, using(crate::proofs::Pieces::pieces), unfolding(crate::specs::Field::variable))]
-    fn write(&self, bytes: &mut Vec<u8>) -> Result<(), AllocError> {
-        self.name.write(bytes)?;
-        self.value.write(bytes)
-    }
-
-    #[tactic(auto, unfolding(crate::specs::Reading::variable_at))]
     fn read(alloc: Global, cursor: &mut Cursor<'_>) -> Result<Variable, ReadFault> {
-        Ok(Variable {
-            name: Text::read(alloc, cursor)?,
-            value: Value::read(alloc, cursor)?,
-        })
+        let (name, value) = Format::read(alloc, cursor)?;
+        Ok(Variable { name, value })
     }
 }
 
 impl Format for Vars {
-    ghost spelling = { fields.variables };
+    ghost layout = { layouts.variables };
 
-    ghost fits = { fits.AreVariables };
-
-    ghost reading = { readings.variables_at };
-
-    ghost is_format = { formats.variables_format };
-
-    fn size(&self) -> u64 {
-        size_of_all(self.as_slice())
+    #[tactic(auto, unfolding(crate::specs::Layout::variables, crate::specs::Layout::variable))]
+    fn write(&self, encoder: &mut Encoder) -> Result<(), AllocError> {
+        write_all(self.as_slice(), encoder)
     }
 
-    fn write(&self, bytes: &mut Vec<u8>) -> Result<(), AllocError> {
-        write_all(self.as_slice(), bytes)
-    }
-
-    #[tactic(auto, unfolding(crate::specs::Reading::variables_at))]
+    #[tactic(auto, unfolding(crate::specs::Layout::variables, crate::specs::Layout::variable))]
     fn read(alloc: Global, cursor: &mut Cursor<'_>) -> Result<Vars, ReadFault> {
         match Vars::of(List::read(alloc, cursor)?) {
             Some(variables) => Ok(variables),
@@ -105,56 +62,27 @@ impl Format for Vars {
     }
 }
 
+#[tactic(auto, unfolding(crate::specs::Layout::pair))]
 impl Format for Pair {
-    ghost spelling = { fields.pair };
+    ghost layout = { layouts.pair };
 
-    ghost fits = { fits.IsPair };
-
-    ghost reading = { readings.pair_at };
-
-    ghost is_format = { formats.pair_format };
-
-    #[tactic(auto, using(crate::proofs::Sizes::pieces), unfolding(crate::specs::Field::pair))]
-    fn size(&self) -> u64 {
-        self.from.size().saturating_add(self.to.size())
+    fn write(&self, encoder: &mut Encoder) -> Result<(), AllocError> {
+        (&self.from, &self.to).encode(encoder)
     }
 
-    #[tactic(auto, using(crate::proofs::Pieces::pieces), unfolding(crate::specs::Field::pair))]
-    fn write(&self, bytes: &mut Vec<u8>) -> Result<(), AllocError> {
-        self.from.write(bytes)?;
-        self.to.write(bytes)
-    }
-
-    #[tactic(auto, unfolding(crate::specs::Reading::pair_at))]
     fn read(alloc: Global, cursor: &mut Cursor<'_>) -> Result<Pair, ReadFault> {
-        Ok(Pair {
-            from: Text::read(alloc, cursor)?,
-            to: Text::read(alloc, cursor)?,
-        })
+        let (from, to) = Format::read(alloc, cursor)?;
+        Ok(Pair { from, to })
     }
 }
 
 impl<T: Format> Format for Option<T> {
-    ghost spelling = { fields.optional T.spelling };
+    ghost layout = { layouts.optional T.layout };
 
-    ghost fits = { fits.IsOptional T.fits };
-
-    ghost reading = { readings.optional_at T.reading };
-
-    ghost is_format = { formats.optional_format T.is_format };
-
-    #[tactic(auto, using(crate::proofs::Sizes::pieces))]
-    fn size(&self) -> u64 {
+    fn write(&self, encoder: &mut Encoder) -> Result<(), AllocError> {
         match self {
-            None => 1,
-            Some(value) => value.size().saturating_add(1),
-        }
-    }
-
-    fn write(&self, bytes: &mut Vec<u8>) -> Result<(), AllocError> {
-        match self {
-            None => append(&[0], bytes),
-            Some(value) => write_tagged(1, value, bytes),
+            None => encoder.add(&[0]),
+            Some(value) => write_tagged(1, value, encoder),
         }
     }
 

@@ -1,4 +1,1 @@
-pub mod Record
-pub mod RecordFits
-pub mod RecordFormats
-pub mod RecordReading
+pub mod Layouts

@@ -1,6 +1,9 @@
 // Records: the models that stand at a partition, and how they reach the others.
+ghost use Rattle.zb_instance_records.specs.Layouts as layouts;
+
 use std::alloc::{AllocError, Global};
-use zb_base::{Key, TryCopy};
+use zb_base::Key;
+use zb_format::{Cursor, Encoder, Fields, Format, ReadFault, pairs};
 use zb_process::Model;
 
 /// What DEPLOYMENT DISTRIBUTE asks for: the model is to stand here under the key that another partition drew.
@@ -11,12 +14,20 @@ pub struct DeploymentDistribute {
     pub model: Model,
 }
 
-impl TryCopy for DeploymentDistribute {
-    fn copy(&self, alloc: Global) -> Result<DeploymentDistribute, AllocError> {
+#[tactic(auto, unfolding(crate::specs::Layouts::deployment_distribute))]
+impl Format for DeploymentDistribute {
+    ghost layout = { layouts.deployment_distribute };
+
+    fn write(&self, encoder: &mut Encoder) -> Result<(), AllocError> {
+        pairs!(&self.key, &self.version, &self.model).encode(encoder)
+    }
+
+    fn read(alloc: Global, cursor: &mut Cursor<'_>) -> Result<DeploymentDistribute, ReadFault> {
+        let pairs!(key, version, model) = Format::read(alloc, cursor)?;
         Ok(DeploymentDistribute {
-            key: self.key,
-            version: self.version,
-            model: self.model.copy(alloc)?,
+            key,
+            version,
+            model,
         })
     }
 }
@@ -29,12 +40,20 @@ pub struct ProcessCreated {
     pub model: Model,
 }
 
-impl TryCopy for ProcessCreated {
-    fn copy(&self, alloc: Global) -> Result<ProcessCreated, AllocError> {
+#[tactic(auto, unfolding(crate::specs::Layouts::process_created))]
+impl Format for ProcessCreated {
+    ghost layout = { layouts.process_created };
+
+    fn write(&self, encoder: &mut Encoder) -> Result<(), AllocError> {
+        pairs!(&self.key, &self.version, &self.model).encode(encoder)
+    }
+
+    fn read(alloc: Global, cursor: &mut Cursor<'_>) -> Result<ProcessCreated, ReadFault> {
+        let pairs!(key, version, model) = Format::read(alloc, cursor)?;
         Ok(ProcessCreated {
-            key: self.key,
-            version: self.version,
-            model: self.model.copy(alloc)?,
+            key,
+            version,
+            model,
         })
     }
 }
@@ -46,11 +65,42 @@ pub struct DeploymentCreated {
     pub definition: Key,
 }
 
+#[tactic(auto, unfolding(crate::specs::Layouts::deployment_created))]
+impl Format for DeploymentCreated {
+    ghost layout = { layouts.deployment_created };
+
+    fn write(&self, encoder: &mut Encoder) -> Result<(), AllocError> {
+        (&self.key, &self.definition).encode(encoder)
+    }
+
+    fn read(alloc: Global, cursor: &mut Cursor<'_>) -> Result<DeploymentCreated, ReadFault> {
+        let (key, definition) = Format::read(alloc, cursor)?;
+        Ok(DeploymentCreated { key, definition })
+    }
+}
+
 /// What COMMAND_DISTRIBUTION ACKNOWLEDGE tells: the definition stands at that partition.
 #[derive(Clone, Copy)]
 pub struct CommandDistributionAcknowledge {
     pub key: Key,
     pub partition: u32,
+}
+
+#[tactic(auto, unfolding(crate::specs::Layouts::command_distribution_acknowledge))]
+impl Format for CommandDistributionAcknowledge {
+    ghost layout = { layouts.command_distribution_acknowledge };
+
+    fn write(&self, encoder: &mut Encoder) -> Result<(), AllocError> {
+        (&self.key, &self.partition).encode(encoder)
+    }
+
+    fn read(
+        alloc: Global,
+        cursor: &mut Cursor<'_>,
+    ) -> Result<CommandDistributionAcknowledge, ReadFault> {
+        let (key, partition) = Format::read(alloc, cursor)?;
+        Ok(CommandDistributionAcknowledge { key, partition })
+    }
 }
 
 /// COMMAND_DISTRIBUTION DISTRIBUTING: the definition is sent to that partition.
@@ -60,9 +110,43 @@ pub struct CommandDistributionDistributing {
     pub partition: u32,
 }
 
+#[tactic(auto, unfolding(crate::specs::Layouts::command_distribution_distributing))]
+impl Format for CommandDistributionDistributing {
+    ghost layout = { layouts.command_distribution_distributing };
+
+    fn write(&self, encoder: &mut Encoder) -> Result<(), AllocError> {
+        (&self.key, &self.partition).encode(encoder)
+    }
+
+    fn read(
+        alloc: Global,
+        cursor: &mut Cursor<'_>,
+    ) -> Result<CommandDistributionDistributing, ReadFault> {
+        let (key, partition) = Format::read(alloc, cursor)?;
+        Ok(CommandDistributionDistributing { key, partition })
+    }
+}
+
 /// COMMAND_DISTRIBUTION ACKNOWLEDGED: the definition stands at that partition.
 #[derive(Clone, Copy)]
 pub struct CommandDistributionAcknowledged {
     pub key: Key,
     pub partition: u32,
+}
+
+#[tactic(auto, unfolding(crate::specs::Layouts::command_distribution_acknowledged))]
+impl Format for CommandDistributionAcknowledged {
+    ghost layout = { layouts.command_distribution_acknowledged };
+
+    fn write(&self, encoder: &mut Encoder) -> Result<(), AllocError> {
+        (&self.key, &self.partition).encode(encoder)
+    }
+
+    fn read(
+        alloc: Global,
+        cursor: &mut Cursor<'_>,
+    ) -> Result<CommandDistributionAcknowledged, ReadFault> {
+        let (key, partition) = Format::read(alloc, cursor)?;
+        Ok(CommandDistributionAcknowledged { key, partition })
+    }
 }

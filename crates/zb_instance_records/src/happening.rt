@@ -1,6 +1,11 @@
 // Records: timers, variables and incidents.
+ghost use Rattle.std.specs.Prelude.{◌≡◌};
+ghost use Rattle.zb_format.specs.Reading.{one_of};
+ghost use Rattle.zb_instance_records.specs.Layouts as layouts;
+
 use std::alloc::{AllocError, Global};
-use zb_base::{Key, Moment, Text, TryCopy, Value, Vars};
+use zb_base::{Key, Moment, Text, Value, Vars};
+use zb_format::{Cursor, Encoder, Fields, Format, ReadFault, pairs};
 
 /// Why an element cannot go on.
 #[derive(Clone, Copy, Debug, PartialEq, Eq)]
@@ -20,13 +25,21 @@ pub struct TimerCreated {
     pub due: Moment,
 }
 
-impl TryCopy for TimerCreated {
-    fn copy(&self, alloc: Global) -> Result<TimerCreated, AllocError> {
+#[tactic(auto, unfolding(crate::specs::Layouts::timer_created))]
+impl Format for TimerCreated {
+    ghost layout = { layouts.timer_created };
+
+    fn write(&self, encoder: &mut Encoder) -> Result<(), AllocError> {
+        pairs!(&self.key, &self.cell, &self.node, &self.due).encode(encoder)
+    }
+
+    fn read(alloc: Global, cursor: &mut Cursor<'_>) -> Result<TimerCreated, ReadFault> {
+        let pairs!(key, cell, node, due) = Format::read(alloc, cursor)?;
         Ok(TimerCreated {
-            key: self.key,
-            cell: self.cell,
-            node: self.node.copy(alloc)?,
-            due: self.due,
+            key,
+            cell,
+            node,
+            due,
         })
     }
 }
@@ -40,12 +53,20 @@ pub struct VariableDocumentUpdate {
     pub variables: Vars,
 }
 
-impl TryCopy for VariableDocumentUpdate {
-    fn copy(&self, alloc: Global) -> Result<VariableDocumentUpdate, AllocError> {
+#[tactic(auto, unfolding(crate::specs::Layouts::variable_document_update))]
+impl Format for VariableDocumentUpdate {
+    ghost layout = { layouts.variable_document_update };
+
+    fn write(&self, encoder: &mut Encoder) -> Result<(), AllocError> {
+        pairs!(&self.scope, &self.local, &self.variables).encode(encoder)
+    }
+
+    fn read(alloc: Global, cursor: &mut Cursor<'_>) -> Result<VariableDocumentUpdate, ReadFault> {
+        let pairs!(scope, local, variables) = Format::read(alloc, cursor)?;
         Ok(VariableDocumentUpdate {
-            scope: self.scope,
-            local: self.local,
-            variables: self.variables.copy(alloc)?,
+            scope,
+            local,
+            variables,
         })
     }
 }
@@ -58,13 +79,17 @@ pub struct VariableCreated {
     pub value: Value,
 }
 
-impl TryCopy for VariableCreated {
-    fn copy(&self, alloc: Global) -> Result<VariableCreated, AllocError> {
-        Ok(VariableCreated {
-            scope: self.scope,
-            name: self.name.copy(alloc)?,
-            value: self.value.copy(alloc)?,
-        })
+#[tactic(auto, unfolding(crate::specs::Layouts::variable_created))]
+impl Format for VariableCreated {
+    ghost layout = { layouts.variable_created };
+
+    fn write(&self, encoder: &mut Encoder) -> Result<(), AllocError> {
+        pairs!(&self.scope, &self.name, &self.value).encode(encoder)
+    }
+
+    fn read(alloc: Global, cursor: &mut Cursor<'_>) -> Result<VariableCreated, ReadFault> {
+        let pairs!(scope, name, value) = Format::read(alloc, cursor)?;
+        Ok(VariableCreated { scope, name, value })
     }
 }
 
@@ -76,13 +101,17 @@ pub struct VariableUpdated {
     pub value: Value,
 }
 
-impl TryCopy for VariableUpdated {
-    fn copy(&self, alloc: Global) -> Result<VariableUpdated, AllocError> {
-        Ok(VariableUpdated {
-            scope: self.scope,
-            name: self.name.copy(alloc)?,
-            value: self.value.copy(alloc)?,
-        })
+#[tactic(auto, unfolding(crate::specs::Layouts::variable_updated))]
+impl Format for VariableUpdated {
+    ghost layout = { layouts.variable_updated };
+
+    fn write(&self, encoder: &mut Encoder) -> Result<(), AllocError> {
+        pairs!(&self.scope, &self.name, &self.value).encode(encoder)
+    }
+
+    fn read(alloc: Global, cursor: &mut Cursor<'_>) -> Result<VariableUpdated, ReadFault> {
+        let pairs!(scope, name, value) = Format::read(alloc, cursor)?;
+        Ok(VariableUpdated { scope, name, value })
     }
 }
 
@@ -97,14 +126,22 @@ pub struct IncidentCreated {
     pub text: Text,
 }
 
-impl TryCopy for IncidentCreated {
-    fn copy(&self, alloc: Global) -> Result<IncidentCreated, AllocError> {
+#[tactic(auto, unfolding(crate::specs::Layouts::incident_created))]
+impl Format for IncidentCreated {
+    ghost layout = { layouts.incident_created };
+
+    fn write(&self, encoder: &mut Encoder) -> Result<(), AllocError> {
+        pairs!(&self.key, &self.kind, &self.cell, &self.job, &self.text).encode(encoder)
+    }
+
+    fn read(alloc: Global, cursor: &mut Cursor<'_>) -> Result<IncidentCreated, ReadFault> {
+        let pairs!(key, kind, cell, job, text) = Format::read(alloc, cursor)?;
         Ok(IncidentCreated {
-            key: self.key,
-            kind: self.kind,
-            cell: self.cell,
-            job: self.job,
-            text: self.text.copy(alloc)?,
+            key,
+            kind,
+            cell,
+            job,
+            text,
         })
     }
 }
@@ -115,4 +152,56 @@ pub struct IncidentResolved {
     pub key: Key,
     /// 0 where the job was not the cause.
     pub job: Key,
+}
+
+#[tactic(auto, unfolding(crate::specs::Layouts::incident_resolved))]
+impl Format for IncidentResolved {
+    ghost layout = { layouts.incident_resolved };
+
+    fn write(&self, encoder: &mut Encoder) -> Result<(), AllocError> {
+        (&self.key, &self.job).encode(encoder)
+    }
+
+    fn read(alloc: Global, cursor: &mut Cursor<'_>) -> Result<IncidentResolved, ReadFault> {
+        let (key, job) = Format::read(alloc, cursor)?;
+        Ok(IncidentResolved { key, job })
+    }
+}
+
+#[tactic(auto, unfolding(crate::specs::Layouts::incident_kind))]
+impl Format for IncidentKind {
+    ghost layout = { layouts.incident_kind };
+
+    fn write(&self, encoder: &mut Encoder) -> Result<(), AllocError> {
+        encoder.add(&[byte_of(*self)])
+    }
+
+    fn read(_alloc: Global, cursor: &mut Cursor<'_>) -> Result<IncidentKind, ReadFault> {
+        kind_of(cursor.byte()?).ok_or(ReadFault::NotSpelled)
+    }
+}
+
+// The byte of an incident's kind.
+fn byte_of(kind: IncidentKind) -> u8
+    ensures { result ≡ layouts.incident_byte kind }
+{
+    match kind {
+        IncidentKind::ExtractValueError => 1,
+        IncidentKind::ConditionError => 2,
+        IncidentKind::JobNoRetries => 3,
+        IncidentKind::UnhandledErrorEvent => 4,
+    }
+}
+
+// The kind of incident that a byte stands for.
+fn kind_of(byte: u8) -> Option<IncidentKind>
+    ensures { result ≡ one_of layouts.incident_byte layouts.each_incident byte }
+{
+    match byte {
+        1 => Some(IncidentKind::ExtractValueError),
+        2 => Some(IncidentKind::ConditionError),
+        3 => Some(IncidentKind::JobNoRetries),
+        4 => Some(IncidentKind::UnhandledErrorEvent),
+        _ => None,
+    }
 }

@@ -1,6 +1,11 @@
 // Records: process instances, their elements and their tokens.
+ghost use Rattle.std.specs.Prelude.{◌≡◌};
+ghost use Rattle.zb_format.specs.Reading.{one_of};
+ghost use Rattle.zb_instance_records.specs.Layouts as layouts;
+
 use std::alloc::{AllocError, Global};
-use zb_base::{Key, List, Pair, Text, TryCopy, Vars};
+use zb_base::{Key, List, Pair, Text, Vars};
+use zb_format::{Cursor, Encoder, Fields, Format, ReadFault, pairs};
 
 /// How an element stands in its scope.
 #[derive(Clone, Copy, Debug, PartialEq, Eq)]
@@ -22,12 +27,23 @@ pub struct ProcessInstanceCreationCreate {
     pub variables: Vars,
 }
 
-impl TryCopy for ProcessInstanceCreationCreate {
-    fn copy(&self, alloc: Global) -> Result<ProcessInstanceCreationCreate, AllocError> {
+#[tactic(auto, unfolding(crate::specs::Layouts::process_instance_creation_create))]
+impl Format for ProcessInstanceCreationCreate {
+    ghost layout = { layouts.process_instance_creation_create };
+
+    fn write(&self, encoder: &mut Encoder) -> Result<(), AllocError> {
+        pairs!(&self.process, &self.version, &self.variables).encode(encoder)
+    }
+
+    fn read(
+        alloc: Global,
+        cursor: &mut Cursor<'_>,
+    ) -> Result<ProcessInstanceCreationCreate, ReadFault> {
+        let pairs!(process, version, variables) = Format::read(alloc, cursor)?;
         Ok(ProcessInstanceCreationCreate {
-            process: self.process.copy(alloc)?,
-            version: self.version,
-            variables: self.variables.copy(alloc)?,
+            process,
+            version,
+            variables,
         })
     }
 }
@@ -40,13 +56,20 @@ pub struct ProcessInstanceMigrationMigrate {
     pub pairs: List<Pair>,
 }
 
-impl TryCopy for ProcessInstanceMigrationMigrate {
-    fn copy(&self, alloc: Global) -> Result<ProcessInstanceMigrationMigrate, AllocError> {
-        Ok(ProcessInstanceMigrationMigrate {
-            key: self.key,
-            target: self.target,
-            pairs: self.pairs.copy(alloc)?,
-        })
+#[tactic(auto, unfolding(crate::specs::Layouts::process_instance_migration_migrate))]
+impl Format for ProcessInstanceMigrationMigrate {
+    ghost layout = { layouts.process_instance_migration_migrate };
+
+    fn write(&self, encoder: &mut Encoder) -> Result<(), AllocError> {
+        pairs!(&self.key, &self.target, &self.pairs).encode(encoder)
+    }
+
+    fn read(
+        alloc: Global,
+        cursor: &mut Cursor<'_>,
+    ) -> Result<ProcessInstanceMigrationMigrate, ReadFault> {
+        let pairs!(key, target, pairs) = Format::read(alloc, cursor)?;
+        Ok(ProcessInstanceMigrationMigrate { key, target, pairs })
     }
 }
 
@@ -55,6 +78,23 @@ impl TryCopy for ProcessInstanceMigrationMigrate {
 pub struct ProcessInstanceCreationCreated {
     pub key: Key,
     pub definition: Key,
+}
+
+#[tactic(auto, unfolding(crate::specs::Layouts::process_instance_creation_created))]
+impl Format for ProcessInstanceCreationCreated {
+    ghost layout = { layouts.process_instance_creation_created };
+
+    fn write(&self, encoder: &mut Encoder) -> Result<(), AllocError> {
+        (&self.key, &self.definition).encode(encoder)
+    }
+
+    fn read(
+        alloc: Global,
+        cursor: &mut Cursor<'_>,
+    ) -> Result<ProcessInstanceCreationCreated, ReadFault> {
+        let (key, definition) = Format::read(alloc, cursor)?;
+        Ok(ProcessInstanceCreationCreated { key, definition })
+    }
 }
 
 /// PROCESS_INSTANCE ELEMENT_ACTIVATING: an element begins.
@@ -72,16 +112,33 @@ pub struct ElementActivating {
     pub started: Text,
 }
 
-impl TryCopy for ElementActivating {
-    fn copy(&self, alloc: Global) -> Result<ElementActivating, AllocError> {
+#[tactic(auto, unfolding(crate::specs::Layouts::element_activating))]
+impl Format for ElementActivating {
+    ghost layout = { layouts.element_activating };
+
+    fn write(&self, encoder: &mut Encoder) -> Result<(), AllocError> {
+        pairs!(
+            &self.key,
+            &self.scope,
+            &self.definition,
+            &self.node,
+            &self.role,
+            &self.via,
+            &self.started
+        )
+        .encode(encoder)
+    }
+
+    fn read(alloc: Global, cursor: &mut Cursor<'_>) -> Result<ElementActivating, ReadFault> {
+        let pairs!(key, scope, definition, node, role, via, started) = Format::read(alloc, cursor)?;
         Ok(ElementActivating {
-            key: self.key,
-            scope: self.scope,
-            definition: self.definition,
-            node: self.node.copy(alloc)?,
-            role: self.role,
-            via: self.via.copy(alloc)?,
-            started: self.started.copy(alloc)?,
+            key,
+            scope,
+            definition,
+            node,
+            role,
+            via,
+            started,
         })
     }
 }
@@ -94,12 +151,17 @@ pub struct ElementActivated {
     pub items: List<i64>,
 }
 
-impl TryCopy for ElementActivated {
-    fn copy(&self, alloc: Global) -> Result<ElementActivated, AllocError> {
-        Ok(ElementActivated {
-            key: self.key,
-            items: self.items.copy(alloc)?,
-        })
+#[tactic(auto, unfolding(crate::specs::Layouts::element_activated))]
+impl Format for ElementActivated {
+    ghost layout = { layouts.element_activated };
+
+    fn write(&self, encoder: &mut Encoder) -> Result<(), AllocError> {
+        (&self.key, &self.items).encode(encoder)
+    }
+
+    fn read(alloc: Global, cursor: &mut Cursor<'_>) -> Result<ElementActivated, ReadFault> {
+        let (key, items) = Format::read(alloc, cursor)?;
+        Ok(ElementActivated { key, items })
     }
 }
 
@@ -110,12 +172,17 @@ pub struct ElementCompleted {
     pub owed: List<Text>,
 }
 
-impl TryCopy for ElementCompleted {
-    fn copy(&self, alloc: Global) -> Result<ElementCompleted, AllocError> {
-        Ok(ElementCompleted {
-            key: self.key,
-            owed: self.owed.copy(alloc)?,
-        })
+#[tactic(auto, unfolding(crate::specs::Layouts::element_completed))]
+impl Format for ElementCompleted {
+    ghost layout = { layouts.element_completed };
+
+    fn write(&self, encoder: &mut Encoder) -> Result<(), AllocError> {
+        (&self.key, &self.owed).encode(encoder)
+    }
+
+    fn read(alloc: Global, cursor: &mut Cursor<'_>) -> Result<ElementCompleted, ReadFault> {
+        let (key, owed) = Format::read(alloc, cursor)?;
+        Ok(ElementCompleted { key, owed })
     }
 }
 
@@ -126,12 +193,17 @@ pub struct SequenceFlowTaken {
     pub flow: Text,
 }
 
-impl TryCopy for SequenceFlowTaken {
-    fn copy(&self, alloc: Global) -> Result<SequenceFlowTaken, AllocError> {
-        Ok(SequenceFlowTaken {
-            key: self.key,
-            flow: self.flow.copy(alloc)?,
-        })
+#[tactic(auto, unfolding(crate::specs::Layouts::sequence_flow_taken))]
+impl Format for SequenceFlowTaken {
+    ghost layout = { layouts.sequence_flow_taken };
+
+    fn write(&self, encoder: &mut Encoder) -> Result<(), AllocError> {
+        (&self.key, &self.flow).encode(encoder)
+    }
+
+    fn read(alloc: Global, cursor: &mut Cursor<'_>) -> Result<SequenceFlowTaken, ReadFault> {
+        let (key, flow) = Format::read(alloc, cursor)?;
+        Ok(SequenceFlowTaken { key, flow })
     }
 }
 
@@ -142,12 +214,17 @@ pub struct ElementMigrated {
     pub node: Text,
 }
 
-impl TryCopy for ElementMigrated {
-    fn copy(&self, alloc: Global) -> Result<ElementMigrated, AllocError> {
-        Ok(ElementMigrated {
-            key: self.key,
-            node: self.node.copy(alloc)?,
-        })
+#[tactic(auto, unfolding(crate::specs::Layouts::element_migrated))]
+impl Format for ElementMigrated {
+    ghost layout = { layouts.element_migrated };
+
+    fn write(&self, encoder: &mut Encoder) -> Result<(), AllocError> {
+        (&self.key, &self.node).encode(encoder)
+    }
+
+    fn read(alloc: Global, cursor: &mut Cursor<'_>) -> Result<ElementMigrated, ReadFault> {
+        let (key, node) = Format::read(alloc, cursor)?;
+        Ok(ElementMigrated { key, node })
     }
 }
 
@@ -159,12 +236,23 @@ pub struct ProcessInstanceMigrationMigrated {
     pub pairs: List<Pair>,
 }
 
-impl TryCopy for ProcessInstanceMigrationMigrated {
-    fn copy(&self, alloc: Global) -> Result<ProcessInstanceMigrationMigrated, AllocError> {
+#[tactic(auto, unfolding(crate::specs::Layouts::process_instance_migration_migrated))]
+impl Format for ProcessInstanceMigrationMigrated {
+    ghost layout = { layouts.process_instance_migration_migrated };
+
+    fn write(&self, encoder: &mut Encoder) -> Result<(), AllocError> {
+        pairs!(&self.key, &self.definition, &self.pairs).encode(encoder)
+    }
+
+    fn read(
+        alloc: Global,
+        cursor: &mut Cursor<'_>,
+    ) -> Result<ProcessInstanceMigrationMigrated, ReadFault> {
+        let pairs!(key, definition, pairs) = Format::read(alloc, cursor)?;
         Ok(ProcessInstanceMigrationMigrated {
-            key: self.key,
-            definition: self.definition,
-            pairs: self.pairs.copy(alloc)?,
+            key,
+            definition,
+            pairs,
         })
     }
 }
@@ -176,11 +264,54 @@ pub struct ProcessEventTriggered {
     pub node: Text,
 }
 
-impl TryCopy for ProcessEventTriggered {
-    fn copy(&self, alloc: Global) -> Result<ProcessEventTriggered, AllocError> {
-        Ok(ProcessEventTriggered {
-            cell: self.cell,
-            node: self.node.copy(alloc)?,
-        })
+#[tactic(auto, unfolding(crate::specs::Layouts::process_event_triggered))]
+impl Format for ProcessEventTriggered {
+    ghost layout = { layouts.process_event_triggered };
+
+    fn write(&self, encoder: &mut Encoder) -> Result<(), AllocError> {
+        (&self.cell, &self.node).encode(encoder)
+    }
+
+    fn read(alloc: Global, cursor: &mut Cursor<'_>) -> Result<ProcessEventTriggered, ReadFault> {
+        let (cell, node) = Format::read(alloc, cursor)?;
+        Ok(ProcessEventTriggered { cell, node })
+    }
+}
+
+#[tactic(auto, unfolding(crate::specs::Layouts::role))]
+impl Format for Role {
+    ghost layout = { layouts.role };
+
+    fn write(&self, encoder: &mut Encoder) -> Result<(), AllocError> {
+        encoder.add(&[byte_of(*self)])
+    }
+
+    fn read(_alloc: Global, cursor: &mut Cursor<'_>) -> Result<Role, ReadFault> {
+        role_of(cursor.byte()?).ok_or(ReadFault::NotSpelled)
+    }
+}
+
+// The byte of a role.
+fn byte_of(role: Role) -> u8
+    ensures { result ≡ layouts.role_byte role }
+{
+    match role {
+        Role::Plain => 0,
+        Role::Body => 1,
+        Role::Inner => 2,
+        Role::Handler => 3,
+    }
+}
+
+// The role that a byte stands for.
+fn role_of(byte: u8) -> Option<Role>
+    ensures { result ≡ one_of layouts.role_byte layouts.each_role byte }
+{
+    match byte {
+        0 => Some(Role::Plain),
+        1 => Some(Role::Body),
+        2 => Some(Role::Inner),
+        3 => Some(Role::Handler),
+        _ => None,
     }
 }

@@ -1,13 +1,10 @@
-//! Records of deployments, process instances, timers, variables and incidents: how they are copied, and how they are
-//! spelled in bytes.
+//! Records of deployments, process instances, timers, variables and incidents: their fields, and how they
+//! stand in bytes.
 #![tactic(auto)]
 
 mod deployment;
-mod deployment_format;
 mod happening;
-mod happening_format;
 mod instance;
-mod instance_format;
 
 pub use deployment::{
     CommandDistributionAcknowledge, CommandDistributionAcknowledged,

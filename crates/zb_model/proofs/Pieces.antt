@@ -1,6 +1,4 @@
--- What the proofs of writers and sizes rest on.
-use Rattle.std.proofs.Common.{append_assoc, length-append}
+-- What the proof of the writer of batches rests on.
+use Rattle.zb_format.proofs.Adding.{adds_then, adds_byte}
 
-pub ruleset pieces = (append_assoc)
-
-pub ruleset sizes = (length-append)
+pub ruleset pieces = (adds_then, adds_byte)

@@ -1,4 +1,7 @@
+pub mod CommandLaws
+pub mod Commands
+pub mod EventLaws
+pub mod Events
+pub mod Layouts
 pub mod Record
 pub mod RecordFits
-pub mod RecordFormats
-pub mod RecordReading

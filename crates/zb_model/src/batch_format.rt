@@ -1,45 +1,21 @@
 // The format of batches.
 ghost use Rattle.std.specs.Prelude.{◌≡◌};
-ghost use Rattle.zb_format.specs.Reading.{ReadsAs, one_of};
-ghost use Rattle.zb_model.specs.Record as spellings;
-ghost use Rattle.zb_model.specs.RecordFits as fits;
-ghost use Rattle.zb_model.specs.RecordFormats as formats;
-ghost use Rattle.zb_model.specs.RecordReading as readings;
+ghost use Rattle.zb_format.specs.Reading.{Reads, one_of};
+ghost use Rattle.zb_model.specs.Layouts as layouts;
 
-use crate::{Batch, Command, Outcome, Rejection, RejectionKind};
+use crate::{Batch, Outcome, Rejection, RejectionKind};
 use std::alloc::{AllocError, Global};
-use zb_base::{List, Moment, Text};
-use zb_format::{Cursor, Format, ReadFault, append, write_tagged};
+use zb_format::{Cursor, Encoder, Fields, Format, ReadFault, pairs, write_tagged};
 
+#[tactic(auto, using(crate::proofs::Pieces::pieces), unfolding(crate::specs::Layouts::batch, crate::specs::Layouts::fields))]
 impl Format for Batch {
-    ghost spelling = { spellings.bytes_of };
+    ghost layout = { layouts.batch };
 
-    ghost fits = { fits.IsBatch };
-
-    ghost reading = { readings.batch_at };
-
-    ghost is_format = { formats.batch_format };
-
-    #[tactic(auto, using(crate::proofs::Pieces::sizes), unfolding(crate::specs::Record::bytes_of))]
-    fn size(&self) -> u64 {
-        self.moment
-            .size()
-            .saturating_add(self.begin.size())
-            .saturating_add(self.command.size())
-            .saturating_add(self.outcome.size())
-            .saturating_add(1)
+    fn write(&self, encoder: &mut Encoder) -> Result<(), AllocError> {
+        encoder.add(&[1])?;
+        pairs!(&self.moment, &self.begin, &self.command, &self.outcome).encode(encoder)
     }
 
-    #[tactic(auto, using(crate::proofs::Pieces::pieces), unfolding(crate::specs::Record::bytes_of))]
-    fn write(&self, bytes: &mut Vec<u8>) -> Result<(), AllocError> {
-        append(&[1], bytes)?;
-        self.moment.write(bytes)?;
-        self.begin.write(bytes)?;
-        self.command.write(bytes)?;
-        self.outcome.write(bytes)
-    }
-
-    #[tactic(auto, unfolding(crate::specs::RecordReading::batch_at))]
     fn read(alloc: Global, cursor: &mut Cursor<'_>) -> Result<Batch, ReadFault> {
         match cursor.byte()? {
             1 => read_fields(alloc, cursor),
@@ -48,99 +24,60 @@ impl Format for Batch {
     }
 }
 
-/// Reads what stands behind the byte of the format.
+// Reads what stands behind the byte of the format.
+#[tactic(auto, unfolding(crate::specs::Layouts::fields))]
 fn read_fields(alloc: Global, cursor: &mut Cursor<'_>) -> Result<Batch, ReadFault>
-    ensures { ReadsAs (λ batch. (batch.moment, (batch.begin, (batch.command, batch.outcome)))) (readings.fields_at cursor.old) result cursor.new }
+    ensures { Reads (layouts.fields.reading cursor.old) result cursor.new }
 {
+    let pairs!(moment, begin, command, outcome) = Format::read(alloc, cursor)?;
     Ok(Batch {
-        moment: Moment::read(alloc, cursor)?,
-        begin: u64::read(alloc, cursor)?,
-        command: Command::read(alloc, cursor)?,
-        outcome: Outcome::read(alloc, cursor)?,
+        moment,
+        begin,
+        command,
+        outcome,
     })
 }
 
+#[tactic(auto, unfolding(crate::specs::Layouts::outcome))]
 impl Format for Outcome {
-    ghost spelling = { spellings.outcome };
+    ghost layout = { layouts.outcome };
 
-    ghost fits = { fits.IsOutcome };
-
-    ghost reading = { readings.outcome_at };
-
-    ghost is_format = { formats.outcome_format };
-
-    #[tactic(auto, unfolding(crate::specs::Record::outcome))]
-    fn size(&self) -> u64 {
+    fn write(&self, encoder: &mut Encoder) -> Result<(), AllocError> {
         match self {
-            Outcome::Rejected(rejection) => rejection.size().saturating_add(1),
-            Outcome::Accepted(events) => events.size().saturating_add(1),
+            Outcome::Rejected(rejection) => write_tagged(0, rejection, encoder),
+            Outcome::Accepted(events) => write_tagged(1, events, encoder),
         }
     }
 
-    #[tactic(auto, unfolding(crate::specs::Record::outcome))]
-    fn write(&self, bytes: &mut Vec<u8>) -> Result<(), AllocError> {
-        match self {
-            Outcome::Rejected(rejection) => write_tagged(0, rejection, bytes),
-            Outcome::Accepted(events) => write_tagged(1, events, bytes),
-        }
-    }
-
-    #[tactic(auto, unfolding(crate::specs::RecordReading::outcome_at))]
     fn read(alloc: Global, cursor: &mut Cursor<'_>) -> Result<Outcome, ReadFault> {
         match cursor.byte()? {
-            0 => Ok(Outcome::Rejected(Rejection::read(alloc, cursor)?)),
-            1 => Ok(Outcome::Accepted(List::read(alloc, cursor)?)),
+            0 => Ok(Outcome::Rejected(Format::read(alloc, cursor)?)),
+            1 => Ok(Outcome::Accepted(Format::read(alloc, cursor)?)),
             _ => Err(ReadFault::NotSpelled),
         }
     }
 }
 
+#[tactic(auto, unfolding(crate::specs::Layouts::rejection))]
 impl Format for Rejection {
-    ghost spelling = { spellings.rejection };
+    ghost layout = { layouts.rejection };
 
-    ghost fits = { fits.IsRejection };
-
-    ghost reading = { readings.rejection_at };
-
-    ghost is_format = { formats.rejection_format };
-
-    #[tactic(auto, using(crate::proofs::Pieces::sizes), unfolding(crate::specs::Record::rejection))]
-    fn size(&self) -> u64 {
-        self.kind.size().saturating_add(self.reason.size())
+    fn write(&self, encoder: &mut Encoder) -> Result<(), AllocError> {
+        (&self.kind, &self.reason).encode(encoder)
     }
 
-    #[tactic(auto, using(crate::proofs::Pieces::pieces), unfolding(crate::specs::Record::rejection))]
-    fn write(&self, bytes: &mut Vec<u8>) -> Result<(), AllocError> {
-        self.kind.write(bytes)?;
-        self.reason.write(bytes)
-    }
-
-    #[tactic(auto, unfolding(crate::specs::RecordReading::rejection_at))]
     fn read(alloc: Global, cursor: &mut Cursor<'_>) -> Result<Rejection, ReadFault> {
-        Ok(Rejection {
-            kind: RejectionKind::read(alloc, cursor)?,
-            reason: Text::read(alloc, cursor)?,
-        })
+        let (kind, reason) = Format::read(alloc, cursor)?;
+        Ok(Rejection { kind, reason })
     }
 }
 
+#[tactic(auto, unfolding(crate::specs::Layouts::rejection_kind))]
 impl Format for RejectionKind {
-    ghost use Rattle.zb_format.specs.Fits.{IsAny};
+    ghost layout = { layouts.rejection_kind };
 
-    ghost spelling = { spellings.rejection_kind };
-
-    ghost fits = { IsAny };
-
-    ghost reading = { readings.rejection_kind_at };
-
-    ghost is_format = { formats.rejection_kind_format };
-
-    fn size(&self) -> u64 {
-        1
-    }
-
-    fn write(&self, bytes: &mut Vec<u8>) -> Result<(), AllocError> {
-        append(&[byte_of(*self)], bytes)
+    fn write(&self, encoder: &mut Encoder) -> Result<(), AllocError> {
+        encoder.add(&[byte_of(*self)])
     }
 
     fn read(_alloc: Global, cursor: &mut Cursor<'_>) -> Result<RejectionKind, ReadFault> {
@@ -148,9 +85,9 @@ impl Format for RejectionKind {
     }
 }
 
-/// The byte of a rejection's kind.
+// The byte of a rejection's kind.
 fn byte_of(kind: RejectionKind) -> u8
-    ensures { result ≡ spellings.rejection_byte kind }
+    ensures { result ≡ layouts.rejection_byte kind }
 {
     match kind {
         RejectionKind::InvalidArgument => 1,
@@ -160,9 +97,9 @@ fn byte_of(kind: RejectionKind) -> u8
     }
 }
 
-/// The kind of rejection that a byte stands for.
+// The kind of rejection that a byte stands for.
 fn kind_of(byte: u8) -> Option<RejectionKind>
-    ensures { result ≡ one_of spellings.rejection_byte readings.each_rejection byte }
+    ensures { result ≡ one_of layouts.rejection_byte layouts.each_rejection byte }
 {
     match byte {
         1 => Some(RejectionKind::InvalidArgument),

@@ -51,62 +51,6 @@ pub enum Command {
     ProcessMessageSubscriptionDelete(Key),
 }
 
-impl TryCopy for Command {
-    fn copy(&self, alloc: Global) -> Result<Command, AllocError> {
-        match self {
-            Command::DeploymentCreate(model) => Ok(Command::DeploymentCreate(model.copy(alloc)?)),
-            Command::ProcessInstanceCreationCreate(record) => Ok(
-                Command::ProcessInstanceCreationCreate(record.copy(alloc)?),
-            ),
-            Command::ProcessInstanceCancel(key) => Ok(Command::ProcessInstanceCancel(*key)),
-            Command::VariableDocumentUpdate(record) => Ok(Command::VariableDocumentUpdate(
-                record.copy(alloc)?,
-            )),
-            Command::JobBatchActivate(record) => Ok(Command::JobBatchActivate(record.copy(alloc)?)),
-            Command::JobComplete(record) => Ok(Command::JobComplete(record.copy(alloc)?)),
-            Command::JobFail(record) => Ok(Command::JobFail(record.copy(alloc)?)),
-            Command::JobThrowError(record) => Ok(Command::JobThrowError(record.copy(alloc)?)),
-            Command::JobUpdateRetries(record) => Ok(Command::JobUpdateRetries(*record)),
-            Command::JobTimeOut(key) => Ok(Command::JobTimeOut(*key)),
-            Command::IncidentResolve(key) => Ok(Command::IncidentResolve(*key)),
-            Command::MessagePublish(record) => Ok(Command::MessagePublish(record.copy(alloc)?)),
-            Command::MessageExpire(key) => Ok(Command::MessageExpire(*key)),
-            Command::TimerTrigger(key) => Ok(Command::TimerTrigger(*key)),
-            Command::ProcessInstanceMigrationMigrate(record) => Ok(
-                Command::ProcessInstanceMigrationMigrate(record.copy(alloc)?),
-            ),
-            Command::ProcessInstanceBatchContinue => Ok(Command::ProcessInstanceBatchContinue),
-            Command::DeploymentDistribute(record) => Ok(Command::DeploymentDistribute(record.copy(
-                alloc,
-            )?)),
-            Command::CommandDistributionAcknowledge(record) => Ok(
-                Command::CommandDistributionAcknowledge(*record),
-            ),
-            Command::MessageSubscriptionCreate(record) => Ok(Command::MessageSubscriptionCreate(
-                record.copy(alloc)?,
-            )),
-            Command::ProcessMessageSubscriptionCreate(key) => Ok(
-                Command::ProcessMessageSubscriptionCreate(*key),
-            ),
-            Command::ProcessMessageSubscriptionCorrelate(record) => Ok(
-                Command::ProcessMessageSubscriptionCorrelate(record.copy(alloc)?),
-            ),
-            Command::MessageSubscriptionCorrelate(record) => Ok(
-                Command::MessageSubscriptionCorrelate(*record),
-            ),
-            Command::MessageSubscriptionReject(record) => Ok(Command::MessageSubscriptionReject(
-                *record,
-            )),
-            Command::MessageSubscriptionDelete(record) => Ok(Command::MessageSubscriptionDelete(
-                record.copy(alloc)?,
-            )),
-            Command::ProcessMessageSubscriptionDelete(key) => Ok(
-                Command::ProcessMessageSubscriptionDelete(*key),
-            ),
-        }
-    }
-}
-
 /// An event of a record: what has happened at a partition.
 #[derive(Drop)]
 pub enum Event {
@@ -158,89 +102,6 @@ pub enum Event {
     IncidentResolved(IncidentResolved),
 }
 
-impl TryCopy for Event {
-    fn copy(&self, alloc: Global) -> Result<Event, AllocError> {
-        match self {
-            Event::ProcessCreated(record) => Ok(Event::ProcessCreated(record.copy(alloc)?)),
-            Event::DeploymentCreated(record) => Ok(Event::DeploymentCreated(*record)),
-            Event::CommandDistributionDistributing(record) => Ok(
-                Event::CommandDistributionDistributing(*record),
-            ),
-            Event::CommandDistributionAcknowledged(record) => Ok(
-                Event::CommandDistributionAcknowledged(*record),
-            ),
-            Event::CommandDistributionFinished(key) => Ok(Event::CommandDistributionFinished(*key)),
-            Event::ProcessInstanceCreationCreated(record) => Ok(
-                Event::ProcessInstanceCreationCreated(*record),
-            ),
-            Event::ElementActivating(record) => Ok(Event::ElementActivating(record.copy(alloc)?)),
-            Event::ElementActivated(record) => Ok(Event::ElementActivated(record.copy(alloc)?)),
-            Event::ElementCompleting(key) => Ok(Event::ElementCompleting(*key)),
-            Event::ElementCompleted(record) => Ok(Event::ElementCompleted(record.copy(alloc)?)),
-            Event::ElementTerminating(key) => Ok(Event::ElementTerminating(*key)),
-            Event::ElementTerminated(key) => Ok(Event::ElementTerminated(*key)),
-            Event::SequenceFlowTaken(record) => Ok(Event::SequenceFlowTaken(record.copy(alloc)?)),
-            Event::ElementMigrated(record) => Ok(Event::ElementMigrated(record.copy(alloc)?)),
-            Event::ProcessInstanceMigrationMigrated(record) => Ok(
-                Event::ProcessInstanceMigrationMigrated(record.copy(alloc)?),
-            ),
-            Event::JobCreated(record) => Ok(Event::JobCreated(record.copy(alloc)?)),
-            Event::JobActivated(record) => Ok(Event::JobActivated(record.copy(alloc)?)),
-            Event::JobTimedOut(key) => Ok(Event::JobTimedOut(*key)),
-            Event::JobCompleted(key) => Ok(Event::JobCompleted(*key)),
-            Event::JobCanceled(key) => Ok(Event::JobCanceled(*key)),
-            Event::JobFailed(record) => Ok(Event::JobFailed(record.copy(alloc)?)),
-            Event::JobErrorThrown(record) => Ok(Event::JobErrorThrown(record.copy(alloc)?)),
-            Event::JobRetriesUpdated(record) => Ok(Event::JobRetriesUpdated(*record)),
-            Event::JobBatchActivated(record) => Ok(Event::JobBatchActivated(record.copy(alloc)?)),
-            Event::TimerCreated(record) => Ok(Event::TimerCreated(record.copy(alloc)?)),
-            Event::TimerTriggered(key) => Ok(Event::TimerTriggered(*key)),
-            Event::TimerCanceled(key) => Ok(Event::TimerCanceled(*key)),
-            Event::ProcessEventTriggered(record) => Ok(Event::ProcessEventTriggered(record.copy(
-                alloc,
-            )?)),
-            Event::MessagePublished(record) => Ok(Event::MessagePublished(record.copy(alloc)?)),
-            Event::MessageExpired(key) => Ok(Event::MessageExpired(*key)),
-            Event::MessageStartEventSubscriptionCorrelated(record) => Ok(
-                Event::MessageStartEventSubscriptionCorrelated(*record),
-            ),
-            Event::MessageSubscriptionCreated(record) => Ok(Event::MessageSubscriptionCreated(
-                record.copy(alloc)?,
-            )),
-            Event::MessageSubscriptionCorrelating(record) => Ok(
-                Event::MessageSubscriptionCorrelating(record.copy(alloc)?),
-            ),
-            Event::MessageSubscriptionCorrelated(record) => Ok(Event::MessageSubscriptionCorrelated(
-                *record,
-            )),
-            Event::MessageSubscriptionRejected(record) => Ok(Event::MessageSubscriptionRejected(
-                *record,
-            )),
-            Event::MessageSubscriptionDeleted(key) => Ok(Event::MessageSubscriptionDeleted(*key)),
-            Event::ProcessMessageSubscriptionCreating(record) => Ok(
-                Event::ProcessMessageSubscriptionCreating(record.copy(alloc)?),
-            ),
-            Event::ProcessMessageSubscriptionCreated(key) => Ok(
-                Event::ProcessMessageSubscriptionCreated(*key),
-            ),
-            Event::ProcessMessageSubscriptionCorrelated(record) => Ok(
-                Event::ProcessMessageSubscriptionCorrelated(*record),
-            ),
-            Event::ProcessMessageSubscriptionDeleted(key) => Ok(
-                Event::ProcessMessageSubscriptionDeleted(*key),
-            ),
-            Event::ProcessMessageSubscriptionDeleting(record) => Ok(
-                Event::ProcessMessageSubscriptionDeleting(record.copy(alloc)?),
-            ),
-            Event::VariableCreated(record) => Ok(Event::VariableCreated(record.copy(alloc)?)),
-            Event::VariableUpdated(record) => Ok(Event::VariableUpdated(record.copy(alloc)?)),
-            Event::VariableDocumentUpdated(key) => Ok(Event::VariableDocumentUpdated(*key)),
-            Event::IncidentCreated(record) => Ok(Event::IncidentCreated(record.copy(alloc)?)),
-            Event::IncidentResolved(record) => Ok(Event::IncidentResolved(*record)),
-        }
-    }
-}
-
 /// Why a command was rejected, in kind.
 #[derive(Clone, Copy, Debug, PartialEq, Eq)]
 pub enum RejectionKind {
@@ -273,15 +134,6 @@ pub enum Outcome {
     Accepted(List<Event>),
 }
 
-impl TryCopy for Outcome {
-    fn copy(&self, alloc: Global) -> Result<Outcome, AllocError> {
-        match self {
-            Outcome::Rejected(rejection) => Ok(Outcome::Rejected(rejection.copy(alloc)?)),
-            Outcome::Accepted(events) => Ok(Outcome::Accepted(events.copy(alloc)?)),
-        }
-    }
-}
-
 /// One command and what became of it: one step of a partition, whole or not at all.
 #[derive(Drop)]
 pub struct Batch {
@@ -292,31 +144,10 @@ pub struct Batch {
     pub outcome: Outcome,
 }
 
-impl TryCopy for Batch {
-    fn copy(&self, alloc: Global) -> Result<Batch, AllocError> {
-        Ok(Batch {
-            moment: self.moment,
-            begin: self.begin,
-            command: self.command.copy(alloc)?,
-            outcome: self.outcome.copy(alloc)?,
-        })
-    }
-}
-
 /// A command that one partition sends to another.
 #[derive(Drop)]
 pub struct Packet {
     pub from: PartitionId,
     pub to: PartitionId,
     pub command: Command,
-}
-
-impl TryCopy for Packet {
-    fn copy(&self, alloc: Global) -> Result<Packet, AllocError> {
-        Ok(Packet {
-            from: self.from,
-            to: self.to,
-            command: self.command.copy(alloc)?,
-        })
-    }
 }

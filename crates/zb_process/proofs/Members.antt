@@ -2,7 +2,7 @@
 use Rattle.std.proofs.Common.{◌≡◌, ◌+◌, max, List, [], ◌∷◌, ◌++◌, arith}
 use Rattle.zb_process.specs.Tree.{Tree, trees_of, nesting, nesting_over}
 use Rattle.zb_process.proofs.Nesting.{nesting-member}
-use Rattle.zb_process.specs.ExpressionFormats.{members_of, trees_spelled, list_spelled, trees_fit}
+use Rattle.zb_process.specs.ExpressionLaws.{members_of, trees_spelled, list_spelled, trees_fit}
 
 -- one more member
 pub nesting-append : (ts : List Tree) (t : Tree) → nesting_over (trees_of (ts ++ t ∷ [])) ≡ max (nesting_over (trees_of ts)) (nesting t + 1)

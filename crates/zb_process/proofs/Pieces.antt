@@ -1,10 +1,22 @@
--- What the proofs of readers, writers and sizes rest on.
-use Rattle.std.proofs.Common.{append_assoc, length-append}
+-- What the proofs of readers and writers rest on.
+use Rattle.std.proofs.Common.{◌++◌, List, [], length-append, subst, sym, arith}
+use Rattle.std.proofs.lemmas.List.{append-nil}
+use Rattle.zb_format.proofs.Adding.{Written, adds_then, adds_byte}
 use Rattle.zb_format.proofs.Many.{goes_on, ends, is_done}
-use Rattle.zb_format.proofs.Sizes.{length-number}
+use Rattle.zb_format.specs.Encoded.{Adds, Keeps}
+use Rattle.zb_format.specs.declared.encoder.Encoder.{Encoder}
+use Rattle.zb_process.specs.Expression.{tree, IsTree}
+use Rattle.std.specs.Prelude.{ℕ}
 
 pub ruleset many = (goes_on, ends, is_done)
 
-pub ruleset pieces = (append_assoc)
+pub ruleset pieces = (adds_then, adds_byte, length-append)
 
-pub ruleset sizes = (length-append, length-number)
+-- behind a front, no members yet
+pub written_none : (before : Encoder) (front : List ℕ) (after : Encoder) → Adds before front after → Keeps before after → Written tree IsTree before front [] after
+written_none before front after added kept = record {
+  added = subst (λ (z : List ℕ). Adds before z after) (sym (append-nil front)) added;
+  kept = kept;
+  some = omega arith;
+  fitting = λ less. tt;
+}

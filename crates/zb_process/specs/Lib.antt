@@ -2,8 +2,9 @@ pub mod Expr
 pub mod ExprFalls
 pub mod ExprView
 pub mod Expression
-pub mod ExpressionFormats
-pub mod Process
-pub mod ProcessFormats
+pub mod ExpressionLaws
+pub mod Kind
+pub mod KindLaws
+pub mod Layouts
 pub mod Tree
 pub mod TreeCode

@@ -1,6 +1,9 @@
+ghost use Rattle.zb_process.specs.Layouts as layouts;
+
 use crate::Expr;
 use std::alloc::{AllocError, Global};
-use zb_base::{List, Text, TryCopy};
+use zb_base::{List, Text};
+use zb_format::{Cursor, Encoder, Fields, Format, ReadFault, pairs};
 
 /// What a node is.
 #[derive(Clone, Copy, Debug, PartialEq, Eq)]
@@ -44,6 +47,25 @@ pub struct Model {
     pub flows: List<Flow>,
 }
 
+#[tactic(auto, unfolding(crate::specs::Layouts::model))]
+impl Format for Model {
+    ghost layout = { layouts.model };
+
+    fn write(&self, encoder: &mut Encoder) -> Result<(), AllocError> {
+        pairs!(&self.process, &self.tag, &self.nodes, &self.flows).encode(encoder)
+    }
+
+    fn read(alloc: Global, cursor: &mut Cursor<'_>) -> Result<Model, ReadFault> {
+        let pairs!(process, tag, nodes, flows) = Format::read(alloc, cursor)?;
+        Ok(Model {
+            process,
+            tag,
+            nodes,
+            flows,
+        })
+    }
+}
+
 /// A node of a model. A text that is absent is empty.
 #[derive(Drop)]
 pub struct Node {
@@ -70,6 +92,52 @@ pub struct Node {
     pub outputs: List<Mapping>,
 }
 
+#[tactic(auto, unfolding(crate::specs::Layouts::node))]
+impl Format for Node {
+    ghost layout = { layouts.node };
+
+    fn write(&self, encoder: &mut Encoder) -> Result<(), AllocError> {
+        pairs!(
+            &self.id,
+            &self.kind,
+            &self.parent,
+            &self.attached,
+            &self.cancel,
+            &self.otherwise,
+            &self.name,
+            &self.expr,
+            &self.retries,
+            &self.handler,
+            &self.multi,
+            &self.inputs,
+            &self.outputs
+        )
+        .encode(encoder)
+    }
+
+    fn read(alloc: Global, cursor: &mut Cursor<'_>) -> Result<Node, ReadFault> {
+        let pairs!(
+            id, kind, parent, attached, cancel, otherwise, name, expr, retries, handler, multi,
+            inputs, outputs
+        ) = Format::read(alloc, cursor)?;
+        Ok(Node {
+            id,
+            kind,
+            parent,
+            attached,
+            cancel,
+            otherwise,
+            name,
+            expr,
+            retries,
+            handler,
+            multi,
+            inputs,
+            outputs,
+        })
+    }
+}
+
 /// A flow from one node to another.
 #[derive(Drop)]
 pub struct Flow {
@@ -77,6 +145,25 @@ pub struct Flow {
     pub from: Text,
     pub to: Text,
     pub condition: Option<Expr>,
+}
+
+#[tactic(auto, unfolding(crate::specs::Layouts::flow))]
+impl Format for Flow {
+    ghost layout = { layouts.flow };
+
+    fn write(&self, encoder: &mut Encoder) -> Result<(), AllocError> {
+        pairs!(&self.id, &self.from, &self.to, &self.condition).encode(encoder)
+    }
+
+    fn read(alloc: Global, cursor: &mut Cursor<'_>) -> Result<Flow, ReadFault> {
+        let pairs!(id, from, to, condition) = Format::read(alloc, cursor)?;
+        Ok(Flow {
+            id,
+            from,
+            to,
+            condition,
+        })
+    }
 }
 
 /// A run for each item of a collection.
@@ -89,6 +176,24 @@ pub struct Multi {
     pub element: Text,
 }
 
+#[tactic(auto, unfolding(crate::specs::Layouts::multi))]
+impl Format for Multi {
+    ghost layout = { layouts.multi };
+
+    fn write(&self, encoder: &mut Encoder) -> Result<(), AllocError> {
+        pairs!(&self.sequential, &self.collection, &self.element).encode(encoder)
+    }
+
+    fn read(alloc: Global, cursor: &mut Cursor<'_>) -> Result<Multi, ReadFault> {
+        let pairs!(sequential, collection, element) = Format::read(alloc, cursor)?;
+        Ok(Multi {
+            sequential,
+            collection,
+            element,
+        })
+    }
+}
+
 /// A value for a variable.
 #[derive(Drop)]
 pub struct Mapping {
@@ -97,63 +202,16 @@ pub struct Mapping {
     pub target: Text,
 }
 
-impl TryCopy for Model {
-    fn copy(&self, alloc: Global) -> Result<Model, AllocError> {
-        Ok(Model {
-            process: self.process.copy(alloc)?,
-            tag: self.tag.copy(alloc)?,
-            nodes: self.nodes.copy(alloc)?,
-            flows: self.flows.copy(alloc)?,
-        })
-    }
-}
+#[tactic(auto, unfolding(crate::specs::Layouts::mapping))]
+impl Format for Mapping {
+    ghost layout = { layouts.mapping };
 
-impl TryCopy for Node {
-    fn copy(&self, alloc: Global) -> Result<Node, AllocError> {
-        Ok(Node {
-            id: self.id.copy(alloc)?,
-            kind: self.kind,
-            parent: self.parent.copy(alloc)?,
-            attached: self.attached.copy(alloc)?,
-            cancel: self.cancel,
-            otherwise: self.otherwise.copy(alloc)?,
-            name: self.name.copy(alloc)?,
-            expr: self.expr.copy(alloc)?,
-            retries: self.retries,
-            handler: self.handler,
-            multi: self.multi.copy(alloc)?,
-            inputs: self.inputs.copy(alloc)?,
-            outputs: self.outputs.copy(alloc)?,
-        })
+    fn write(&self, encoder: &mut Encoder) -> Result<(), AllocError> {
+        (&self.source, &self.target).encode(encoder)
     }
-}
 
-impl TryCopy for Flow {
-    fn copy(&self, alloc: Global) -> Result<Flow, AllocError> {
-        Ok(Flow {
-            id: self.id.copy(alloc)?,
-            from: self.from.copy(alloc)?,
-            to: self.to.copy(alloc)?,
-            condition: self.condition.copy(alloc)?,
-        })
-    }
-}
-
-impl TryCopy for Multi {
-    fn copy(&self, alloc: Global) -> Result<Multi, AllocError> {
-        Ok(Multi {
-            sequential: self.sequential,
-            collection: self.collection.copy(alloc)?,
-            element: self.element.copy(alloc)?,
-        })
-    }
-}
-
-impl TryCopy for Mapping {
-    fn copy(&self, alloc: Global) -> Result<Mapping, AllocError> {
-        Ok(Mapping {
-            source: self.source.copy(alloc)?,
-            target: self.target.copy(alloc)?,
-        })
+    fn read(alloc: Global, cursor: &mut Cursor<'_>) -> Result<Mapping, ReadFault> {
+        let (source, target) = Format::read(alloc, cursor)?;
+        Ok(Mapping { source, target })
     }
 }

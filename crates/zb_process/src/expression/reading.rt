@@ -26,14 +26,14 @@ pub fn read_tree(alloc: Global, levels: u32, cursor: &mut Cursor<'_>) -> Result<
 
 /// Reads what an expression is made of, whose parts have fewer levels.
 #[cycle(read)]
-#[tactic(auto, using(crate::proofs::Members::members))]
+#[tactic(auto, using(crate::proofs::Members::members), unfolding(zb_format::specs::Layout::signed, zb_format::specs::Layout::flag, zb_format::specs::Layout::text))]
 fn read_node(alloc: Global, levels: u32, cursor: &mut Cursor<'_>) -> Result<ExprNode, ReadFault>
     requires { levels < 65 }
     ensures read { ReadsAs tree_of (expressions.tree_with (expressions.tree_at levels) cursor.old) result cursor.new }
     ensures below { IfOk result (λ node. nesting (tree_of node) ≤ levels) }
 {
     match cursor.byte()? {
-        0 => Ok(ExprNode::Int(i64::read(alloc, cursor)?)),
+        0 => Ok(ExprNode::Int(<i64 as Format>::read(alloc, cursor)?)),
         1 => Ok(ExprNode::Bool(bool::read(alloc, cursor)?)),
         2 => Ok(ExprNode::Text(Text::read(alloc, cursor)?)),
         3 => Ok(ExprNode::Name(Text::read(alloc, cursor)?)),
@@ -75,13 +75,13 @@ fn read_binary(
 
 /// Reads the members of a list behind their number.
 #[cycle(read)]
-#[tactic(auto, unfolding(zb_format::specs::Reading::counted_at))]
+#[tactic(auto, unfolding(zb_format::specs::Reading::counted_at, zb_format::specs::Layout::number))]
 fn read_members(alloc: Global, levels: u32, cursor: &mut Cursor<'_>) -> Result<Vec<Expr>, ReadFault>
     requires { levels < 65 }
     ensures read { ReadsAs (λ members. members.items) (counted_at (expressions.tree_at levels) cursor.old) result cursor.new }
     ensures below { IfOk result (λ members. nesting_over (trees_of members.items) ≤ levels) }
 {
-    let count = u32::read(alloc, cursor)?;
+    let count = <u32 as Format>::read(alloc, cursor)?;
     read_many(alloc, levels, count, cursor)
 }
 

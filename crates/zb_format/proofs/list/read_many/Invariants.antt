@@ -6,4 +6,4 @@ use Rattle.zb_format.proofs.list.read_many.Given as goal
 -- the items so far and those that are left are all of them
 abbrev pub invariant-loop : goal.invariant-loop
 invariant-loop g l =
-    with_front l.items (many_at g.T.Format.reading (l.count - l.counter) l.cursor) ≡ many_at g.T.Format.reading l.count l.fn.cursor
+    with_front l.items (many_at g.T.Format.layout.reading (l.count - l.counter) l.cursor) ≡ many_at g.T.Format.layout.reading l.count l.fn.cursor

@@ -1,9 +1,9 @@
-use Rattle.std.proofs.Common.{◌≡◌, ◌+◌, ◌*◌, ◌++◌, max, take}
-use Rattle.std.specs.List.{flat_map}
+use Rattle.std.proofs.Common.{◌+◌, ◌*◌, ◌∷◌, length, max, take}
 use Rattle.zb_process.specs.Tree.{nesting, nesting_over, trees_of}
 use Rattle.zb_process.specs.ExprView.{tree_of}
-use Rattle.zb_process.specs.Expression.{tree}
-use Rattle.zb_format.specs.Front.{Keeps}
+use Rattle.zb_process.specs.Expression.{tree, IsTree}
+use Rattle.zb_format.specs.Field.{number}
+use Rattle.zb_format.proofs.Adding.{Written}
 use Rattle.zb_process.proofs.expression.writing.+write.Given as goal
 
 abbrev pub decreases-write_tree : goal.decreases-write_tree
@@ -16,14 +16,11 @@ abbrev pub decreases-write_unary : goal.decreases-write_unary
 decreases-write_unary a = 4 * nesting a.operand.now + 3
 
 abbrev pub decreases-write_binary : goal.decreases-write_binary
-decreases-write_binary a = 4 * max (nesting a.left.now) (nesting a.right.now) + 3
+decreases-write_binary a = 4 * max (nesting a.left.now) (nesting a.right.now) + 4
 
 abbrev pub decreases-write_members : goal.decreases-write_members
 decreases-write_members a = 4 * nesting_over (trees_of a.members.now)
 
--- what stands behind the bytes that were there
+-- the byte of lists, the length and the members so far have been added
 abbrev pub invariant-write_members-loop-member : goal.invariant-write_members-loop-member
-invariant-write_members-loop-member l = record {
-  written : l.bytes.items ≡ l.initial.bytes.items ++ flat_map tree (take l.member-index l.members);
-  kept : Keeps l.fn.bytes.items l.bytes.items;
-}
+invariant-write_members-loop-member l = Written tree IsTree l.fn.encoder (4 ∷ number (length l.members)) (take l.member-index l.members) l.encoder
