@@ -19,3 +19,11 @@ pub record IsStateOf (es : List Event) (state : State) : Type 0 where
   pub definitions : definitions es ≡ state.definitions.items
   pub begun : begun es ≡ state.begun
   pub game : board_of es ≡ Some state.game
+
+-- two states that differ in their game alone
+pub record IsSameBeside (old new : State) : Type 0 where
+  pub place : new.place ≡ old.place
+  pub counter : new.counter ≡ old.counter
+  pub messages : new.messages.items ≡ old.messages.items
+  pub definitions : new.definitions.items ≡ old.definitions.items
+  pub begun : new.begun ≡ old.begun

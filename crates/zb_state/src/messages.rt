@@ -1,5 +1,5 @@
 // The buffered messages, in a list.
-ghost use Rattle.std.specs.Prelude.{◌≡◌, ◌==◌, nat_lt, ◌++◌, ◌∷◌, [], slice_get, filter, Some, IfSome, IfNone, IsFalse, OnOk, OnErr, option_map, if◌then◌else◌};
+ghost use Rattle.std.specs.Prelude.{◌≡◌, ◌==◌, nat_lt, slice_get, filter, Some, IfSome, IfNone, IsFalse, option_map, if◌then◌else◌};
 ghost use Rattle.std.specs.List.{list_any};
 ghost use Rattle.std.specs.Option.{option_map_or};
 ghost use Rattle.zb_rules.specs.Edits.{first};
@@ -7,10 +7,9 @@ ghost use Rattle.zb_rules.specs.Publish.{is_same};
 ghost use Rattle.zb_rules.specs.Messages.{is_due};
 ghost use Rattle.zb_rules.specs.Due.{earliest, place_in_time};
 ghost use Rattle.zb_rules.specs.MessageLaws.{without};
-ghost use Rattle.zb_state.specs.Messages.{Ascend, HasKey, with_event};
+ghost use Rattle.zb_state.specs.Messages.{Ascend, HasKey};
 
-use std::alloc::{AllocError, Global};
-use zb_model::{Event, Key, MessagePublish, MessagePublished, Moment, TryCopy};
+use zb_model::{Key, MessagePublish, MessagePublished, Moment};
 
 /// Whether the message has the name, the correlation key and the id that are to be published.
 pub fn is_same(command: &MessagePublish, message: &MessagePublished) -> bool
@@ -96,43 +95,9 @@ fn earlier_of(message: &MessagePublished, found: Option<(Moment, Key)>) -> (Mome
     }
 }
 
-/// What the event makes of the messages, which stand in the order of their keys. After a refusal nothing has
-/// changed. A message costs its copy; one that expires costs a step for each message behind it.
-pub fn note(
-    alloc: Global,
-    event: &Event,
-    messages: &mut Vec<MessagePublished>,
-) -> Result<(), AllocError>
-    requires { Ascend messages.old.items }
-    ensures noted { OnOk result (messages.new.items ≡ with_event event.now messages.old.items) }
-    ensures err { OnErr result (messages.new.items ≡ messages.old.items) }
-{
-    match event {
-        Event::MessagePublished(message) => publish(alloc, message, messages),
-        Event::MessageExpired(key) => {
-            expire(*key, messages);
-            Ok(())
-        }
-        _ => Ok(()),
-    }
-}
-
-// Puts a copy of the message behind the others.
-fn publish(
-    alloc: Global,
-    message: &MessagePublished,
-    messages: &mut Vec<MessagePublished>,
-) -> Result<(), AllocError>
-    ensures ok { OnOk result (messages.new.items ≡ messages.old.items ++ message.now ∷ []) }
-    ensures err { OnErr result (messages.new.items ≡ messages.old.items) }
-{
-    let message = message.copy(alloc)?;
-    messages.push(message)?;
-    Ok(())
-}
-
-// Takes out the message with this key, if there is one.
-fn expire(key: Key, messages: &mut Vec<MessagePublished>)
+/// Takes out the message with this key, if there is one. They stand in the order of their keys. It costs a
+/// step for each message behind it.
+pub fn expire(key: Key, messages: &mut Vec<MessagePublished>)
     requires { Ascend messages.old.items }
     ensures { messages.new.items ≡ without key messages.old.items }
 {

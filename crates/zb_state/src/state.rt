@@ -3,22 +3,23 @@ ghost use Rattle.std.specs.List.{list_any};
 ghost use Rattle.std.specs.Option.{option_map_or};
 ghost use Rattle.zb_base.specs.Key.{key_of};
 ghost use Rattle.zb_model.specs.declared.record.Event.{Event};
-ghost use Rattle.zb_rules.specs.View.{next_key, greatest_among, keys_in};
+ghost use Rattle.zb_rules.specs.View.{next_key};
 ghost use Rattle.zb_rules.specs.Messages.{buffered, is_buffered, message_at};
 ghost use Rattle.zb_rules.specs.Publish.{is_same};
 ghost use Rattle.zb_rules.specs.Expire.{is_due_at};
 ghost use Rattle.zb_rules.specs.Due.{due_message};
 ghost use Rattle.zb_rules.specs.Applies.{applies, holds_own, is_fresh, has_definition, begins_well, begins_instance, begins_cell, is_definition_of};
-ghost use Rattle.zb_rules.specs.Create.{instance_told};
-ghost use Rattle.zb_rules.specs.Definitions.{definition_told, definitions, definition_for, greatest_version};
+ghost use Rattle.zb_rules.specs.Definitions.{definitions, definition_for, greatest_version};
 ghost use Rattle.zb_rules.specs.Faults.{is_well_formed};
 ghost use Rattle.zb_rules.specs.Settling.{turn};
-ghost use Rattle.zb_rules.specs.Shown.{board_of};
-ghost use Rattle.zb_state.specs.Messages.{are_between, with_event, IsNext, HasNextKey};
+ghost use Rattle.zb_rules.specs.Shown.{shown, after_shown, board_of};
+ghost use Rattle.zb_state.specs.Messages.{are_between};
+ghost use Rattle.zb_state.specs.Change.{with_change, definition_in, instance_in, IsNext, HasNextKey, Draws};
 
+use crate::change::{Change, copied_change, moved_change};
 use crate::definitions;
 use crate::keys::greatest_counter;
-use crate::messages::{self, any_same, has_key};
+use crate::messages::{self, any_same, expire, has_key};
 use crate::moves::{event_of, play};
 use std::alloc::{AllocError, Global};
 use zb_check::{ModelFault, check};
@@ -48,7 +49,7 @@ pub struct State {
 }
 
 impl State {
-    ghost use Rattle.zb_state.specs.State.{place_of, IsStateOf};
+    ghost use Rattle.zb_state.specs.State.{place_of, IsStateOf, IsSameBeside};
 
     /// The state of a log without events.
     pub fn empty(alloc: Global, place: PartitionId) -> State
@@ -77,11 +78,26 @@ impl State {
             → IsErrOf result TableFault.NotApplicable → IsFalse (applies (place_of self.old) es event.now) }
         ensures kept { IsErrOf result TableFault.NotApplicable → self.new ≡ self.old }
     {
-        if !self.meets_own(alloc, event)? {
-            return Err(TableFault::NotApplicable);
-        }
-        play(alloc, event, &mut self.game)?;
-        self.note(alloc, event)?;
+        self.admit(alloc, event)?;
+        let counter = greatest_counter(self.place, event);
+        let change = copied_change(alloc, event)?;
+        self.note(counter, change)?;
+        Ok(())
+    }
+
+    /// Takes in an event as `apply` does, and moves its message in place of a copy.
+    pub fn take_in(&mut self, alloc: Global, event: Event) -> Result<(), TableFault>
+        ensures place { place_of self.new ≡ place_of self.old }
+        ensures applied { (es : List Event) → IsStateOf es self.old → OnOk result (IsTrue (applies (place_of self.old) es event)) }
+        ensures state { (es : List Event) → IsStateOf es self.old → OnOk result (IsStateOf (es ++ event ∷ []) self.new) }
+        ensures refused { (es : List Event) → IsStateOf es self.old
+            → IsErrOf result TableFault.NotApplicable → IsFalse (applies (place_of self.old) es event) }
+        ensures kept { IsErrOf result TableFault.NotApplicable → self.new ≡ self.old }
+    {
+        self.admit(alloc, &event)?;
+        let counter = greatest_counter(self.place, &event);
+        let change = moved_change(alloc, event)?;
+        self.note(counter, change)?;
         Ok(())
     }
 
@@ -252,21 +268,57 @@ impl State {
         }
     }
 
-    // Takes in what the event changes beside the game. After a refusal the state is only dropped.
-    fn note(&mut self, alloc: Global, event: &Event) -> Result<(), AllocError>
-        requires { HasNextKey (place_of self.old) self.old.counter event.now }
+    // Makes the move of an event that applies. At `NotApplicable`, exactly where it doesn't, nothing has
+    // changed; after `Memory` the state is only dropped.
+    fn admit(&mut self, alloc: Global, event: &Event) -> Result<(), TableFault>
+        ensures beside { IsSameBeside self.old self.new }
+        ensures applied { (es : List Event) → IsStateOf es self.old → OnOk result (IsTrue (applies (place_of self.old) es event.now)) }
+        ensures played { OnOk result (after_shown self.old.game (shown event.now) ≡ Some self.new.game) }
+        ensures next { OnOk result (HasNextKey (place_of self.old) self.old.counter event.now) }
+        ensures refused { (es : List Event) → IsStateOf es self.old
+            → IsErrOf result TableFault.NotApplicable → IsFalse (applies (place_of self.old) es event.now) }
+        ensures kept { IsErrOf result TableFault.NotApplicable → self.new ≡ self.old }
+    {
+        if !self.meets_own(alloc, event)? {
+            return Err(TableFault::NotApplicable);
+        }
+        play(alloc, event, &mut self.game)?;
+        Ok(())
+    }
+
+    // Takes in the greatest counter of an event, and what it changes beside the game. After a refusal the
+    // state is only dropped.
+    fn note(&mut self, counter: u64, change: Change) -> Result<(), AllocError>
+        requires small { counter < 2 ^ 51 }
+        requires draws { Draws (place_of self.old) self.old.counter counter change }
         ensures place { place_of self.new ≡ place_of self.old }
-        ensures counter { OnOk result (self.new.counter ≡ max self.old.counter (greatest_among (place_of self.old) (keys_in event.now))) }
-        ensures messages { OnOk result (self.new.messages.items ≡ with_event event.now self.old.messages.items) }
-        ensures definitions { OnOk result (self.new.definitions.items ≡ self.old.definitions.items ++ definition_told event.now) }
-        ensures begun { OnOk result (self.new.begun ≡ instance_told event.now) }
+        ensures counter { OnOk result (self.new.counter ≡ max self.old.counter counter) }
+        ensures messages { OnOk result (self.new.messages.items ≡ with_change change self.old.messages.items) }
+        ensures definitions { OnOk result (self.new.definitions.items ≡ self.old.definitions.items ++ definition_in change) }
+        ensures begun { OnOk result (self.new.begun ≡ instance_in change) }
         ensures game { self.new.game ≡ self.old.game }
     {
-        self.counter = self.counter.max(greatest_counter(self.place, event));
-        self.begun = begun_by(event);
-        definitions::note(alloc, event, &mut self.definitions)?;
-        messages::note(alloc, event, &mut self.messages)?;
-        Ok(())
+        self.counter = self.counter.max(counter);
+        self.begun = None;
+        match change {
+            Change::Defined(definition) => {
+                self.definitions.push(definition)?;
+                Ok(())
+            }
+            Change::Begun(instance) => {
+                self.begun = Some(instance);
+                Ok(())
+            }
+            Change::Published(message) => {
+                self.messages.push(message)?;
+                Ok(())
+            }
+            Change::Expired(key) => {
+                expire(key, &mut self.messages);
+                Ok(())
+            }
+            Change::Nothing => Ok(()),
+        }
     }
 }
 
@@ -278,15 +330,5 @@ fn is_well_formed(alloc: Global, model: &ProcessModel) -> Result<bool, AllocErro
         Ok(()) => Ok(true),
         Err(ModelFault::Bad { .. }) => Ok(false),
         Err(ModelFault::Memory) => Err(AllocError),
-    }
-}
-
-// The instance that the event makes, if it makes one.
-fn begun_by(event: &Event) -> Option<ProcessInstanceCreationCreated>
-    ensures { result ≡ instance_told event.now }
-{
-    match event {
-        Event::ProcessInstanceCreationCreated(instance) => Some(*instance),
-        _ => None,
     }
 }
