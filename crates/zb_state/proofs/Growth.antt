@@ -1,11 +1,18 @@
 -- A state with an event more.
-use Rattle.std.proofs.Common.{◌≡◌, ℕ, ◌+◌, ◌≤◌, max, Some, Bool, true, false, if◌then◌else◌, List, [], ◌∷◌, ◌++◌, IsTrue, refl, sym, ap, ◌∙◌, arith, subst, append-nil}
+use Rattle.std.proofs.Common.{◌≡◌, ℕ, ◌+◌, ◌<◌, ◌≤◌, ◌==◌, nat_le, max, Option, Some, None, is_some, option_map, false, ◌&&◌, if◌then◌else◌, Result, Ok, Err, OnOk, OnErr, List, [], ◌∷◌, ◌++◌, IsTrue, refl, sym, ap, ◌∙◌, arith, append-nil}
+use Rattle.std.specs.Prelude.{⊤}
+use Rattle.std.specs.List.{list_any}
+use Rattle.std.specs.Option.{option_map_or}
+use Rattle.std.specs.declared.alloc.AllocError.{AllocError}
 use Rattle.zb_base.specs.Key.{key_of}
 use Rattle.zb_exchange_records.specs.declared.message.MessagePublished.{MessagePublished}
 use Rattle.zb_model.specs.declared.record.Event.{Event}
 use Rattle.zb_model.specs.declared.record.Event.TheVariants as events
 use Rattle.zb_rules.specs.View.{counter_at, keys_in, greatest_among, greatest_counter}
-use Rattle.zb_rules.specs.Messages.{buffered}
+use Rattle.zb_table.specs.Rows.{Ascend, are_below, row_at, with_row}
+use Rattle.zb_table.proofs.Growing.{with_last, below_higher, below_more, below_without, has_row, passes_at}
+use Rattle.zb_rules.specs.Edits.{first}
+use Rattle.zb_rules.specs.Messages.{buffered, is_due}
 use Rattle.zb_rules.specs.MessageLaws.{without, buffered_published, buffered_expired}
 use Rattle.zb_rules.specs.GrowthLaws.{definitions_more, begun_more, board_of_more, buffered_kept}
 use Rattle.zb_rules.specs.Definitions.{definition_told}
@@ -17,10 +24,8 @@ use Rattle.zb_rules.proofs.Counters.{counter_at-key_of}
 use Rattle.zb_state.specs.declared.change.Change.{Change}
 use Rattle.zb_state.specs.declared.change.Change.TheVariants as changes
 use Rattle.zb_state.specs.Change.{change_told, definition_in, instance_in, with_change, HasNextKey, Draws}
-use Rattle.zb_state.specs.Messages.{are_between, Ascend}
 use Rattle.zb_state.specs.State.{IsStateOf, IsSameBeside}
 use Rattle.zb_state.specs.declared.state.State.{State}
-use Rattle.zb_state.proofs.Order.{between_higher, between_more, between_without}
 
 -- the greatest counter
 pub counter_more : (p : ℕ) (es : List Event) (e : Event) → greatest_counter p (es ++ e ∷ []) ≡ max (greatest_counter p es) (greatest_among p (keys_in e))
@@ -48,34 +53,52 @@ instance_made (events.MessagePublished m) = refl
 instance_made (events.MessageExpired key) = refl
 instance_made e = refl
 
--- they stand in the order of their keys
-pub ascending : (es : List Event) (state : State) → IsStateOf es state → Ascend (buffered es)
-ascending es state is = (key_of state.place (state.counter + 1), rw is.messages state.in_order)
+-- the key of a message
+abbrev key : MessagePublished → ℕ
+key m = m.key
 
--- their order, below the next key of a counter that isn't lower
-pub order_kept : (p n n' : ℕ) (messages : List MessagePublished) → n ≤ n' → IsTrue (are_between 0 (key_of p (n + 1)) messages) → IsTrue (are_between 0 (key_of p (n' + 1)) messages)
-order_kept p n n' messages le ordered = between_higher (key_of p (n + 1)) (key_of p (n' + 1)) messages (omega (arith, le)) ordered
+-- below the next key of a counter that isn't lower
+pub below_kept : (p n n' : ℕ) (messages : List MessagePublished) → n ≤ n' → IsTrue (are_below key (key_of p (n + 1)) messages) → IsTrue (are_below key (key_of p (n' + 1)) messages)
+below_kept p n n' messages le below = below_higher key (key_of p (n + 1)) (key_of p (n' + 1)) messages (omega (arith, le)) below
 
--- with a message that has the next key
-pub order_published : (p n n' : ℕ) (messages : List MessagePublished) (m : MessagePublished) → n' ≡ n + 1 → m.key ≡ key_of p n' → IsTrue (are_between 0 (key_of p (n + 1)) messages)
-    → IsTrue (are_between 0 (key_of p (n' + 1)) (messages ++ m ∷ []))
-order_published p n n' messages m next key ordered =
-    let at : m.key ≡ key_of p (n + 1) = key ∙ ap (λ (k : ℕ). key_of p k) next in
-    let end : key_of p (n + 1) + 1 ≡ key_of p (n' + 1) = omega (arith, next) in
-    subst (λ (high : ℕ). IsTrue (are_between 0 high (messages ++ m ∷ []))) end (between_more (key_of p (n + 1)) messages m ordered at)
+-- with a message that has the next key, whether or not there was memory for it
+module _ (p n counter n' : ℕ) (messages : List MessagePublished) (m : MessagePublished) (raised : n' ≡ max n counter) (draws : Draws p n counter (changes.Published m)) (below : IsTrue (are_below key (key_of p (n + 1)) messages)) where
+  at_next : m.key ≡ key_of p (n + 1)
+  at_next = draws.1 ∙ ap (λ (k : ℕ). key_of p k) draws.0
 
--- whether or not there was memory for it
-pub order_pushed : (p n counter n' : ℕ) (messages after : List MessagePublished) (m : MessagePublished) (ok : Bool) → after ≡ (if ok then messages ++ m ∷ [] else messages) → n' ≡ max n counter → Draws p n counter (changes.Published m)
-    → IsTrue (are_between 0 (key_of p (n + 1)) messages) → IsTrue (are_between 0 (key_of p (n' + 1)) after)
-order_pushed p n counter n' messages after m true is raised draws ordered =
-    let next : n' ≡ n + 1 = omega (arith, raised, draws.0) in
-    let same : counter ≡ n' = omega (arith, raised, draws.0) in
-    rw is (order_published p n n' messages m next (draws.1 ∙ ap (λ (k : ℕ). key_of p k) same) ordered)
-order_pushed p n counter n' messages after m false is raised draws ordered = rw is (order_kept p n n' messages (omega (arith, raised)) ordered)
+  pub stands_last : with_row key m messages ≡ messages ++ m ∷ []
+  stands_last = with_last key m messages (rw at_next below)
+
+  pub below_added : (after : List MessagePublished) (result : Result ⊤ AllocError) → OnOk result (after ≡ with_row key m messages) → OnErr result (after ≡ messages) → IsTrue (are_below key (key_of p (n' + 1)) after)
+  below_added after (Ok done) ok err =
+      let kept = below_kept p n n' messages (omega (arith, raised)) below in
+      let less : m.key < key_of p (n' + 1) = omega (arith, raised, draws.0, at_next) in
+      rw (ok, stands_last) (below_more key (key_of p (n' + 1)) messages m less kept)
+  below_added after (Err fault) ok err = rw err (below_kept p n n' messages (omega (arith, raised)) below)
 
 -- without a message
-pub order_expired : (p n n' key : ℕ) (messages : List MessagePublished) → n ≤ n' → IsTrue (are_between 0 (key_of p (n + 1)) messages) → IsTrue (are_between 0 (key_of p (n' + 1)) (without key messages))
-order_expired p n n' key messages le ordered = order_kept p n n' (without key messages) le (between_without key (key_of p (n + 1)) messages ordered)
+pub below_expired : (p n n' k : ℕ) (messages : List MessagePublished) → n ≤ n' → IsTrue (are_below key (key_of p (n + 1)) messages) → IsTrue (are_below key (key_of p (n' + 1)) (without k messages))
+below_expired p n n' k messages le below = below_kept p n n' (without k messages) le (below_without key k (key_of p (n + 1)) messages below)
+
+-- the message with a key
+pub row_is_first : (k : ℕ) (messages : List MessagePublished) → row_at key k messages ≡ first (λ m. m.key == k) messages
+row_is_first k [] = refl
+row_is_first k (m ∷ messages) = ap (λ (later : Option MessagePublished). if m.key == k then Some m else later) (row_is_first k messages)
+
+has_deadline : (found : Option MessagePublished) → is_some (option_map (λ m. m.deadline) found) ≡ is_some found
+has_deadline None = refl
+has_deadline (Some m) = refl
+
+pub has_by_deadline : (k : ℕ) (messages : List MessagePublished) → is_some (option_map (λ m. m.deadline) (row_at key k messages)) ≡ list_any (λ m. m.key == k) messages
+has_by_deadline k messages = has_deadline (row_at key k messages) ∙ has_row key k messages
+
+deadline_passed : (moment : ℕ) (found : Option MessagePublished) → option_map_or (λ deadline. nat_le deadline moment) (option_map (λ m. m.deadline) found) false ≡ option_map_or (is_due moment) found false
+deadline_passed moment None = refl
+deadline_passed moment (Some m) = refl
+
+pub due_by_deadline : (moment k : ℕ) (messages : List MessagePublished) → Ascend key 0 messages
+    → option_map_or (λ deadline. nat_le deadline moment) (option_map (λ m. m.deadline) (row_at key k messages)) false ≡ list_any (λ m. (m.key == k) && is_due moment m) messages
+due_by_deadline moment k messages up = deadline_passed moment (row_at key k messages) ∙ passes_at key (is_due moment) k 0 messages up
 
 -- a message that an event publishes draws the counter behind the last one
 pub draws : (p n : ℕ) (e : Event) → HasNextKey p n e → Draws p n (greatest_among p (keys_in e)) (change_told e)
@@ -92,7 +115,7 @@ draws_of old mid e same counter change next = rw (counter, change, same.place, s
 pub record IsNoted (n : ℕ) (change : Change) (old new : State) : Type 0 where
   pub place : new.place ≡ old.place
   pub counter : new.counter ≡ max old.counter n
-  pub messages : new.messages.items ≡ with_change change old.messages.items
+  pub messages : new.messages ≡ with_change change old.messages
   pub definitions : new.definitions.items ≡ old.definitions.items ++ definition_in change
   pub begun : new.begun ≡ instance_in change
   pub game : new.game ≡ old.game

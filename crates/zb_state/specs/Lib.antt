@@ -1,3 +1,2 @@
 pub mod Change
-pub mod Messages
 pub mod State

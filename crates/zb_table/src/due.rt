@@ -38,11 +38,7 @@ fn with_place<R: Timed>(
     }
 }
 
-fn with_row<R: Timed>(
-    now: Moment,
-    row: &R,
-    found: Option<(Moment, Key)>,
-) -> Option<(Moment, Key)>
+fn with_row<R: Timed>(now: Moment, row: &R, found: Option<(Moment, Key)>) -> Option<(Moment, Key)>
     ensures { result ≡ earlier_one R.key_in R.moment_in now row.now found }
 {
     match row.moment() {

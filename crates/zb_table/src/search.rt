@@ -4,8 +4,8 @@ ghost use Rattle.std.specs.List.{list_any};
 ghost use Rattle.std.specs.Option.{option_map_or};
 ghost use Rattle.zb_table.specs.Places.{rows_in, AreOrdered, count_below, HasKey, IsFree};
 
-use crate::{Query, Row};
 use crate::row::Place;
+use crate::{Query, Row};
 use zb_base::Key;
 
 /// How many places have lower keys. It takes one step where all have, and else the logarithm of how many

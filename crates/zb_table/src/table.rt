@@ -5,9 +5,9 @@ ghost use Rattle.zb_table.specs.Earliest.{first_due};
 ghost use Rattle.zb_table.specs.Rows.{Ascend, row_at, with_row, without};
 ghost use Rattle.zb_table.specs.Places.{rows_in, AreOrdered};
 
-use crate::{Query, Row, Timed, due, search};
 use crate::row::Place;
 use crate::search::find;
+use crate::{Query, Row, Timed, due, search};
 use std::alloc::{AllocError, Global};
 use std::marker::Model;
 use zb_base::{Key, Moment};
