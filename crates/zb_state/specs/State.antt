@@ -15,7 +15,15 @@ place_of state = state.place
 -- it is what these events come to
 pub record IsStateOf (es : List Event) (state : State) : Type 0 where
   pub counter : greatest_counter state.place es ≡ state.counter
-  pub messages : buffered es ≡ state.messages.items
+  pub messages : buffered es ≡ state.messages
   pub definitions : definitions es ≡ state.definitions.items
   pub begun : begun es ≡ state.begun
   pub game : board_of es ≡ Some state.game
+
+-- two states that differ in their game alone
+pub record IsSameBeside (old new : State) : Type 0 where
+  pub place : new.place ≡ old.place
+  pub counter : new.counter ≡ old.counter
+  pub messages : new.messages ≡ old.messages
+  pub definitions : new.definitions.items ≡ old.definitions.items
+  pub begun : new.begun ≡ old.begun

@@ -1,13 +1,11 @@
 // Process definitions, in a list.
-ghost use Rattle.std.specs.Prelude.{◌≡◌, ◌==◌, ◌&&◌, [], ◌∷◌, ◌++◌, max, OnOk, option_map, if◌then◌else◌};
+ghost use Rattle.std.specs.Prelude.{◌≡◌, ◌==◌, ◌&&◌, max, option_map, if◌then◌else◌};
 ghost use Rattle.std.specs.Option.{option_map_or};
 ghost use Rattle.std.specs.List.{list_any};
 ghost use Rattle.std.specs.Str.{bytes_eq};
-ghost use Rattle.zb_model.specs.declared.record.Event.TheVariants as events;
-ghost use Rattle.zb_rules.specs.Definitions.{definition_told, greatest_version, version_of};
+ghost use Rattle.zb_rules.specs.Definitions.{greatest_version, version_of};
 
-use std::alloc::{AllocError, Global};
-use zb_model::{Event, Key, ProcessCreated, TryCopy};
+use zb_model::Key;
 use zb_rules::Definition;
 
 /// Whether a definition has this key. It goes through all of them.
@@ -78,36 +76,4 @@ fn later_of(key: Key, found: Option<Key>) -> Key
         Some(found) if found >= key => found,
         _ => key,
     }
-}
-
-/// Puts the definition that the event makes behind the others, if it makes one. It costs a copy of the id of
-/// the process.
-pub fn note(
-    alloc: Global,
-    event: &Event,
-    definitions: &mut Vec<Definition>,
-) -> Result<(), AllocError>
-    ensures { OnOk result (definitions.new.items ≡ definitions.old.items ++ definition_told event.now) }
-{
-    match event {
-        Event::ProcessCreated(process) => define(alloc, process, definitions),
-        _ => Ok(()),
-    }
-}
-
-// Puts the definition of the process behind the others.
-fn define(
-    alloc: Global,
-    process: &ProcessCreated,
-    definitions: &mut Vec<Definition>,
-) -> Result<(), AllocError>
-    ensures { OnOk result (definitions.new.items ≡ definitions.old.items ++ definition_told (events.ProcessCreated process.now)) }
-{
-    let id = process.model.process.copy(alloc)?;
-    definitions.push(Definition {
-        key: process.key,
-        version: process.version,
-        process: id,
-    })?;
-    Ok(())
 }

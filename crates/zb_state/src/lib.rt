@@ -1,9 +1,10 @@
 //! The state of a partition: what its log's events come to.
 #![tactic(auto)]
 
+mod buffered;
+mod change;
 mod definitions;
 mod keys;
-mod messages;
 mod moves;
 mod out;
 mod state;

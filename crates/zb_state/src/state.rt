@@ -3,31 +3,33 @@ ghost use Rattle.std.specs.List.{list_any};
 ghost use Rattle.std.specs.Option.{option_map_or};
 ghost use Rattle.zb_base.specs.Key.{key_of};
 ghost use Rattle.zb_model.specs.declared.record.Event.{Event};
-ghost use Rattle.zb_rules.specs.View.{next_key, greatest_among, keys_in};
+ghost use Rattle.zb_rules.specs.View.{next_key};
 ghost use Rattle.zb_rules.specs.Messages.{buffered, is_buffered, message_at};
 ghost use Rattle.zb_rules.specs.Publish.{is_same};
 ghost use Rattle.zb_rules.specs.Expire.{is_due_at};
 ghost use Rattle.zb_rules.specs.Due.{due_message};
 ghost use Rattle.zb_rules.specs.Applies.{applies, holds_own, is_fresh, has_definition, begins_well, begins_instance, begins_cell, is_definition_of};
-ghost use Rattle.zb_rules.specs.Create.{instance_told};
-ghost use Rattle.zb_rules.specs.Definitions.{definition_told, definitions, definition_for, greatest_version};
+ghost use Rattle.zb_rules.specs.Definitions.{definitions, definition_for, greatest_version};
 ghost use Rattle.zb_rules.specs.Faults.{is_well_formed};
 ghost use Rattle.zb_rules.specs.Settling.{turn};
-ghost use Rattle.zb_rules.specs.Shown.{board_of};
-ghost use Rattle.zb_state.specs.Messages.{are_between, with_event, IsNext, HasNextKey};
+ghost use Rattle.zb_rules.specs.Shown.{shown, after_shown, board_of};
+ghost use Rattle.zb_table.specs.Rows.{are_below};
+ghost use Rattle.zb_state.specs.Change.{with_change, definition_in, instance_in, IsNext, HasNextKey, Draws};
 
+use crate::buffered::{self, Buffered};
+use crate::change::{Change, copied_change, moved_change};
 use crate::definitions;
 use crate::keys::greatest_counter;
-use crate::messages::{self, any_same, has_key};
 use crate::moves::{event_of, play};
 use std::alloc::{AllocError, Global};
 use zb_check::{ModelFault, check};
 use zb_game::Game;
 use zb_model::{
-    ElementActivating, Event, Key, MessagePublish, MessagePublished, Model as ProcessModel, Moment,
-    PartitionId, ProcessInstanceCreationCreated, Role, TableFault, TryCopy,
+    ElementActivating, Event, Key, MessagePublish, Model as ProcessModel, Moment, PartitionId,
+    ProcessInstanceCreationCreated, Role, TableFault, TryCopy,
 };
 use zb_rules::Definition;
+use zb_table::Table;
 
 /// What the events of a partition's log come to. Its clauses hold for all lists of events of which it is
 /// the state.
@@ -36,19 +38,19 @@ pub struct State {
     place: PartitionId,
     // The greatest counter of the keys that the events name.
     counter: u64,
-    // The buffered messages, in the order of their keys.
-    messages: Vec<MessagePublished>,
+    // The buffered messages.
+    messages: Table<Buffered>,
     // The definitions, in the order in which they were made.
     definitions: Vec<Definition>,
     // The instance that the last event made, if it made one.
     begun: Option<ProcessInstanceCreationCreated>,
     game: Game,
     ghost drawn: { counter < 2 ^ 51 },
-    ghost in_order: { IsTrue (are_between 0 (key_of place (counter + 1)) messages.items) },
+    ghost in_order: { IsTrue (are_below (λ m. m.key) (key_of place (counter + 1)) messages) },
 }
 
 impl State {
-    ghost use Rattle.zb_state.specs.State.{place_of, IsStateOf};
+    ghost use Rattle.zb_state.specs.State.{place_of, IsStateOf, IsSameBeside};
 
     /// The state of a log without events.
     pub fn empty(alloc: Global, place: PartitionId) -> State
@@ -58,7 +60,7 @@ impl State {
         State {
             place,
             counter: 0,
-            messages: Vec::new(alloc),
+            messages: Table::empty(alloc),
             definitions: Vec::new(alloc),
             begun: None,
             game: Game::empty(alloc),
@@ -67,8 +69,8 @@ impl State {
 
     /// Takes in an event that applies to those before it. At `NotApplicable`, exactly where it doesn't,
     /// nothing has changed; after `Memory` the state is only dropped. A message costs its copy; one that
-    /// expires costs a step for each message that was published after it. An event of the game costs a walk
-    /// over the cells, the tokens and one model; a model costs its check and its copies.
+    /// expires costs the logarithm of how many are buffered, on average. An event of the game costs a walk over
+    /// the cells, the tokens and one model; a model costs its check and its copies.
     pub fn apply(&mut self, alloc: Global, event: &Event) -> Result<(), TableFault>
         ensures place { place_of self.new ≡ place_of self.old }
         ensures applied { (es : List Event) → IsStateOf es self.old → OnOk result (IsTrue (applies (place_of self.old) es event.now)) }
@@ -77,11 +79,26 @@ impl State {
             → IsErrOf result TableFault.NotApplicable → IsFalse (applies (place_of self.old) es event.now) }
         ensures kept { IsErrOf result TableFault.NotApplicable → self.new ≡ self.old }
     {
-        if !self.meets_own(alloc, event)? {
-            return Err(TableFault::NotApplicable);
-        }
-        play(alloc, event, &mut self.game)?;
-        self.note(alloc, event)?;
+        self.admit(alloc, event)?;
+        let counter = greatest_counter(self.place, event);
+        let change = copied_change(alloc, event)?;
+        self.note(counter, change)?;
+        Ok(())
+    }
+
+    /// Takes in an event as `apply` does, and moves its message in place of a copy.
+    pub fn take_in(&mut self, alloc: Global, event: Event) -> Result<(), TableFault>
+        ensures place { place_of self.new ≡ place_of self.old }
+        ensures applied { (es : List Event) → IsStateOf es self.old → OnOk result (IsTrue (applies (place_of self.old) es event)) }
+        ensures state { (es : List Event) → IsStateOf es self.old → OnOk result (IsStateOf (es ++ event ∷ []) self.new) }
+        ensures refused { (es : List Event) → IsStateOf es self.old
+            → IsErrOf result TableFault.NotApplicable → IsFalse (applies (place_of self.old) es event) }
+        ensures kept { IsErrOf result TableFault.NotApplicable → self.new ≡ self.old }
+    {
+        self.admit(alloc, &event)?;
+        let counter = greatest_counter(self.place, &event);
+        let change = moved_change(alloc, event)?;
+        self.note(counter, change)?;
         Ok(())
     }
 
@@ -96,25 +113,25 @@ impl State {
     pub fn buffers(&self, command: &MessagePublish) -> bool
         ensures { (es : List Event) → IsStateOf es self.now → result ≡ list_any (is_same command.now) (buffered es) }
     {
-        any_same(command, &self.messages)
+        self.messages.any(command)
     }
 
-    /// The deadline of the buffered message with this key, if there is one. The last ones are looked at first.
+    /// The deadline of the buffered message with this key, if there is one. It takes the logarithm of how many
+    /// are buffered.
     pub fn deadline_of(&self, key: Key) -> Option<Moment>
         ensures deadline { (es : List Event) → IsStateOf es self.now → result ≡ option_map (λ m. m.deadline) (message_at key es) }
         ensures buffered { (es : List Event) → IsStateOf es self.now → is_some result ≡ is_buffered key es }
         ensures due { (es : List Event) (moment : ℕ) → IsStateOf es self.now → option_map_or (λ deadline. nat_le deadline moment) result false ≡ is_due_at moment key es }
     {
-        messages::deadline_of(key, &self.messages)
+        buffered::deadline_of(key, &self.messages)
     }
 
     /// The key of the buffered message that is due first, if one is due now: the one with the earliest deadline,
-    /// and of those with the same one the one with the least key. It goes once through the buffered messages,
-    /// which stand in the order of their keys.
+    /// and of those with the same one the one with the least key. It goes once through the buffered messages.
     pub fn due(&self, now: Moment) -> Option<Key>
         ensures { (es : List Event) → IsStateOf es self.now → result ≡ option_map (λ m. m.key) (due_message now es) }
     {
-        messages::due(now, &self.messages)
+        self.messages.first_due(now)
     }
 
     /// The key of the definition that is asked for: version 0 is the latest one. It goes through all
@@ -187,7 +204,7 @@ impl State {
             | Event::SequenceFlowTaken(_)
             | Event::VariableCreated(_) => Ok(true),
             Event::MessagePublished(message) => Ok(self.is_fresh(message.key)),
-            Event::MessageExpired(key) => Ok(has_key(*key, &self.messages)),
+            Event::MessageExpired(key) => Ok(self.messages.contains(*key)),
             _ => Ok(false),
         }
     }
@@ -252,21 +269,57 @@ impl State {
         }
     }
 
-    // Takes in what the event changes beside the game. After a refusal the state is only dropped.
-    fn note(&mut self, alloc: Global, event: &Event) -> Result<(), AllocError>
-        requires { HasNextKey (place_of self.old) self.old.counter event.now }
+    // Makes the move of an event that applies. At `NotApplicable`, exactly where it doesn't, nothing has
+    // changed; after `Memory` the state is only dropped.
+    fn admit(&mut self, alloc: Global, event: &Event) -> Result<(), TableFault>
+        ensures beside { IsSameBeside self.old self.new }
+        ensures applied { (es : List Event) → IsStateOf es self.old → OnOk result (IsTrue (applies (place_of self.old) es event.now)) }
+        ensures played { OnOk result (after_shown self.old.game (shown event.now) ≡ Some self.new.game) }
+        ensures next { OnOk result (HasNextKey (place_of self.old) self.old.counter event.now) }
+        ensures refused { (es : List Event) → IsStateOf es self.old
+            → IsErrOf result TableFault.NotApplicable → IsFalse (applies (place_of self.old) es event.now) }
+        ensures kept { IsErrOf result TableFault.NotApplicable → self.new ≡ self.old }
+    {
+        if !self.meets_own(alloc, event)? {
+            return Err(TableFault::NotApplicable);
+        }
+        play(alloc, event, &mut self.game)?;
+        Ok(())
+    }
+
+    // Takes in the greatest counter of an event, and what it changes beside the game. After a refusal the
+    // state is only dropped.
+    fn note(&mut self, counter: u64, change: Change) -> Result<(), AllocError>
+        requires small { counter < 2 ^ 51 }
+        requires draws { Draws (place_of self.old) self.old.counter counter change }
         ensures place { place_of self.new ≡ place_of self.old }
-        ensures counter { OnOk result (self.new.counter ≡ max self.old.counter (greatest_among (place_of self.old) (keys_in event.now))) }
-        ensures messages { OnOk result (self.new.messages.items ≡ with_event event.now self.old.messages.items) }
-        ensures definitions { OnOk result (self.new.definitions.items ≡ self.old.definitions.items ++ definition_told event.now) }
-        ensures begun { OnOk result (self.new.begun ≡ instance_told event.now) }
+        ensures counter { OnOk result (self.new.counter ≡ max self.old.counter counter) }
+        ensures messages { OnOk result (self.new.messages ≡ with_change change self.old.messages) }
+        ensures definitions { OnOk result (self.new.definitions.items ≡ self.old.definitions.items ++ definition_in change) }
+        ensures begun { OnOk result (self.new.begun ≡ instance_in change) }
         ensures game { self.new.game ≡ self.old.game }
     {
-        self.counter = self.counter.max(greatest_counter(self.place, event));
-        self.begun = begun_by(event);
-        definitions::note(alloc, event, &mut self.definitions)?;
-        messages::note(alloc, event, &mut self.messages)?;
-        Ok(())
+        self.counter = self.counter.max(counter);
+        self.begun = None;
+        match change {
+            Change::Defined(definition) => {
+                self.definitions.push(definition)?;
+                Ok(())
+            }
+            Change::Begun(instance) => {
+                self.begun = Some(instance);
+                Ok(())
+            }
+            Change::Published(message) => {
+                self.messages.add(Buffered::new(message))?;
+                Ok(())
+            }
+            Change::Expired(key) => {
+                self.messages.remove(key);
+                Ok(())
+            }
+            Change::Nothing => Ok(()),
+        }
     }
 }
 
@@ -278,15 +331,5 @@ fn is_well_formed(alloc: Global, model: &ProcessModel) -> Result<bool, AllocErro
         Ok(()) => Ok(true),
         Err(ModelFault::Bad { .. }) => Ok(false),
         Err(ModelFault::Memory) => Err(AllocError),
-    }
-}
-
-// The instance that the event makes, if it makes one.
-fn begun_by(event: &Event) -> Option<ProcessInstanceCreationCreated>
-    ensures { result ≡ instance_told event.now }
-{
-    match event {
-        Event::ProcessInstanceCreationCreated(instance) => Some(*instance),
-        _ => None,
     }
 }

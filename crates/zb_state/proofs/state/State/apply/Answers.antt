@@ -1,8 +1,13 @@
-use Rattle.std.proofs.Common.{Some, ap, sym, ◌∙◌}
-use Rattle.zb_state.proofs.Growth.{state_more}
+use Rattle.zb_state.proofs.Growth.{state_more, draws_of}
 use Rattle.zb_state.proofs.state.State.apply.Goals as goal
+
+pub note-requires : goal.note-requires
+note-requires c = record {
+  small = c.greatest_counter-counter.ensures.small;
+  draws = draws_of c.args.self.now c.admit.new.self c.args.event.now c.admit.ensures.beside c.greatest_counter-counter.ensures.value c.in_ok-change.ensures c.in_ok-admit.ensures.next;
+}
 
 pub returns-clause-state : goal.returns-clause-state
 returns-clause-state c = λ es is.
     let noted = c.in_ok-note.ensures in
-    state_more es c.args.event.now c.args.self.now c.note.new.self is noted.place noted.counter noted.messages noted.definitions noted.begun (c.in_ok-play.ensures.played ∙ ap Some (sym noted.game))
+    state_more es c.args.event.now c.args.self.now c.admit.new.self c.note.new.self is c.admit.ensures.beside c.in_ok-admit.ensures.played c.in_ok-change.ensures c.greatest_counter-counter.ensures.value (record { place = noted.place; counter = noted.counter; messages = noted.messages; definitions = noted.definitions; begun = noted.begun; game = noted.game })

@@ -1,15 +1,14 @@
-use Rattle.std.proofs.Common.{◌≡◌, sym, ◌∙◌}
-use Rattle.zb_rules.specs.Messages.{buffered}
-use Rattle.zb_state.proofs.Order.{has_by_deadline, due_by_deadline}
-use Rattle.zb_state.proofs.Growth.{ascending}
+use Rattle.std.proofs.Common.{ap, ◌∙◌, option_map}
+use Rattle.zb_state.proofs.Growth.{row_is_first, has_by_deadline, due_by_deadline}
 use Rattle.zb_state.proofs.state.State.deadline_of.Goals as goal
 
+pub returns-clause-deadline : goal.returns-clause-deadline
+returns-clause-deadline c = λ es is.
+    let messages = c.args.self.now.messages in
+    rw is.messages (c.deadline_of.ensures.deadline ∙ ap (λ found. option_map (λ m. m.deadline) found) (row_is_first c.args.key messages))
+
 pub returns-clause-buffered : goal.returns-clause-buffered
-returns-clause-buffered c = λ es is.
-    let same : c.deref.result.now ≡ buffered es = c.deref.ensures.value ∙ sym is.messages in
-    rw (c.deadline_of.ensures, same) (has_by_deadline c.args.key (buffered es))
+returns-clause-buffered c = λ es is. rw (c.deadline_of.ensures.deadline, is.messages) (has_by_deadline c.args.key c.args.self.now.messages)
 
 pub returns-clause-due : goal.returns-clause-due
-returns-clause-due c = λ es moment is.
-    let same : c.deref.result.now ≡ buffered es = c.deref.ensures.value ∙ sym is.messages in
-    rw (c.deadline_of.ensures, same) (due_by_deadline moment c.args.key (buffered es) (ascending es c.args.self.now is))
+returns-clause-due c = λ es moment is. rw (c.deadline_of.ensures.deadline, is.messages) (due_by_deadline moment c.args.key c.args.self.now.messages c.deadline_of.ensures.order)

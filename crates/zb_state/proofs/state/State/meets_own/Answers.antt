@@ -1,0 +1,6 @@
+use Rattle.std.proofs.Common.{◌∙◌}
+use Rattle.zb_table.proofs.Growing.{has_row}
+use Rattle.zb_state.proofs.state.State.meets_own.Goals as goal
+
+pub returns-in-MessageExpired-clause-own : goal.returns-in-MessageExpired-clause-own
+returns-in-MessageExpired-clause-own c = λ es is. rw (c.in-MessageExpired.is, is.messages) (c.contains.ensures ∙ has_row (λ m. m.key) c.in-MessageExpired.key c.args.self.now.messages)

@@ -1,0 +1,58 @@
+// What an event changes beside the game and the counter.
+ghost use Rattle.std.specs.Prelude.{◌≡◌, IfOk};
+ghost use Rattle.zb_model.specs.declared.record.Event.TheVariants as events;
+ghost use Rattle.zb_state.specs.Change.{change_told};
+
+use std::alloc::{AllocError, Global};
+use zb_model::{
+    Event, Key, MessagePublished, ProcessCreated, ProcessInstanceCreationCreated, TryCopy,
+};
+use zb_rules::Definition;
+
+/// What an event changes beside the game and the counter.
+#[derive(Drop)]
+pub enum Change {
+    /// A definition is made.
+    Defined(Definition),
+    /// An instance is made.
+    Begun(ProcessInstanceCreationCreated),
+    /// A message is buffered.
+    Published(MessagePublished),
+    /// The message with this key is buffered no more.
+    Expired(Key),
+    Nothing,
+}
+
+/// What the event changes. It costs a copy of its message, and of the id of its process.
+pub fn copied_change(alloc: Global, event: &Event) -> Result<Change, AllocError>
+    ensures { IfOk result (λ change. change ≡ change_told event.now) }
+{
+    match event {
+        Event::ProcessCreated(process) => defined(alloc, process),
+        Event::ProcessInstanceCreationCreated(instance) => Ok(Change::Begun(*instance)),
+        Event::MessagePublished(message) => Ok(Change::Published(message.copy(alloc)?)),
+        Event::MessageExpired(key) => Ok(Change::Expired(*key)),
+        _ => Ok(Change::Nothing),
+    }
+}
+
+/// What the event changes, with its message moved. It costs a copy of the id of its process.
+pub fn moved_change(alloc: Global, event: Event) -> Result<Change, AllocError>
+    ensures { IfOk result (λ change. change ≡ change_told event) }
+{
+    match event {
+        Event::MessagePublished(message) => Ok(Change::Published(message)),
+        other => copied_change(alloc, &other),
+    }
+}
+
+// The definition that the process makes.
+fn defined(alloc: Global, process: &ProcessCreated) -> Result<Change, AllocError>
+    ensures { IfOk result (λ change. change ≡ change_told (events.ProcessCreated process.now)) }
+{
+    Ok(Change::Defined(Definition {
+        key: process.key,
+        version: process.version,
+        process: process.model.process.copy(alloc)?,
+    }))
+}

@@ -1,0 +1,5 @@
+pub mod Rows
+pub mod Places
+pub mod Earliest
+pub mod EarliestLaws
+pub mod Due

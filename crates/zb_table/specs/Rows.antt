@@ -1,0 +1,31 @@
+-- Rows in the order of their keys.
+use Rattle.std.specs.Prelude.{ℕ, ◌+◌, ◌≤◌, ◌==◌, nat_lt, List, [], ◌∷◌, filter, Bool, true, ◌&&◌, not, if◌then◌else◌, Option, Some, None}
+
+-- the first member that passes
+abbrev pub first : {A : Type 0} → (A → Bool) → List A → Option A
+first passes [] = None
+first passes (x ∷ xs) = if passes x then Some x else first passes xs
+
+module _ {A : Type 0} (key : A → ℕ) where
+  -- the keys ascend, from `low` on
+  abbrev pub Ascend : ℕ → List A → Type 0
+  Ascend low [] = Unit {0}
+  Ascend low (r ∷ rows) = (low ≤ key r) × Ascend (key r + 1) rows
+
+  -- the keys lie below this one
+  abbrev pub are_below : ℕ → List A → Bool
+  are_below high [] = true
+  are_below high (r ∷ rows) = nat_lt (key r) high && are_below high rows
+
+  -- the row with a key
+  abbrev pub row_at : ℕ → List A → Option A
+  row_at k rows = first (λ r. key r == k) rows
+
+  -- the rows but the one with a key
+  abbrev pub without : ℕ → List A → List A
+  without k rows = filter (λ r. not (key r == k)) rows
+
+  -- the rows with one more, in front of those with greater keys, and in place of one with its key
+  abbrev pub with_row : A → List A → List A
+  with_row row [] = row ∷ []
+  with_row row (r ∷ rows) = if nat_lt (key r) (key row) then r ∷ with_row row rows else if key r == key row then row ∷ rows else row ∷ r ∷ rows

@@ -1,0 +1,75 @@
+// Finding a place by its key.
+ghost use Rattle.std.specs.Prelude.{◌≡◌, IfOk, IfErr, false};
+ghost use Rattle.std.specs.List.{list_any};
+ghost use Rattle.std.specs.Option.{option_map_or};
+ghost use Rattle.zb_table.specs.Places.{rows_in, AreOrdered, count_below, HasKey, IsFree};
+
+use crate::row::Place;
+use crate::{Query, Row};
+use zb_base::Key;
+
+/// How many places have lower keys. It takes one step where all have, and else the logarithm of how many
+/// places there are.
+pub fn place_of<R: Row>(key: Key, places: &[Place<R>]) -> usize
+    requires { AreOrdered R.key_in 0 places.now }
+    ensures { result ≡ count_below key places.now }
+{
+    match places.last() {
+        Some(last) if last.key >= key => search(key, places),
+        _ => places.len(),
+    }
+}
+
+// How many places have lower keys, by halves.
+fn search<R: Row>(key: Key, places: &[Place<R>]) -> usize
+    requires { AreOrdered R.key_in 0 places.now }
+    ensures { result ≡ count_below key places.now }
+{
+    let mut low = 0;
+    let mut high = places.len();
+    while low < high {
+        let middle = low + (high - low) / 2;
+        if places[middle].key < key {
+            low = middle + 1;
+        } else {
+            high = middle;
+        }
+    }
+    low
+}
+
+/// Where the place with this key is, or where it would be. It takes the logarithm of how many places there
+/// are.
+pub fn find<R: Row>(key: Key, places: &[Place<R>]) -> Result<usize, usize>
+    requires { AreOrdered R.key_in 0 places.now }
+    ensures found { IfOk result (HasKey key places.now) }
+    ensures free { IfErr result (IsFree key places.now) }
+{
+    let place = place_of(key, places);
+    match places.get(place) {
+        Some(found) if found.key == key => Ok(place),
+        _ => Err(place),
+    }
+}
+
+/// Whether a row passes. It goes through all of them.
+pub fn any<R: Row, Q: Query<R>>(query: &Q, places: &[Place<R>]) -> bool
+    ensures { result ≡ list_any (Q.passes query.now) (rows_in places.now) }
+{
+    for place in places {
+        if passes(query, place) {
+            return true;
+        }
+    }
+    false
+}
+
+// Whether there is a row that passes.
+fn passes<R: Row, Q: Query<R>>(query: &Q, place: &Place<R>) -> bool
+    ensures { result ≡ option_map_or (Q.passes query.now) place.now.row false }
+{
+    match &place.row {
+        Some(row) => query.passes(row),
+        None => false,
+    }
+}

@@ -1,0 +1,122 @@
+ghost use Rattle.std.specs.Prelude.{◌≡◌, [], None, OnOk, OnErr, is_some, option_map};
+ghost use Rattle.std.specs.List.{list_any};
+ghost use Rattle.std.specs.Option.{option_copied};
+ghost use Rattle.zb_table.specs.Earliest.{first_due};
+ghost use Rattle.zb_table.specs.Rows.{Ascend, row_at, with_row, without};
+ghost use Rattle.zb_table.specs.Places.{rows_in, AreOrdered};
+
+use crate::row::Place;
+use crate::search::find;
+use crate::{Query, Row, Timed, due, search};
+use std::alloc::{AllocError, Global};
+use std::marker::Model;
+use zb_base::{Key, Moment};
+
+/// Rows in the order of their keys. Contracts see the list of them.
+#[derive(Drop)]
+pub struct Table<R: Row> {
+    places: Vec<Place<R>>,
+    // How many of the places are empty, as far as it was counted.
+    empty: usize,
+}
+
+impl<R: Row> Model for Table<R> {
+    ghost use Rattle.std.specs.Prelude as prelude;
+    ghost use Rattle.zb_table.specs.Places.{rows_in, AreOrdered};
+
+    ghost Value = { prelude.List R };
+
+    ghost view = { λ t. rows_in t.places.items };
+
+    ghost invariant = { λ t. AreOrdered R.key_in 0 t.places.items };
+}
+
+impl<R: Row> Table<R> {
+    /// A table without rows. It takes no memory.
+    pub fn empty(alloc: Global) -> Table<R>
+        ensures { result ≡ [] }
+    {
+        Table {
+            places: Vec::new(alloc),
+            empty: 0,
+        }
+    }
+
+    /// The row with this key. It takes the logarithm of how many rows there are; one step where the key is
+    /// greater than all.
+    pub fn get(&self, key: Key) -> Option<&R>
+        ensures row { option_copied result ≡ row_at R.key_in key self.now }
+        ensures order { Ascend R.key_in 0 self.now }
+    {
+        match find(key, &self.places) {
+            Ok(place) => self.places[place].row.as_ref(),
+            Err(_) => None,
+        }
+    }
+
+    /// Whether a row has this key. It costs what `get` does.
+    pub fn contains(&self, key: Key) -> bool
+        ensures { result ≡ is_some (row_at R.key_in key self.now) }
+    {
+        self.get(key).is_some()
+    }
+
+    /// Whether a row passes. It goes through all of them.
+    pub fn any<Q: Query<R>>(&self, query: &Q) -> bool
+        ensures { result ≡ list_any (Q.passes query.now) self.now }
+    {
+        search::any(query, &self.places)
+    }
+
+    /// Adds a row, in the place of one with its key if there is one. After a refusal nothing has changed. It
+    /// takes constant time where its key is greater than all; else a step for each row behind it.
+    pub fn add(&mut self, row: R) -> Result<(), AllocError>
+        ensures ok { OnOk result (self.new ≡ with_row R.key_in row self.old) }
+        ensures err { OnErr result (self.new ≡ self.old) }
+    {
+        let key = row.key();
+        match find(key, &self.places) {
+            Ok(place) => {
+                self.places[place].row = Some(row);
+                Ok(())
+            }
+            Err(place) => {
+                let row = Some(row);
+                self.places.insert(place, Place { key, row })?;
+                Ok(())
+            }
+        }
+    }
+
+    /// Removes the row with this key, if there is one. It takes the logarithm of how many rows there are, on
+    /// average: the place stays, empty, until more than half of the places are.
+    pub fn remove(&mut self, key: Key)
+        ensures { self.new ≡ without R.key_in key self.old }
+    {
+        if let Ok(place) = find(key, &self.places) {
+            self.places[place].row = None;
+            self.empty = self.empty.saturating_add(1);
+            self.sweep();
+        }
+    }
+
+    // Drops the empty places, where more than half of them are.
+    fn sweep(&mut self)
+        ensures { self.new ≡ self.old }
+    {
+        if self.empty > self.places.len() / 2 {
+            self.places.retain(|place| place.row.is_some());
+            self.empty = 0;
+        }
+    }
+}
+
+impl<R: Timed> Table<R> {
+    /// The key of the row that is due first, if one is due now: the one with the earliest moment, and of those
+    /// with the same one the one with the least key. It goes once through all rows.
+    pub fn first_due(&self, now: Moment) -> Option<Key>
+        ensures { result ≡ option_map R.key_in (first_due R.key_in R.moment_in now self.now) }
+    {
+        due::first_due(now, &self.places)
+    }
+}
