@@ -6,6 +6,3 @@ mod faults;
 mod ids;
 
 pub use checking::{ModelFault, check};
-
-#[cfg(test)]
-mod tests;

@@ -2,7 +2,5 @@
 #![tactic(auto)]
 
 mod settling;
-#[cfg(test)]
-mod tests;
 
 pub use settling::settle;

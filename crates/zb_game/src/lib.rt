@@ -9,6 +9,3 @@ mod lookups;
 mod places;
 
 pub use game::{Game, GameFault};
-
-#[cfg(test)]
-mod tests;

@@ -8,8 +8,6 @@ mod keys;
 mod moves;
 mod out;
 mod state;
-#[cfg(test)]
-mod tests;
 
 pub use out::Out;
 pub use state::State;

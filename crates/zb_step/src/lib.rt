@@ -10,8 +10,6 @@ mod outcome;
 mod publish;
 mod reasons;
 mod rejection;
-#[cfg(test)]
-mod tests;
 
 pub use emitting::emit;
 pub use outcome::outcome_of;

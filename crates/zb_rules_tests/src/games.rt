@@ -1,51 +1,14 @@
-use crate::{Game, GameFault};
-use std::alloc::{AllocError, Global};
+use crate::models::straight;
+use std::alloc::Global;
 use std::test::Fail;
-use zb_model::{Flow, Key, List, Model, Node, NodeKind, Text, TryCopy};
+use zb_game::{Game, GameFault};
+use zb_model::{Key, NodeKind, TryCopy};
 use zb_rules::{Deployed, Move, Start};
 
-fn node(alloc: Global, id: &str, kind: NodeKind) -> Result<Node, AllocError> {
-    Ok(Node {
-        id: Text::of(alloc, id)?,
-        kind,
-        parent: Text::empty(alloc),
-        attached: Text::empty(alloc),
-        cancel: false,
-        otherwise: Text::empty(alloc),
-        name: Text::empty(alloc),
-        expr: None,
-        retries: 0,
-        handler: false,
-        multi: None,
-        inputs: List::empty(alloc),
-        outputs: List::empty(alloc),
-    })
-}
-
-/// The process `p`: start event `s`, flow `f`, and a last node of this kind.
-fn model(alloc: Global, last: NodeKind) -> Result<Model, AllocError> {
-    let mut nodes = List::empty(alloc);
-    nodes.push(node(alloc, "s", NodeKind::StartEvent)?)?;
-    nodes.push(node(alloc, "e", last)?)?;
-    let mut flows = List::empty(alloc);
-    flows.push(Flow {
-        id: Text::of(alloc, "f")?,
-        from: Text::of(alloc, "s")?,
-        to: Text::of(alloc, "e")?,
-        condition: None,
-    })?;
-    Ok(Model {
-        process: Text::of(alloc, "p")?,
-        tag: Text::empty(alloc),
-        nodes,
-        flows,
-    })
-}
-
-/// Puts that model on a board under key 1, and starts an instance of it under key 2.
+// Puts the process `p` with this last node on a board under key 1, and starts an instance of it under key 2.
 fn start(alloc: Global, game: &mut Game, last: NodeKind) -> Result<(), GameFault> {
     let definition = Key::new(1);
-    let model = model(alloc, last)?;
+    let model = straight(alloc, last)?;
     game.make(
         alloc,
         &Move::Stand(Deployed {
@@ -57,7 +20,7 @@ fn start(alloc: Global, game: &mut Game, last: NodeKind) -> Result<(), GameFault
     game.make(alloc, &Move::Start(Start { key, definition }))
 }
 
-/// Makes the forced moves until the game is quiet, and counts them.
+// Makes the forced moves until the game is quiet, and counts them.
 fn go_on(alloc: Global, game: &mut Game) -> Result<u64, GameFault> {
     for count in 0..20 {
         let Some(m) = game.forced(alloc, Key::new(count + 3))? else {

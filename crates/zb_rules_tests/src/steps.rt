@@ -1,10 +1,10 @@
-use crate::outcome_of;
 use std::alloc::{AllocError, Global};
 use std::test::Fail;
 use zb_model::{Command, MessagePublish, Moment, Outcome, PartitionId, Text, Vars};
 use zb_state::State;
+use zb_step::outcome_of;
 
-/// A message with an id that waits for a second.
+// A message with an id that waits for a second.
 fn message(alloc: Global) -> Result<MessagePublish, AllocError> {
     Ok(MessagePublish {
         name: Text::of(alloc, "paid")?,
@@ -15,7 +15,7 @@ fn message(alloc: Global) -> Result<MessagePublish, AllocError> {
     })
 }
 
-/// Whether the outcome is of so many events.
+// Whether the outcome is of so many events.
 fn has_events(outcome: &Outcome, count: usize) -> bool {
     match outcome {
         Outcome::Accepted(events) => events.as_slice().len() == count,
@@ -23,7 +23,7 @@ fn has_events(outcome: &Outcome, count: usize) -> bool {
     }
 }
 
-/// Whether the outcome is a rejection for this reason.
+// Whether the outcome is a rejection for this reason.
 fn is_rejected(outcome: &Outcome, reason: &str) -> bool {
     match outcome {
         Outcome::Rejected(rejection) => rejection.reason.as_str() == reason,
