@@ -1,7 +1,5 @@
 -- Reading a log frame by frame.
-use Rattle.std.proofs.Common.{◌≡◌, ◌∷◌, ◌++◌, ◌+◌, ◌<◌, List, [], ℕ, suc, length, take, drop, IsTrue, IsFalse, sym, ap, ◌∙◌, arith, get_or, add-one, append_assoc, append-nil, subst}
-use Rattle.std.proofs.lemmas.List.{take_more, take-append-drop}
-use Rattle.std.proofs.Math.Seq.{drop-cons}
+use Rattle.std.proofs.Common.{◌≡◌, ◌∷◌, ◌++◌, List, [], ℕ, length, IsTrue, IsFalse, refl, sym, ◌∙◌, arith, append-nil, subst}
 use Rattle.zb_model.specs.declared.record.Event.{Event}
 use Rattle.zb_model.specs.declared.record.Batch.{Batch}
 use Rattle.zb_model.specs.Record.{bytes_of}
@@ -15,26 +13,18 @@ use Rattle.zb_partition.specs.declared.opening.Known.{Known}
 use Rattle.zb_partition.specs.Log.{AreBatches, IsApplied, IsBadBody}
 use Rattle.zb_partition.specs.Reading.{IsKnown}
 
--- the first events, and the one behind them
-pub taken_next : (i : ℕ) (events : List Event) (e : Event) → i < length events → e ≡ get_or events i e → take (i + 1) events ≡ take i events ++ e ∷ []
-taken_next i events e lt at = take_more events i e lt ∙ ap (λ x. take i events ++ x ∷ []) (sym at)
-
--- the same behind others
-pub behind_next : (i : ℕ) (es events : List Event) (e : Event) → i < length events → e ≡ get_or events i e → (es ++ take i events) ++ e ∷ [] ≡ es ++ take (i + 1) events
-behind_next i es events e lt at = append_assoc es (take i events) (e ∷ []) ∙ ap (λ l. es ++ l) (sym (taken_next i events e lt at))
-
 -- each of some events and then one more applies
-pub apply_next : (p i : ℕ) (es events : List Event) (e : Event) → i < length events → e ≡ get_or events i e → IsTrue (all_apply p es (take i events)) → IsTrue (applies p (es ++ take i events) e) → IsTrue (all_apply p es (take (i + 1) events))
-apply_next p i es events e lt at front here = rw (taken_next i events e lt at, all_apply_more p es (take i events) e) (grind (arith, front, here))
+pub apply_next : (p : ℕ) (es events : List Event) (e : Event) → IsTrue (all_apply p es events) → IsTrue (applies p (es ++ events) e) → IsTrue (all_apply p es (events ++ e ∷ []))
+apply_next p es events e front here = rw (all_apply_more p es events e) (grind (arith, front, here))
 
 -- some of them don't all apply, where one of them doesn't to those before it
-pub one_fails : (p i : ℕ) (es events : List Event) (e : Event) → i < length events → e ≡ get_or events i e → IsFalse (applies p (es ++ take i events) e) → IsFalse (all_apply p es events)
-one_fails p i es events e lt at here =
-    let at_end : drop i events ≡ e ∷ drop (i + 1) events = rw add-one (drop-cons events i e lt ∙ ap (λ x. x ∷ drop (suc i) events) (sym at)) in
-    let split : events ≡ take i events ++ (e ∷ drop (i + 1) events) = sym (take-append-drop i events) ∙ ap (λ l. take i events ++ l) at_end in
-    let Fails : List Event → Type 0 = λ l. IsFalse (all_apply p es l) in
-    let fails : Fails (take i events ++ (e ∷ drop (i + 1) events)) = rw (all_apply_on p es (take i events) (e ∷ drop (i + 1) events)) (grind (arith, here)) in
-    subst Fails (sym split) fails
+pub one_fails : (p : ℕ) (es before : List Event) (e : Event) (after : List Event) → IsFalse (applies p (es ++ before) e) → IsFalse (all_apply p es (before ++ e ∷ after))
+one_fails p es before e after here = rw (all_apply_on p es before (e ∷ after)) (grind (arith, here))
+
+-- a list without length
+pub none_left : {A : Type 0} (xs : List A) → length xs ≡ 0 → xs ≡ []
+none_left [] is = refl
+none_left (x ∷ xs) is = absurd (omega (arith, is))
 
 -- a log whose events apply, and a batch whose events apply to it
 pub applied_more : (p : ℕ) (log : List Batch) (batch : Batch) → IsApplied p log → IsTrue (all_apply p (events_of log) (events_in batch.outcome)) → IsApplied p (log ++ batch ∷ [])

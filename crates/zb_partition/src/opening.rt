@@ -97,22 +97,23 @@ fn read_body(alloc: Global, body: &[u8], frame: u64, known: &mut Known) -> Resul
     ensures silent { ¬ (IsErrOf result OpenFault.DiskFault) }
 {
     match zb_codec::read(alloc, body)? {
-        Some(batch) => take_batch(alloc, &batch, frame, known),
+        Some(batch) => take_batch(alloc, batch, frame, known),
         None => Err(OpenFault::BadLog { frame }),
     }
 }
 
 /// Takes in the batch of this frame.
-fn take_batch(alloc: Global, batch: &Batch, frame: u64, known: &mut Known) -> Result<(), OpenFault>
-    requires { IsBatch batch.now }
-    ensures taken { (p : ℕ) (log : List Batch) → IsKnown p log known.old → OnOk result (IsKnown p (log ++ batch.now ∷ []) known.new) }
+fn take_batch(alloc: Global, batch: Batch, frame: u64, known: &mut Known) -> Result<(), OpenFault>
+    requires { IsBatch batch }
+    ensures taken { (p : ℕ) (log : List Batch) → IsKnown p log known.old → OnOk result (IsKnown p (log ++ batch ∷ []) known.new) }
     ensures bad { (p : ℕ) (log : List Batch) (n : ℕ) → IsKnown p log known.old
-        → IsErrOf result (OpenFault.BadLog n) → (n ≡ frame) × IsFalse (all_apply p (events_of log) (events_in batch.now.outcome)) }
+        → IsErrOf result (OpenFault.BadLog n) → (n ≡ frame) × IsFalse (all_apply p (events_of log) (events_in batch.outcome)) }
     ensures silent { ¬ (IsErrOf result OpenFault.DiskFault) }
 {
+    let moment = batch.moment;
     match take_in(alloc, &mut known.state, batch) {
         Ok(()) => {
-            known.last_moment = batch.moment;
+            known.last_moment = moment;
             Ok(())
         }
         Err(TableFault::NotApplicable) => Err(OpenFault::BadLog { frame }),

@@ -8,34 +8,35 @@ ghost use Rattle.zb_rules.specs.Applies.{all_apply};
 ghost use Rattle.zb_state.specs.State.{place_of, IsStateOf};
 
 use std::alloc::{AllocError, Global};
-use zb_model::{Batch, Event, Outcome, TableFault};
+use zb_model::{Batch, Event, List, Outcome, TableFault};
 use zb_state::State;
 
 /// Takes in the events of a batch. At `NotApplicable` one of them doesn't apply; after any refusal the
 /// state is only dropped.
-pub fn take_in(alloc: Global, state: &mut State, batch: &Batch) -> Result<(), TableFault>
+pub fn take_in(alloc: Global, state: &mut State, batch: Batch) -> Result<(), TableFault>
     ensures place { place_of state.new ≡ place_of state.old }
-    ensures applied { (es : List Event) → IsStateOf es state.old → OnOk result (IsTrue (all_apply (place_of state.old) es (events_in batch.now.outcome))) }
-    ensures state { (es : List Event) → IsStateOf es state.old → OnOk result (IsStateOf (es ++ events_in batch.now.outcome) state.new) }
+    ensures applied { (es : List Event) → IsStateOf es state.old → OnOk result (IsTrue (all_apply (place_of state.old) es (events_in batch.outcome))) }
+    ensures state { (es : List Event) → IsStateOf es state.old → OnOk result (IsStateOf (es ++ events_in batch.outcome) state.new) }
     ensures refused { (es : List Event) → IsStateOf es state.old
-        → IsErrOf result TableFault.NotApplicable → IsFalse (all_apply (place_of state.old) es (events_in batch.now.outcome)) }
+        → IsErrOf result TableFault.NotApplicable → IsFalse (all_apply (place_of state.old) es (events_in batch.outcome)) }
 {
-    match &batch.outcome {
-        Outcome::Accepted(events) => apply_all(alloc, state, events.as_slice()),
+    let Batch { outcome, .. } = batch;
+    match outcome {
+        Outcome::Accepted(events) => take_all(alloc, state, events),
         Outcome::Rejected(_) => Ok(()),
     }
 }
 
 /// Takes in the events, one after the other.
-fn apply_all(alloc: Global, state: &mut State, events: &[Event]) -> Result<(), TableFault>
+fn take_all(alloc: Global, state: &mut State, events: List<Event>) -> Result<(), TableFault>
     ensures place { place_of state.new ≡ place_of state.old }
-    ensures applied { (es : List Event) → IsStateOf es state.old → OnOk result (IsTrue (all_apply (place_of state.old) es events.now)) }
-    ensures state { (es : List Event) → IsStateOf es state.old → OnOk result (IsStateOf (es ++ events.now) state.new) }
+    ensures applied { (es : List Event) → IsStateOf es state.old → OnOk result (IsTrue (all_apply (place_of state.old) es events)) }
+    ensures state { (es : List Event) → IsStateOf es state.old → OnOk result (IsStateOf (es ++ events) state.new) }
     ensures refused { (es : List Event) → IsStateOf es state.old
-        → IsErrOf result TableFault.NotApplicable → IsFalse (all_apply (place_of state.old) es events.now) }
+        → IsErrOf result TableFault.NotApplicable → IsFalse (all_apply (place_of state.old) es events) }
 {
-    for event in events {
-        match state.apply(alloc, event) {
+    for event in events.into_vec() {
+        match state.take_in(alloc, event) {
             Ok(()) => {}
             Err(fault) => return Err(fault),
         }

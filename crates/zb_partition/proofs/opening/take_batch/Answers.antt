@@ -5,4 +5,4 @@ use Rattle.zb_partition.proofs.opening.take_batch.Goals as goal
 
 pub returns-in-Ok-clause-taken : goal.returns-in-Ok-clause-taken
 returns-in-Ok-clause-taken c = λ p log known.
-    known_more p log c.args.batch.now c.args.known.now _ c.requires known c.take_in.ensures.place (c.in-Ok.ensures.applied (events_of log) known.state) (c.in-Ok.ensures.state (events_of log) known.state) refl
+    known_more p log c.args.batch c.args.known.now _ c.requires known c.take_in.ensures.place (c.in-Ok.ensures.applied (events_of log) known.state) (c.in-Ok.ensures.state (events_of log) known.state) refl
