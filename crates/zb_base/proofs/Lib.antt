@@ -1,1 +1,1 @@
-pub mod Ascending
+pub mod VarsLemmas

@@ -2,3 +2,4 @@ pub mod Key
 pub mod Moment
 pub mod Vars
 pub mod VarsLaws
+pub mod Results

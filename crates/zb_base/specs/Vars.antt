@@ -22,9 +22,9 @@ is_ascending [] = true
 is_ascending (v ∷ vs) = is_lt (order_at v.name vs) && is_ascending vs
 
 -- the value of a name
-abbrev pub value_of : List ℕ → List Variable → Option Value
-value_of name [] = None
-value_of name (v ∷ vs) = if is_eq (order_of name v.name) then Some v.value else value_of name vs
+abbrev pub value_named : List ℕ → List Variable → Option Value
+value_named name [] = None
+value_named name (v ∷ vs) = if is_eq (order_of name v.name) then Some v.value else value_named name vs
 
 -- the variables with a value set: in place of the one of that name, else at its place in the order
 abbrev pub with_value : List ℕ → Value → List Variable → List Variable
@@ -32,7 +32,7 @@ with_value name value [] = record { name = name; value = value } ∷ []
 with_value name value (v ∷ vs) = match_ordering (order_of name v.name) (record { name = name; value = value } ∷ v ∷ vs) (record { name = name; value = value } ∷ vs) (v ∷ with_value name value vs)
 
 -- the name comes behind the first i of the variables, and its order to the next is this
-pub record Stands (name : List ℕ) (vs : List Variable) (order : Ordering) (i : ℕ) : Type 0 where
+pub record StandsAt (name : List ℕ) (vs : List Variable) (order : Ordering) (i : ℕ) : Type 0 where
   pub within : i ≤ length vs
   pub behind : All (λ (v : Variable). order_of name v.name ≡ Greater) (take i vs)
   pub next : order_at name (drop i vs) ≡ order

@@ -42,7 +42,7 @@ impl Model for Vars {
 }
 
 impl Vars {
-    ghost use Rattle.zb_base.specs.Vars.{is_ascending, value_of, with_value};
+    ghost use Rattle.zb_base.specs.Vars.{is_ascending, value_named, with_value};
 
     /// No variables. It takes no memory.
     pub fn empty(alloc: Global) -> Vars
@@ -69,7 +69,7 @@ impl Vars {
 
     /// The value of a name. It takes a step for each variable.
     pub fn get(&self, name: &str) -> Option<&Value>
-        ensures { option_copied result ≡ value_of name.now self.now }
+        ensures { option_copied result ≡ value_named name.now self.now }
     {
         match place(self.items.as_slice(), name) {
             Ok(index) => Some(&self.items[index].value),
@@ -116,7 +116,7 @@ impl TryCopy for Vars {
 
 ghost use Rattle.zb_base.specs.Vars.{is_ascending};
 
-/// Whether the names of the variables strictly ascend.
+// Whether the names of the variables strictly ascend.
 fn ascends(variables: &[Variable]) -> bool
     ensures { result ≡ is_ascending variables.now }
 {
@@ -131,13 +131,13 @@ fn ascends(variables: &[Variable]) -> bool
 }
 
 ghost use Rattle.std.specs.declared.cmp.Ordering.TheVariants.{Less, Equal};
-ghost use Rattle.zb_base.specs.Vars.{Stands};
+ghost use Rattle.zb_base.specs.Vars.{StandsAt};
 
-/// Where the name stands among variables, or else where it would stand.
+// Where the name stands among variables, or else where it would stand.
 fn place(variables: &[Variable], name: &str) -> Result<usize, usize>
-    ensures found { IfOk result (Stands name.now variables.now Equal) }
+    ensures found { IfOk result (StandsAt name.now variables.now Equal) }
     ensures within { IfOk result (λ index. index < length variables.now) }
-    ensures missing { IfErr result (Stands name.now variables.now Less) }
+    ensures missing { IfErr result (StandsAt name.now variables.now Less) }
 {
     for (index, variable) in variables.iter().enumerate() {
         match name.cmp(variable.name.as_str()) {

@@ -1,2 +1,2 @@
-pub mod Listing
-pub mod Order
+pub mod IdLemmas
+pub mod FaultLemmas

@@ -4,7 +4,7 @@ ghost use Rattle.std.specs.List.{list_any};
 ghost use Rattle.std.specs.Option.{option_copied};
 ghost use Rattle.std.specs.Str.{bytes_eq};
 ghost use Rattle.zb_rules.specs.Board.{is_start};
-ghost use Rattle.zb_rules.specs.Faults.{ends, is_at, empty_id, double_id, dangling, bad_start, flow_end, no_incoming, too_large};
+ghost use Rattle.zb_rules.specs.Faults.{is_end_kind, is_at, empty_id, double_id, dangling, bad_start, flow_end, no_incoming, too_large};
 
 use crate::ids::{first_empty, first_used, has_id, is_empty};
 use zb_model::{Flow, Model, Node, NodeKind, Text};
@@ -16,7 +16,7 @@ const MOST_NODES: usize = 1000;
 const MOST_FLOWS: usize = 2000;
 
 /// The first id that is empty.
-#[tactic(auto, using(crate::proofs::Listing::two_lists))]
+#[tactic(auto, using(crate::proofs::IdLemmas::two_lists))]
 pub fn empty_id(model: &Model) -> Option<&Text>
     ensures { option_copied result ≡ empty_id model.now }
 {
@@ -27,7 +27,7 @@ pub fn empty_id(model: &Model) -> Option<&Text>
 }
 
 /// The first id that was used before. It compares each id with all before it.
-#[tactic(auto, using(crate::proofs::Listing::two_lists))]
+#[tactic(auto, using(crate::proofs::IdLemmas::two_lists))]
 pub fn double_id(model: &Model) -> Option<&Text>
     ensures { option_copied result ≡ double_id model.now }
 {
@@ -100,7 +100,7 @@ fn is_start_at(model: &Model, id: &Text) -> bool
 
 // Whether the node with the id is an end event.
 fn ends_at(model: &Model, id: &Text) -> bool
-    ensures { result ≡ is_at model.now id.now ends }
+    ensures { result ≡ is_at model.now id.now is_end_kind }
 {
     let nodes = model.nodes.as_slice();
     nodes
@@ -145,7 +145,7 @@ fn is_start(kind: NodeKind) -> bool
 
 // Whether an event ends a process or a scope.
 fn ends(kind: NodeKind) -> bool
-    ensures { result ≡ ends kind }
+    ensures { result ≡ is_end_kind kind }
 {
     matches!(
         kind,

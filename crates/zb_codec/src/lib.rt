@@ -30,7 +30,7 @@ pub fn write(batch: &Batch, bytes: &mut Vec<u8>) -> Result<(), AllocError>
 
 /// The batch that these bytes spell, all of them. None where no batch has these bytes. It takes a step for each
 /// byte, and keeps the batch alone.
-#[tactic(auto, using(crate::proofs::Reading::whole))]
+#[tactic(auto, using(crate::proofs::BatchLemmas::whole))]
 pub fn read(alloc: Global, bytes: &[u8]) -> Result<Option<Batch>, AllocError>
     ensures found { IfOk result (λ found. IfSome found (λ batch. IsBatch batch × (bytes.now ≡ bytes_of batch))) }
     ensures none { IfOk result (λ found. IfNone found ((batch : Batch) → IsBatch batch → bytes.now ≢ bytes_of batch)) }
@@ -43,7 +43,7 @@ pub fn read(alloc: Global, bytes: &[u8]) -> Result<Option<Batch>, AllocError>
     }
 }
 
-/// The batch, where nothing follows it.
+// The batch, where nothing follows it.
 fn where_ended(batch: Batch, ended: bool) -> Option<Batch>
     ensures { result ≡ (if ended then Some batch else None) }
 {
@@ -51,7 +51,7 @@ fn where_ended(batch: Batch, ended: bool) -> Option<Batch>
 }
 
 /// No spelling begins another: what follows one in another is nothing, and the two are of one batch.
-#[tactic(auto, using(crate::proofs::Reading::one_spelling))]
+#[tactic(auto, using(crate::proofs::BatchLemmas::one_spelling))]
 pub fn no_spelling_begins_another()
     ensures { (a b : Batch) (more : List ℕ) → IsBatch a → IsBatch b → bytes_of b ≡ bytes_of a ++ more → (a ≡ b) × (more ≡ []) }
 {}

@@ -2,7 +2,7 @@ use super::*;
 use std::test::Fail;
 use zb_model::{Command, Key, Moment, Outcome, Rejection, RejectionKind, Text};
 
-/// The time-out of job 5 at moment 0, rejected.
+// The time-out of job 5 at moment 0, rejected.
 fn rejected(rt: &HostRuntime) -> Result<Batch, Fail> {
     Ok(Batch {
         moment: Moment::new(0),
@@ -31,7 +31,7 @@ fn there_and_back(rt: HostRuntime) -> Result<(), Fail> {
     Ok(())
 }
 
-/// Whether the batch rejects the time-out of job 5.
+// Whether the batch rejects the time-out of job 5.
 fn tells_of_job_5(batch: &Batch) -> bool {
     let Command::JobTimeOut(key) = &batch.command else {
         return false;

@@ -1,7 +1,7 @@
 pub mod Disk
 pub mod Cause
 pub mod Kept
-pub mod Moments
+pub mod MomentLaws
 pub mod Calls
 pub mod Image
 pub mod MemDisk

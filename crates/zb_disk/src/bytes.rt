@@ -26,7 +26,7 @@ pub fn overwrite(file: &mut Vec<u8>, at: u64, piece: &[u8]) -> Result<(), AllocE
     Ok(())
 }
 
-/// Puts the piece in the place of the bytes from `start` on.
+// Puts the piece in the place of the bytes from `start` on.
 fn put(file: &mut [u8], start: usize, piece: &[u8])
     requires { start + length piece.now ≤ length file.old }
     ensures { file.new ≡ overwritten file.old start piece.now }

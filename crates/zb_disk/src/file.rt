@@ -9,7 +9,7 @@ use std::fs::File;
 use std::io::{self, ErrorKind};
 use std::os::unix::fs::FileExt;
 
-/// A file of this length is too long for a disk.
+// A file of this length is too long for a disk.
 const MAX_BYTES: u64 = 1 << 58;
 
 /// A file of the operating system. Nothing is known of its contents.
@@ -40,7 +40,7 @@ impl FileDisk {
         self.last_error
     }
 
-    /// Counts a fault, and keeps why.
+    // Counts a fault, and keeps why.
     fn fail(&mut self, why: io::Error) -> Trouble
         ensures result { result ≡ Failed }
         ensures later { self.old.faults ≤ self.new.faults }

@@ -27,7 +27,7 @@ pub fn image_of(
     Ok(image)
 }
 
-/// How many calls there are up to the last sync and with it, 0 where there is none.
+// How many calls there are up to the last sync and with it, 0 where there is none.
 fn last_sync(calls: &[Call]) -> usize
     ensures { EndsAtSync calls.now result }
 {
@@ -38,7 +38,7 @@ fn last_sync(calls: &[Call]) -> usize
     count
 }
 
-/// Does the done writes again.
+// Does the done writes again.
 fn redo(file: &mut Vec<u8>, calls: &[Call]) -> Result<(), AllocError>
     ensures { OnOk result (file.new.items ≡ file_after file.old.items calls.now) }
 {
@@ -48,7 +48,7 @@ fn redo(file: &mut Vec<u8>, calls: &[Call]) -> Result<(), AllocError>
     Ok(())
 }
 
-/// Does a call again.
+// Does a call again.
 fn redo_call(file: &mut Vec<u8>, call: &Call) -> Result<(), AllocError>
     ensures { OnOk result (file.new.items ≡ after file.old.items call.now) }
 {
@@ -62,7 +62,7 @@ fn redo_call(file: &mut Vec<u8>, call: &Call) -> Result<(), AllocError>
     }
 }
 
-/// Lays the fill over the ranges of the writes.
+// Lays the fill over the ranges of the writes.
 fn cover(alloc: Global, image: &mut Vec<u8>, calls: &[Call], fill: &[u8]) -> Result<(), AllocError>
     requires { All (λ call. IsFalse (is_sync call)) calls.now }
     ensures { OnOk result (IsCovered image.old.items calls.now fill.now image.new.items) }
@@ -73,7 +73,7 @@ fn cover(alloc: Global, image: &mut Vec<u8>, calls: &[Call], fill: &[u8]) -> Res
     Ok(())
 }
 
-/// Lays the fill over the range of a call, if it is a write.
+// Lays the fill over the range of a call, if it is a write.
 fn cover_call(
     alloc: Global,
     image: &mut Vec<u8>,
@@ -90,7 +90,7 @@ fn cover_call(
     }
 }
 
-/// Lays the fill over the range of a write. One that begins past the end reaches nothing.
+// Lays the fill over the range of a write. One that begins past the end reaches nothing.
 fn cover_range(
     alloc: Global,
     image: &mut Vec<u8>,
@@ -107,7 +107,7 @@ fn cover_range(
     overwrite(image, write.at, &piece)
 }
 
-/// This many bytes of the fill, from a place on.
+// This many bytes of the fill, from a place on.
 fn piece_of(alloc: Global, fill: &[u8], at: usize, len: usize) -> Result<Vec<u8>, AllocError>
     requires { at + len < 2 ^ 64 }
     ensures size { IfOk result (λ piece. length piece.items ≡ len) }
@@ -120,7 +120,7 @@ fn piece_of(alloc: Global, fill: &[u8], at: usize, len: usize) -> Result<Vec<u8>
     Ok(piece)
 }
 
-/// The byte at a place of the fill.
+// The byte at a place of the fill.
 fn byte_of(fill: &[u8], at: usize) -> u8
     ensures { result ≡ fill_at fill.now at }
 {

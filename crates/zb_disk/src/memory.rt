@@ -3,7 +3,7 @@ ghost use Rattle.zb_disk.specs.Calls.{FailsAsListed, IsListed};
 ghost use Rattle.zb_disk.specs.Disk.{Only, Torn, Follows, Elapses, overwritten};
 ghost use Rattle.zb_disk.specs.Cause.{HasCause, Rose};
 ghost use Rattle.zb_disk.specs.Kept.{file_after, is_write, IsImage, WasImage};
-ghost use Rattle.zb_disk.specs.Moments as moments;
+ghost use Rattle.zb_disk.specs.MomentLaws as moments;
 ghost use Rattle.zb_disk.specs.declared.calls.Call.TheVariants.{Wrote, Synced, Other};
 ghost use Rattle.zb_disk.specs.declared.disk.Trouble.TheVariants.{Failed, Memory};
 
@@ -78,9 +78,9 @@ impl MemDisk {
     }
 }
 
-/// Keeps a call that doesn't write. It fails where it is listed. The clauses hold whatever bytes the
-/// file began with.
-#[tactic(auto, using(crate::proofs::Steps::steps))]
+// Keeps a call that doesn't write. It fails where it is listed. The clauses hold whatever bytes the
+// file began with.
+#[tactic(auto, using(crate::proofs::CallLemmas::steps))]
 fn keep(log: &mut CallLog, call: Call) -> Result<(), Trouble>
     requires { IsFalse (is_write call) }
     ensures listed { FailsAsListed log.old log.new result }
@@ -101,8 +101,8 @@ fn keep(log: &mut CallLog, call: Call) -> Result<(), Trouble>
     Ok(())
 }
 
-/// Keeps a write, and does it. An `Err` changes nothing.
-#[tactic(auto, using(crate::proofs::Steps::steps))]
+// Keeps a write, and does it. An `Err` changes nothing.
+#[tactic(auto, using(crate::proofs::CallLemmas::steps))]
 fn write(bytes: &mut Vec<u8>, calls: &mut Vec<Call>, write: Write) -> Result<(), AllocError>
     requires inside { write.at ≤ length bytes.old.items }
     requires done { IsTrue write.is_done }
@@ -120,8 +120,8 @@ fn write(bytes: &mut Vec<u8>, calls: &mut Vec<Call>, write: Write) -> Result<(),
     Ok(())
 }
 
-/// Keeps a write that failed.
-#[tactic(auto, using(crate::proofs::Steps::steps))]
+// Keeps a write that failed.
+#[tactic(auto, using(crate::proofs::CallLemmas::steps))]
 fn keep_failed(log: &mut CallLog, write: Write) -> Trouble
     requires { IsFalse write.is_done }
     ensures fails { log.new.fails ≡ log.old.fails }

@@ -5,7 +5,7 @@ use Rattle.zb_format.specs.Front.{Begins}
 use Rattle.std.proofs.lemmas.List.{append-nil}
 use Rattle.std.proofs.lemmas.List.Concat.{flat_map-cons}
 use Rattle.std.specs.List.{flat_map, AllByRecursion}
-use Rattle.zb_format.specs.Encoded.{Adds, Holds, Keeps}
+use Rattle.zb_format.specs.Encoded.{Adds, Holds, KeepsEncoded}
 use Rattle.zb_format.specs.declared.encoder.Encoder.{Encoder}
 use Rattle.zb_format.specs.declared.encoder.Encoder.TheVariants.{Bytes, Count}
 
@@ -19,7 +19,7 @@ adds_then (Bytes a) x (Count b) y c p q = absurd p
 adds_then (Count a) x (Bytes b) y c p q = absurd p
 adds_then (Count a) x (Count b) y (Bytes c) p q = absurd q
 
-pub keeps_then : (a b c : Encoder) → Keeps a b → Keeps b c → Keeps a c
+pub keeps_then : (a b c : Encoder) → KeepsEncoded a b → KeepsEncoded b c → KeepsEncoded a c
 keeps_then a b c p q = (λ front h. q.0 front (p.0 front h), λ h. q.1 (p.1 h))
 
 -- a byte, and then a piece
@@ -36,7 +36,7 @@ on_ok (Err e) P Q so p = p
 -- behind a front, these items have been added one after another; each has a byte and fits
 pub record Written {A : Type 0} (spelling : A → List ℕ) (fits : A → Type 0) (before : Encoder) (front : List ℕ) (items : List A) (after : Encoder) : Type 0 where
   pub added : Adds before (front ++ flat_map spelling items) after
-  pub kept : Keeps before after
+  pub kept : KeepsEncoded before after
   pub some : length items ≤ length (flat_map spelling items)
   pub fitting : length (flat_map spelling items) < 2 ^ 32 → AllByRecursion fits items
 
@@ -50,7 +50,7 @@ all_last fits (y ∷ ys) x all one = (all.0, all_last fits ys x all.1 one)
 
 -- one more item
 pub written_more : {A : Type 0} (spelling : A → List ℕ) (fits : A → Type 0) (before : Encoder) (front : List ℕ) (items : List A) (between : Encoder) (x : A) (after : Encoder)
-    → Written spelling fits before front items between → Adds between (spelling x) after → Keeps between after → 1 ≤ length (spelling x) → (length (spelling x) < 2 ^ 32 → fits x) → Written spelling fits before front (items ++ x ∷ []) after
+    → Written spelling fits before front items between → Adds between (spelling x) after → KeepsEncoded between after → 1 ≤ length (spelling x) → (length (spelling x) < 2 ^ 32 → fits x) → Written spelling fits before front (items ++ x ∷ []) after
 written_more spelling fits before front items between x after so_far added kept some fitting =
     let spelled : flat_map spelling (items ++ x ∷ []) ≡ flat_map spelling items ++ spelling x = flat_map_last spelling items x in
     let long : length (flat_map spelling (items ++ x ∷ [])) ≡ length (flat_map spelling items) + length (spelling x) = ap length spelled ∙ length-append (flat_map spelling items) (spelling x) in
@@ -63,7 +63,7 @@ written_more spelling fits before front items between x after so_far added kept 
 
 -- the next item of a list
 pub written_next : {A : Type 0} (spelling : A → List ℕ) (fits : A → Type 0) (before : Encoder) (front : List ℕ) (items : List A) (i : ℕ) (between : Encoder) (x : A) (after : Encoder)
-    → i < length items → x ≡ slice_index_or items i x → Written spelling fits before front (take i items) between → Adds between (spelling x) after → Keeps between after → 1 ≤ length (spelling x) → (length (spelling x) < 2 ^ 32 → fits x) → Written spelling fits before front (take (i + 1) items) after
+    → i < length items → x ≡ slice_index_or items i x → Written spelling fits before front (take i items) between → Adds between (spelling x) after → KeepsEncoded between after → 1 ≤ length (spelling x) → (length (spelling x) < 2 ^ 32 → fits x) → Written spelling fits before front (take (i + 1) items) after
 written_next spelling fits before front items i between x after within is so_far added kept some fitting =
     let next : suc i ≡ i + 1 = omega arith in
     let last : take i items ++ x ∷ [] ≡ take (i + 1) items = ap (λ (y : _). take i items ++ y ∷ []) is ∙ sym (take-suc items i x within) ∙ ap (λ (k : ℕ). take k items) next in
@@ -75,7 +75,7 @@ Front (Bytes before) (Bytes after) = Begins before.items after.items
 Front (Bytes before) (Count after) = ⊥
 Front (Count before) after = Unit {0}
 
-pub kept_front : (a b : Encoder) → Keeps a b → Front a b
+pub kept_front : (a b : Encoder) → KeepsEncoded a b → Front a b
 unfolding Holds
 kept_front (Bytes a) (Bytes b) p = p.0 a.items (record { front_of = take-length a.items })
 kept_front (Bytes a) (Count b) p = absurd (p.0 a.items (record { front_of = take-length a.items }))

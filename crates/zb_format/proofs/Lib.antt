@@ -1,5 +1,5 @@
 pub mod Adding
-pub mod Many
-pub mod Pieces
-pub mod Sizes
-pub mod Utf8
+pub mod ListLemmas
+pub mod PieceLemmas
+pub mod SizeLemmas
+pub mod TextLemmas

@@ -22,5 +22,5 @@ IsCounting (Bytes bytes) = ⊥
 IsCounting (Count count) = Unit {0}
 
 -- whatever it held before it holds still, and it counts where it counted
-abbrev pub Keeps : Encoder → Encoder → Type 0
-Keeps before after = ((front : List ℕ) → Holds front before → Holds front after) × (IsCounting before → IsCounting after)
+abbrev pub KeepsEncoded : Encoder → Encoder → Type 0
+KeepsEncoded before after = ((front : List ℕ) → Holds front before → Holds front after) × (IsCounting before → IsCounting after)

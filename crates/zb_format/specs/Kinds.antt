@@ -1,8 +1,8 @@
 -- Layouts of values of several kinds: a byte for the kind, and then the parts of that kind.
-use Rattle.std.proofs.Common.{◌≡◌, ℕ, Some, List, ◌∷◌, ◌++◌, ◌∙◌, refl}
+use Rattle.std.proofs.Common.{◌≡◌, ℕ, Some, List, ◌∷◌, ◌++◌}
 use Rattle.zb_format.specs.FormatLaws.{IsTagged, no_arm_tagged, arm_tagged, tagged_format}
 use Rattle.zb_format.specs.Layout.{Layout}
-use Rattle.zb_format.specs.Reading.{Reader, made_at, tagged_at, arm, no_arm}
+use Rattle.zb_format.specs.Reading.{Reader, tagged_at, arm, no_arm}
 
 -- kinds of values, each by its byte: how what stands behind the byte is read; what says that a spelling is of these kinds, and the law of one that is
 pub record Kinds (B : Type 0) : Type 1 where
@@ -34,10 +34,6 @@ told n parts a = record { spelled = n ∷ parts.spelling a; fit = parts.fits a }
 -- each value is read back by these kinds
 abbrev pub AreReadBack : {B : Type 0} → Kinds B → (B → Told) → Type 0
 AreReadBack {B = B} kinds tell = (x : B) (rest : List ℕ) → (tell x).fit → tagged_at kinds.behind ((tell x).spelled ++ rest) ≡ Some (x, rest)
-
--- a value of the kind with this byte is read back
-pub again : {A B : Type 0} (kinds : Kinds B) (n : ℕ) (make : A → B) (parts : Layout A) (a : A) (rest : List ℕ) → ((bytes : List ℕ) → kinds.behind n bytes ≡ made_at make parts.reading bytes) → parts.fits a → tagged_at kinds.behind ((n ∷ parts.spelling a) ++ rest) ≡ Some (make a, rest)
-again kinds n make parts a rest found fits = found (parts.spelling a ++ rest) ∙ rw (parts.law.again a rest fits) refl
 
 -- the layout of values of these kinds, each as it is told
 abbrev pub of_kinds : {B : Type 0} (kinds : Kinds B) (tell : B → Told) → kinds.AreOf (λ x. (tell x).spelled) (λ x. (tell x).fit) → AreReadBack kinds tell → Layout B

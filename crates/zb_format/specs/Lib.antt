@@ -4,6 +4,7 @@ pub mod Fits
 pub mod FormatLaws
 pub mod Front
 pub mod Kinds
+pub mod KindsLaws
 pub mod Law
 pub mod Layout
 pub mod Reading

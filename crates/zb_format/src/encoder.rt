@@ -1,5 +1,5 @@
 ghost use Rattle.std.specs.Prelude.{◌≡◌, ◌<◌, ◌≤◌, OnOk, IsOk};
-ghost use Rattle.zb_format.specs.Encoded.{Adds, Keeps, IsCounting};
+ghost use Rattle.zb_format.specs.Encoded.{Adds, KeepsEncoded, IsCounting};
 
 use crate::front::append;
 use std::alloc::AllocError;
@@ -15,7 +15,7 @@ impl Encoder {
     /// Adds bytes. After a refusal what was there before is there still.
     pub fn add(&mut self, piece: &[u8]) -> Result<(), AllocError>
         ensures added { OnOk result (Adds self.old piece.now self.new) }
-        ensures kept { Keeps self.old self.new }
+        ensures kept { KeepsEncoded self.old self.new }
         ensures counts { IsCounting self.old → IsOk result }
     {
         match self {

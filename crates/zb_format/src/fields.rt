@@ -1,5 +1,5 @@
 ghost use Rattle.std.specs.Prelude.{◌≡◌, ◌++◌, ◌^◌, ◌<◌, ◌≤◌, ℕ, List, length, OnOk, IsOk};
-ghost use Rattle.zb_format.specs.Encoded.{Adds, Keeps, IsCounting};
+ghost use Rattle.zb_format.specs.Encoded.{Adds, KeepsEncoded, IsCounting};
 
 use crate::{Encoder, Format};
 use std::alloc::AllocError;
@@ -15,7 +15,7 @@ pub trait Fields {
     /// Adds their spelling. After a refusal a part of it may stand behind what was there before.
     fn encode(&self, encoder: &mut Encoder) -> Result<(), AllocError>
         ensures added { OnOk result (Adds encoder.old (spelled self.now) encoder.new) }
-        ensures kept { Keeps encoder.old encoder.new }
+        ensures kept { KeepsEncoded encoder.old encoder.new }
         ensures counts { IsCounting encoder.old → IsOk result }
         ensures some { OnOk result (1 ≤ length (spelled self.now)) }
         ensures fits { OnOk result (length (spelled self.now) < 2 ^ 32 → fit self.now) };

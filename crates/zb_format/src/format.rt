@@ -1,5 +1,5 @@
 ghost use Rattle.std.specs.Prelude.{◌≡◌, ◌-◌, ◌^◌, ◌<◌, ◌≤◌, ◌++◌, length, min, IsOk, OnOk, OnErr};
-ghost use Rattle.zb_format.specs.Encoded.{Adds, Keeps, IsCounting};
+ghost use Rattle.zb_format.specs.Encoded.{Adds, KeepsEncoded, IsCounting};
 ghost use Rattle.zb_format.specs.Layout.{Layout};
 ghost use Rattle.zb_format.specs.Reading.{Reads};
 
@@ -15,7 +15,7 @@ pub trait Format: Drop {
     /// Adds its spelling. After a refusal a part of it may stand behind what was there before.
     fn write(&self, encoder: &mut Encoder) -> Result<(), AllocError>
         ensures added { OnOk result (Adds encoder.old (layout.spelling self.now) encoder.new) }
-        ensures kept { Keeps encoder.old encoder.new }
+        ensures kept { KeepsEncoded encoder.old encoder.new }
         ensures counts { IsCounting encoder.old → IsOk result }
         ensures some { OnOk result (1 ≤ length (layout.spelling self.now)) }
         ensures fits { OnOk result (length (layout.spelling self.now) < 2 ^ 32 → layout.fits self.now) };

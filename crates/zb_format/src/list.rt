@@ -1,5 +1,5 @@
 ghost use Rattle.std.specs.Prelude.{◌≡◌, ◌++◌, ◌^◌, ◌<◌, ◌≤◌, length, IsOk, OnOk};
-ghost use Rattle.zb_format.specs.Encoded.{Adds, Keeps, IsCounting};
+ghost use Rattle.zb_format.specs.Encoded.{Adds, KeepsEncoded, IsCounting};
 ghost use Rattle.zb_format.specs.Layout as layouts;
 ghost use Rattle.zb_format.specs.Reading as readings;
 ghost use Rattle.zb_format.specs.Reading.{Reads};
@@ -24,10 +24,10 @@ impl<T: Format> Format for List<T> {
 }
 
 /// Adds a list of these items.
-#[tactic(auto, using(crate::proofs::Adding::pieces, crate::proofs::Sizes::pieces), unfolding(crate::specs::Field::counted))]
+#[tactic(auto, using(crate::proofs::Adding::pieces, crate::proofs::SizeLemmas::pieces), unfolding(crate::specs::Field::counted))]
 pub fn write_all<T: Format>(items: &[T], encoder: &mut Encoder) -> Result<(), AllocError>
     ensures added { OnOk result (Adds encoder.old ((layouts.counted T.layout).spelling items.now) encoder.new) }
-    ensures kept { Keeps encoder.old encoder.new }
+    ensures kept { KeepsEncoded encoder.old encoder.new }
     ensures counts { IsCounting encoder.old → IsOk result }
     ensures some { OnOk result (1 ≤ length ((layouts.counted T.layout).spelling items.now)) }
     ensures fits { OnOk result (length ((layouts.counted T.layout).spelling items.now) < 2 ^ 32 → (layouts.counted T.layout).fits items.now) }
@@ -39,7 +39,7 @@ pub fn write_all<T: Format>(items: &[T], encoder: &mut Encoder) -> Result<(), Al
     Ok(())
 }
 
-#[tactic(auto, using(crate::proofs::Many::many))]
+#[tactic(auto, using(crate::proofs::ListLemmas::many))]
 fn read_many<T: Format>(
     alloc: Global,
     count: u32,

@@ -1,7 +1,7 @@
-pub mod Climbs
-pub mod Edited
-pub mod Entries
-pub mod Firsts
-pub mod Outs
-pub mod Plays
-pub mod Scans
+pub mod ScopeLemmas
+pub mod EditLemmas
+pub mod EntryLemmas
+pub mod FirstLemmas
+pub mod FlowLemmas
+pub mod BoardLemmas
+pub mod NewestLemmas

@@ -4,8 +4,8 @@ use Rattle.zb_rules.specs.declared.board.Cell.{Cell}
 use Rattle.zb_rules.specs.declared.board.Move.{Move}
 
 -- the answer of a cell, with its key
-abbrev pub answer_of : (Cell → Option Move) → Option Cell → Option (ℕ × Move)
-answer_of f best = option_and_then (λ c. option_map (λ move. (c.key, move)) (f c)) best
+abbrev pub keyed_answer : (Cell → Option Move) → Option Cell → Option (ℕ × Move)
+keyed_answer f best = option_and_then (λ c. option_map (λ move. (c.key, move)) (f c)) best
 
 -- the key is greater than that of the best so far
 abbrev pub is_newer : ℕ → Option Cell → Bool

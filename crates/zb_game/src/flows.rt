@@ -8,7 +8,7 @@ use std::alloc::{AllocError, Global};
 use zb_model::{List, Model, Text, TryCopy};
 
 /// Whether a flow leads to a node. It goes through the flows.
-#[tactic(auto, using(crate::proofs::Firsts::found_first))]
+#[tactic(auto, using(crate::proofs::FirstLemmas::found_first))]
 pub fn leads_to(model: &Model, flow: &str, node: &str) -> bool
     ensures { result ≡ leads_to model.now flow.now node.now }
 {

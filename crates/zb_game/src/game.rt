@@ -1,7 +1,7 @@
 ghost use Rattle.std.specs.Prelude.{◌≡◌, Some, None, IsTrue, IsFalse, OnOk, IsErrOf, option_map};
 ghost use Rattle.std.specs.Option.{option_copied};
 ghost use Rattle.zb_rules.specs.Applies.{is_process_of};
-ghost use Rattle.zb_rules.specs.Board.{cell_at, model_at};
+ghost use Rattle.zb_rules.specs.Board.{cell_at, model_under};
 ghost use Rattle.zb_rules.specs.Game.{empty_board, can, played};
 ghost use Rattle.zb_game.specs.declared.game.GameFault.TheVariants as faults;
 
@@ -172,18 +172,18 @@ impl Game {
         }
     }
 
-    // The cell with a key. It goes through the cells.
-    #[tactic(auto, using(crate::proofs::Firsts::found_first))]
+    // The cell with a key.
+    #[tactic(auto, using(crate::proofs::FirstLemmas::found_first))]
     fn cell(&self, key: Key) -> Option<&Cell>
         ensures { option_copied result ≡ cell_at self.now key }
     {
         cell_among(key, &self.cells)
     }
 
-    // The model of a definition. It goes through the models.
-    #[tactic(auto, using(crate::proofs::Firsts::found_first))]
+    // The model of a definition.
+    #[tactic(auto, using(crate::proofs::FirstLemmas::found_first))]
     fn model(&self, definition: Key) -> Option<&ProcessModel>
-        ensures { option_copied result ≡ model_at self.now definition }
+        ensures { option_copied result ≡ model_under self.now definition }
     {
         match deployed_among(definition, &self.models) {
             Some(deployed) => Some(&deployed.model),

@@ -1,3 +1,4 @@
 pub mod Taken
+pub mod TakenLaws
 pub mod Line
 pub mod Step

@@ -3,7 +3,7 @@ use Rattle.std.specs.Prelude.{◌≡◌, ◌↔◌, ◌<◌, ◌≤◌, ◌+◌,
 use Rattle.zb_outside.specs.Stream.{SourceView}
 use Rattle.zb_lines.specs.declared.reader.Supply.{Supply}
 use Rattle.zb_lines.specs.declared.reader.Supply.TheVariants as supplies
-use Rattle.zb_lines.specs.Taken.{Takes}
+use Rattle.zb_lines.specs.Taken.{TakesBytes}
 use Rattle.zb_lines.specs.Line.{IsOneLine, ended, newline}
 
 -- what is kept of a line of which at most `most` bytes are kept, once more of it has come
@@ -30,16 +30,16 @@ pub record KeepsRoom {T E : Type 0} (most len capacity len' capacity' : ℕ) (re
 
 -- the source gave the next piece, had ended, wasn't asked or was refused, and what it gave is off the budget
 abbrev pub Refills : {E : Type 0} → Bool → Result Supply E → SourceView → SourceView → ℕ → ℕ → List ℕ → Type 0
-Refills tells (Ok supplies.Piece) old new budget budget' held = Takes tells old new held × (budget ≡ budget' + length held) × (0 < length held)
-Refills tells (Ok supplies.End) old new budget budget' held = Takes tells old new [] × (budget ≡ budget') × (held ≡ []) × (IsTrue tells → new.left ≡ [])
-Refills tells (Ok supplies.Spent) old new budget budget' held = Takes tells old new [] × (budget ≡ budget') × (budget' ≡ 0)
-Refills tells (Err e) old new budget budget' held = Takes tells old new [] × (budget ≡ budget')
+Refills tells (Ok supplies.Piece) old new budget budget' held = TakesBytes tells old new held × (budget ≡ budget' + length held) × (0 < length held)
+Refills tells (Ok supplies.End) old new budget budget' held = TakesBytes tells old new [] × (budget ≡ budget') × (held ≡ []) × (IsTrue tells → new.left ≡ [])
+Refills tells (Ok supplies.Spent) old new budget budget' held = TakesBytes tells old new [] × (budget ≡ budget') × (budget' ≡ 0)
+Refills tells (Err e) old new budget budget' held = TakesBytes tells old new [] × (budget ≡ budget')
 
 -- within a line: what the source gave since the call, and what of the line has been gone through
-pub record Reads (tells : Bool) (old new : SourceView) (budget budget' most : ℕ) (first held shown : List ℕ) (is_begun : Bool) : Type 0 where
+pub record ReadsLine (tells : Bool) (old new : SourceView) (budget budget' most : ℕ) (first held shown : List ℕ) (is_begun : Bool) : Type 0 where
   pub more : List ℕ
   pub seen : List ℕ
-  pub takes : Takes tells old new more
+  pub takes : TakesBytes tells old new more
   pub spent : budget ≡ budget' + length more
   pub bytes : first ++ more ≡ seen ++ held
   pub one : IsOneLine seen

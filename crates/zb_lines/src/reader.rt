@@ -1,6 +1,6 @@
 ghost use Rattle.std.specs.Prelude.{◌≡◌, ◌↔◌, ◌++◌, ◌+◌, ◌≤◌, ◌<◌, ℕ, List, [], Ok, MatchOption, IfOk, OnOk, OnErr, IsErrOf, IsTrue, length, vec_len, vec_capacity, take};
-ghost use Rattle.zb_outside.specs.Cause.{Rose, HasCause, UnlessFailed};
-ghost use Rattle.zb_lines.specs.Taken.{Takes};
+ghost use Rattle.zb_outside.specs.Cause.{StreamFaultsRose, HasStreamCause, UnlessStreamFailed};
+ghost use Rattle.zb_lines.specs.Taken.{TakesBytes};
 ghost use Rattle.zb_lines.specs.Line.{Comes, IsAtEnd, IsOneLine};
 ghost use Rattle.zb_lines.specs.Step.{kept, BreaksAt, HandsOut, KeepsRoom, Refills};
 
@@ -78,7 +78,7 @@ impl LineReader {
         most: usize,
         line: &mut Vec<u8>,
     ) -> Result<Next, Trouble>
-        ensures comes { (more : List ℕ) × Takes S.tells (S.view source.old) (S.view source.new) more
+        ensures comes { (more : List ℕ) × TakesBytes S.tells (S.view source.old) (S.view source.new) more
             × (budget.old ≡ budget.new + length more)
             × Comes most result (self.old ++ more) self.new line.new.items }
         ensures full { result ≡ Ok Next.Full → budget.new ≡ 0 }
@@ -88,8 +88,8 @@ impl LineReader {
         // A line that has room for `most` bytes keeps it, and then the reader wants no memory of its own.
         ensures room { vec_capacity line.old ≤ vec_capacity line.new }
         ensures memory { most ≤ vec_capacity line.old → IsErrOf result Trouble.Memory → IsTrue S.takes_memory }
-        ensures failed { IsErrOf result Trouble.Failed → Rose (S.view source.old).faults (S.view source.new).faults }
-        ensures steady { IsTrue S.counts_failures → UnlessFailed result ((S.view source.new).faults ≡ (S.view source.old).faults) }
+        ensures failed { IsErrOf result Trouble.Failed → StreamFaultsRose (S.view source.old).faults (S.view source.new).faults }
+        ensures steady { IsTrue S.counts_failures → UnlessStreamFailed result ((S.view source.new).faults ≡ (S.view source.old).faults) }
     {
         line.clear();
         let mut is_begun = self.holds_some();
@@ -141,7 +141,7 @@ impl LineReader {
         requires { self.old ≡ [] }
         ensures refills { Refills S.tells result (S.view source.old) (S.view source.new) budget.old budget.new self.new }
         ensures unasked { budget.old ≡ 0 → S.view source.new ≡ S.view source.old }
-        ensures cause { HasCause S.counts_failures S.takes_memory (S.view source.old).faults (S.view source.new).faults result }
+        ensures cause { HasStreamCause S.counts_failures S.takes_memory (S.view source.old).faults (S.view source.new).faults result }
     {
         if *budget == 0 {
             return Ok(Supply::Spent);
@@ -167,12 +167,12 @@ fn read_within<S: Source>(
     requires some { 0 < budget.old }
     requires room { 0 < length piece.old }
     ensures fits { IfOk result (λ count. count ≤ length piece.new) }
-    ensures taken { IfOk result (λ count. Takes S.tells (S.view source.old) (S.view source.new) (take count piece.new)) }
+    ensures taken { IfOk result (λ count. TakesBytes S.tells (S.view source.old) (S.view source.new) (take count piece.new)) }
     ensures spent { IfOk result (λ count. budget.old ≡ budget.new + count) }
     ensures end { IsTrue S.tells → IfOk result (λ count. count ≡ 0 → (S.view source.new).left ≡ []) }
-    ensures refused { OnErr result (Takes S.tells (S.view source.old) (S.view source.new) []) }
+    ensures refused { OnErr result (TakesBytes S.tells (S.view source.old) (S.view source.new) []) }
     ensures unspent { OnErr result (budget.new ≡ budget.old) }
-    ensures cause { HasCause S.counts_failures S.takes_memory (S.view source.old).faults (S.view source.new).faults result }
+    ensures cause { HasStreamCause S.counts_failures S.takes_memory (S.view source.old).faults (S.view source.new).faults result }
 {
     let most = piece.len().min(*budget as usize);
     match source.read(&mut piece[..most]) {

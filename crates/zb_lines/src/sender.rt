@@ -1,5 +1,5 @@
 ghost use Rattle.std.specs.Prelude.{◌≡◌, ◌++◌, ℕ, IsTrue, OnOk, OnErr, take};
-ghost use Rattle.zb_outside.specs.Cause.{HasCause};
+ghost use Rattle.zb_outside.specs.Cause.{HasStreamCause};
 
 use zb_outside::{Sink, Trouble};
 
@@ -8,7 +8,7 @@ use zb_outside::{Sink, Trouble};
 pub fn send<K: Sink>(sink: &mut K, bytes: &[u8]) -> Result<(), Trouble>
     ensures sent { IsTrue K.tells → OnOk result ((K.view sink.new).written ≡ (K.view sink.old).written ++ bytes.now) }
     ensures part { IsTrue K.tells → OnErr result ((n : ℕ) × ((K.view sink.new).written ≡ (K.view sink.old).written ++ take n bytes.now)) }
-    ensures cause { HasCause K.counts_failures K.takes_memory (K.view sink.old).faults (K.view sink.new).faults result }
+    ensures cause { HasStreamCause K.counts_failures K.takes_memory (K.view sink.old).faults (K.view sink.new).faults result }
 {
     let mut sent = 0;
     while sent < bytes.len() {

@@ -1,6 +1,7 @@
 -- The laws of the table of commands: what is read is spelled so, and what is spelled so is read.
 use Rattle.std.proofs.Common.{refl}
-use Rattle.zb_format.specs.Kinds.{AreReadBack, again}
+use Rattle.zb_format.specs.Kinds.{AreReadBack}
+use Rattle.zb_format.specs.KindsLaws.{again}
 use Rattle.zb_format.specs.Layout.{long, empty}
 use Rattle.zb_exchange_records.specs.Layouts.{job_batch_activate, job_complete, job_fail, job_throw_error, job_update_retries, message_publish, message_subscription_create, process_message_subscription_correlate, message_subscription_correlate, message_subscription_reject, message_subscription_delete}
 use Rattle.zb_instance_records.specs.Layouts.{process_instance_creation_create, variable_document_update, process_instance_migration_migrate, deployment_distribute, command_distribution_acknowledge}

@@ -1,6 +1,7 @@
 -- The laws of the table of events: what is read is spelled so, and what is spelled so is read.
 use Rattle.std.proofs.Common.{refl}
-use Rattle.zb_format.specs.Kinds.{AreReadBack, again}
+use Rattle.zb_format.specs.Kinds.{AreReadBack}
+use Rattle.zb_format.specs.KindsLaws.{again}
 use Rattle.zb_format.specs.Layout.{long}
 use Rattle.zb_exchange_records.specs.Layouts.{job_created, job_activated, job_failed, job_error_thrown, job_retries_updated, job_batch_activated, message_published, message_start_event_subscription_correlated, message_subscription_created, message_subscription_correlating, message_subscription_correlated, message_subscription_rejected, process_message_subscription_creating, process_message_subscription_correlated, process_message_subscription_deleting}
 use Rattle.zb_instance_records.specs.Layouts.{process_created, deployment_created, command_distribution_distributing, command_distribution_acknowledged, process_instance_creation_created, element_activating, element_activated, element_completed, sequence_flow_taken, element_migrated, process_instance_migration_migrated, timer_created, process_event_triggered, variable_created, variable_updated, incident_created, incident_resolved}

@@ -1,6 +1,7 @@
 -- The layouts of rejections, outcomes and batches.
 use Rattle.std.proofs.Common.{ℕ, List, [], ◌∷◌, refl}
-use Rattle.zb_format.specs.Kinds.{Kinds, Told, AreReadBack, no_kind, kind, told, again, of_kinds}
+use Rattle.zb_format.specs.Kinds.{Kinds, Told, AreReadBack, no_kind, kind, told, of_kinds}
+use Rattle.zb_format.specs.KindsLaws.{again}
 use Rattle.zb_format.specs.Layout.{Layout, both, made, counted, by_byte, long, text}
 use Rattle.zb_model.specs.CommandLaws.{command_spelled, command_back}
 use Rattle.zb_model.specs.Commands.{commands_from_1, command_told}

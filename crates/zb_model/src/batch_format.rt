@@ -7,7 +7,7 @@ use crate::{Batch, Outcome, Rejection, RejectionKind};
 use std::alloc::{AllocError, Global};
 use zb_format::{Cursor, Encoder, Fields, Format, ReadFault, pairs, write_tagged};
 
-#[tactic(auto, using(crate::proofs::Pieces::pieces), unfolding(crate::specs::Layouts::batch, crate::specs::Layouts::fields))]
+#[tactic(auto, using(crate::proofs::PieceLemmas::pieces), unfolding(crate::specs::Layouts::batch, crate::specs::Layouts::fields))]
 impl Format for Batch {
     ghost layout = { layouts.batch };
 

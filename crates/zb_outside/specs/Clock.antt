@@ -2,10 +2,10 @@
 use Rattle.std.specs.Prelude.{ℕ, List, [], ◌∷◌, ◌-◌, min, length, slice_index}
 
 -- the moments that a clock over this list may read: those of the list, or the start of 1970 alone
-abbrev pub told : List ℕ → List ℕ
-told [] = 0 ∷ []
-told (moment ∷ moments) = moment ∷ moments
+abbrev pub clock_moments : List ℕ → List ℕ
+clock_moments [] = 0 ∷ []
+clock_moments (moment ∷ moments) = moment ∷ moments
 
 -- what a clock over this list reads after so many readings: the moments in order, then the last one again and again
 abbrev pub told_at : List ℕ → ℕ → ℕ
-told_at moments readings = slice_index (told moments) (min readings (length (told moments) - 1))
+told_at moments readings = slice_index (clock_moments moments) (min readings (length (clock_moments moments) - 1))

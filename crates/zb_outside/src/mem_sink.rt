@@ -1,7 +1,7 @@
 ghost use Rattle.std.specs.Prelude.{◌≡◌, ◌<◌, ◌+◌, ◌-◌, ◌^◌, ◌++◌, ◌↔◌, [], true, false, length, IfOk, OnErr, IsErrOf};
 ghost use Rattle.std.specs.List.{Contains};
 ghost use Rattle.zb_outside.specs.Stream.{SinkView};
-ghost use Rattle.zb_outside.specs.Cause.{HasCause};
+ghost use Rattle.zb_outside.specs.Cause.{HasStreamCause};
 ghost use Rattle.zb_outside.specs.declared.trouble.Trouble.TheVariants.{Failed};
 
 use crate::{Sink, Trouble};
@@ -44,7 +44,7 @@ impl MemSink {
     // Counts a call, and fails where it was listed.
     fn begin(&mut self) -> Result<(), Trouble>
         ensures stays { self.new.bytes ≡ self.old.bytes }
-        ensures cause { HasCause true false self.old.faults self.new.faults result }
+        ensures cause { HasStreamCause true false self.old.faults self.new.faults result }
         ensures listed { IsErrOf result Failed ↔ Contains (failing_calls self.old) (calls_made self.old) }
         ensures counted { calls_made self.old < 2 ^ 64 - 1 → calls_made self.new ≡ calls_made self.old + 1 }
         ensures same_fails { failing_calls self.new ≡ failing_calls self.old }
@@ -75,7 +75,7 @@ impl Sink for MemSink {
         ensures whole { IfOk result (λ n. n ≡ length piece.now) }
         ensures written { IfOk result (λ _. self.new.bytes.items ≡ self.old.bytes.items ++ piece.now) }
         ensures stays { OnErr result (self.new.bytes.items ≡ self.old.bytes.items) }
-        ensures cause { HasCause true true self.old.faults self.new.faults result }
+        ensures cause { HasStreamCause true true self.old.faults self.new.faults result }
         ensures listed { IsErrOf result Failed ↔ Contains (failing_calls self.old) (calls_made self.old) }
         ensures counted { calls_made self.old < 2 ^ 64 - 1 → calls_made self.new ≡ calls_made self.old + 1 }
         ensures same_fails { failing_calls self.new ≡ failing_calls self.old }
@@ -92,7 +92,7 @@ impl Sink for MemSink {
     // A flush wants no memory.
     fn flush(&mut self) -> Result<(), Trouble>
         ensures stays { self.new.bytes ≡ self.old.bytes }
-        ensures cause { HasCause true false self.old.faults self.new.faults result }
+        ensures cause { HasStreamCause true false self.old.faults self.new.faults result }
         ensures listed { IsErrOf result Failed ↔ Contains (failing_calls self.old) (calls_made self.old) }
         ensures counted { calls_made self.old < 2 ^ 64 - 1 → calls_made self.new ≡ calls_made self.old + 1 }
         ensures same_fails { failing_calls self.new ≡ failing_calls self.old }

@@ -1,6 +1,6 @@
 ghost use Rattle.std.specs.Prelude.{◌≡◌, ◌≤◌, ◌<◌, ◌+◌, ◌-◌, ◌^◌, ◌++◌, ◌↔◌, [], length, take, drop, vec_len, true, false, IfOk, OnErr, IsErrOf};
 ghost use Rattle.std.specs.List.{Contains};
-ghost use Rattle.zb_outside.specs.Cause.{HasCause};
+ghost use Rattle.zb_outside.specs.Cause.{HasStreamCause};
 ghost use Rattle.zb_outside.specs.Stream.{SourceView};
 ghost use Rattle.zb_outside.specs.declared.trouble.Trouble.TheVariants.{Failed};
 
@@ -61,7 +61,7 @@ impl Source for MemSource {
         ensures end { IfOk result (λ n. n ≡ 0 → 0 < length piece.new → drop self.new.given self.new.bytes.items ≡ []) }
         ensures refused { OnErr result (self.new.given ≡ self.old.given) }
         ensures stays { self.new.bytes ≡ self.old.bytes }
-        ensures cause { HasCause true false self.old.faults self.new.faults result }
+        ensures cause { HasStreamCause true false self.old.faults self.new.faults result }
         ensures pieces { IfOk result (λ n. n ≤ piece_of self.old) }
         ensures listed { IsErrOf result Failed ↔ Contains (failing_reads self.old) (reads_made self.old) }
         ensures counted { reads_made self.old < 2 ^ 64 - 1 → reads_made self.new ≡ reads_made self.old + 1 }

@@ -1,6 +1,6 @@
 ghost use Rattle.std.specs.Prelude.{◌≡◌, ◌<◌, ◌≤◌, ◌++◌, Bool, IsTrue, length, take, IfOk, OnErr};
 ghost use Rattle.zb_outside.specs.Stream.{SinkView};
-ghost use Rattle.zb_outside.specs.Cause.{HasCause};
+ghost use Rattle.zb_outside.specs.Cause.{HasStreamCause};
 
 use crate::Trouble;
 
@@ -25,10 +25,10 @@ pub trait Sink {
         ensures some { IfOk result (λ n. 0 < length piece.now → 0 < n) }
         ensures written { IsTrue tells → IfOk result (λ n. (view self.new).written ≡ (view self.old).written ++ take n piece.now) }
         ensures stays { IsTrue tells → OnErr result ((view self.new).written ≡ (view self.old).written) }
-        ensures cause { HasCause counts_failures takes_memory (view self.old).faults (view self.new).faults result };
+        ensures cause { HasStreamCause counts_failures takes_memory (view self.old).faults (view self.new).faults result };
 
     /// Hands on what the sink has kept back.
     fn flush(&mut self) -> Result<(), Trouble>
         ensures stays { IsTrue tells → (view self.new).written ≡ (view self.old).written }
-        ensures cause { HasCause counts_failures takes_memory (view self.old).faults (view self.new).faults result };
+        ensures cause { HasStreamCause counts_failures takes_memory (view self.old).faults (view self.new).faults result };
 }

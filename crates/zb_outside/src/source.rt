@@ -1,6 +1,6 @@
 ghost use Rattle.std.specs.Prelude.{◌≡◌, ◌<◌, ◌≤◌, ◌+◌, ◌^◌, ◌++◌, Bool, IsTrue, length, take, IfOk, OnErr, []};
 ghost use Rattle.zb_outside.specs.Stream.{SourceView};
-ghost use Rattle.zb_outside.specs.Cause.{HasCause};
+ghost use Rattle.zb_outside.specs.Cause.{HasStreamCause};
 
 use crate::Trouble;
 
@@ -28,7 +28,7 @@ pub trait Source {
         ensures end { IsTrue tells → IfOk result (λ n. n ≡ 0 → 0 < length piece.new → (view self.new).left ≡ []) }
         ensures refused { OnErr result ((view self.new).given ≡ (view self.old).given) }
         ensures stays { IsTrue tells → OnErr result ((view self.new).left ≡ (view self.old).left) }
-        ensures cause { HasCause counts_failures takes_memory (view self.old).faults (view self.new).faults result };
+        ensures cause { HasStreamCause counts_failures takes_memory (view self.old).faults (view self.new).faults result };
 
     /// A source fails before it has given 2^63 bytes.
     ghost bounded: { (source : Self) → (view source).given < 2 ^ 63 };

@@ -1,7 +1,7 @@
 ghost use Rattle.std.specs.Prelude.{◌≡◌, ◌≤◌, ◌<◌, [], true, false, length, take, IfOk};
 ghost use Rattle.std.specs.Io.KnownBytes.{Appends, Keeps};
 ghost use Rattle.zb_outside.specs.Stream.{SinkView};
-ghost use Rattle.zb_outside.specs.Cause.{Rose, HasCause};
+ghost use Rattle.zb_outside.specs.Cause.{StreamFaultsRose, HasStreamCause};
 
 use crate::{Sink, Trouble};
 use std::io::Write;
@@ -25,7 +25,7 @@ impl<W: Write> StdSink<W> {
     // Counts a fault.
     fn fail(&mut self) -> Trouble
         ensures failed { result ≡ Trouble.Failed }
-        ensures rises { Rose self.old.faults self.new.faults }
+        ensures rises { StreamFaultsRose self.old.faults self.new.faults }
         ensures later { self.old.faults ≤ self.new.faults }
         ensures stays { self.new.writer ≡ self.old.writer }
     {
@@ -48,7 +48,7 @@ impl<W: Write> Sink for StdSink<W> {
         ensures bytes { IfOk result (λ n. Appends (W.contents self.old.writer) (W.contents self.new.writer) (take n piece.now)) }
         ensures fits { IfOk result (λ n. n ≤ length piece.now) }
         ensures some { IfOk result (λ n. 0 < length piece.now → 0 < n) }
-        ensures cause { HasCause true false self.old.faults self.new.faults result }
+        ensures cause { HasStreamCause true false self.old.faults self.new.faults result }
     {
         match self.writer.write(piece) {
             Ok(count) if count > 0 || piece.is_empty() => Ok(count),
@@ -58,7 +58,7 @@ impl<W: Write> Sink for StdSink<W> {
 
     fn flush(&mut self) -> Result<(), Trouble>
         ensures bytes { Keeps (W.contents self.old.writer) (W.contents self.new.writer) }
-        ensures cause { HasCause true false self.old.faults self.new.faults result }
+        ensures cause { HasStreamCause true false self.old.faults self.new.faults result }
     {
         match self.writer.flush() {
             Ok(()) => Ok(()),

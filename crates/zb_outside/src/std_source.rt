@@ -1,6 +1,6 @@
 ghost use Rattle.std.specs.Prelude.{◌≡◌, ◌<◌, ◌≤◌, ◌+◌, ◌^◌, [], true, false, length, take, IfOk, OnErr};
 ghost use Rattle.std.specs.Io.KnownBytes.{Consumes, IsAtEnd};
-ghost use Rattle.zb_outside.specs.Cause.{HasCause};
+ghost use Rattle.zb_outside.specs.Cause.{HasStreamCause};
 ghost use Rattle.zb_outside.specs.Stream.{SourceView};
 
 use crate::{Source, Trouble};
@@ -49,7 +49,7 @@ impl<R: Read> Source for StdSource<R> {
         ensures fits { IfOk result (λ n. n ≤ length piece.new) }
         ensures given { IfOk result (λ n. self.new.given ≡ self.old.given + n) }
         ensures refused { OnErr result (self.new.given ≡ self.old.given) }
-        ensures cause { HasCause true false self.old.faults self.new.faults result }
+        ensures cause { HasStreamCause true false self.old.faults self.new.faults result }
     {
         match self.reader.read(piece) {
             Ok(count) if (count as u64) < TOO_MANY - self.given => {

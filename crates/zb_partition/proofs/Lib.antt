@@ -1,5 +1,5 @@
-pub mod Read
-pub mod Frames
-pub mod Opened
-pub mod Written
-pub mod Logs
+pub mod ReadingLemmas
+pub mod FrameLemmas
+pub mod OpeningLemmas
+pub mod WritingLemmas
+pub mod LogLemmas

@@ -5,19 +5,19 @@ use Rattle.zb_disk.specs.declared.disk.Disk.{Ghosts}
 use Rattle.zb_model.specs.declared.record.Batch.{Batch}
 use Rattle.zb_store.specs.Log.{extent}
 use Rattle.zb_store.specs.GateLog as gates
-use Rattle.zb_rules.specs.View.{events_of, last_moment}
+use Rattle.zb_rules.specs.View.{events_of, moment_of_last}
 use Rattle.zb_state.specs.State as states
 use Rattle.zb_state.specs.State.{IsStateOf}
 use Rattle.zb_partition.specs.Log.{bodies_of, AreBatches}
 use Rattle.zb_partition.specs.declared.partition.Partition.{Partition}
 
 -- its number
-abbrev pub place_of : {D : Type 0} {disks : Ghosts D} → Partition D disks → ℕ
-place_of partition = states.place_of partition.state
+abbrev pub partition_number_of : {D : Type 0} {disks : Ghosts D} → Partition D disks → ℕ
+partition_number_of partition = states.partition_of partition.state
 
 -- the disk of its log
 abbrev pub disk_of : {D : Type 0} {disks : Ghosts D} → Partition D disks → D
-disk_of partition = gates.disk_of partition.log
+disk_of partition = gates.disk_of_log partition.log
 
 -- its slots for snapshots
 abbrev pub slots_of : {D : Type 0} {disks : Ghosts D} → Partition D disks → D × D
@@ -25,7 +25,7 @@ slots_of partition = (partition.snap_a, partition.snap_b)
 
 -- how many bytes its log may have
 abbrev pub limit_of : {D : Type 0} {disks : Ghosts D} → Partition D disks → ℕ
-limit_of partition = gates.limit_of partition.log
+limit_of partition = gates.limit_of_log partition.log
 
 -- how many frames its log has
 abbrev pub frames_of : {D : Type 0} {disks : Ghosts D} → Partition D disks → ℕ
@@ -45,18 +45,18 @@ in_writing partition = partition.in_writing
 
 -- these batches are its log: in the file, on the disk, and in what it knows of them
 pub record HasLog {D : Type 0} {disks : Ghosts D} (log : List Batch) (partition : Partition D disks) : Type 0 where
-  pub file : IsTrue disks.tells → gates.HasLog (disks.view (disk_of partition)).contents partition.log (bodies_of log)
+  pub file : IsTrue disks.tells → gates.HasClosedFrames (disks.view (disk_of partition)).contents partition.log (bodies_of log)
   pub durable : IsTrue disks.tells_images → Only (disks.view (disk_of partition)).contents (disks.images (disk_of partition))
   pub fits : AreBatches log
   pub count : frames_of partition ≡ length log
   pub extent : gates.length_of partition.log ≡ extent (bodies_of log)
   pub state : IsStateOf (events_of log) partition.state
-  pub moment : last_moment log ≡ partition.last_moment
+  pub moment : moment_of_last log ≡ partition.last_moment
   pub resting : partition.in_writing ≡ None
 
 -- these batches are its log in the file and on the disk, and it knows of one more
 pub record IsAhead {D : Type 0} {disks : Ghosts D} (log : List Batch) (batch : Batch) (partition : Partition D disks) : Type 0 where
-  pub file : IsTrue disks.tells → gates.HasLog (disks.view (disk_of partition)).contents partition.log (bodies_of log)
+  pub file : IsTrue disks.tells → gates.HasClosedFrames (disks.view (disk_of partition)).contents partition.log (bodies_of log)
   pub durable : IsTrue disks.tells_images → Only (disks.view (disk_of partition)).contents (disks.images (disk_of partition))
   pub fits : AreBatches log
   pub count : frames_of partition ≡ length log

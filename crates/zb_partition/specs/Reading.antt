@@ -5,7 +5,7 @@ use Rattle.zb_model.specs.declared.record.Batch.{Batch}
 use Rattle.zb_store.specs.Log.{extent}
 use Rattle.zb_store.specs.Scan.{count_of_scan, gate_of_scan, is_over, HasFound}
 use Rattle.zb_store.specs.declared.scan.Scan.{Scan}
-use Rattle.zb_rules.specs.View.{events_of, last_moment}
+use Rattle.zb_rules.specs.View.{events_of, moment_of_last}
 use Rattle.zb_state.specs.State as states
 use Rattle.zb_state.specs.State.{IsStateOf}
 use Rattle.zb_partition.specs.Log.{bodies_of, AreBatches, IsApplied}
@@ -13,11 +13,11 @@ use Rattle.zb_partition.specs.declared.opening.Known.{Known}
 
 -- this is known of a log that begins with these batches of partition p
 pub record IsKnown (p : ℕ) (log : List Batch) (known : Known) : Type 0 where
-  pub place : states.place_of known.state ≡ p
+  pub place : states.partition_of known.state ≡ p
   pub fits : AreBatches log
   pub applied : IsApplied p log
   pub state : IsStateOf (events_of log) known.state
-  pub moment : last_moment log ≡ known.last_moment
+  pub moment : moment_of_last log ≡ known.last_moment
 
 -- no frame of the file was found yet
 pub record IsAtStart {D : Type 0} {disks : Ghosts D} (file : List ℕ) (scan : Scan D disks) : Type 0 where

@@ -57,7 +57,7 @@ pub fn read_frames<D: Disk>(
     }
 }
 
-/// Takes in the batch of the next frame: false where there are no more frames.
+// Takes in the batch of the next frame: false where there are no more frames.
 fn read_next<D: Disk>(
     alloc: Global,
     scan: &mut Scan<D>,
@@ -88,7 +88,7 @@ fn read_next<D: Disk>(
     }
 }
 
-/// Takes in the batch that the body of this frame spells.
+// Takes in the batch that the body of this frame spells.
 fn read_body(alloc: Global, body: &[u8], frame: u64, known: &mut Known) -> Result<(), OpenFault>
     ensures read { (p : ℕ) (log : List Batch) → IsKnown p log known.old
         → OnOk result ((batch : Batch) × (body.now ≡ bytes_of batch) × IsKnown p (log ++ batch ∷ []) known.new) }
@@ -102,7 +102,7 @@ fn read_body(alloc: Global, body: &[u8], frame: u64, known: &mut Known) -> Resul
     }
 }
 
-/// Takes in the batch of this frame.
+// Takes in the batch of this frame.
 fn take_batch(alloc: Global, batch: Batch, frame: u64, known: &mut Known) -> Result<(), OpenFault>
     requires { IsBatch batch }
     ensures taken { (p : ℕ) (log : List Batch) → IsKnown p log known.old → OnOk result (IsKnown p (log ++ batch ∷ []) known.new) }

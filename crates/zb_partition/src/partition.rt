@@ -9,9 +9,9 @@ ghost use Rattle.zb_store.specs.Stands.{Stands};
 ghost use Rattle.zb_store.specs.GateLog as gates;
 ghost use Rattle.zb_store.specs.Scan.{disk_of_scan, limit_of_scan};
 ghost use Rattle.zb_store.specs.Log.{framed, extent};
-ghost use Rattle.zb_rules.specs.View.{last_moment, events_of};
+ghost use Rattle.zb_rules.specs.View.{moment_of_last, events_of};
 ghost use Rattle.zb_rules.specs.Due.{due_command};
-ghost use Rattle.zb_rules.specs.Own.{IsRun};
+ghost use Rattle.zb_rules.specs.Own.{IsSupported};
 ghost use Rattle.zb_state.specs.State as states;
 ghost use Rattle.zb_state.specs.State.{IsStateOf};
 ghost use Rattle.zb_partition.specs.Fault.{IsDiskCause};
@@ -29,7 +29,7 @@ use zb_state::State;
 use zb_step::outcome_of;
 use zb_store::{GateLog, Scan, StoreFault, Volume};
 
-/// How many bytes a frame has beyond its body: the length in front, and the gate behind.
+// How many bytes a frame has beyond its body: the length in front, and the gate behind.
 const FRAME_BYTES: u64 = 9;
 
 /// A partition: its volume, and what the events of its log come to. Its clauses hold for all lists of batches
@@ -45,9 +45,9 @@ pub struct Partition<D: Disk> {
     in_writing: Option<Batch>,
     // The frame of the batch that was written last.
     frame: Vec<u8>,
-    ghost whole: { IsTrue live → IsTrue (gates.is_whole log) },
+    ghost whole: { IsTrue live → IsTrue (gates.is_whole_log log) },
     ghost sound: { IsTrue live → IsTrue (gates.is_sound log) },
-    ghost limited: { gates.limit_of log ≤ 2 ^ 32 },
+    ghost limited: { gates.limit_of_log log ≤ 2 ^ 32 },
     ghost resting: { IsTrue live → in_writing ≡ None },
 }
 
@@ -63,7 +63,7 @@ pub struct Stopped<D> {
 
 impl<D: Disk> Partition<D> {
     ghost use Rattle.zb_partition.specs.Log.{IsBadAt};
-    ghost use Rattle.zb_partition.specs.Partition.{place_of, disk_of, slots_of, limit_of, frames_of, last_moment_of, is_live, in_writing, HasLog, IsAhead};
+    ghost use Rattle.zb_partition.specs.Partition.{partition_number_of, disk_of, slots_of, limit_of, frames_of, last_moment_of, is_live, in_writing, HasLog, IsAhead};
     ghost use Rattle.zb_partition.specs.Opening.{IsOpened, disk_after, slots_after};
 
     /// Opens the partition with this number over its volume, whose log may have so many bytes. Every frame is
@@ -79,7 +79,7 @@ impl<D: Disk> Partition<D> {
     ) -> Result<Partition<D>, (OpenFault, Volume<D>)>
         requires { limit ≤ 2 ^ 32 }
         ensures opened { IfOk result (λ partition. (log : List Batch) × IsOpened place (D.view volume.log).contents log partition) }
-        ensures place { IfOk result (λ partition. place_of partition ≡ place) }
+        ensures place { IfOk result (λ partition. partition_number_of partition ≡ place) }
         ensures limit { IfOk result (λ partition. limit_of partition ≡ limit) }
         ensures live { IfOk result (λ partition. IsTrue (is_live partition)) }
         ensures bad { IsTrue D.tells → (frame : ℕ) → IfErr result (λ refused. refused.0 ≡ OpenFault.BadLog frame → IsBadAt place (D.view volume.log).contents frame) }
@@ -144,16 +144,16 @@ impl<D: Disk> Partition<D> {
         command: Command,
     ) -> Result<Batch, Stop>
         requires live { IsTrue (is_live self.old) }
-        requires run { IsRun command }
-        ensures step { (log : List Batch) → HasLog log self.old → last_moment log ≤ moment
-            → IfOk result (IsStepOf (place_of self.old) log moment begin command) }
+        requires run { IsSupported command }
+        ensures step { (log : List Batch) → HasLog log self.old → moment_of_last log ≤ moment
+            → IfOk result (IsStepOf (partition_number_of self.old) log moment begin command) }
         ensures log { (log : List Batch) → HasLog log self.old → IfOk result (λ batch. HasLog (log ++ batch ∷ []) self.new) }
         ensures fits { (log : List Batch) → HasLog log self.old
             → IfOk result (λ batch. extent (bodies_of (log ++ batch ∷ [])) ≤ limit_of self.old) }
-        ensures stopped { (log : List Batch) → HasLog log self.old → last_moment log ≤ moment
+        ensures stopped { (log : List Batch) → HasLog log self.old → moment_of_last log ≤ moment
             → IfErr result (IsStopped D.tells D.tells_images D.takes_memory (D.view (disk_of self.old)) (D.view (disk_of self.new))
             (D.images (disk_of self.new)) (D.since (disk_of self.old)) (D.since (disk_of self.new))
-            (place_of self.old) (limit_of self.old) log moment begin command (in_writing self.new)) }
+            (partition_number_of self.old) (limit_of self.old) log moment begin command (in_writing self.new)) }
 
         // A crash at any moment since leaves the log, or the log with this batch.
         ensures time { IsTrue D.tells_images → (log : List Batch) → HasLog log self.old
@@ -166,7 +166,7 @@ impl<D: Disk> Partition<D> {
         ensures slots { slots_of self.new ≡ slots_of self.old }
         ensures live { IsOk result → IsTrue (is_live self.new) }
         ensures dead { IsErr result → IsFalse (is_live self.new) }
-        ensures place { place_of self.new ≡ place_of self.old }
+        ensures place { partition_number_of self.new ≡ partition_number_of self.old }
         ensures limit { limit_of self.new ≡ limit_of self.old }
         ensures steady { IsTrue D.counts_failures → UnlessDiskFails result ((D.view (disk_of self.new)).faults ≡ (D.view (disk_of self.old)).faults) }
         ensures later { (D.view (disk_of self.old)).faults ≤ (D.view (disk_of self.new)).faults }
@@ -227,7 +227,7 @@ impl<D: Disk> Partition<D> {
         requires limit { limit_of_scan scan ≤ 2 ^ 32 }
         requires durable { IsTrue D.tells_images → Only (D.view (disk_of_scan scan)).contents (D.images (disk_of_scan scan)) }
         ensures opened { IfOk result (λ partition. (log : List Batch) × IsOpened place (D.view (disk_of_scan scan)).contents log partition) }
-        ensures place { IfOk result (λ partition. place_of partition ≡ place) }
+        ensures place { IfOk result (λ partition. partition_number_of partition ≡ place) }
         ensures limit { IfOk result (λ partition. limit_of partition ≡ limit_of_scan scan) }
         ensures live { IfOk result (λ partition. IsTrue (is_live partition)) }
         ensures bad { IsTrue D.tells → (frame : ℕ)
@@ -267,16 +267,16 @@ impl<D: Disk> Partition<D> {
         begin: u64,
         command: Command,
     ) -> Result<Batch, Stop>
-        requires { IsRun command }
-        ensures step { (log : List Batch) → HasLog log self.old → last_moment log ≤ moment
-            → IfOk result (IsStepOf (place_of self.old) log moment begin command) }
+        requires { IsSupported command }
+        ensures step { (log : List Batch) → HasLog log self.old → moment_of_last log ≤ moment
+            → IfOk result (IsStepOf (partition_number_of self.old) log moment begin command) }
         ensures ahead { (log : List Batch) → HasLog log self.old → IfOk result (λ batch. IsAhead log batch self.new) }
         ensures memory { OnErr result (result ≡ Err Stop.Memory) }
         ensures log { self.new.log ≡ self.old.log }
         ensures slots { slots_of self.new ≡ slots_of self.old }
         ensures live { is_live self.new ≡ is_live self.old }
         ensures in_writing { in_writing self.new ≡ in_writing self.old }
-        ensures place { place_of self.new ≡ place_of self.old }
+        ensures place { partition_number_of self.new ≡ partition_number_of self.old }
     {
         let outcome = outcome_of(alloc, &mut self.state, moment, &command)?;
         self.last_moment = moment;
@@ -290,7 +290,7 @@ impl<D: Disk> Partition<D> {
 
     // Adds the batch that was made to the log.
     fn write(&mut self, batch: Batch) -> Result<Batch, Stop>
-        requires whole { IsTrue (gates.is_whole self.old.log) }
+        requires whole { IsTrue (gates.is_whole_log self.old.log) }
         requires sound { IsTrue (gates.is_sound self.old.log) }
         requires stopped { IsFalse (is_live self.old) }
         ensures same { IfOk result (λ stored. stored ≡ batch) }
@@ -307,11 +307,11 @@ impl<D: Disk> Partition<D> {
         ensures slots { slots_of self.new ≡ slots_of self.old }
         ensures fits { (log : List Batch) → IsAhead log batch self.old
             → OnOk result (extent (bodies_of (log ++ batch ∷ [])) ≤ limit_of self.old) }
-        ensures whole { OnOk result (IsTrue (gates.is_whole self.new.log)) }
+        ensures whole { OnOk result (IsTrue (gates.is_whole_log self.new.log)) }
         ensures sound { OnOk result (IsTrue (gates.is_sound self.new.log)) }
         ensures live { is_live self.new ≡ is_live self.old }
         ensures resting { OnOk result (in_writing self.new ≡ in_writing self.old) }
-        ensures place { place_of self.new ≡ place_of self.old }
+        ensures place { partition_number_of self.new ≡ partition_number_of self.old }
         ensures limit { limit_of self.new ≡ limit_of self.old }
         ensures steady { IsTrue D.counts_failures → UnlessDiskFails result ((D.view (disk_of self.new)).faults ≡ (D.view (disk_of self.old)).faults) }
         ensures later { (D.view (disk_of self.old)).faults ≤ (D.view (disk_of self.new)).faults }

@@ -5,7 +5,7 @@ ghost use Rattle.zb_model.specs.Record.{bytes_of};
 ghost use Rattle.zb_store.specs.Log.{framed};
 ghost use Rattle.zb_rules.specs.View.{events_in};
 ghost use Rattle.zb_rules.specs.Applies.{all_apply};
-ghost use Rattle.zb_state.specs.State.{place_of, IsStateOf};
+ghost use Rattle.zb_state.specs.State.{partition_of, IsStateOf};
 
 use std::alloc::{AllocError, Global};
 use zb_model::{Batch, Event, List, Outcome, TableFault};
@@ -14,11 +14,11 @@ use zb_state::State;
 /// Takes in the events of a batch. At `NotApplicable` one of them doesn't apply; after any refusal the
 /// state is only dropped.
 pub fn take_in(alloc: Global, state: &mut State, batch: Batch) -> Result<(), TableFault>
-    ensures place { place_of state.new ≡ place_of state.old }
-    ensures applied { (es : List Event) → IsStateOf es state.old → OnOk result (IsTrue (all_apply (place_of state.old) es (events_in batch.outcome))) }
+    ensures place { partition_of state.new ≡ partition_of state.old }
+    ensures applied { (es : List Event) → IsStateOf es state.old → OnOk result (IsTrue (all_apply (partition_of state.old) es (events_in batch.outcome))) }
     ensures state { (es : List Event) → IsStateOf es state.old → OnOk result (IsStateOf (es ++ events_in batch.outcome) state.new) }
     ensures refused { (es : List Event) → IsStateOf es state.old
-        → IsErrOf result TableFault.NotApplicable → IsFalse (all_apply (place_of state.old) es (events_in batch.outcome)) }
+        → IsErrOf result TableFault.NotApplicable → IsFalse (all_apply (partition_of state.old) es (events_in batch.outcome)) }
 {
     let Batch { outcome, .. } = batch;
     match outcome {
@@ -27,13 +27,13 @@ pub fn take_in(alloc: Global, state: &mut State, batch: Batch) -> Result<(), Tab
     }
 }
 
-/// Takes in the events, one after the other.
+// Takes in the events, one after the other.
 fn take_all(alloc: Global, state: &mut State, events: List<Event>) -> Result<(), TableFault>
-    ensures place { place_of state.new ≡ place_of state.old }
-    ensures applied { (es : List Event) → IsStateOf es state.old → OnOk result (IsTrue (all_apply (place_of state.old) es events)) }
+    ensures place { partition_of state.new ≡ partition_of state.old }
+    ensures applied { (es : List Event) → IsStateOf es state.old → OnOk result (IsTrue (all_apply (partition_of state.old) es events)) }
     ensures state { (es : List Event) → IsStateOf es state.old → OnOk result (IsStateOf (es ++ events) state.new) }
     ensures refused { (es : List Event) → IsStateOf es state.old
-        → IsErrOf result TableFault.NotApplicable → IsFalse (all_apply (place_of state.old) es events) }
+        → IsErrOf result TableFault.NotApplicable → IsFalse (all_apply (partition_of state.old) es events) }
 {
     for event in events.into_vec() {
         match state.take_in(alloc, event) {

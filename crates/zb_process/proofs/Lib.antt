@@ -1,4 +1,4 @@
-pub mod Members
-pub mod Nesting
-pub mod Pieces
+pub mod MemberLemmas
+pub mod NestingLemmas
+pub mod PieceLemmas
 pub mod Worked

@@ -7,30 +7,30 @@ use Rattle.zb_base.specs.declared.value.Value.TheVariants as values
 use Rattle.zb_process.specs.declared.operator.Operator.{Operator}
 use Rattle.zb_process.specs.declared.operator.Operator.TheVariants.{Add, Subtract, Multiply, Equal, NotEqual, Less, AtMost, Greater, AtLeast, And, Or}
 use Rattle.zb_process.specs.Tree.{Tree, Int, Truth, Text, Name, Members, Not, Minus, Binary, none, more}
-use Rattle.zb_process.specs.Expr.{Fault, Unknown, Kind, Overflow, value_of}
+use Rattle.zb_process.specs.Expr.{ValueFault, Unknown, Kind, Overflow, value_of}
 
 -- the name x, and no other, has the value 7
 abbrev names : List ℕ → Option Value
 names name = if is_eq (slice_cmp nat_cmp name (120 ∷ [])) then Some (values.Int (pos 7)) else None
 
 -- an expression's value where x is 7
-abbrev value : Tree → Result Value Fault
+abbrev value : Tree → Result Value ValueFault
 value tree = value_of names tree
 
 -- what two whole numbers, two truth values or two texts give
-abbrev numbers : Operator → ℤ → ℤ → Result Value Fault
+abbrev numbers : Operator → ℤ → ℤ → Result Value ValueFault
 numbers operator left right = value (Binary operator (Int left) (Int right))
 
-abbrev truths : Operator → Bool → Bool → Result Value Fault
+abbrev truths : Operator → Bool → Bool → Result Value ValueFault
 truths operator left right = value (Binary operator (Truth left) (Truth right))
 
-abbrev texts : Operator → List ℕ → List ℕ → Result Value Fault
+abbrev texts : Operator → List ℕ → List ℕ → Result Value ValueFault
 texts operator left right = value (Binary operator (Text left) (Text right))
 
-abbrev number : ℤ → Result Value Fault
+abbrev number : ℤ → Result Value ValueFault
 number z = Ok (values.Int z)
 
-abbrev truth : Bool → Result Value Fault
+abbrev truth : Bool → Result Value ValueFault
 truth b = Ok (values.Bool b)
 
 -- expressions that have no value: of an unknown name, of the wrong kind, outside 64 bits

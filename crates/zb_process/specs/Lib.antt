@@ -1,5 +1,5 @@
 pub mod Expr
-pub mod ExprFalls
+pub mod ExprLaws
 pub mod ExprView
 pub mod Expression
 pub mod ExpressionLaws

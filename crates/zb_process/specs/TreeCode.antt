@@ -81,15 +81,15 @@ tree_by k n t ts one o a b =
     (cond (k == 5) (Name t) (cond (k == 6) (Members ts) (cond (k == 7) (Not one) (cond (k == 8) (Minus one) (Binary o a b)))))))))
 
 abbrev mutual
-  pub tree_at : Gv → Tree
-  tree_at gnil = Truth true
-  tree_at (gnum n) = Truth true
-  tree_at (gcons g h) = tree_by (num g) (num h) (bytes_at h) (members_at h) (tree_at h) (operator_at (first_number h)) (left_at h) (right_at h)
+  pub tree_from : Gv → Tree
+  tree_from gnil = Truth true
+  tree_from (gnum n) = Truth true
+  tree_from (gcons g h) = tree_by (num g) (num h) (bytes_at h) (members_at h) (tree_from h) (operator_at (first_number h)) (left_at h) (right_at h)
 
   pub members_at : Gv → Trees
   members_at gnil = none
   members_at (gnum n) = none
-  members_at (gcons g h) = more (tree_at g) (members_at h)
+  members_at (gcons g h) = more (tree_from g) (members_at h)
 
   pub left_at : Gv → Tree
   left_at gnil = Truth true
@@ -104,15 +104,15 @@ abbrev mutual
   pub first_at : Gv → Tree
   first_at gnil = Truth true
   first_at (gnum n) = Truth true
-  first_at (gcons g h) = tree_at g
+  first_at (gcons g h) = tree_from g
 
   pub second_at : Gv → Tree
   second_at gnil = Truth true
   second_at (gnum n) = Truth true
-  second_at (gcons g h) = tree_at h
+  second_at (gcons g h) = tree_from h
 
 mutual
-  pub tree_back : (t : Tree) → tree_at (stored t) ≡ t
+  pub tree_back : (t : Tree) → tree_from (stored t) ≡ t
   tree_back (Int (pos n)) = refl
   tree_back (Int (negsuc n)) = refl
   tree_back (Truth true) = refl
@@ -130,4 +130,4 @@ mutual
 
 -- the code of an expression
 abbrev pub tree_code : Coded Tree
-tree_code = code_by Gv itself stored tree_at tree_back
+tree_code = code_by Gv itself stored tree_from tree_back

@@ -45,7 +45,7 @@ impl Model for Expr {
 
     ghost size = { nesting };
 
-    ghost use Rattle.zb_process.specs.ExprFalls.{parts_below};
+    ghost use Rattle.zb_process.specs.ExprLaws.{parts_below};
 
     ghost size_decreases = { λ e h. parts_below e.node };
 }
@@ -107,7 +107,7 @@ fn node_nesting(node: &ExprNode) -> u64
 }
 
 #[cycle(nesting)]
-#[tactic(auto, using(crate::proofs::Nesting::members))]
+#[tactic(auto, using(crate::proofs::NestingLemmas::members))]
 fn members_nesting(members: &[Expr]) -> u64
     ensures { result ≡ nesting_over (trees_of members.now) }
 {
@@ -142,7 +142,7 @@ fn copy_node(node: &ExprNode, alloc: Global) -> Result<ExprNode, AllocError>
 }
 
 #[cycle(copy)]
-#[tactic(auto, using(crate::proofs::Nesting::members))]
+#[tactic(auto, using(crate::proofs::NestingLemmas::members))]
 fn copy_members(members: &[Expr], alloc: Global) -> Result<Vec<Expr>, AllocError>
     ensures { IfOk result (λ copy. copy.items ≡ members.now) }
 {

@@ -9,7 +9,7 @@ use std::alloc::{AllocError, Global};
 use writing::write_tree;
 use zb_format::{Cursor, Encoder, Format, ReadFault};
 
-/// How many levels an expression may have: 64 expressions stand around a leaf, and the leaf.
+// How many levels an expression may have: 64 expressions stand around a leaf, and the leaf.
 const LEVELS: u32 = 65;
 
 #[tactic(auto, unfolding(crate::specs::Layouts::expression))]

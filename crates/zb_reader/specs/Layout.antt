@@ -10,7 +10,7 @@ use Rattle.zb_process.specs.declared.model.Node.{Node}
 use Rattle.zb_process.specs.declared.model.Flow.{Flow}
 use Rattle.zb_process.specs.declared.model.NodeKind.{NodeKind}
 use Rattle.zb_process.specs.declared.model.NodeKind.TheVariants as kinds
-use Rattle.zb_reader.specs.Place.{Field, must, may, here_unless, place_in_text, place_in_object, place_in_list}
+use Rattle.zb_reader.specs.Place.{ObjectField, required, allowed, here_unless, place_in_text, place_in_object, place_in_list}
 
 -- an id has at most so many bytes (own)
 abbrev pub longest_id : ℕ
@@ -25,8 +25,8 @@ abbrev pub kind_named : List ℕ → Option NodeKind
 kind_named name = if bytes_eq name (codes "startEvent") then Some kinds.StartEvent else (if bytes_eq name (codes "endEvent") then Some kinds.EndEvent else None)
 
 -- the kind that a node names
-abbrev pub kind_at : Data → Option NodeKind
-kind_at d = option_and_then kind_named (option_and_then as_str (get (codes "kind") d))
+abbrev pub kind_in : Data → Option NodeKind
+kind_in d = option_and_then kind_named (option_and_then as_str (get (codes "kind") d))
 
 -- the name of a kind
 abbrev pub place_in_kind : Data → Option (List ℕ)
@@ -41,35 +41,35 @@ abbrev pub unread : Data → Option (List ℕ)
 unread d = Some []
 
 -- the fields that a kind has of its own
-abbrev pub fields_of : Option NodeKind → List Field
-fields_of (Some kinds.StartEvent) = may (codes "messageEventDefinition") unread ∷ []
-fields_of (Some kinds.EndEvent) = may (codes "terminateEventDefinition") unread ∷ may (codes "compensateEventDefinition") unread ∷ []
+abbrev pub fields_of : Option NodeKind → List ObjectField
+fields_of (Some kinds.StartEvent) = allowed (codes "messageEventDefinition") unread ∷ []
+fields_of (Some kinds.EndEvent) = allowed (codes "terminateEventDefinition") unread ∷ allowed (codes "compensateEventDefinition") unread ∷ []
 fields_of kind = []
 
 -- a node
-abbrev pub node_fields : Data → List Field
+abbrev pub node_fields : Data → List ObjectField
 node_fields d =
-    must (codes "id") (place_in_text longest_id)
-    ∷ must (codes "kind") place_in_kind
-    ∷ may (codes "parent") place_in_parent
-    ∷ fields_of (kind_at d)
+    required (codes "id") (place_in_text longest_id)
+    ∷ required (codes "kind") place_in_kind
+    ∷ allowed (codes "parent") place_in_parent
+    ∷ fields_of (kind_in d)
 
 -- a flow
-abbrev pub flow_fields : Data → List Field
+abbrev pub flow_fields : Data → List ObjectField
 flow_fields d =
-    must (codes "id") (place_in_text longest_id)
-    ∷ must (codes "sourceRef") (place_in_text longest_id)
-    ∷ must (codes "targetRef") (place_in_text longest_id)
-    ∷ may (codes "conditionExpression") unread
+    required (codes "id") (place_in_text longest_id)
+    ∷ required (codes "sourceRef") (place_in_text longest_id)
+    ∷ required (codes "targetRef") (place_in_text longest_id)
+    ∷ allowed (codes "conditionExpression") unread
     ∷ []
 
 -- a model
-abbrev pub model_fields : Data → List Field
+abbrev pub model_fields : Data → List ObjectField
 model_fields d =
-    must (codes "process") (place_in_text longest_id)
-    ∷ may (codes "versionTag") (place_in_text longest_tag)
-    ∷ must (codes "nodes") (place_in_list (place_in_object node_fields))
-    ∷ must (codes "flows") (place_in_list (place_in_object flow_fields))
+    required (codes "process") (place_in_text longest_id)
+    ∷ allowed (codes "versionTag") (place_in_text longest_tag)
+    ∷ required (codes "nodes") (place_in_list (place_in_object node_fields))
+    ∷ required (codes "flows") (place_in_list (place_in_object flow_fields))
     ∷ []
 
 -- where a value fails to be a model: the first place in the order of the document; None where it is one
@@ -77,14 +77,14 @@ abbrev pub place_in_model : Data → Option (List ℕ)
 place_in_model d = place_in_object model_fields d
 
 -- the text of a field, and the empty one where it isn't there
-abbrev pub text_at : List ℕ → Data → List ℕ
-text_at field d = unwrap_or (option_and_then as_str (get field d)) []
+abbrev pub text_in : List ℕ → Data → List ℕ
+text_in field d = unwrap_or (option_and_then as_str (get field d)) []
 
 -- the node that a value is; what its kind hasn't is empty
 abbrev pub node_in : Data → Node
 node_in d = record {
-  id = text_at (codes "id") d;
-  kind = unwrap_or (kind_at d) kinds.EndEvent;
+  id = text_in (codes "id") d;
+  kind = unwrap_or (kind_in d) kinds.EndEvent;
   parent = [];
   attached = [];
   cancel = false;
@@ -100,7 +100,7 @@ node_in d = record {
 
 -- the flow that a value is
 abbrev pub flow_in : Data → Flow
-flow_in d = record { id = text_at (codes "id") d; from = text_at (codes "sourceRef") d; to = text_at (codes "targetRef") d; condition = None }
+flow_in d = record { id = text_in (codes "id") d; from = text_in (codes "sourceRef") d; to = text_in (codes "targetRef") d; condition = None }
 
 -- what the items are, in order
 abbrev pub made_of : {A : Type 0} → (Data → A) → Items → List A
@@ -114,8 +114,8 @@ list_at made field d = option_map_or (made_of made) (option_and_then as_array (g
 -- the model that a value is
 abbrev pub model_in : Data → Model
 model_in d = record {
-  process = text_at (codes "process") d;
-  tag = text_at (codes "versionTag") d;
+  process = text_in (codes "process") d;
+  tag = text_in (codes "versionTag") d;
   nodes = list_at node_in (codes "nodes") d;
   flows = list_at flow_in (codes "flows") d;
 }

@@ -24,39 +24,39 @@ abbrev pub place_in_text : ℕ → Data → Option (List ℕ)
 place_in_text most d = here_unless (option_map_or (λ s. nat_le (length s) most) (as_str d) false)
 
 -- a field of an object: its name, whether it must be there, and where its value fails
-pub record Field : Type 0 where
+pub record ObjectField : Type 0 where
   pub name : List ℕ
   pub needed : Bool
   pub place : Data → Option (List ℕ)
 
 -- a field that an object must have
-abbrev pub must : List ℕ → (Data → Option (List ℕ)) → Field
-must name place = record { name = name; needed = true; place = place }
+abbrev pub required : List ℕ → (Data → Option (List ℕ)) → ObjectField
+required name place = record { name = name; needed = true; place = place }
 
 -- a field that an object may have
-abbrev pub may : List ℕ → (Data → Option (List ℕ)) → Field
-may name place = record { name = name; needed = false; place = place }
+abbrev pub allowed : List ℕ → (Data → Option (List ℕ)) → ObjectField
+allowed name place = record { name = name; needed = false; place = place }
 
 -- where an object fails at a field; a field that is missing fails at its own place
-abbrev pub place_at : Data → Field → Option (List ℕ)
+abbrev pub place_at : Data → ObjectField → Option (List ℕ)
 place_at d f = behind f.name (option_map_or f.place (get f.name d) (here_unless (not f.needed)))
 
 -- where it fails at the first of some fields
-abbrev pub first_place : Data → List Field → Option (List ℕ)
+abbrev pub first_place : Data → List ObjectField → Option (List ℕ)
 first_place d [] = None
 first_place d (f ∷ fs) = option_or (place_at d f) (first_place d fs)
 
 -- one of the fields has this name
-abbrev pub has_field : List Field → List ℕ → Bool
+abbrev pub has_field : List ObjectField → List ℕ → Bool
 has_field fields name = list_any (λ f. bytes_eq name f.name) fields
 
 -- the first member, in byte order, that is none of the fields
-abbrev pub unknown_place : List Field → Members → Option (List ℕ)
+abbrev pub unknown_place : List ObjectField → Members → Option (List ℕ)
 unknown_place fields no_members = None
 unknown_place fields (member name d ms) = if has_field fields name then unknown_place fields ms else behind name (Some [])
 
 -- an object fails at the first of its fields, and then at its first unknown member
-abbrev pub place_in_object : (Data → List Field) → Data → Option (List ℕ)
+abbrev pub place_in_object : (Data → List ObjectField) → Data → Option (List ℕ)
 place_in_object fields d = option_map_or (λ ms. option_or (first_place d (fields d)) (unknown_place (fields d) ms)) (as_object d) (Some [])
 
 -- where the items fail first, the first of which has this number

@@ -1,6 +1,6 @@
 ghost use Rattle.std.specs.Prelude.{◌≡◌, IfOk};
 ghost use Rattle.serde_json.specs.View.{view};
-ghost use Rattle.zb_reader.specs.Place.{place_at, must, may, place_in_text};
+ghost use Rattle.zb_reader.specs.Place.{place_at, required, allowed, place_in_text};
 ghost use Rattle.zb_reader.specs.Layout as spec;
 
 use crate::place::{behind, here_unless};
@@ -19,7 +19,7 @@ pub fn place_at_text(
     most: usize,
 ) -> Result<Option<Text>, AllocError>
     ensures { IfOk result
-        (λ place. place ≡ place_at (view value.now) (must name.now (place_in_text most))) }
+        (λ place. place ≡ place_at (view value.now) (required name.now (place_in_text most))) }
 {
     match value.get(name) {
         Some(found) => behind(alloc, name, place_in_text(alloc, found, most)),
@@ -35,7 +35,7 @@ pub fn place_at_optional_text(
     most: usize,
 ) -> Result<Option<Text>, AllocError>
     ensures { IfOk result
-        (λ place. place ≡ place_at (view value.now) (may name.now (place_in_text most))) }
+        (λ place. place ≡ place_at (view value.now) (allowed name.now (place_in_text most))) }
 {
     match value.get(name) {
         Some(found) => behind(alloc, name, place_in_text(alloc, found, most)),
@@ -45,7 +45,7 @@ pub fn place_at_optional_text(
 
 /// Where an object fails at a field that isn't read so far.
 pub fn place_at_unread(alloc: Global, value: &Json, name: &str) -> Result<Option<Text>, AllocError>
-    ensures { IfOk result (λ place. place ≡ place_at (view value.now) (may name.now spec.unread)) }
+    ensures { IfOk result (λ place. place ≡ place_at (view value.now) (allowed name.now spec.unread)) }
 {
     match value.get(name) {
         Some(_) => behind(alloc, name, Some(Text::empty(alloc))),
@@ -62,7 +62,7 @@ fn place_in_text(alloc: Global, value: &Json, most: usize) -> Option<Text>
 
 /// The text of a field, and the empty one where it isn't there.
 pub fn text_at(alloc: Global, value: &Json, field: &str) -> Result<Text, AllocError>
-    ensures { IfOk result (λ text. text ≡ spec.text_at field.now (view value.now)) }
+    ensures { IfOk result (λ text. text ≡ spec.text_in field.now (view value.now)) }
 {
     Text::of(alloc, value.get(field).and_then(Json::as_str).unwrap_or(""))
 }

@@ -1,7 +1,7 @@
 ghost use Rattle.std.specs.Prelude.{◌≡◌, IfOk, List};
 ghost use Rattle.serde_json.specs.Data.{Data};
 ghost use Rattle.serde_json.specs.View.{view, members_view, items_view};
-ghost use Rattle.zb_reader.specs.Place.{Field, place_at, must};
+ghost use Rattle.zb_reader.specs.Place.{ObjectField, place_at, required};
 ghost use Rattle.zb_reader.specs.Place as spec;
 ghost use Rattle.zb_reader.specs.Layout as layout;
 
@@ -13,7 +13,7 @@ use zb_base::{List, Text};
 /// What is laid out as an object with these fields.
 pub trait Layout: Drop {
     /// The fields, in order; they may depend on the object.
-    ghost fields: { Data → List Field };
+    ghost fields: { Data → List ObjectField };
 
     /// What an object is that doesn't fail.
     ghost made: { Data → Self };
@@ -68,7 +68,7 @@ pub fn place_at_list<L: Layout>(
     name: &str,
 ) -> Result<Option<Text>, AllocError>
     ensures { IfOk result (λ place. place
-        ≡ place_at (view value.now) (must name.now (spec.place_in_list (spec.place_in_object L.fields)))) }
+        ≡ place_at (view value.now) (required name.now (spec.place_in_list (spec.place_in_object L.fields)))) }
 {
     match value.get(name) {
         Some(found) => behind(alloc, name, place_in_list::<L>(alloc, found)?),

@@ -1,7 +1,7 @@
 ghost use Rattle.std.specs.Prelude.{◌≡◌, IfOk, Some, codes};
 ghost use Rattle.serde_json.specs.View.{view};
 ghost use Rattle.zb_process.specs.declared.model.NodeKind.TheVariants as kinds;
-ghost use Rattle.zb_reader.specs.Place.{place_at, must, may, first_place, has_field};
+ghost use Rattle.zb_reader.specs.Place.{place_at, required, allowed, first_place, has_field};
 ghost use Rattle.zb_reader.specs.Layout as spec;
 
 use crate::fields::{LONGEST_ID, place_at_text, place_at_unread, text_at};
@@ -61,7 +61,7 @@ fn kind_named(name: &str) -> Option<NodeKind>
 
 // The kind that a node names.
 fn kind_at(value: &Json) -> Option<NodeKind>
-    ensures { result ≡ spec.kind_at (view value.now) }
+    ensures { result ≡ spec.kind_in (view value.now) }
 {
     kind_named(value.get("kind").and_then(Json::as_str)?)
 }
@@ -69,7 +69,7 @@ fn kind_at(value: &Json) -> Option<NodeKind>
 // Where a node fails at its kind.
 fn place_at_kind(alloc: Global, value: &Json) -> Result<Option<Text>, AllocError>
     ensures { IfOk result
-        (λ place. place ≡ place_at (view value.now) (must (codes "kind") spec.place_in_kind)) }
+        (λ place. place ≡ place_at (view value.now) (required (codes "kind") spec.place_in_kind)) }
 {
     behind(alloc, "kind", here_unless(alloc, kind_at(value).is_some()))
 }
@@ -77,7 +77,7 @@ fn place_at_kind(alloc: Global, value: &Json) -> Result<Option<Text>, AllocError
 // Where a node fails at its parent.
 fn place_at_parent(alloc: Global, value: &Json) -> Result<Option<Text>, AllocError>
     ensures { IfOk result
-        (λ place. place ≡ place_at (view value.now) (may (codes "parent") spec.place_in_parent)) }
+        (λ place. place ≡ place_at (view value.now) (allowed (codes "parent") spec.place_in_parent)) }
 {
     match value.get("parent") {
         Some(found) => behind(
@@ -92,7 +92,7 @@ fn place_at_parent(alloc: Global, value: &Json) -> Result<Option<Text>, AllocErr
 // Where a node fails at the first of the fields that its kind has of its own.
 fn first_own_place(alloc: Global, value: &Json) -> Result<Option<Text>, AllocError>
     ensures { IfOk result (λ place. place
-        ≡ first_place (view value.now) (spec.fields_of (spec.kind_at (view value.now)))) }
+        ≡ first_place (view value.now) (spec.fields_of (spec.kind_in (view value.now)))) }
 {
     match kind_at(value) {
         Some(NodeKind::StartEvent) => place_at_unread(alloc, value, "messageEventDefinition"),
@@ -113,7 +113,7 @@ fn first_end_place(alloc: Global, value: &Json) -> Result<Option<Text>, AllocErr
 
 // Whether a node's kind has a field of this name of its own.
 fn has_own_field(value: &Json, name: &str) -> bool
-    ensures { result ≡ has_field (spec.fields_of (spec.kind_at (view value.now))) name.now }
+    ensures { result ≡ has_field (spec.fields_of (spec.kind_in (view value.now))) name.now }
 {
     match kind_at(value) {
         Some(NodeKind::StartEvent) => name == "messageEventDefinition",

@@ -51,7 +51,7 @@ fn push_escaped(path: &mut String, name: &str) -> Result<(), AllocError>
 }
 
 // Appends a character as it stands in a pointer.
-#[tactic(auto, using(crate::proofs::Escapes::escaped_encode))]
+#[tactic(auto, using(crate::proofs::PointerLemmas::escaped_encode))]
 fn push_char(path: &mut String, c: char) -> Result<(), AllocError>
     ensures { OnOk result
         (string_bytes path.new ≡ string_bytes path.old ++ spec.escaped (encode_utf8 c)) }

@@ -17,7 +17,7 @@ use Rattle.zb_model.specs.declared.record.RejectionKind.{RejectionKind}
 use Rattle.zb_model.specs.declared.record.RejectionKind.TheVariants as kinds
 use Rattle.zb_wire.specs.declared.request.LineFault.{LineFault}
 use Rattle.zb_wire.specs.declared.request.LineFault.TheVariants as faults
-use Rattle.zb_reply.specs.declared.reply.Deployed.{Deployed}
+use Rattle.zb_reply.specs.declared.reply.DeployedReply.{DeployedReply}
 use Rattle.zb_reply.specs.declared.reply.Created.{Created}
 use Rattle.zb_reply.specs.declared.reply.Reply.{Reply}
 use Rattle.zb_reply.specs.declared.reply.Reply.TheVariants as replies
@@ -41,7 +41,7 @@ message_in (events.MessagePublished e ∷ es) = Some e.key
 message_in (_ ∷ es) = message_in es
 
 -- what is told of a definition
-abbrev pub deployed_of : ProcessCreated → Deployed
+abbrev pub deployed_of : ProcessCreated → DeployedReply
 deployed_of e = record { definition = e.key; process = e.model.process; version = e.version }
 
 -- what is told of an instance
@@ -101,7 +101,7 @@ fault_path (faults.Field field (Some path)) = codes ",\"path\":" ++ quoted path
 fault_path _ = []
 
 -- what a line tells of a definition
-abbrev pub deployed_text : Deployed → List ℕ
+abbrev pub deployed_text : DeployedReply → List ℕ
 deployed_text d = codes "\"definition\":" ++ (decimal d.definition ++ (codes ",\"process\":" ++ (quoted d.process ++ (codes ",\"version\":" ++ decimal d.version))))
 
 -- what a line tells of an instance

@@ -5,4 +5,4 @@ mod line;
 mod reply;
 
 pub use line::reply_text;
-pub use reply::{Created, Deployed, Reply, reply_of};
+pub use reply::{Created, DeployedReply, Reply, reply_of};

@@ -1,7 +1,7 @@
 ghost use Rattle.std.specs.Prelude.{◌≡◌, ◌++◌, string_bytes, IfOk, OnOk, OnErr};
 ghost use Rattle.zb_reply.specs.Reply.{line_of, ok_line, rejected_line, fault_line, deployed_text, created_text, number_text, quoted, kind_name, fault_name, fault_field, fault_path, units_of, IsSpoken};
 
-use crate::{Created, Deployed, Reply};
+use crate::{Created, DeployedReply, Reply};
 use serde_json::Value as Json;
 use std::alloc::{AllocError, Global};
 use zb_model::{Rejection, RejectionKind};
@@ -43,7 +43,11 @@ fn line(alloc: Global, reply: &Reply, units: Option<u64>) -> Result<String, Allo
 }
 
 // The line of a deployment, which tells of its definition.
-fn deploy_line(alloc: Global, deployed: &Deployed, units: Option<u64>) -> Result<String, AllocError>
+fn deploy_line(
+    alloc: Global,
+    deployed: &DeployedReply,
+    units: Option<u64>,
+) -> Result<String, AllocError>
     ensures { IfOk result (λ line. string_bytes line ≡ ok_line (deployed_text deployed.now) units) }
 {
     let mut line = String::with_capacity(alloc, LINE_ROOM)?;
@@ -56,7 +60,11 @@ fn deploy_line(alloc: Global, deployed: &Deployed, units: Option<u64>) -> Result
 }
 
 // Appends what a line tells of a definition.
-fn push_deployed(alloc: Global, line: &mut String, deployed: &Deployed) -> Result<(), AllocError>
+fn push_deployed(
+    alloc: Global,
+    line: &mut String,
+    deployed: &DeployedReply,
+) -> Result<(), AllocError>
     ensures { OnOk result (string_bytes line.new ≡ string_bytes line.old ++ deployed_text deployed.now) }
 {
     line.push_str("\"definition\":")?;

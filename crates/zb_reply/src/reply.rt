@@ -12,7 +12,7 @@ use zb_wire::LineFault;
 #[derive(Drop)]
 pub enum Reply {
     /// The model was deployed.
-    Deploy(Deployed),
+    Deploy(DeployedReply),
     /// The instance was made.
     Create(Created),
     /// The message was published under this key.
@@ -29,7 +29,7 @@ pub enum Reply {
 
 /// The definition that a deployment made: this version of the process.
 #[derive(Drop)]
-pub struct Deployed {
+pub struct DeployedReply {
     pub definition: Key,
     pub process: Text,
     pub version: u32,
@@ -114,10 +114,10 @@ fn first_message(events: &[Event]) -> Option<Key>
 }
 
 // What is told of a definition.
-fn deployed_of(alloc: Global, created: &ProcessCreated) -> Result<Deployed, AllocError>
+fn deployed_of(alloc: Global, created: &ProcessCreated) -> Result<DeployedReply, AllocError>
     ensures { IfOk result (λ deployed. deployed ≡ deployed_of created.now) }
 {
-    Ok(Deployed {
+    Ok(DeployedReply {
         definition: created.key,
         process: created.model.process.copy(alloc)?,
         version: created.version,

@@ -1,2 +1,2 @@
-pub mod Counters
+pub mod CounterLemmas
 pub mod Worked

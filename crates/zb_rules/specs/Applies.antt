@@ -11,7 +11,7 @@ use Rattle.zb_model.specs.declared.record.Event.TheVariants as events
 use Rattle.zb_rules.specs.Messages.{is_buffered}
 use Rattle.zb_rules.specs.View.{greatest_counter, next_key}
 use Rattle.zb_rules.specs.declared.board.Move.{Move}
-use Rattle.zb_rules.specs.Board.{Board, cell_at, model_at}
+use Rattle.zb_rules.specs.Board.{Board, cell_at, model_under}
 use Rattle.zb_rules.specs.Game.{can}
 use Rattle.zb_rules.specs.Shown.{shown, board_of}
 use Rattle.zb_rules.specs.Create.{begun}
@@ -33,7 +33,7 @@ is_plain role = false
 
 -- on a board the process of a definition has this id
 abbrev pub is_process_of : ℕ → List ℕ → Board → Bool
-is_process_of definition id b = option_map_or (λ m. bytes_eq m.process id) (model_at b definition) false
+is_process_of definition id b = option_map_or (λ m. bytes_eq m.process id) (model_under b definition) false
 
 -- on a board a cell is of a definition
 abbrev pub is_definition_of : ℕ → ℕ → Board → Bool
@@ -77,13 +77,13 @@ holds_own p before (events.MessageExpired key) = is_buffered key before
 holds_own p before _ = false
 
 -- a move may be made, if there is one
-abbrev pub may : Option Move → Board → Bool
-may None b = true
-may (Some move) b = can b move
+abbrev pub is_possible : Option Move → Board → Bool
+is_possible None b = true
+is_possible (Some move) b = can b move
 
 -- the event applies to those before it, at partition p: its own condition holds, and the move that it shows is legal
 abbrev pub applies : ℕ → List Event → Event → Bool
-applies p before e = holds_own p before e && holds_of_game (may (shown e)) before
+applies p before e = holds_own p before e && holds_of_game (is_possible (shown e)) before
 
 -- each of the events applies to the ones before and those of the list in front of it
 abbrev pub all_apply : ℕ → List Event → List Event → Bool

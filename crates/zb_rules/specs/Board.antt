@@ -1,5 +1,5 @@
 -- What stands on a board (BPMN 2.0.2, 13.1: tokens).
-use Rattle.std.specs.Prelude.{ℕ, ◌==◌, List, [], ◌∷◌, map, filter, Bool, true, false, ◌&&◌, not, Option, option_map, is_some}
+use Rattle.std.specs.Prelude.{ℕ, ◌==◌, List, [], ◌∷◌, map, filter, Bool, true, false, ◌&&◌, not, Option, option_map, is_some, ◌+◌, ◌≤◌}
 use Rattle.std.specs.Option.{option_map_or}
 use Rattle.std.specs.Str.{bytes_eq}
 use Rattle.zb_process.specs.declared.model.Model.{Model}
@@ -28,12 +28,12 @@ abbrev pub cell_at : Board → ℕ → Option Cell
 cell_at b key = first (λ c. c.key == key) b.cells
 
 -- the model of a definition
-abbrev pub model_at : Board → ℕ → Option Model
-model_at b key = option_map (λ d. d.model) (first (λ d. d.key == key) b.models)
+abbrev pub model_under : Board → ℕ → Option Model
+model_under b key = option_map (λ d. d.model) (first (λ d. d.key == key) b.models)
 
 -- the node with an id
-abbrev pub node_at : Model → List ℕ → Option Node
-node_at m id = first (λ n. bytes_eq n.id id) m.nodes
+abbrev pub node_with : Model → List ℕ → Option Node
+node_with m id = first (λ n. bytes_eq n.id id) m.nodes
 
 -- the ids of the flows out of a node, in the order of the model (BPMN 2.0.2, 8.4.13)
 abbrev pub flows_out : Model → List ℕ → List (List ℕ)
@@ -96,3 +96,8 @@ without_cell b key cells = record { models = b.models; cells = cells; tokens = b
 -- the cell in another phase, owing these flows
 abbrev pub in_phase : Phase → List (List ℕ) → Cell → Cell
 in_phase phase owed c = record { key = c.key; scope = c.scope; definition = c.definition; node = c.node; role = c.role; phase = phase; owed = owed }
+
+-- the keys of the cells ascend, from `low` on
+abbrev pub CellsAscend : ℕ → List Cell → Type 0
+CellsAscend low [] = Unit {0}
+CellsAscend low (c ∷ cells) = (low ≤ c.key) × CellsAscend (c.key + 1) cells

@@ -43,14 +43,14 @@ begun (e ∷ []) = instance_told e
 begun (e ∷ next ∷ es) = begun (next ∷ es)
 
 -- a variable of the instance
-abbrev pub variable_of : ℕ → Variable → Event
-variable_of root v = events.VariableCreated (record { scope = root; name = v.name; value = v.value })
+abbrev pub variable_event : ℕ → Variable → Event
+variable_event root v = events.VariableCreated (record { scope = root; name = v.name; value = v.value })
 
 -- the instance of a process under a key: it is made, it is activated, and it has these variables
 abbrev pub instance_under : ℕ → ℕ → ProcessInstanceCreationCreate → List Event
 instance_under key definition c = events.ProcessInstanceCreationCreated (record { key = key; definition = definition })
     ∷ events.ElementActivating (record { key = key; scope = 0; definition = definition; node = c.process; role = roles.Plain; via = []; started = [] })
-    ∷ map (variable_of key) c.variables
+    ∷ map (variable_event key) c.variables
 
 -- what it makes (BPMN 2.0.2, 13.2; Zeebe, the records)
 abbrev pub created : ℕ → List Event → ProcessInstanceCreationCreate → Option (List Event)

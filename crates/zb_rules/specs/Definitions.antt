@@ -21,14 +21,14 @@ greatest_version process [] = 0
 greatest_version process (d ∷ ds) = if bytes_eq d.process process then max d.version (greatest_version process ds) else greatest_version process ds
 
 -- of two definitions the one with the greater key
-abbrev pub later_of : Definition → Option Definition → Option Definition
-later_of d None = Some d
-later_of d (Some found) = if max d.key found.key == found.key then Some found else Some d
+abbrev pub newer_definition : Definition → Option Definition → Option Definition
+newer_definition d None = Some d
+newer_definition d (Some found) = if max d.key found.key == found.key then Some found else Some d
 
 -- a version of a process: of those with the same version the one with the greatest key
 abbrev pub version_of : List ℕ → ℕ → List Definition → Option Definition
 version_of process version [] = None
-version_of process version (d ∷ ds) = if bytes_eq d.process process && (d.version == version) then later_of d (version_of process version ds) else version_of process version ds
+version_of process version (d ∷ ds) = if bytes_eq d.process process && (d.version == version) then newer_definition d (version_of process version ds) else version_of process version ds
 
 -- the definition that is asked for: version 0 is the latest one (Zeebe)
 abbrev pub definition_for : List ℕ → ℕ → List Event → Option Definition

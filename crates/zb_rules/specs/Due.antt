@@ -1,5 +1,5 @@
 -- Which command is due first.
-use Rattle.std.specs.Prelude.{ℕ, List, filter, Option, option_map}
+use Rattle.std.specs.Prelude.{ℕ, List, filter, Option, option_map, ◌≡◌, ◌≤◌, Contains}
 use Rattle.zb_exchange_records.specs.declared.message.MessagePublished.{MessagePublished}
 use Rattle.zb_model.specs.declared.record.Command.{Command}
 use Rattle.zb_model.specs.declared.record.Command.TheVariants as commands
@@ -18,3 +18,9 @@ due_message now es = earliest place_in_time (filter (is_due now) (buffered es))
 -- the command that is due first, if one is due now
 abbrev pub due_command : ℕ → List Event → Option Command
 due_command now es = option_map (λ m. commands.MessageExpire m.key) (due_message now es)
+
+-- of the buffered messages that are due now it is the first, by the deadline and then by the key
+pub record IsFirstDue (now : ℕ) (es : List Event) (m : MessagePublished) : Type 0 where
+  pub waits : Contains (buffered es) m
+  pub due : m.deadline ≤ now
+  pub first : (other : MessagePublished) → Contains (buffered es) other → other.deadline ≤ now → (m.deadline ≤ other.deadline) × (m.deadline ≡ other.deadline → m.key ≤ other.key)

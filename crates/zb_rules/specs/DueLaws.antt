@@ -1,5 +1,5 @@
 -- Laws of what is due first.
-use Rattle.std.proofs.Common.{◌≡◌, ℕ, ◌≤◌, ◌<◌, ◌==◌, nat_le, List, [], ◌∷◌, filter, Bool, true, false, not, ◌&&◌, ◌||◌, if◌then◌else◌, Option, Some, None, option_map, All, Contains, refl, sym, ap, ◌∙◌, subst, arith}
+use Rattle.std.proofs.Common.{◌≡◌, ℕ, ◌≤◌, ◌<◌, ◌==◌, nat_le, List, [], ◌∷◌, filter, Bool, true, false, ◌&&◌, if◌then◌else◌, Option, Some, None, option_map, All, Contains, refl, sym, subst, arith}
 use Rattle.std.specs.List.{list_any}
 use Rattle.std.proofs.lemmas.Bool.Decides.{nat_tests}
 use Rattle.std.proofs.lemmas.List.Elements.{All-nil, All-cons, All-contains, All-filter, All-contains_itself, filter_passes}
@@ -10,16 +10,10 @@ use Rattle.zb_model.specs.declared.record.Event.{Event}
 use Rattle.zb_rules.specs.Messages.{buffered, is_buffered, is_due}
 use Rattle.zb_rules.specs.Expire.{is_due_at}
 use Rattle.zb_rules.specs.Reason.{reason_for}
-use Rattle.zb_rules.specs.Own.{IsRun}
-use Rattle.zb_rules.specs.Due.{place_in_time, due_message, due_command}
-use Rattle.zb_table.specs.Earliest.{comes_before, earliest}
+use Rattle.zb_rules.specs.Own.{IsSupported}
+use Rattle.zb_rules.specs.Due.{place_in_time, due_message, due_command, IsFirstDue}
+use Rattle.zb_table.specs.Earliest.{comes_before}
 use Rattle.zb_table.specs.EarliestLaws.{not_before, any_of, any_kept, earliest_found, earliest_none}
-
--- of the buffered messages that are due now it is the first, by the deadline and then by the key
-pub record IsFirstDue (now : ℕ) (es : List Event) (m : MessagePublished) : Type 0 where
-  pub waits : Contains (buffered es) m
-  pub due : m.deadline ≤ now
-  pub first : (other : MessagePublished) → Contains (buffered es) other → other.deadline ≤ now → (m.deadline ≤ other.deadline) × (m.deadline ≡ other.deadline → m.key ≤ other.key)
 
 -- the message that is due first
 module _ (now : ℕ) (es : List Event) where
@@ -94,5 +88,5 @@ module _ (now : ℕ) (es : List Event) where
       rw (r.1, there, due) refl
 
   -- a command that is due is one that is run so far
-  pub due_command_is_run : (command : Command) → due_command now es ≡ Some command → IsRun command
-  due_command_is_run command is = let r = due_command_first command is in subst IsRun (sym r.1) tt
+  pub due_command_is_run : (command : Command) → due_command now es ≡ Some command → IsSupported command
+  due_command_is_run command is = let r = due_command_first command is in subst IsSupported (sym r.1) tt

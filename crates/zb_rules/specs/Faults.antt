@@ -23,11 +23,11 @@ abbrev pub has_node : Model → List ℕ → Bool
 has_node m id = has_id id (map (λ n. n.id) m.nodes)
 
 -- an event that ends a process or a scope (BPMN 2.0.2, 10.5.3)
-abbrev pub ends : NodeKind → Bool
-ends kinds.EndEvent = true
-ends kinds.TerminateEndEvent = true
-ends kinds.CompensationEndEvent = true
-ends kind = false
+abbrev pub is_end_kind : NodeKind → Bool
+is_end_kind kinds.EndEvent = true
+is_end_kind kinds.TerminateEndEvent = true
+is_end_kind kinds.CompensationEndEvent = true
+is_end_kind kind = false
 
 -- the node at an end of a flow has this property
 abbrev pub is_at : Model → List ℕ → (NodeKind → Bool) → Bool
@@ -56,7 +56,7 @@ bad_start m = if count_by (λ n. is_start n.kind && bytes_eq n.parent []) m.node
 
 -- a flow into a start event, or out of an end event (BPMN 2.0.2, 10.5.2 and 10.5.3)
 abbrev pub flow_end : Model → Option (List ℕ)
-flow_end m = option_map (λ f. f.id) (find (λ f. is_at m f.to is_start || is_at m f.from ends) m.flows)
+flow_end m = option_map (λ f. f.id) (find (λ f. is_at m f.to is_start || is_at m f.from is_end_kind) m.flows)
 
 -- a node without incoming flow that is no start event (BPMN 2.0.2, 10.5.2)
 abbrev pub no_incoming : Model → Option (List ℕ)
@@ -94,13 +94,13 @@ or_found fault None later = later
 or_found fault (Some id) later = Some (fault, id)
 
 -- the first of these faults that a model has, with its offender
-abbrev pub first_of : List Fault → Model → Option (Fault × List ℕ)
-first_of [] m = None
-first_of (fault ∷ later) m = or_found fault (offender fault m) (first_of later m)
+abbrev pub first_fault_among : List Fault → Model → Option (Fault × List ℕ)
+first_fault_among [] m = None
+first_fault_among (fault ∷ later) m = or_found fault (offender fault m) (first_fault_among later m)
 
 -- the first fault that a model has, with its offender
 abbrev pub first_fault : Model → Option (Fault × List ℕ)
-first_fault m = first_of all_faults m
+first_fault m = first_fault_among all_faults m
 
 -- a model without faults
 abbrev pub is_well_formed : Model → Bool

@@ -11,18 +11,13 @@ use Rattle.zb_rules.specs.declared.board.Move.{Move}
 use Rattle.zb_rules.specs.declared.board.Move.TheVariants as moves
 use Rattle.zb_rules.specs.declared.board.Phase.{Phase}
 use Rattle.zb_rules.specs.declared.board.Phase.TheVariants as phases
-use Rattle.zb_rules.specs.Board.{Board, cell_at}
+use Rattle.zb_rules.specs.Board.{Board, cell_at, CellsAscend}
 use Rattle.zb_rules.specs.Doom.{is_doomed}
 use Rattle.zb_rules.specs.MoveEnter.{can_enter}
 use Rattle.zb_rules.specs.MoveFinish.{can_finish}
 use Rattle.zb_rules.specs.MoveLeave.{owed_by, ids_eq}
 use Rattle.zb_rules.specs.Game.{can}
-use Rattle.zb_rules.specs.Forced.{forced_in, forced_at, take_first, later_of, newest, entry_by, entry_of, way_of, or_later, first_entry, move_of, next_forced}
-
--- the keys of the cells ascend, from `low` on
-abbrev pub Ascend : ℕ → List Cell → Type 0
-Ascend low [] = Unit {0}
-Ascend low (c ∷ cells) = (low ≤ c.key) × Ascend (c.key + 1) cells
+use Rattle.zb_rules.specs.Forced.{forced_in, forced_at, take_first, newer_answer, newest, entry_by, entry_of, way_of, or_later, first_entry, move_of, next_forced, NoneForced, NoneEnters, IsQuiet}
 
 same_bytes : (xs : List ℕ) → bytes_eq xs xs ≡ true
 same_bytes xs = (bytes_eq-Decides xs xs).1 refl
@@ -36,13 +31,13 @@ by_test : (t : Bool) (k key : ℕ) (own move : Move) (found : ℕ × Move) → (
 by_test true k key own move found is = inr is
 by_test false k key own move found is = inl (let e : (k, own) ≡ (key, move) = cc in ap (λ (p : ℕ × Move). p.1) e)
 
-later_has : (k key : ℕ) (own : Option Move) (rest : Option (ℕ × Move)) (move : Move) → later_of k own rest ≡ Some (key, move) → (own ≡ Some move) ⊎ (rest ≡ Some (key, move))
+later_has : (k key : ℕ) (own : Option Move) (rest : Option (ℕ × Move)) (move : Move) → newer_answer k own rest ≡ Some (key, move) → (own ≡ Some move) ⊎ (rest ≡ Some (key, move))
 later_has k key None rest move is = inr is
 later_has k key (Some own) None move is = inl (ap (λ (m : Move). Some m) (let e : (k, own) ≡ (key, move) = cc in ap (λ (p : ℕ × Move). p.1) e))
 later_has k key (Some own) (Some found) move is = ⊎_elim (λ same. inl (ap (λ (m : Move). Some m) same)) (λ later. inr later) (by_test (nat_le k found.0) k key own move found is)
 
 -- the cell whose answer it is, which is the first with its key
-newest_has : (f : Cell → Option Move) (low : ℕ) (cells : List Cell) (key : ℕ) (move : Move) → Ascend low cells → newest f cells ≡ Some (key, move)
+newest_has : (f : Cell → Option Move) (low : ℕ) (cells : List Cell) (key : ℕ) (move : Move) → CellsAscend low cells → newest f cells ≡ Some (key, move)
     → (c : Cell) × (low ≤ c.key) × (first (λ x. x.key == c.key) cells ≡ Some c) × (f c ≡ Some move)
 newest_has f low [] key move up is = absurd (cc)
 newest_has f low (c ∷ cells) key move up is = ⊎_elim
@@ -84,7 +79,7 @@ undoomed b c true move is = absurd (cc)
 undoomed b c false move is = is
 
 -- the move that a cell is forced to is legal
-pub forced_of_cells_legal : (b : Board) (key : ℕ) (move : Move) → Ascend 0 b.cells → newest (forced_at b) b.cells ≡ Some (key, move) → IsTrue (can b move)
+pub forced_of_cells_legal : (b : Board) (key : ℕ) (move : Move) → CellsAscend 0 b.cells → newest (forced_at b) b.cells ≡ Some (key, move) → IsTrue (can b move)
 forced_of_cells_legal b key move up is =
     let r = newest_has (forced_at b) 0 b.cells key move up is in
     phase_legal b r.0 r.0.phase move refl r.2 (undoomed b r.0 (is_doomed b r.0) move r.3)
@@ -109,33 +104,19 @@ entries_legal b key [] move is = absurd (cc)
 entries_legal b key (t ∷ tokens) move is =
     or_later_legal b (entry_of b key t) (first_entry b key tokens) move (entry_legal b key t (way_of b t) move) (entries_legal b key tokens move) is
 
-cells_legal : (b : Board) (found : Option (ℕ × Move)) (move : Move) → newest (forced_at b) b.cells ≡ found → Ascend 0 b.cells → move_of found ≡ Some move → IsTrue (can b move)
+cells_legal : (b : Board) (found : Option (ℕ × Move)) (move : Move) → newest (forced_at b) b.cells ≡ found → CellsAscend 0 b.cells → move_of found ≡ Some move → IsTrue (can b move)
 cells_legal b None move found_is up is = absurd (cc)
 cells_legal b (Some found) move found_is up is =
     subst (λ (m : Move). IsTrue (can b m)) (some_move found.1 move is) (forced_of_cells_legal b found.0 found.1 up found_is)
 
 -- a forced move is legal (BPMN 2.0.2, 13)
-pub forced_legal : (b : Board) (key : ℕ) (move : Move) → Ascend 0 b.cells → next_forced b key ≡ Some move → IsTrue (can b move)
+pub forced_legal : (b : Board) (key : ℕ) (move : Move) → CellsAscend 0 b.cells → next_forced b key ≡ Some move → IsTrue (can b move)
 forced_legal b key move up is =
     or_later_legal b (move_of (newest (forced_at b) b.cells)) (first_entry b key b.tokens) move
     (cells_legal b (newest (forced_at b) b.cells) move refl up)
     (entries_legal b key b.tokens move) is
 
--- a game without a next forced move
-abbrev pub IsQuiet : Board → ℕ → Type 0
-IsQuiet b key = next_forced b key ≡ None
-
--- none of these cells is forced to a move
-abbrev pub NoneForced : Board → List Cell → Type 0
-NoneForced b [] = Unit {0}
-NoneForced b (c ∷ cells) = (forced_at b c ≡ None) × NoneForced b cells
-
--- none of these tokens can enter
-abbrev pub NoneEnters : Board → ℕ → List Token → Type 0
-NoneEnters b key [] = Unit {0}
-NoneEnters b key (t ∷ tokens) = (entry_of b key t ≡ None) × NoneEnters b key tokens
-
-by_own : (key : ℕ) (own : Option Move) (rest : Option (ℕ × Move)) → later_of key own rest ≡ None → (own ≡ None) × (rest ≡ None)
+by_own : (key : ℕ) (own : Option Move) (rest : Option (ℕ × Move)) → newer_answer key own rest ≡ None → (own ≡ None) × (rest ≡ None)
 by_own key None rest is = (refl, is)
 by_own key (Some move) None is = absurd (cc)
 by_own key (Some move) (Some found) is = absurd (by_test (nat_le key found.0) is)

@@ -1,5 +1,5 @@
 -- The game of tokens: which moves are legal, and what they lead to (BPMN 2.0.2, 13). Each move's own rule stands in a module of its name.
-use Rattle.std.specs.Prelude.{◌≡◌, [], Bool, IsTrue, Option, Some}
+use Rattle.std.specs.Prelude.{[], Bool, Option}
 use Rattle.zb_rules.specs.Board.{Board}
 use Rattle.zb_rules.specs.declared.board.Move.{Move}
 use Rattle.zb_rules.specs.declared.board.Move.TheVariants as moves
@@ -37,7 +37,3 @@ played b (moves.Finish key) = play_finish b key
 played b (moves.Leave l) = play_leave b l
 played b (moves.Take t) = play_take b t
 played b (moves.Assign a) = play_assign b a
-
--- a legal move
-abbrev pub IsLegal : Board → Move → Board → Type 0
-IsLegal b move after = IsTrue (can b move) × (played b move ≡ Some after)

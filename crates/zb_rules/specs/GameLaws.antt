@@ -9,7 +9,7 @@ use Rattle.zb_rules.specs.declared.board.Phase.TheVariants as phases
 use Rattle.zb_rules.specs.declared.board.Move.{Move}
 use Rattle.zb_rules.specs.declared.board.Move.TheVariants as moves
 use Rattle.zb_rules.specs.declared.board.Take.{Take}
-use Rattle.zb_rules.specs.Board.{Board, cell_at, model_at, in_phase, with_cells, without_cell}
+use Rattle.zb_rules.specs.Board.{Board, cell_at, model_under, in_phase, with_cells, without_cell}
 use Rattle.zb_rules.specs.MoveEnter.{enters}
 use Rattle.zb_rules.specs.MoveLeave.{leaving}
 use Rattle.zb_rules.specs.MoveTake.{rest_of, with_token, play_take}
@@ -68,7 +68,7 @@ module _ {A B : Type 0} where
 -- a legal move can be played
 pub legal_is_played : (b : Board) (move : Move) → IsTrue (can b move) → IsTrue (is_some (played b move))
 legal_is_played b (moves.Stand d) is = refl
-legal_is_played b (moves.Start s) is = mapped_some _ (model_at b s.definition) is
+legal_is_played b (moves.Start s) is = mapped_some _ (model_under b s.definition) is
 legal_is_played b (moves.Enter e) is =
     let there = holds_some _ (cell_at b e.scope) (both_right (is_some (first (enters e) b.tokens)) _ is) in
     chained_some _ (cell_at b e.scope) there (λ c. mapped_some _ (removed (enters e) b.tokens) (removed_some (enters e) b.tokens (both_left (is_some (first (enters e) b.tokens)) _ is)))
@@ -82,10 +82,6 @@ legal_is_played b (moves.Take t) is =
     let there = holds_some _ (cell_at b t.key) is in
     chained_some _ (cell_at b t.key) there (λ c. mapped_some (with_token c.scope t.flow) (leaving (rest_of c.owed) t.key b) (leaving_some (rest_of c.owed) t.key b there))
 legal_is_played b (moves.Assign a) is = mapped_some _ (cell_at b a.scope) (both_left (is_some (cell_at b a.scope)) _ is)
-
--- a flow that is taken makes one token, on that flow, in the scope of the cell that was left
-OneToken : Board → ℕ → List ℕ → Board → Type 0
-OneToken b scope flow after = after.tokens ≡ b.tokens ++ record { scope = scope; spot = spots.OnFlow flow } ∷ []
 
 kept_by : (b after : Board) (key : ℕ) (cells : Option (List Cell)) (with : List Cell → Board) → ((cs : List Cell) → (with cs).tokens ≡ b.tokens) → option_map with cells ≡ Some after → after.tokens ≡ b.tokens
 kept_by b after key None with kept is = absurd (cc)

@@ -1,10 +1,10 @@
 -- Laws of the buffered messages as a log grows by an event.
-use Rattle.std.proofs.Common.{◌≡◌, ℕ, List, [], ◌∷◌, ◌++◌, false, ◌||◌, not, ◌==◌, filter, Option, Some, None, refl, sym, append_assoc, arith}
+use Rattle.std.proofs.Common.{◌≡◌, ℕ, List, [], ◌∷◌, ◌++◌, false, ◌||◌, ◌==◌, Option, Some, None, refl, sym, append_assoc, arith}
 use Rattle.std.specs.Option.{option_map_or}
 use Rattle.zb_exchange_records.specs.declared.message.MessagePublished.{MessagePublished}
 use Rattle.zb_model.specs.declared.record.Event.{Event}
 use Rattle.zb_model.specs.declared.record.Event.TheVariants as events
-use Rattle.zb_rules.specs.Messages.{message_told, expiry_told, has_expired, unexpired, buffered}
+use Rattle.zb_rules.specs.Messages.{message_told, expiry_told, has_expired, unexpired, buffered, without}
 
 -- whether a message has expired, once there is an event more
 has_expired_more : (key : ℕ) (es : List Event) (e : Event) → has_expired key (es ++ e ∷ []) ≡ has_expired key es || option_map_or (λ k. key == k) (expiry_told e) false
@@ -21,10 +21,6 @@ pub buffered_published : (es : List Event) (m : MessagePublished) → buffered (
 buffered_published [] m = refl
 buffered_published (e ∷ es) m =
     rw (unexpired_kept (message_told e) es (events.MessagePublished m) refl, buffered_published es m) (sym (append_assoc (unexpired (message_told e) es) (buffered es) (m ∷ [])))
-
--- the messages but the one with this key
-abbrev pub without : ℕ → List MessagePublished → List MessagePublished
-without key messages = filter (λ m. not (m.key == key)) messages
 
 without_append : (key : ℕ) (xs ys : List MessagePublished) → without key (xs ++ ys) ≡ without key xs ++ without key ys
 without_append key [] ys = refl

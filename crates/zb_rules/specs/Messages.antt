@@ -1,5 +1,5 @@
 -- The messages of a log: queries over all its events.
-use Rattle.std.specs.Prelude.{ℕ, List, [], ◌∷◌, ◌++◌, Bool, false, ◌==◌, nat_le, if◌then◌else◌, Option, Some, None}
+use Rattle.std.specs.Prelude.{ℕ, List, [], ◌∷◌, ◌++◌, Bool, false, ◌==◌, nat_le, if◌then◌else◌, Option, Some, None, not, filter}
 use Rattle.std.specs.Option.{option_map_or}
 use Rattle.std.specs.List.{list_any}
 use Rattle.zb_exchange_records.specs.declared.message.MessagePublished.{MessagePublished}
@@ -42,3 +42,7 @@ message_at key events = first (λ m. m.key == key) (buffered events)
 -- the deadline of a message has come
 abbrev pub is_due : ℕ → MessagePublished → Bool
 is_due now m = nat_le m.deadline now
+
+-- the messages but the one with this key
+abbrev pub without : ℕ → List MessagePublished → List MessagePublished
+without key messages = filter (λ m. not (m.key == key)) messages

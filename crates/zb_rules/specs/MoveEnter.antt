@@ -7,7 +7,7 @@ use Rattle.zb_rules.specs.Edits.{removed, first}
 use Rattle.zb_rules.specs.declared.board.Token.{Token}
 use Rattle.zb_rules.specs.declared.board.Enter.{Enter}
 use Rattle.zb_rules.specs.declared.board.Phase.TheVariants as phases
-use Rattle.zb_rules.specs.Board.{Board, cell_at, model_at, node_at, leads_to, is_spot, spot_of}
+use Rattle.zb_rules.specs.Board.{Board, cell_at, model_under, node_with, leads_to, is_spot, spot_of}
 use Rattle.zb_rules.specs.Doom.{is_called_off}
 
 -- the token that enters
@@ -21,7 +21,7 @@ arrives m node (byte ∷ flow) = leads_to m (byte ∷ flow) node
 
 -- the node is there, and the token comes to it
 abbrev pub comes_by : Board → ℕ → Enter → Bool
-comes_by b definition e = option_map_or (λ m. is_some (node_at m e.node) && arrives m e.node e.via) (model_at b definition) false
+comes_by b definition e = option_map_or (λ m. is_some (node_with m e.node) && arrives m e.node e.via) (model_under b definition) false
 
 -- when: such a token is there, and neither its scope nor a cell above that is terminating (BPMN 2.0.2, 13.3.2)
 abbrev pub can_enter : Board → Enter → Bool

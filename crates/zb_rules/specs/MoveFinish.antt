@@ -6,7 +6,7 @@ use Rattle.zb_process.specs.declared.model.NodeKind.TheVariants as kinds
 use Rattle.zb_rules.specs.Edits.{edited}
 use Rattle.zb_rules.specs.declared.board.Cell.{Cell}
 use Rattle.zb_rules.specs.declared.board.Phase.TheVariants as phases
-use Rattle.zb_rules.specs.Board.{Board, cell_at, model_at, node_at, is_phase, is_root, is_empty, in_phase, with_cells}
+use Rattle.zb_rules.specs.Board.{Board, cell_at, model_under, node_with, is_phase, is_root, is_empty, in_phase, with_cells}
 
 -- a node of this kind waits for nothing once a token has entered it (BPMN 2.0.2, chapter 13: 13.4 gateways, 13.5 events)
 abbrev pub waits_for_nothing : NodeKind → Bool
@@ -25,12 +25,12 @@ waits_for_nothing kinds.CompensationBoundaryEvent = true
 waits_for_nothing kind = false
 
 -- the node of a cell is there, and waits for nothing
-abbrev pub goes_on : Board → Cell → Bool
-goes_on b c = option_map_or (λ n. waits_for_nothing n.kind) (option_and_then (λ m. node_at m c.node) (model_at b c.definition)) false
+abbrev pub node_goes_on : Board → Cell → Bool
+node_goes_on b c = option_map_or (λ n. waits_for_nothing n.kind) (option_and_then (λ m. node_with m c.node) (model_under b c.definition)) false
 
 -- nothing is left that a cell waits for; a root waits for what is in it
 abbrev pub is_done : Board → Cell → Bool
-is_done b c = if is_root c then is_empty b c.key else goes_on b c
+is_done b c = if is_root c then is_empty b c.key else node_goes_on b c
 
 -- when: it is active, and waits for nothing (BPMN 2.0.2, 13.3.2; a process: 13.2)
 abbrev pub can_finish : Board → ℕ → Bool

@@ -6,11 +6,11 @@ use Rattle.zb_rules.specs.Edits.{edited, removed}
 use Rattle.zb_rules.specs.declared.board.Cell.{Cell}
 use Rattle.zb_rules.specs.declared.board.Leave.{Leave}
 use Rattle.zb_rules.specs.declared.board.Phase.TheVariants as phases
-use Rattle.zb_rules.specs.Board.{Board, cell_at, model_at, flows_out, is_phase, is_root, in_phase, with_cells, without_cell}
+use Rattle.zb_rules.specs.Board.{Board, cell_at, model_under, flows_out, is_phase, is_root, in_phase, with_cells, without_cell}
 
 -- the flows that it owes; a root owes none
 abbrev pub owed_by : Board → Cell → List (List ℕ)
-owed_by b c = if is_root c then [] else option_map_or (λ m. flows_out m c.node) (model_at b c.definition) []
+owed_by b c = if is_root c then [] else option_map_or (λ m. flows_out m c.node) (model_under b c.definition) []
 
 -- two lists of ids are the same
 abbrev pub ids_eq : List (List ℕ) → List (List ℕ) → Bool

@@ -6,12 +6,12 @@ use Rattle.zb_rules.specs.declared.board.Cell.{Cell}
 use Rattle.zb_rules.specs.declared.board.Token.{Token}
 use Rattle.zb_rules.specs.declared.board.Phase.TheVariants as phases
 use Rattle.zb_rules.specs.declared.board.Spot.TheVariants as spots
-use Rattle.zb_rules.specs.Board.{Board, cell_at, model_at, start_in, is_phase, is_root, in_phase, with_cells, with_tokens}
+use Rattle.zb_rules.specs.Board.{Board, cell_at, model_under, start_in, is_phase, is_root, in_phase, with_cells, with_tokens}
 
 -- the tokens that a cell gets
 abbrev pub first_tokens : Board → Cell → List Token
 first_tokens b c = if is_root c
-    then option_map_or (λ n. record { scope = c.key; spot = spots.BeforeNode n.id } ∷ []) (option_and_then (λ m. start_in m []) (model_at b c.definition)) []
+    then option_map_or (λ n. record { scope = c.key; spot = spots.BeforeNode n.id } ∷ []) (option_and_then (λ m. start_in m []) (model_under b c.definition)) []
     else []
 
 -- when: it is activating (BPMN 2.0.2, 13.3.2)

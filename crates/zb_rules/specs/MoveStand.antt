@@ -1,11 +1,11 @@
 -- A model stands under a key: a process is deployed.
 use Rattle.std.specs.Prelude.{[], ◌∷◌, ◌++◌, Bool, not, is_some, Option, Some}
 use Rattle.zb_rules.specs.declared.board.Deployed.{Deployed}
-use Rattle.zb_rules.specs.Board.{Board, model_at}
+use Rattle.zb_rules.specs.Board.{Board, model_under}
 
 -- when: no model stands under its key
 abbrev pub can_stand : Board → Deployed → Bool
-can_stand b d = not (is_some (model_at b d.key))
+can_stand b d = not (is_some (model_under b d.key))
 
 -- effect: the model stands there
 abbrev pub play_stand : Board → Deployed → Option Board

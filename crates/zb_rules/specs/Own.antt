@@ -10,12 +10,12 @@ use Rattle.zb_rules.specs.Create.{created}
 use Rattle.zb_rules.specs.Expire.{expired}
 
 -- a command that is run so far
-abbrev pub IsRun : Command → Type 0
-IsRun (commands.DeploymentCreate m) = Unit {0}
-IsRun (commands.ProcessInstanceCreationCreate c) = Unit {0}
-IsRun (commands.MessagePublish c) = Unit {0}
-IsRun (commands.MessageExpire key) = Unit {0}
-IsRun _ = ⊥
+abbrev pub IsSupported : Command → Type 0
+IsSupported (commands.DeploymentCreate m) = Unit {0}
+IsSupported (commands.ProcessInstanceCreationCreate c) = Unit {0}
+IsSupported (commands.MessagePublish c) = Unit {0}
+IsSupported (commands.MessageExpire key) = Unit {0}
+IsSupported _ = ⊥
 
 -- the events that a command makes of those before it, at a moment of partition p; None of a command that isn't run
 abbrev pub own_events : ℕ → List Event → ℕ → Command → Option (List Event)

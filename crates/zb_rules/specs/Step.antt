@@ -5,7 +5,7 @@ use Rattle.zb_model.specs.declared.record.Outcome.{Outcome}
 use Rattle.zb_model.specs.declared.record.Outcome.TheVariants as outcomes
 use Rattle.zb_model.specs.declared.record.Rejection.{Rejection}
 use Rattle.zb_model.specs.declared.record.Batch.{Batch}
-use Rattle.zb_rules.specs.View.{events_of, last_moment}
+use Rattle.zb_rules.specs.View.{events_of, moment_of_last}
 use Rattle.zb_rules.specs.Reason.{reason_for}
 use Rattle.zb_rules.specs.Own.{own_events}
 use Rattle.zb_rules.specs.Applies.{all_apply}
@@ -22,16 +22,16 @@ pub record IsAcceptance (p : ℕ) (before : List Event) (own : Option (List Even
   pub accepted : outcome ≡ outcomes.Accepted (events ++ rest)
 
 -- a command with a reason is rejected by it; one without is run
-abbrev pub IsOutcome : ℕ → List Event → Option Rejection → Option (List Event) → Outcome → Type 0
-IsOutcome p before (Some rejection) own outcome = outcome ≡ outcomes.Rejected rejection
-IsOutcome p before None own outcome = IsAcceptance p before own outcome
+abbrev pub IsOutcomeOf : ℕ → List Event → Option Rejection → Option (List Event) → Outcome → Type 0
+IsOutcomeOf p before (Some rejection) own outcome = outcome ≡ outcomes.Rejected rejection
+IsOutcomeOf p before None own outcome = IsAcceptance p before own outcome
 
 -- at partition p the batch is a step on this log
 pub record IsStep (p : ℕ) (log : List Batch) (batch : Batch) : Type 0 where
   -- time doesn't go back
-  pub in_time : last_moment log ≤ batch.moment
+  pub in_time : moment_of_last log ≤ batch.moment
   -- the command is rejected exactly where there is a reason; else it is run, and its batch settles
-  pub outcome : IsOutcome p (events_of log) (reason_for (events_of log) batch.moment batch.command) (own_events p (events_of log) batch.moment batch.command) batch.outcome
+  pub outcome : IsOutcomeOf p (events_of log) (reason_for (events_of log) batch.moment batch.command) (own_events p (events_of log) batch.moment batch.command) batch.outcome
 
 -- each of these batches has this relation to the log and those before it
 abbrev pub EachOn : (List Batch → Batch → Type 0) → List Batch → List Batch → Type 0

@@ -7,7 +7,7 @@ use Rattle.std.proofs.lemmas.Bool.{cases_lt}
 use Rattle.std.proofs.Math.Seq.{take-append_seam, get_or-append_seam}
 use Rattle.zb_model.specs.declared.record.Event.{Event}
 use Rattle.zb_model.specs.declared.record.Batch.{Batch}
-use Rattle.zb_rules.specs.View.{events_in, events_of, keys_in, greatest_among, greatest_counter, last_moment}
+use Rattle.zb_rules.specs.View.{events_in, events_of, keys_in, greatest_among, greatest_counter, moment_of_last}
 use Rattle.zb_rules.specs.Step.{IsStep, EachOn, AreStepsOn}
 use Rattle.zb_rules.specs.Applies.{applies, all_apply}
 
@@ -27,10 +27,10 @@ pub greatest_counter_more : (p : ℕ) (before more : List Event) → greatest_co
 greatest_counter_more p before more = rw (flat_map-append keys_in before more, greatest_among_more)
 
 -- the last moment of a log that grew
-pub last_moment_more : (log : List Batch) (batch : Batch) → last_moment (log ++ batch ∷ []) ≡ batch.moment
-last_moment_more [] batch = refl
-last_moment_more (first ∷ []) batch = refl
-last_moment_more (first ∷ next ∷ log) batch = last_moment_more (next ∷ log) batch
+pub moment_of_last_more : (log : List Batch) (batch : Batch) → moment_of_last (log ++ batch ∷ []) ≡ batch.moment
+moment_of_last_more [] batch = refl
+moment_of_last_more (first ∷ []) batch = refl
+moment_of_last_more (first ∷ next ∷ log) batch = moment_of_last_more (next ∷ log) batch
 
 -- each of no batches
 pub each_on_none : (R : List Batch → Batch → Type 0) (log : List Batch) → EachOn R log []

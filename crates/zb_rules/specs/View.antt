@@ -84,7 +84,7 @@ abbrev pub next_key : ℕ → List Event → ℕ
 next_key p events = key_of p (greatest_counter p events + 1)
 
 -- the moment of the last batch, or 0
-abbrev pub last_moment : List Batch → ℕ
-last_moment [] = 0
-last_moment (batch ∷ []) = batch.moment
-last_moment (batch ∷ next ∷ log) = last_moment (next ∷ log)
+abbrev pub moment_of_last : List Batch → ℕ
+moment_of_last [] = 0
+moment_of_last (batch ∷ []) = batch.moment
+moment_of_last (batch ∷ next ∷ log) = moment_of_last (next ∷ log)

@@ -4,22 +4,19 @@ ghost use Rattle.zb_model.specs.declared.record.Command.{Command};
 ghost use Rattle.zb_model.specs.declared.record.Command.TheVariants as commands;
 ghost use Rattle.zb_model.specs.declared.record.Event.{Event};
 ghost use Rattle.zb_model.specs.declared.record.Event.TheVariants as events;
-ghost use Rattle.zb_rules.specs.Messages.{buffered};
-ghost use Rattle.zb_rules.specs.MessageLaws.{without};
+ghost use Rattle.zb_rules.specs.Messages.{buffered, without};
 ghost use Rattle.zb_rules.specs.Reason.{reason_for};
-ghost use Rattle.zb_rules.specs.Own.{IsRun};
-ghost use Rattle.zb_rules.specs.Due.{due_command};
-ghost use Rattle.zb_rules.specs.DueLaws.{IsFirstDue};
+ghost use Rattle.zb_rules.specs.Own.{IsSupported};
+ghost use Rattle.zb_rules.specs.Due.{due_command, IsFirstDue};
 ghost use Rattle.zb_rules.specs.declared.board.Cell.{Cell};
 ghost use Rattle.zb_rules.specs.declared.board.Move.{Move};
 ghost use Rattle.zb_rules.specs.declared.board.Spot.TheVariants as spots;
 ghost use Rattle.zb_rules.specs.declared.board.Take.{Take};
-ghost use Rattle.zb_rules.specs.Board.{Board, cell_at};
+ghost use Rattle.zb_rules.specs.Board.{Board, cell_at, CellsAscend};
 ghost use Rattle.zb_rules.specs.Game.{can, played};
 ghost use Rattle.zb_rules.specs.MoveTake.{play_take};
 ghost use Rattle.zb_rules.specs.Doom.{is_doomed};
-ghost use Rattle.zb_rules.specs.Forced.{forced_at, next_forced};
-ghost use Rattle.zb_rules.specs.ForcedLaws.{Ascend, IsQuiet, NoneForced, NoneEnters};
+ghost use Rattle.zb_rules.specs.Forced.{forced_at, next_forced, NoneForced, NoneEnters, IsQuiet};
 
 /// What an event more makes of the buffered messages.
 pub fn buffered_grows()
@@ -29,7 +26,7 @@ pub fn buffered_grows()
 
 /// A forced move is legal, where the cells stand in the order of their keys.
 pub fn forced_moves_are_legal()
-    ensures { (board : Board) (key : ℕ) (move : Move) → Ascend 0 board.cells → next_forced board key ≡ Some move → IsTrue (can board move) }
+    ensures { (board : Board) (key : ℕ) (move : Move) → CellsAscend 0 board.cells → next_forced board key ≡ Some move → IsTrue (can board move) }
 {}
 
 /// A cell that is called off is forced to none of these moves. Those that end it, Halt and Gone, aren't built yet.
@@ -64,5 +61,5 @@ pub fn due_commands_come_first()
 /// From the moment at which a command is due there is no reason against it, and it is one that is run.
 pub fn due_commands_have_no_reason()
     ensures no_reason { (now moment : ℕ) (es : List Event) (command : Command) → now ≤ moment → due_command now es ≡ Some command → reason_for es moment command ≡ None }
-    ensures run { (now : ℕ) (es : List Event) (command : Command) → due_command now es ≡ Some command → IsRun command }
+    ensures run { (now : ℕ) (es : List Event) (command : Command) → due_command now es ≡ Some command → IsSupported command }
 {}

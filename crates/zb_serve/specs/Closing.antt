@@ -9,7 +9,7 @@ use Rattle.zb_serve.specs.Hours.{setting_of}
 use Rattle.zb_serve.specs.Words.{IsPlanned}
 use Rattle.zb_serve.specs.Ends.{Told, sessions_ends, logs_ends, images_at, since_at, IsSafe}
 use Rattle.zb_serve.specs.Cause.{status_of}
-use Rattle.zb_serve.specs.Served.{IsRun, slots_of}
+use Rattle.zb_serve.specs.Served.{IsRun, slots_of_all}
 use Rattle.zb_serve.specs.declared.run.Session.{Session}
 use Rattle.zb_serve.specs.declared.run.Closed.{Closed}
 use Rattle.zb_serve.specs.declared.run.Cause.TheVariants as causes
@@ -31,7 +31,7 @@ pub record Closes {S K D : Type 0} (told : Told) (source : S → SourceView) (si
   -- everything is handed back in order, and the slots for snapshots as they were
   pub same_sessions : length closed.sessions.items ≡ length sessions
   pub same_volumes : length closed.volumes.items ≡ length volumes
-  pub slots : slots_of closed.volumes.items ≡ slots_of volumes
+  pub slots : slots_of_all closed.volumes.items ≡ slots_of_all volumes
   -- no unit of work is left to do after the last line
   pub units : closed.units ≡ 0
   -- what the run is, by the plan of the words: its causes, its logs, its sessions, and what a crash leaves, now and ever

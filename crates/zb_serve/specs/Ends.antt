@@ -30,6 +30,7 @@ pub record Told : Type 0 where
   pub sink_counts : Bool
   pub disk_counts : Bool
 
+-- what the types tell, one after another
 abbrev pub told : Bool → Bool → Bool → Bool → Bool → Bool → Bool → Bool → Bool → Told
 told source sink disk images sink_memory disk_memory source_counts sink_counts disk_counts = record {
   source = source;

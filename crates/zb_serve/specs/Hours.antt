@@ -24,6 +24,7 @@ abbrev pub moved_by : Result Request LineFault → ℕ
 moved_by (Ok (requests.Advance ms)) = ms
 moved_by _ = 0
 
+-- how far a line moves the clock that is moved by hand
 abbrev pub advance_of : List ℕ → ℕ
 advance_of line = moved_by (request_of true line)
 
@@ -39,14 +40,15 @@ IsReadingOf (real tells moments) lines reading = (reading ≤ last_moment)
     × (IsTrue tells → (moment : ℕ) × Contains moments moment × (reading ≡ min moment last_moment))
 
 -- what a run goes by: its clock, and how many bytes a log may have
-pub record Setting : Type 0 where
+pub record RunSetting : Type 0 where
   pub hours : Hours
   pub limit : ℕ
 
+-- the clock of a run, by its kind and by the moments that it may tell
 abbrev pub hours_of : ClockKind → Bool → List ℕ → Hours
 hours_of kinds.Manual tells moments = manual
 hours_of kinds.Real tells moments = real tells moments
 
 -- what a run goes by under a plan, with a real clock at hand that may tell the moments that it reads
-abbrev pub setting_of : Plan → Bool → List ℕ → Setting
+abbrev pub setting_of : Plan → Bool → List ℕ → RunSetting
 setting_of plan tells moments = record { hours = hours_of plan.clock tells moments; limit = plan.limit }

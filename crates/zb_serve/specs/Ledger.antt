@@ -9,12 +9,12 @@ use Rattle.zb_model.specs.declared.stop.Stop.{Stop}
 use Rattle.zb_store.specs.Calls.{LeavesOnly}
 use Rattle.zb_store.specs.Log.{extent}
 use Rattle.zb_store.specs.Stands.{Stands}
-use Rattle.zb_rules.specs.View.{last_moment}
+use Rattle.zb_rules.specs.View.{moment_of_last}
 use Rattle.zb_rules.specs.Step.{AreStepsOn}
 use Rattle.zb_wire.specs.declared.request.Request.{Request}
 use Rattle.zb_wire.specs.declared.request.Request.TheVariants as requests
 use Rattle.zb_partition.specs.Log.{bodies_of, AreBatches}
-use Rattle.zb_partition.specs.Partition.{place_of, limit_of, is_live, HasLog}
+use Rattle.zb_partition.specs.Partition.{partition_number_of, limit_of, is_live, HasLog}
 use Rattle.zb_partition.specs.Stopping.{IsLeft, IsHurt, IsStepOf, IsStopCause}
 use Rattle.zb_partition.specs.declared.partition.Partition.{Partition}
 use Rattle.zb_serve.specs.Log.{IsFront}
@@ -27,7 +27,7 @@ pub record IsStored (tells tells_images : Bool) (view : DiskView) (images : List
   pub crash : IsTrue tells_images → (image : List ℕ) → images image → Stands image (bodies_of log)
 
 -- these batches were made on an opened log of at most so many bytes, and have these places; all fit their spelling
-pub record IsMade (limit : ℕ) (opened made : List Batch) (places : List ℕ) : Type 0 where
+pub record AreMadeBatches (limit : ℕ) (opened made : List Batch) (places : List ℕ) : Type 0 where
   pub stamps : places ≡ range_with_len (length opened) (length made)
   pub stamped : AllZip IsStamped places made
   pub steps : AreStepsOn 1 opened made
@@ -38,13 +38,13 @@ pub record IsMade (limit : ℕ) (opened made : List Batch) (places : List ℕ) :
 pub record IsOpen {D : Type 0} {disks : Ghosts D} (limit : ℕ) (partition : Partition D disks) (log : List Batch) : Type 0 where
   pub has : HasLog log partition
   pub live : IsTrue (is_live partition)
-  pub place : place_of partition ≡ 1
+  pub place : partition_number_of partition ≡ 1
   pub most : limit_of partition ≡ limit
 
 -- more batches were made, behind those that had been made before: the log has them, and a crash since left a front of it
 pub record IsGrown (tells tells_images : Bool) (limit : ℕ) (old new : DiskView) (images : List ℕ → Type 0) (past since : ℕ → List ℕ → Type 0)
     (Has : List Batch → Type 0) (places : List ℕ) (opened before more : List Batch) : Type 0 where
-  pub made : IsMade limit opened (before ++ more) places
+  pub made : AreMadeBatches limit opened (before ++ more) places
   pub has : Has (opened ++ (before ++ more))
   pub stored : IsStored tells tells_images new images (opened ++ (before ++ more))
   pub time : IsTrue tells_images → LeavesOnly old.moment new.moment past since (IsFront (opened ++ before) more)
@@ -53,9 +53,9 @@ pub record IsGrown (tells tells_images : Bool) (limit : ℕ) (old new : DiskView
 -- made and isn't in the log, if there is one, and what the disk holds
 pub record IsHeldUp (tells tells_images takes_memory : Bool) (limit : ℕ) (old new : DiskView) (images : List ℕ → Type 0) (past since : ℕ → List ℕ → Type 0)
     (places : List ℕ) (opened before more : List Batch) (reading : ℕ) (command : Command) (in_writing : Option Batch) (stop : Stop) : Type 0 where
-  pub made : IsMade limit opened (before ++ more) places
+  pub made : AreMadeBatches limit opened (before ++ more) places
   pub refused : Option Batch
-  pub next : (batch : Batch) → refused ≡ Some batch → IsStepOf 1 (opened ++ (before ++ more)) (max (last_moment (opened ++ (before ++ more))) reading) (length (opened ++ (before ++ more))) command batch
+  pub next : (batch : Batch) → refused ≡ Some batch → IsStepOf 1 (opened ++ (before ++ more)) (max (moment_of_last (opened ++ (before ++ more))) reading) (length (opened ++ (before ++ more))) command batch
   pub cause : IsStopCause old.faults new.faults limit (opened ++ (before ++ more)) refused in_writing stop
   pub file : IsTrue tells → IsLeft (IsHurt takes_memory old.faults new.faults) (opened ++ (before ++ more)) in_writing new.contents
   pub crash : IsTrue tells_images → (image : List ℕ) → images image → IsLeft (IsHurt takes_memory old.faults new.faults) (opened ++ (before ++ more)) in_writing image
@@ -67,7 +67,7 @@ pub record IsAdded (tells tells_images : Bool) (limit reading : ℕ) (command : 
     (past since : ℕ → List ℕ → Type 0) (Has : List Batch → Type 0) (places : List ℕ) : Type 0 where
   pub batch : Batch
   pub is : batch.command ≡ command
-  pub moment : batch.moment ≡ max (last_moment (opened ++ before)) reading
+  pub moment : batch.moment ≡ max (moment_of_last (opened ++ before)) reading
   pub grown : IsGrown tells tells_images limit old new images past since Has places opened before (batch ∷ [])
 
 -- a tick was served at a reading: it made so many batches, and no more are due, or it may make no more

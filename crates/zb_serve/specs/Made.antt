@@ -2,7 +2,7 @@
 use Rattle.std.specs.Prelude.{◌≡◌, nat_lt, max, if◌then◌else◌, ℕ, List, [], ◌∷◌, ◌++◌, length, Option, Some, None}
 use Rattle.zb_model.specs.declared.record.Batch.{Batch}
 use Rattle.zb_model.specs.declared.record.Command.{Command}
-use Rattle.zb_rules.specs.View.{events_of, last_moment}
+use Rattle.zb_rules.specs.View.{events_of, moment_of_last}
 use Rattle.zb_rules.specs.Step.{EachOn}
 use Rattle.zb_rules.specs.Due.{due_command}
 use Rattle.zb_wire.specs.declared.request.Request.{Request}
@@ -27,7 +27,7 @@ asked request reading log (batch ∷ done) = None
 -- of the log and the reading
 pub record IsMadeNext (request : Request) (reading : ℕ) (log done : List Batch) (batch : Batch) : Type 0 where
   pub command : asked request reading log done ≡ Some batch.command
-  pub moment : batch.moment ≡ max (last_moment (log ++ done)) reading
+  pub moment : batch.moment ≡ max (moment_of_last (log ++ done)) reading
 
 -- a request made these batches, one after the other, behind a log
 abbrev pub AreMadeFor : Request → ℕ → List Batch → List Batch → Type 0

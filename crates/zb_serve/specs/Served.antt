@@ -11,7 +11,7 @@ use Rattle.zb_serve.specs.Cause.{comes_before}
 use Rattle.zb_serve.specs.Order.{WasMet}
 use Rattle.zb_serve.specs.Session.{SessionRun, IsSession, batches_of}
 use Rattle.zb_partition.specs.Log.{IsBadAt}
-use Rattle.zb_serve.specs.Hours.{Hours, is_manual, IsReadingOf, Setting}
+use Rattle.zb_serve.specs.Hours.{Hours, is_manual, IsReadingOf, RunSetting}
 use Rattle.zb_serve.specs.Made.{AreMadeFor, IsMadeNext}
 use Rattle.zb_serve.specs.Log.{Growth, whole_of, IsLog, IsKept, WasLeft}
 use Rattle.zb_store.specs.declared.volume.Volume.{Volume}
@@ -42,6 +42,7 @@ IsStamped stamp batch = batch.begin ≡ stamp
 abbrev pub all_opened : List Growth → List Batch
 all_opened growths = flat_map (λ growth. growth.opened) growths
 
+-- the batches that the run made, in all logs
 abbrev pub all_made : List Growth → List Batch
 all_made growths = flat_map (λ growth. growth.made) growths
 
@@ -85,7 +86,7 @@ IsUndone hours runs cause silent unlogged = ((silent ≡ []) × (unlogged ≡ No
 
 -- a run whose logs were opened: its sessions, its logs, and its cause, and what a crash might have left of each log
 -- before the run, may leave now, and might have left at some moment since the run began
-pub record Serves (told : Told) (setting : Setting) (streams : List SessionEnds) (volumes : List LogEnds) (before images : ℕ → List ℕ → Type 0) (since : (place moment : ℕ) → List ℕ → Type 0)
+pub record Serves (told : Told) (setting : RunSetting) (streams : List SessionEnds) (volumes : List LogEnds) (before images : ℕ → List ℕ → Type 0) (since : (place moment : ℕ) → List ℕ → Type 0)
     (cause : Cause) (stamps : List (List ℕ)) : Type 0 where
   -- each session's part, the batches of each partition, the batches of a line that was not answered, and the batch
   -- that was made last and isn't in its log
@@ -144,7 +145,7 @@ IsSpared told ends = IsTrue told.disk → (1 < length ends.disk.contents → end
     × (length ends.disk.contents ≤ 1 → length ends.disk_after.contents ≤ 1)
 
 -- a run of planned words: its logs were opened, and then it has stamps for each of them, or they weren't
-abbrev pub IsRun : Told → Setting → List SessionEnds → List LogEnds → (before images : ℕ → List ℕ → Type 0) → (since : (place moment : ℕ) → List ℕ → Type 0) → Cause → List (List ℕ) → Type 0
+abbrev pub IsRun : Told → RunSetting → List SessionEnds → List LogEnds → (before images : ℕ → List ℕ → Type 0) → (since : (place moment : ℕ) → List ℕ → Type 0) → Cause → List (List ℕ) → Type 0
 IsRun told setting streams volumes before images since cause [] = FailsToOpen told volumes cause × AllByRecursion (IsSpared told) volumes
 IsRun told setting streams volumes before images since cause (first ∷ more) = Serves told setting streams volumes before images since cause (first ∷ more)
 
@@ -152,6 +153,7 @@ IsRun told setting streams volumes before images since cause (first ∷ more) = 
 abbrev pub slots_in : {D : Type 0} → Volume D → D × D
 slots_in volume = (volume.snap_a, volume.snap_b)
 
-abbrev pub slots_of : {D : Type 0} → List (Volume D) → List (D × D)
-slots_of [] = []
-slots_of (volume ∷ volumes) = slots_in volume ∷ slots_of volumes
+-- the slots for snapshots of each volume
+abbrev pub slots_of_all : {D : Type 0} → List (Volume D) → List (D × D)
+slots_of_all [] = []
+slots_of_all (volume ∷ volumes) = slots_in volume ∷ slots_of_all volumes

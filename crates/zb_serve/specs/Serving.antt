@@ -11,7 +11,7 @@ use Rattle.zb_model.specs.declared.stop.Stop.{Stop}
 use Rattle.zb_model.specs.declared.stop.Stop.TheVariants as stops
 use Rattle.zb_store.specs.Calls.{IsByFirstCall}
 use Rattle.zb_store.specs.Stands.{Stands}
-use Rattle.zb_lines.specs.Taken.{Takes}
+use Rattle.zb_lines.specs.Taken.{TakesBytes}
 use Rattle.zb_lines.specs.Line.{IsOneLine, ended}
 use Rattle.zb_lines.specs.declared.reader.Next.{Next}
 use Rattle.zb_lines.specs.declared.reader.Next.TheVariants as nexts
@@ -23,11 +23,11 @@ use Rattle.zb_partition.specs.declared.fault.OpenFault.TheVariants as faults
 use Rattle.zb_words.specs.declared.plan.ClockKind.{ClockKind}
 use Rattle.zb_words.specs.declared.plan.ClockKind.TheVariants as kinds
 use Rattle.zb_serve.specs.Ends.{Told, SessionEnds, LogEnds}
-use Rattle.zb_serve.specs.Hours.{Hours, manual, real, is_manual, clock_after, IsReadingOf, Setting}
+use Rattle.zb_serve.specs.Hours.{Hours, manual, real, is_manual, clock_after, IsReadingOf, RunSetting}
 use Rattle.zb_serve.specs.Made.{AreMadeFor, IsServed}
 use Rattle.zb_serve.specs.Log.{IsFront}
 use Rattle.zb_serve.specs.Session.{Answer, IsAnswer, AreAnswers, batches_of, replies_of, most_taken}
-use Rattle.zb_serve.specs.Ledger.{IsStored, IsMade, IsGrown, IsCut}
+use Rattle.zb_serve.specs.Ledger.{IsStored, AreMadeBatches, IsGrown, IsCut}
 use Rattle.zb_serve.specs.Served.{Serves}
 use Rattle.zb_serve.specs.declared.run.Cause.{Cause}
 use Rattle.zb_serve.specs.declared.run.Cause.TheVariants as causes
@@ -35,12 +35,13 @@ use Rattle.zb_serve.specs.declared.run.End.{End}
 use Rattle.zb_serve.specs.declared.run.End.TheVariants as ends
 
 -- what a run of one session and one volume began with
-pub record Start : Type 0 where
+pub record RunStart : Type 0 where
   pub source : SourceView
   pub sink : SinkView
   pub disk : DiskView
 
-abbrev pub start_of : SourceView → SinkView → DiskView → Start
+-- what a run began with, by its devices
+abbrev pub start_of : SourceView → SinkView → DiskView → RunStart
 start_of source sink disk = record { source = source; sink = sink; disk = disk }
 
 -- what it has come to
@@ -49,6 +50,7 @@ pub record Now : Type 0 where
   pub sink : SinkView
   pub disk : DiskView
 
+-- what a run has come to, by its devices
 abbrev pub now_of : SourceView → SinkView → DiskView → Now
 now_of source sink disk = record { source = source; sink = sink; disk = disk }
 
@@ -63,6 +65,7 @@ pub record Clocks : Type 0 where
   pub tells : Bool
   pub moments : List ℕ
 
+-- the clocks of a run, by what they stand at and may tell
 abbrev pub clocks_of : Option ℕ → Bool → List ℕ → Clocks
 clocks_of dial tells moments = record { dial = dial; tells = tells; moments = moments }
 
@@ -72,7 +75,7 @@ AreAt manual lines clocks = clocks.dial ≡ Some (clock_after lines)
 AreAt (real tells moments) lines clocks = (clocks.dial ≡ None) × (tells ≡ clocks.tells) × (moments ≡ clocks.moments)
 
 -- no device has failed since the run began, as its count tells where it counts nothing but failures
-pub record IsSteady (told : Told) (start : Start) (now : Now) : Type 0 where
+pub record IsSteady (told : Told) (start : RunStart) (now : Now) : Type 0 where
   pub source : IsTrue told.source_counts → now.source.faults ≡ start.source.faults
   pub sink : IsTrue told.sink_counts → now.sink.faults ≡ start.sink.faults
   pub disk : IsTrue told.disk_counts → now.disk.faults ≡ start.disk.faults
@@ -80,13 +83,13 @@ pub record IsSteady (told : Told) (start : Start) (now : Now) : Type 0 where
 -- Every line before the one with this number was served; `held` are the bytes behind them that were taken, `budget` is
 -- how many may still be. The partition has the log of which `Has` holds. A crash might have left `before` of it as the
 -- run began, may leave `images` now, and might have left what `since` says from a moment on.
-pub record IsServing (told : Told) (setting : Setting) (start : Start) (now : Now) (before images : List ℕ → Type 0) (since : ℕ → List ℕ → Type 0)
+pub record IsServing (told : Told) (setting : RunSetting) (start : RunStart) (now : Now) (before images : List ℕ → Type 0) (since : ℕ → List ℕ → Type 0)
     (Has : List Batch → Type 0) (places : List ℕ) (clocks : Clocks) (held : List ℕ) (budget number : ℕ) : Type 0 where
   pub opened : List Batch
   pub taken : List ℕ
   pub lines : List (List ℕ)
   pub answers : List Answer
-  pub takes : Takes told.source start.source now.source taken
+  pub takes : TakesBytes told.source start.source now.source taken
   pub spent : length taken + budget ≡ most_taken
   pub whole : taken ≡ flat_map ended lines ++ held
   pub each : AllByRecursion IsOneLine lines
@@ -96,7 +99,7 @@ pub record IsServing (told : Told) (setting : Setting) (start : Start) (now : No
   pub sent : IsTrue told.sink → now.sink.written ≡ start.sink.written ++ replies_of answers
   pub stood : IsTrue told.disk → Stands start.disk.contents (bodies_of opened)
   pub applied : IsApplied 1 opened
-  pub made : IsMade setting.limit opened (batches_of answers) places
+  pub made : AreMadeBatches setting.limit opened (batches_of answers) places
   pub has : Has (opened ++ batches_of answers)
   pub stored : IsStored told.disk told.images now.disk images (opened ++ batches_of answers)
   -- when the log was open: a crash since then left a front of it, and one before what one before the run might have left
@@ -116,19 +119,20 @@ pub record Past : Type 0 where
   pub opened : List Batch
   pub made : List Batch
 
+-- the log behind these lines
 abbrev pub log_of : Past → List Batch
 log_of past = past.opened ++ past.made
 
 -- a line comes next, of which as much was kept as shows its request
-pub record ComesNext (setting : Setting) (past : Past) (Has : List Batch → Type 0) (places : List ℕ) (clocks : Clocks) (number : ℕ) (line shown : List ℕ) : Type 0 where
+pub record ComesNext (setting : RunSetting) (past : Past) (Has : List Batch → Type 0) (places : List ℕ) (clocks : Clocks) (number : ℕ) (line shown : List ℕ) : Type 0 where
   pub count : number ≡ length past.lines + 1
   pub clock : AreAt setting.hours past.lines clocks
-  pub made : IsMade setting.limit past.opened past.made places
+  pub made : AreMadeBatches setting.limit past.opened past.made places
   pub has : Has (log_of past)
   pub same : request_of (is_manual setting.hours) shown ≡ request_of (is_manual setting.hours) line
 
 -- the line was answered, and its batches are in the log
-pub record IsAnswered (tells tells_images : Bool) (setting : Setting) (past : Past) (line reply : List ℕ) (old new : DiskView) (images : List ℕ → Type 0) (gone since : ℕ → List ℕ → Type 0)
+pub record IsAnswered (tells tells_images : Bool) (setting : RunSetting) (past : Past) (line reply : List ℕ) (old new : DiskView) (images : List ℕ → Type 0) (gone since : ℕ → List ℕ → Type 0)
     (Has : List Batch → Type 0) (places : List ℕ) (clocks : Clocks) : Type 0 where
   pub reading : ℕ
   pub batches : List Batch
@@ -161,7 +165,7 @@ IsUnserved tells tells_images takes_memory limit request reading opened before o
 IsUnserved tells tells_images takes_memory limit request reading opened before old new images gone since Has places in_writing ends.InputFull = ⊥
 
 -- its reply was written
-pub record IsReplied (told : Told) (setting : Setting) (past : Past) (line : List ℕ) (old new : Now) (images : List ℕ → Type 0) (gone since : ℕ → List ℕ → Type 0)
+pub record IsReplied (told : Told) (setting : RunSetting) (past : Past) (line : List ℕ) (old new : Now) (images : List ℕ → Type 0) (gone since : ℕ → List ℕ → Type 0)
     (Has : List Batch → Type 0) (places : List ℕ) (clocks : Clocks) : Type 0 where
   pub reply : List ℕ
   pub answered : IsAnswered told.disk told.images setting past line reply old.disk new.disk images gone since Has places clocks
@@ -177,7 +181,7 @@ IsSinkEnd takes_memory old new ends.InputFull = ⊥
 IsSinkEnd takes_memory old new (ends.Stopped stop) = ⊥
 
 -- its reply was not written, or a front of it, for this reason
-pub record IsUnsent (told : Told) (setting : Setting) (past : Past) (line : List ℕ) (old new : Now) (images : List ℕ → Type 0) (gone since : ℕ → List ℕ → Type 0)
+pub record IsUnsent (told : Told) (setting : RunSetting) (past : Past) (line : List ℕ) (old new : Now) (images : List ℕ → Type 0) (gone since : ℕ → List ℕ → Type 0)
     (Has : List Batch → Type 0) (places : List ℕ) (clocks : Clocks) (end : End) : Type 0 where
   pub reply : List ℕ
   pub answered : IsAnswered told.disk told.images setting past line reply old.disk new.disk images gone since Has places clocks
@@ -192,19 +196,19 @@ pub record Asks (hours : Hours) (past : Past) (line : List ℕ) : Type 0 where
   pub read : IsReadingOf hours (past.lines ++ line ∷ []) reading
 
 -- memory ran out while a line was answered: before it was known for a request, or once that had made these batches
-abbrev pub IsForgotten : (tells tells_images : Bool) → Setting → Past → List ℕ → DiskView → DiskView → (List ℕ → Type 0) → (gone since : ℕ → List ℕ → Type 0)
+abbrev pub IsForgotten : (tells tells_images : Bool) → RunSetting → Past → List ℕ → DiskView → DiskView → (List ℕ → Type 0) → (gone since : ℕ → List ℕ → Type 0)
     → (List Batch → Type 0) → List ℕ → Type 0
 IsForgotten tells tells_images setting past line old new images gone since Has places = IsGrown tells tells_images setting.limit old new images gone since Has places past.opened past.made []
     ⊎ ((asks : Asks setting.hours past line) × IsDropped tells tells_images setting.limit asks.request asks.reading past.opened past.made old new images gone since Has places)
 
 -- the request that a line is stopped the partition
-abbrev pub IsHalted : (tells tells_images takes_memory : Bool) → Setting → Past → List ℕ → DiskView → DiskView → (List ℕ → Type 0) → (gone since : ℕ → List ℕ → Type 0)
+abbrev pub IsHalted : (tells tells_images takes_memory : Bool) → RunSetting → Past → List ℕ → DiskView → DiskView → (List ℕ → Type 0) → (gone since : ℕ → List ℕ → Type 0)
     → List ℕ → Option Batch → Stop → Type 0
 IsHalted tells tells_images takes_memory setting past line old new images gone since places in_writing stop = (asks : Asks setting.hours past line)
     × IsCut tells tells_images takes_memory setting.limit asks.request asks.reading past.opened past.made old new images gone since places in_writing stop
 
 -- why a line was not answered
-abbrev pub IsUnanswered : (tells tells_images takes_memory : Bool) → Setting → Past → List ℕ → DiskView → DiskView → (List ℕ → Type 0) → (gone since : ℕ → List ℕ → Type 0)
+abbrev pub IsUnanswered : (tells tells_images takes_memory : Bool) → RunSetting → Past → List ℕ → DiskView → DiskView → (List ℕ → Type 0) → (gone since : ℕ → List ℕ → Type 0)
     → (List Batch → Type 0) → List ℕ → Option Batch → End → Type 0
 IsUnanswered tells tells_images takes_memory setting past line old new images gone since Has places in_writing ends.Memory = IsForgotten tells tells_images setting past line old new images gone since Has places
 IsUnanswered tells tells_images takes_memory setting past line old new images gone since Has places in_writing (ends.Stopped stop) = IsHalted tells tells_images takes_memory setting past line old new images gone since places in_writing stop
@@ -214,15 +218,16 @@ IsUnanswered tells tells_images takes_memory setting past line old new images go
 IsUnanswered tells tells_images takes_memory setting past line old new images gone since Has places in_writing ends.InputFull = ⊥
 
 -- a line ended the session
-abbrev pub IsLineEnd : Told → Setting → Past → List ℕ → Now → Now → (List ℕ → Type 0) → (gone since : ℕ → List ℕ → Type 0) → (List Batch → Type 0) → List ℕ → Clocks → Option Batch → End → Type 0
+abbrev pub IsLineEnd : Told → RunSetting → Past → List ℕ → Now → Now → (List ℕ → Type 0) → (gone since : ℕ → List ℕ → Type 0) → (List Batch → Type 0) → List ℕ → Clocks → Option Batch → End → Type 0
 IsLineEnd told setting past line old new images gone since Has places clocks in_writing end = IsUnsent told setting past line old new images gone since Has places clocks end
     ⊎ ((new.sink ≡ old.sink) × IsUnanswered told.disk told.images told.disk_memory setting past line old.disk new.disk images gone since Has places in_writing end)
 
 -- the streams of the session, and the log of the volume, from the start until now
-abbrev pub session_ends : Start → Now → SessionEnds
+abbrev pub session_ends : RunStart → Now → SessionEnds
 session_ends start now = record { source = start.source; source_after = now.source; sink = start.sink; sink_after = now.sink }
 
-abbrev pub log_ends : Start → Now → LogEnds
+-- the log as the run began, and as it has come to be
+abbrev pub log_ends : RunStart → Now → LogEnds
 log_ends start now = record { disk = start.disk; disk_after = now.disk }
 
 -- the cause of a run of one session and one partition that ended so, with the batch that was in writing
@@ -237,12 +242,12 @@ cause_of in_writing (ends.Stopped stops.DiskFault) = causes.DiskFault 1 in_writi
 cause_of in_writing (ends.Stopped (stops.LogFull length_told frame limit)) = causes.LogFull 1 length_told frame limit
 
 -- the run is over
-abbrev pub IsOver : Told → Setting → Start → Now → (before images : List ℕ → Type 0) → (since : ℕ → List ℕ → Type 0) → List ℕ → Cause → Type 0
+abbrev pub IsOver : Told → RunSetting → RunStart → Now → (before images : List ℕ → Type 0) → (since : ℕ → List ℕ → Type 0) → List ℕ → Cause → Type 0
 IsOver told setting start now before images since places cause = Serves told setting
     (session_ends start now ∷ []) (log_ends start now ∷ []) (λ place. before) (λ place. images) (λ place. since) cause (places ∷ [])
 
 -- how a run goes on: to the line behind the one with this number, or to its end
-abbrev pub GoesOn : Told → Setting → Start → Now → (before images : List ℕ → Type 0) → (since : ℕ → List ℕ → Type 0) → (List Batch → Type 0) → List ℕ → Clocks → List ℕ → ℕ → ℕ → Option Batch → Result Bool End → Type 0
+abbrev pub GoesOn : Told → RunSetting → RunStart → Now → (before images : List ℕ → Type 0) → (since : ℕ → List ℕ → Type 0) → (List Batch → Type 0) → List ℕ → Clocks → List ℕ → ℕ → ℕ → Option Batch → Result Bool End → Type 0
 GoesOn told setting start now before images since Has places clocks held budget number in_writing (Ok true) = IsServing told setting start now before images since Has places clocks held budget (number + 1)
 GoesOn told setting start now before images since Has places clocks held budget number in_writing (Ok false) = IsOver told setting start now before images since places causes.Done
 GoesOn told setting start now before images since Has places clocks held budget number in_writing (Err end) = IsOver told setting start now before images since places (cause_of in_writing end)

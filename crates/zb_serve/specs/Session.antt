@@ -3,7 +3,7 @@ use Rattle.std.specs.Prelude.{◌≡◌, ◌⊎◌, ◌≤◌, ◌+◌, ◌^◌,
 use Rattle.std.specs.List.{flat_map}
 use Rattle.zb_disk.specs.Cause.{Rose}
 use Rattle.zb_model.specs.declared.record.Batch.{Batch}
-use Rattle.zb_lines.specs.Taken.{Takes}
+use Rattle.zb_lines.specs.Taken.{TakesBytes}
 use Rattle.zb_lines.specs.Line.{AreLines}
 use Rattle.zb_wire.specs.declared.request.Request.{Request}
 use Rattle.zb_wire.specs.declared.request.LineFault.{LineFault}
@@ -91,7 +91,7 @@ IsSent told number ends cause answers = (ends.sink_after.written ≡ ends.sink.w
 -- the session with this number, in a run that ended by this cause
 pub record IsSession (told : Told) (hours : Hours) (cause : Cause) (number : ℕ) (ends : SessionEnds) (run : SessionRun) : Type 0 where
   -- the bytes that were taken, and the lines that they are
-  pub takes : Takes told.source ends.source ends.source_after run.taken
+  pub takes : TakesBytes told.source ends.source ends.source_after run.taken
   pub lines : AreLines run.taken run.lines run.rest
   pub within : length run.taken ≤ most_taken
   pub to_end : IsTrue run.ended → IsTrue told.source → ends.source_after.left ≡ []

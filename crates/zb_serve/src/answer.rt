@@ -8,8 +8,8 @@ ghost use Rattle.zb_reply.specs.Reply.{answer_of, line_of, IsSpoken};
 ghost use Rattle.zb_reply.specs.declared.reply.Reply.{Reply};
 ghost use Rattle.zb_reply.specs.declared.reply.Reply.TheVariants as replies;
 ghost use Rattle.zb_partition.specs.Partition.{disk_of, slots_of, in_writing};
-ghost use Rattle.zb_serve.specs.Hours.{Setting};
-ghost use Rattle.zb_serve.specs.Ledger.{IsMade, IsOpen};
+ghost use Rattle.zb_serve.specs.Hours.{RunSetting};
+ghost use Rattle.zb_serve.specs.Ledger.{AreMadeBatches, IsOpen};
 ghost use Rattle.zb_serve.specs.Serving.{Past, log_of, clocks_of, ComesNext, IsAnswered, IsUnanswered, IsDone, IsUnserved};
 
 use crate::dial::{Dial, read_for};
@@ -34,14 +34,14 @@ pub fn answer_line<D: Disk, C: Clock>(
     clock: &mut C,
     reply: &mut Vec<u8>,
 ) -> Result<(), End>
-    requires known { (setting : Setting) × (past : Past) × (line : List ℕ)
+    requires known { (setting : RunSetting) × (past : Past) × (line : List ℕ)
         × ComesNext setting past (IsOpen setting.limit ledger.old.partition) ledger.old.stamps.items (clocks_of dial.old C.tells (C.moments clock.old)) number line shown.now }
-    ensures answered { (setting : Setting) (past : Past) (line : List ℕ)
+    ensures answered { (setting : RunSetting) (past : Past) (line : List ℕ)
         → ComesNext setting past (IsOpen setting.limit ledger.old.partition) ledger.old.stamps.items (clocks_of dial.old C.tells (C.moments clock.old)) number line shown.now
         → OnOk result (IsAnswered D.tells D.tells_images setting past line reply.new.items (D.view (disk_of ledger.old.partition)) (D.view (disk_of ledger.new.partition))
         (D.images (disk_of ledger.new.partition)) (D.since (disk_of ledger.old.partition)) (D.since (disk_of ledger.new.partition))
         (IsOpen setting.limit ledger.new.partition) ledger.new.stamps.items (clocks_of dial.new C.tells (C.moments clock.new))) }
-    ensures unanswered { (setting : Setting) (past : Past) (line : List ℕ)
+    ensures unanswered { (setting : RunSetting) (past : Past) (line : List ℕ)
         → ComesNext setting past (IsOpen setting.limit ledger.old.partition) ledger.old.stamps.items (clocks_of dial.old C.tells (C.moments clock.old)) number line shown.now
         → IfErr result (IsUnanswered D.tells D.tells_images D.takes_memory setting past line (D.view (disk_of ledger.old.partition)) (D.view (disk_of ledger.new.partition))
         (D.images (disk_of ledger.new.partition)) (D.since (disk_of ledger.old.partition)) (D.since (disk_of ledger.new.partition))
@@ -73,13 +73,13 @@ fn answer_request<D: Disk>(
     ledger: &mut Ledger<D>,
     reply: &mut Vec<u8>,
 ) -> Result<(), End>
-    requires known { (limit : ℕ) × (opened before : List Batch) × IsMade limit opened before ledger.old.stamps.items × IsOpen limit ledger.old.partition (opened ++ before) }
+    requires known { (limit : ℕ) × (opened before : List Batch) × AreMadeBatches limit opened before ledger.old.stamps.items × IsOpen limit ledger.old.partition (opened ++ before) }
     requires empty { reply.old.items ≡ [] }
-    ensures done { (limit : ℕ) (opened before : List Batch) → IsMade limit opened before ledger.old.stamps.items → IsOpen limit ledger.old.partition (opened ++ before)
+    ensures done { (limit : ℕ) (opened before : List Batch) → AreMadeBatches limit opened before ledger.old.stamps.items → IsOpen limit ledger.old.partition (opened ++ before)
         → OnOk result (IsDone D.tells D.tells_images limit request reading opened before reply.new.items (D.view (disk_of ledger.old.partition)) (D.view (disk_of ledger.new.partition))
         (D.images (disk_of ledger.new.partition)) (D.since (disk_of ledger.old.partition)) (D.since (disk_of ledger.new.partition))
         (IsOpen limit ledger.new.partition) ledger.new.stamps.items) }
-    ensures unserved { (limit : ℕ) (opened before : List Batch) → IsMade limit opened before ledger.old.stamps.items → IsOpen limit ledger.old.partition (opened ++ before)
+    ensures unserved { (limit : ℕ) (opened before : List Batch) → AreMadeBatches limit opened before ledger.old.stamps.items → IsOpen limit ledger.old.partition (opened ++ before)
         → IfErr result (IsUnserved D.tells D.tells_images D.takes_memory limit request reading opened before (D.view (disk_of ledger.old.partition)) (D.view (disk_of ledger.new.partition))
         (D.images (disk_of ledger.new.partition)) (D.since (disk_of ledger.old.partition)) (D.since (disk_of ledger.new.partition))
         (IsOpen limit ledger.new.partition) ledger.new.stamps.items (in_writing ledger.new.partition)) }
@@ -102,13 +102,13 @@ fn answer_tick<D: Disk>(
     ledger: &mut Ledger<D>,
     reply: &mut Vec<u8>,
 ) -> Result<(), End>
-    requires known { (limit : ℕ) × (opened before : List Batch) × IsMade limit opened before ledger.old.stamps.items × IsOpen limit ledger.old.partition (opened ++ before) }
+    requires known { (limit : ℕ) × (opened before : List Batch) × AreMadeBatches limit opened before ledger.old.stamps.items × IsOpen limit ledger.old.partition (opened ++ before) }
     requires empty { reply.old.items ≡ [] }
-    ensures done { (limit : ℕ) (opened before : List Batch) → IsMade limit opened before ledger.old.stamps.items → IsOpen limit ledger.old.partition (opened ++ before)
+    ensures done { (limit : ℕ) (opened before : List Batch) → AreMadeBatches limit opened before ledger.old.stamps.items → IsOpen limit ledger.old.partition (opened ++ before)
         → OnOk result (IsDone D.tells D.tells_images limit requests.Tick reading opened before reply.new.items (D.view (disk_of ledger.old.partition)) (D.view (disk_of ledger.new.partition))
         (D.images (disk_of ledger.new.partition)) (D.since (disk_of ledger.old.partition)) (D.since (disk_of ledger.new.partition))
         (IsOpen limit ledger.new.partition) ledger.new.stamps.items) }
-    ensures unserved { (limit : ℕ) (opened before : List Batch) → IsMade limit opened before ledger.old.stamps.items → IsOpen limit ledger.old.partition (opened ++ before)
+    ensures unserved { (limit : ℕ) (opened before : List Batch) → AreMadeBatches limit opened before ledger.old.stamps.items → IsOpen limit ledger.old.partition (opened ++ before)
         → IfErr result (IsUnserved D.tells D.tells_images D.takes_memory limit requests.Tick reading opened before (D.view (disk_of ledger.old.partition)) (D.view (disk_of ledger.new.partition))
         (D.images (disk_of ledger.new.partition)) (D.since (disk_of ledger.old.partition)) (D.since (disk_of ledger.new.partition))
         (IsOpen limit ledger.new.partition) ledger.new.stamps.items (in_writing ledger.new.partition)) }
@@ -131,14 +131,14 @@ fn answer_command<D: Disk>(
     ledger: &mut Ledger<D>,
     reply: &mut Vec<u8>,
 ) -> Result<(), End>
-    requires known { (limit : ℕ) × (opened before : List Batch) × IsMade limit opened before ledger.old.stamps.items × IsOpen limit ledger.old.partition (opened ++ before) }
+    requires known { (limit : ℕ) × (opened before : List Batch) × AreMadeBatches limit opened before ledger.old.stamps.items × IsOpen limit ledger.old.partition (opened ++ before) }
     requires command { IsSome (command_of request) }
     requires empty { reply.old.items ≡ [] }
-    ensures done { (limit : ℕ) (opened before : List Batch) → IsMade limit opened before ledger.old.stamps.items → IsOpen limit ledger.old.partition (opened ++ before)
+    ensures done { (limit : ℕ) (opened before : List Batch) → AreMadeBatches limit opened before ledger.old.stamps.items → IsOpen limit ledger.old.partition (opened ++ before)
         → OnOk result (IsDone D.tells D.tells_images limit request reading opened before reply.new.items (D.view (disk_of ledger.old.partition)) (D.view (disk_of ledger.new.partition))
         (D.images (disk_of ledger.new.partition)) (D.since (disk_of ledger.old.partition)) (D.since (disk_of ledger.new.partition))
         (IsOpen limit ledger.new.partition) ledger.new.stamps.items) }
-    ensures unserved { (limit : ℕ) (opened before : List Batch) → IsMade limit opened before ledger.old.stamps.items → IsOpen limit ledger.old.partition (opened ++ before)
+    ensures unserved { (limit : ℕ) (opened before : List Batch) → AreMadeBatches limit opened before ledger.old.stamps.items → IsOpen limit ledger.old.partition (opened ++ before)
         → IfErr result (IsUnserved D.tells D.tells_images D.takes_memory limit request reading opened before (D.view (disk_of ledger.old.partition)) (D.view (disk_of ledger.new.partition))
         (D.images (disk_of ledger.new.partition)) (D.since (disk_of ledger.old.partition)) (D.since (disk_of ledger.new.partition))
         (IsOpen limit ledger.new.partition) ledger.new.stamps.items (in_writing ledger.new.partition)) }

@@ -47,7 +47,7 @@ impl Dial {
         self.manual.is_some()
     }
 
-    /// Moves it on as far as the request says, at most to the last moment.
+    // Moves it on as far as the request says, at most to the last moment.
     fn follow(&mut self, request: &Request)
         ensures moved { (now : ℕ) → self.old ≡ Some now → now ≤ last_moment → self.new ≡ Some (min (now + moved_by (Ok request.now)) last_moment) }
         ensures none { self.old ≡ None → self.new ≡ None }
@@ -70,7 +70,7 @@ impl Dial {
         }
     }
 
-    /// What it stands at, or else a reading of the real clock, at most the last moment.
+    // What it stands at, or else a reading of the real clock, at most the last moment.
     fn read<C: Clock>(&self, clock: &mut C) -> Moment
         ensures shown { (now : ℕ) → self.now ≡ Some now → result ≡ now }
         ensures read { (lines : List (List ℕ)) → self.now ≡ None → IsReadingOf (real C.tells (C.moments clock.old)) lines result }

@@ -1,10 +1,10 @@
 ghost use Rattle.std.specs.Prelude.{◌≡◌, ◌≤◌, ◌++◌, ◌∷◌, ℕ, List, [], max, IfErr, IfOk, OnOk, IsErrOf, IsTrue};
 ghost use Rattle.zb_model.specs.declared.record.Batch.{Batch};
-ghost use Rattle.zb_rules.specs.View.{last_moment};
+ghost use Rattle.zb_rules.specs.View.{moment_of_last};
 ghost use Rattle.zb_rules.specs.Step.{IsStep};
-ghost use Rattle.zb_rules.specs.Own.{IsRun};
+ghost use Rattle.zb_rules.specs.Own.{IsSupported};
 ghost use Rattle.zb_partition.specs.Partition.{disk_of, slots_of, in_writing};
-ghost use Rattle.zb_serve.specs.Ledger.{IsMade, IsOpen, IsGrown, IsHeldUp, IsAdded, IsTicked, IsCut};
+ghost use Rattle.zb_serve.specs.Ledger.{AreMadeBatches, IsOpen, IsGrown, IsHeldUp, IsAdded, IsTicked, IsCut};
 ghost use Rattle.zb_wire.specs.declared.request.Request.TheVariants as requests;
 
 use std::alloc::{AllocError, Global};
@@ -32,18 +32,18 @@ impl<D: Disk> Ledger<D> {
         reading: Moment,
         command: Command,
     ) -> Result<Batch, Stop>
-        requires known { (limit : ℕ) × (opened before : List Batch) × IsMade limit opened before self.old.stamps.items × IsOpen limit self.old.partition (opened ++ before) }
-        requires run { IsRun command }
-        ensures step { (limit : ℕ) (opened before : List Batch) → IsMade limit opened before self.old.stamps.items → IsOpen limit self.old.partition (opened ++ before)
+        requires known { (limit : ℕ) × (opened before : List Batch) × AreMadeBatches limit opened before self.old.stamps.items × IsOpen limit self.old.partition (opened ++ before) }
+        requires run { IsSupported command }
+        ensures step { (limit : ℕ) (opened before : List Batch) → AreMadeBatches limit opened before self.old.stamps.items → IsOpen limit self.old.partition (opened ++ before)
             → IfOk result (IsStep 1 (opened ++ before)) }
-        ensures moment { (limit : ℕ) (opened before : List Batch) → IsMade limit opened before self.old.stamps.items → IsOpen limit self.old.partition (opened ++ before)
-            → IfOk result (λ batch. batch.moment ≡ max (last_moment (opened ++ before)) reading) }
+        ensures moment { (limit : ℕ) (opened before : List Batch) → AreMadeBatches limit opened before self.old.stamps.items → IsOpen limit self.old.partition (opened ++ before)
+            → IfOk result (λ batch. batch.moment ≡ max (moment_of_last (opened ++ before)) reading) }
         ensures command { IfOk result (λ batch. batch.command ≡ command) }
-        ensures grown { (limit : ℕ) (opened before : List Batch) → IsMade limit opened before self.old.stamps.items → IsOpen limit self.old.partition (opened ++ before)
+        ensures grown { (limit : ℕ) (opened before : List Batch) → AreMadeBatches limit opened before self.old.stamps.items → IsOpen limit self.old.partition (opened ++ before)
             → IfOk result (λ batch. IsGrown D.tells D.tells_images limit (D.view (disk_of self.old.partition)) (D.view (disk_of self.new.partition))
             (D.images (disk_of self.new.partition)) (D.since (disk_of self.old.partition)) (D.since (disk_of self.new.partition))
             (IsOpen limit self.new.partition) self.new.stamps.items opened before (batch ∷ [])) }
-        ensures held { (limit : ℕ) (opened before : List Batch) → IsMade limit opened before self.old.stamps.items → IsOpen limit self.old.partition (opened ++ before)
+        ensures held { (limit : ℕ) (opened before : List Batch) → AreMadeBatches limit opened before self.old.stamps.items → IsOpen limit self.old.partition (opened ++ before)
             → IfErr result (IsHeldUp D.tells D.tells_images D.takes_memory limit (D.view (disk_of self.old.partition)) (D.view (disk_of self.new.partition))
             (D.images (disk_of self.new.partition)) (D.since (disk_of self.old.partition)) (D.since (disk_of self.new.partition))
             self.new.stamps.items opened before [] reading command (in_writing self.new.partition)) }
@@ -69,12 +69,12 @@ impl<D: Disk> Ledger<D> {
     /// Submits the command that is due first at a reading of the clock, and so on, until none is due or
     /// `MOST_DUE` were, and tells how many. After an `Err` the batches of those before are in the log.
     pub fn tick(&mut self, alloc: Global, reading: Moment) -> Result<u64, Stop>
-        requires known { (limit : ℕ) × (opened before : List Batch) × IsMade limit opened before self.old.stamps.items × IsOpen limit self.old.partition (opened ++ before) }
-        ensures ticked { (limit : ℕ) (opened before : List Batch) → IsMade limit opened before self.old.stamps.items → IsOpen limit self.old.partition (opened ++ before)
+        requires known { (limit : ℕ) × (opened before : List Batch) × AreMadeBatches limit opened before self.old.stamps.items × IsOpen limit self.old.partition (opened ++ before) }
+        ensures ticked { (limit : ℕ) (opened before : List Batch) → AreMadeBatches limit opened before self.old.stamps.items → IsOpen limit self.old.partition (opened ++ before)
             → IfOk result (IsTicked D.tells D.tells_images limit reading opened before (D.view (disk_of self.old.partition)) (D.view (disk_of self.new.partition))
             (D.images (disk_of self.new.partition)) (D.since (disk_of self.old.partition)) (D.since (disk_of self.new.partition))
             (IsOpen limit self.new.partition) self.new.stamps.items) }
-        ensures held { (limit : ℕ) (opened before : List Batch) → IsMade limit opened before self.old.stamps.items → IsOpen limit self.old.partition (opened ++ before)
+        ensures held { (limit : ℕ) (opened before : List Batch) → AreMadeBatches limit opened before self.old.stamps.items → IsOpen limit self.old.partition (opened ++ before)
             → IfErr result (IsCut D.tells D.tells_images D.takes_memory limit requests.Tick reading opened before (D.view (disk_of self.old.partition)) (D.view (disk_of self.new.partition))
             (D.images (disk_of self.new.partition)) (D.since (disk_of self.old.partition)) (D.since (disk_of self.new.partition))
             self.new.stamps.items (in_writing self.new.partition)) }
@@ -96,13 +96,13 @@ impl<D: Disk> Ledger<D> {
 
     // Submits a command whose batch nobody asks for.
     fn add(&mut self, alloc: Global, reading: Moment, command: Command) -> Result<(), Stop>
-        requires known { (limit : ℕ) × (opened before : List Batch) × IsMade limit opened before self.old.stamps.items × IsOpen limit self.old.partition (opened ++ before) }
-        requires run { IsRun command }
-        ensures added { (limit : ℕ) (opened before : List Batch) → IsMade limit opened before self.old.stamps.items → IsOpen limit self.old.partition (opened ++ before)
+        requires known { (limit : ℕ) × (opened before : List Batch) × AreMadeBatches limit opened before self.old.stamps.items × IsOpen limit self.old.partition (opened ++ before) }
+        requires run { IsSupported command }
+        ensures added { (limit : ℕ) (opened before : List Batch) → AreMadeBatches limit opened before self.old.stamps.items → IsOpen limit self.old.partition (opened ++ before)
             → OnOk result (IsAdded D.tells D.tells_images limit reading command opened before (D.view (disk_of self.old.partition)) (D.view (disk_of self.new.partition))
             (D.images (disk_of self.new.partition)) (D.since (disk_of self.old.partition)) (D.since (disk_of self.new.partition))
             (IsOpen limit self.new.partition) self.new.stamps.items) }
-        ensures held { (limit : ℕ) (opened before : List Batch) → IsMade limit opened before self.old.stamps.items → IsOpen limit self.old.partition (opened ++ before)
+        ensures held { (limit : ℕ) (opened before : List Batch) → AreMadeBatches limit opened before self.old.stamps.items → IsOpen limit self.old.partition (opened ++ before)
             → IfErr result (IsHeldUp D.tells D.tells_images D.takes_memory limit (D.view (disk_of self.old.partition)) (D.view (disk_of self.new.partition))
             (D.images (disk_of self.new.partition)) (D.since (disk_of self.old.partition)) (D.since (disk_of self.new.partition))
             self.new.stamps.items opened before [] reading command (in_writing self.new.partition)) }

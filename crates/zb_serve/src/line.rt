@@ -3,7 +3,7 @@ ghost use Rattle.zb_outside.specs.Stream.{SourceView};
 ghost use Rattle.zb_model.specs.declared.stop.Stop.TheVariants as stops;
 ghost use Rattle.zb_partition.specs.Partition.{disk_of, slots_of, in_writing};
 ghost use Rattle.zb_serve.specs.Ends.{told};
-ghost use Rattle.zb_serve.specs.Hours.{Setting};
+ghost use Rattle.zb_serve.specs.Hours.{RunSetting};
 ghost use Rattle.zb_serve.specs.Ledger.{IsOpen};
 ghost use Rattle.zb_serve.specs.Serving.{now_of, clocks_of, Past, ComesNext, IsLineEnd, IsReplied, IsSinkEnd};
 
@@ -27,11 +27,11 @@ pub fn serve_line<K: Sink, D: Disk, C: Clock>(
     dial: &mut Dial,
     clock: &mut C,
 ) -> Result<(), End>
-    requires known { (setting : Setting) × (past : Past) × (line : List ℕ)
+    requires known { (setting : RunSetting) × (past : Past) × (line : List ℕ)
         × ComesNext setting past (IsOpen setting.limit ledger.old.partition) ledger.old.stamps.items (clocks_of dial.old C.tells (C.moments clock.old)) number line shown.now }
 
     // For every source, and all lines and batches that may lie behind it.
-    ensures replied { (source : SourceView) (tells counts : Bool) (setting : Setting) (past : Past) (line : List ℕ)
+    ensures replied { (source : SourceView) (tells counts : Bool) (setting : RunSetting) (past : Past) (line : List ℕ)
         → ComesNext setting past (IsOpen setting.limit ledger.old.partition) ledger.old.stamps.items (clocks_of dial.old C.tells (C.moments clock.old)) number line shown.now
         → OnOk result (IsReplied
         (told tells K.tells D.tells D.tells_images K.takes_memory D.takes_memory counts K.counts_failures D.counts_failures) setting past line
@@ -39,7 +39,7 @@ pub fn serve_line<K: Sink, D: Disk, C: Clock>(
         (now_of source (K.view sink.new) (D.view (disk_of ledger.new.partition)))
         (D.images (disk_of ledger.new.partition)) (D.since (disk_of ledger.old.partition)) (D.since (disk_of ledger.new.partition))
         (IsOpen setting.limit ledger.new.partition) ledger.new.stamps.items (clocks_of dial.new C.tells (C.moments clock.new))) }
-    ensures over { (source : SourceView) (tells counts : Bool) (setting : Setting) (past : Past) (line : List ℕ)
+    ensures over { (source : SourceView) (tells counts : Bool) (setting : RunSetting) (past : Past) (line : List ℕ)
         → ComesNext setting past (IsOpen setting.limit ledger.old.partition) ledger.old.stamps.items (clocks_of dial.old C.tells (C.moments clock.old)) number line shown.now
         → IfErr result (IsLineEnd
         (told tells K.tells D.tells D.tells_images K.takes_memory D.takes_memory counts K.counts_failures D.counts_failures) setting past line

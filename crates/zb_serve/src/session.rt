@@ -1,10 +1,10 @@
 ghost use Rattle.std.specs.Prelude.{◌≡◌, [], IsTrue, is_some, IfOk};
 ghost use Rattle.zb_partition.specs.Partition.{disk_of, slots_of, in_writing};
 ghost use Rattle.zb_serve.specs.Ends.{told};
-ghost use Rattle.zb_serve.specs.Hours.{Setting};
+ghost use Rattle.zb_serve.specs.Hours.{RunSetting};
 ghost use Rattle.zb_serve.specs.Ledger.{IsOpen};
 ghost use Rattle.zb_serve.specs.Session.{most_taken};
-ghost use Rattle.zb_serve.specs.Serving.{now_of, clocks_of, Start, IsServing, IsOver, GoesOn, cause_of, goes_on, source_end_of};
+ghost use Rattle.zb_serve.specs.Serving.{now_of, clocks_of, RunStart, IsServing, IsOver, GoesOn, cause_of, goes_on, source_end_of};
 
 use crate::dial::Dial;
 use crate::ledger::Ledger;
@@ -16,7 +16,7 @@ use zb_lines::{LineReader, Next};
 use zb_outside::{Clock, Sink, Source, Trouble};
 use zb_wire::longest_shown;
 
-/// A session takes at most so many bytes.
+// A session takes at most so many bytes.
 const MOST_TAKEN: u64 = 1 << 40;
 
 // What a session keeps from line to line.
@@ -53,14 +53,14 @@ pub fn serve_session<S: Source, K: Sink, D: Disk, C: Clock>(
     dial: &mut Dial,
     clock: &mut C,
 ) -> End
-    requires { (setting : Setting) × (start : Start) × (first : D) × IsServing
+    requires { (setting : RunSetting) × (start : RunStart) × (first : D) × IsServing
         (told S.tells K.tells D.tells D.tells_images K.takes_memory D.takes_memory S.counts_failures K.counts_failures D.counts_failures)
         setting start (now_of (S.view session.old.source) (K.view session.old.sink) (D.view (disk_of ledger.old.partition)))
         (D.images first) (D.images (disk_of ledger.old.partition)) (D.since (disk_of ledger.old.partition)) (IsOpen setting.limit ledger.old.partition) ledger.old.stamps.items
         (clocks_of dial.old C.tells (C.moments clock.old)) [] most_taken 1 }
 
     // For all that the run may have begun with, and go by.
-    ensures over { (setting : Setting) (start : Start) (first : D) → IsServing
+    ensures over { (setting : RunSetting) (start : RunStart) (first : D) → IsServing
         (told S.tells K.tells D.tells D.tells_images K.takes_memory D.takes_memory S.counts_failures K.counts_failures D.counts_failures)
         setting start (now_of (S.view session.old.source) (K.view session.old.sink) (D.view (disk_of ledger.old.partition)))
         (D.images first) (D.images (disk_of ledger.old.partition)) (D.since (disk_of ledger.old.partition)) (IsOpen setting.limit ledger.old.partition) ledger.old.stamps.items
@@ -98,12 +98,12 @@ fn serve_next<S: Source, K: Sink, D: Disk, C: Clock>(
     dial: &mut Dial,
     clock: &mut C,
 ) -> Result<bool, End>
-    requires { (setting : Setting) × (start : Start) × (first : D) × IsServing
+    requires { (setting : RunSetting) × (start : RunStart) × (first : D) × IsServing
         (told S.tells K.tells D.tells D.tells_images K.takes_memory D.takes_memory S.counts_failures K.counts_failures D.counts_failures)
         setting start (now_of (S.view session.old.source) (K.view session.old.sink) (D.view (disk_of ledger.old.partition)))
         (D.images first) (D.images (disk_of ledger.old.partition)) (D.since (disk_of ledger.old.partition)) (IsOpen setting.limit ledger.old.partition) ledger.old.stamps.items
         (clocks_of dial.old C.tells (C.moments clock.old)) desk.old.reader desk.old.budget number }
-    ensures goes_on { (setting : Setting) (start : Start) (first : D) → IsServing
+    ensures goes_on { (setting : RunSetting) (start : RunStart) (first : D) → IsServing
         (told S.tells K.tells D.tells D.tells_images K.takes_memory D.takes_memory S.counts_failures K.counts_failures D.counts_failures)
         setting start (now_of (S.view session.old.source) (K.view session.old.sink) (D.view (disk_of ledger.old.partition)))
         (D.images first) (D.images (disk_of ledger.old.partition)) (D.since (disk_of ledger.old.partition)) (IsOpen setting.limit ledger.old.partition) ledger.old.stamps.items

@@ -6,17 +6,17 @@ use zb_model::{Command, MessagePublish, Moment, PartitionId, Text, Vars};
 use zb_partition::Partition;
 use zb_store::Volume;
 
-/// A new disk.
+// A new disk.
 fn disk(alloc: Global) -> Result<MemDisk, AllocError> {
     MemDisk::new(alloc, Vec::new(alloc), Vec::new(alloc))
 }
 
-/// The partition of a volume, where its opening isn't refused.
+// The partition of a volume, where its opening isn't refused.
 fn opened<D: Disk + Drop>(alloc: Global, volume: Volume<D>) -> Option<Partition<D>> {
     Partition::open(alloc, volume, PartitionId::new(1), 1_000_000).ok()
 }
 
-/// A message that lives for ten milliseconds.
+// A message that lives for ten milliseconds.
 fn message(alloc: Global) -> Result<MessagePublish, AllocError> {
     Ok(MessagePublish {
         name: Text::of(alloc, "paid")?,
@@ -27,7 +27,7 @@ fn message(alloc: Global) -> Result<MessagePublish, AllocError> {
     })
 }
 
-/// Publishes the message at moment 7, if no command has stopped the partition, and stops it: its files.
+// Publishes the message at moment 7, if no command has stopped the partition, and stops it: its files.
 fn published<D: Disk + Drop>(
     alloc: Global,
     mut partition: Partition<D>,
@@ -39,14 +39,14 @@ fn published<D: Disk + Drop>(
     partition.stopped().volume
 }
 
-/// How many frames the log has, and whether a command is due at these moments.
+// How many frames the log has, and whether a command is due at these moments.
 fn seen<D: Disk + Drop>(partition: &Partition<D>) -> (u64, bool, bool) {
     let early = partition.due(Moment::new(16)).is_some();
     let late = partition.due(Moment::new(17)).is_some();
     (partition.frames(), early, late)
 }
 
-/// The partition of the volume after it was stopped and opened again, with a message.
+// The partition of the volume after it was stopped and opened again, with a message.
 fn opened_again<D: Disk + Drop>(
     alloc: Global,
     volume: Volume<D>,

@@ -15,17 +15,17 @@ mod processes;
 
 type Ended = Closed<MemSource, MemSink, MemDisk>;
 
-/// The words of a server whose clock is moved by hand.
+// The words of a server whose clock is moved by hand.
 const WORDS: [&str; 3] = ["serve", "--clock", "manual"];
 
-/// A publish.
+// A publish.
 const PAID: &str =
     "{\"op\":\"publish\",\"name\":\"paid\",\"correlationKey\":\"o-1\",\"timeToLive\":60000}\n";
 
-/// The reply of a publish that is the first.
+// The reply of a publish that is the first.
 const FIRST: &str = "{\"ok\":{\"message\":2251799813685249},\"units\":0}\n";
 
-/// The log that has the batch of `PAID` alone.
+// The log that has the batch of `PAID` alone.
 const PAID_LOG: [u8; 104] = [
     // An open gate, and the length of the batch.
     1, 0, 0, 0, 0, 0, 0, 0, 0x5e,
@@ -43,7 +43,7 @@ const PAID_LOG: [u8; 104] = [
     0, 0, 0, 0, 0, 0, 0, 0, 0, 0, 0xea, 0x60, 0, 0, 0, 0, 0,
 ];
 
-/// What is handed to a run, and which calls fail.
+// What is handed to a run, and which calls fail.
 #[derive(Clone, Copy)]
 struct Script<'a> {
     words: &'a [&'a str],
@@ -63,7 +63,7 @@ struct Script<'a> {
     log: &'a [u8],
 }
 
-/// One session that says this over one empty volume, where nothing fails.
+// One session that says this over one empty volume, where nothing fails.
 const PLAIN: Script<'static> = Script {
     words: &WORDS,
     moments: &[],
@@ -77,7 +77,7 @@ const PLAIN: Script<'static> = Script {
     log: &[],
 };
 
-/// What a run comes to.
+// What a run comes to.
 #[derive(Clone, Copy)]
 struct Want<'a> {
     status: u8,
@@ -147,7 +147,7 @@ fn clock_of(alloc: Global, moments: &[u64]) -> Result<ListClock, AllocError> {
     Ok(ListClock::new(list))
 }
 
-/// Serves what the script says.
+// Serves what the script says.
 fn served(alloc: Global, script: &Script<'_>) -> Result<Ended, AllocError> {
     let words = words_of(alloc, script.words)?;
     let sessions = sessions_of(alloc, script)?;
@@ -156,7 +156,7 @@ fn served(alloc: Global, script: &Script<'_>) -> Result<Ended, AllocError> {
     Ok(serve_alone(alloc, &words, sessions, volumes, &mut clock))
 }
 
-/// What the one session was sent, if there is one.
+// What the one session was sent, if there is one.
 fn output(ended: &Ended) -> &[u8] {
     match ended.sessions.as_slice() {
         [session] => session.sink.bytes(),
@@ -164,7 +164,7 @@ fn output(ended: &Ended) -> &[u8] {
     }
 }
 
-/// The bytes of the one log.
+// The bytes of the one log.
 fn log(ended: &Ended) -> &[u8] {
     match ended.volumes.as_slice() {
         [volume] => volume.log.bytes(),
@@ -172,7 +172,7 @@ fn log(ended: &Ended) -> &[u8] {
     }
 }
 
-/// Wants one list of stamps, or none.
+// Wants one list of stamps, or none.
 fn expect_stamps(rt: &impl Abort, ended: &Ended, want: Option<&[u64]>) {
     match (ended.stamps.as_slice(), want) {
         ([], None) => {}
@@ -181,7 +181,7 @@ fn expect_stamps(rt: &impl Abort, ended: &Ended, want: Option<&[u64]>) {
     }
 }
 
-/// The frame at which the run's log was refused.
+// The frame at which the run's log was refused.
 fn bad_frame(ended: &Ended) -> Option<u64> {
     match &ended.cause {
         Cause::BadLog { frame, .. } => Some(*frame),
@@ -189,7 +189,7 @@ fn bad_frame(ended: &Ended) -> Option<u64> {
     }
 }
 
-/// Serves what the script says, and wants this of it.
+// Serves what the script says, and wants this of it.
 fn expect(
     rt: &impl Abort,
     alloc: Global,
@@ -207,8 +207,8 @@ fn expect(
     Ok(())
 }
 
-/// Refuses `always_memory`, a body that answers want of memory whatever there is: this run has ample
-/// memory, and is served.
+// Refuses `always_memory`, a body that answers want of memory whatever there is: this run has ample
+// memory, and is served.
 #[test]
 fn ample_memory_serves_so_always_memory_is_refused(rt: HostRuntime) -> Result<(), Fail> {
     let want = Want {
@@ -226,7 +226,7 @@ fn ample_memory_serves_so_always_memory_is_refused(rt: HostRuntime) -> Result<()
     Ok(())
 }
 
-/// The texts, one behind the other.
+// The texts, one behind the other.
 fn joined(alloc: Global, texts: &[&str]) -> Result<Vec<u8>, AllocError> {
     let mut bytes = Vec::new(alloc);
     for text in texts {
@@ -316,7 +316,7 @@ fn a_log_may_be_cut_at_each_byte(rt: HostRuntime) -> Result<(), Fail> {
     Ok(())
 }
 
-/// Serves what the script says, and gives the log that it leaves, and in `reply` what was sent.
+// Serves what the script says, and gives the log that it leaves, and in `reply` what was sent.
 fn stored(alloc: Global, script: &Script<'_>, reply: &mut Vec<u8>) -> Result<Vec<u8>, AllocError> {
     let ended = served(alloc, script)?;
     copied(alloc, &ended, reply)
@@ -328,7 +328,7 @@ fn copied(alloc: Global, ended: &Ended, reply: &mut Vec<u8>) -> Result<Vec<u8>, 
     log(ended).to_vec(alloc)
 }
 
-/// What a run of this script tells of a full log, and its status.
+// What a run of this script tells of a full log, and its status.
 fn told_full(
     alloc: Global,
     script: &Script<'_>,

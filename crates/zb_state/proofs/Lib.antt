@@ -1,1 +1,1 @@
-pub mod Growth
+pub mod StateLemmas

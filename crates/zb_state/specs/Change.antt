@@ -6,7 +6,7 @@ use Rattle.zb_instance_records.specs.declared.instance.ProcessInstanceCreationCr
 use Rattle.zb_model.specs.declared.record.Event.{Event}
 use Rattle.zb_model.specs.declared.record.Event.TheVariants as events
 use Rattle.zb_rules.specs.declared.definition.Definition.{Definition}
-use Rattle.zb_rules.specs.MessageLaws.{without}
+use Rattle.zb_rules.specs.Messages.{without}
 use Rattle.zb_state.specs.declared.change.Change.{Change}
 use Rattle.zb_state.specs.declared.change.Change.TheVariants as changes
 

@@ -9,8 +9,8 @@ use Rattle.zb_rules.specs.Create.{begun}
 use Rattle.zb_rules.specs.Shown.{board_of}
 
 -- the partition that the state is of
-abbrev pub place_of : State → ℕ
-place_of state = state.place
+abbrev pub partition_of : State → ℕ
+partition_of state = state.place
 
 -- it is what these events come to
 pub record IsStateOf (es : List Event) (state : State) : Type 0 where

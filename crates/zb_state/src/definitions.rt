@@ -47,7 +47,7 @@ pub fn definition_for(process: &str, version: u32, definitions: &[Definition]) -
     key_of_version(process, version, definitions)
 }
 
-/// The greatest key among the definitions of this version.
+// The greatest key among the definitions of this version.
 fn key_of_version(process: &str, version: u32, definitions: &[Definition]) -> Option<Key>
     ensures { result ≡ option_map (λ d. d.key) (version_of process.now version definitions.now) }
 {
@@ -61,14 +61,14 @@ fn key_of_version(process: &str, version: u32, definitions: &[Definition]) -> Op
     greatest
 }
 
-/// Whether it is this version of the process.
+// Whether it is this version of the process.
 fn is_version(process: &str, version: u32, definition: &Definition) -> bool
     ensures { result ≡ (bytes_eq definition.now.process process.now && (definition.now.version == version)) }
 {
     definition.process.as_str() == process && definition.version == version
 }
 
-/// The greater one of a key and another, if there is another.
+// The greater one of a key and another, if there is another.
 fn later_of(key: Key, found: Option<Key>) -> Key
     ensures { result ≡ option_map_or (λ other. if max key other == other then other else key) found key }
 {

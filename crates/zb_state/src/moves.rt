@@ -1,7 +1,7 @@
 // The moves that events show.
 ghost use Rattle.std.specs.Prelude.{◌≡◌, IsTrue, IsFalse, IsErrOf, IfOk, OnOk, Some};
 ghost use Rattle.zb_model.specs.declared.record.Event.TheVariants as events;
-ghost use Rattle.zb_rules.specs.Applies.{may};
+ghost use Rattle.zb_rules.specs.Applies.{is_possible};
 ghost use Rattle.zb_rules.specs.Game.{can, played};
 ghost use Rattle.zb_rules.specs.Shown.{shown, after_shown, event_of};
 ghost use Rattle.zb_rules.specs.declared.board.Move.TheVariants as moves;
@@ -18,9 +18,9 @@ use zb_rules::{Assigned, Deployed, Enter, Leave, Move, Start, Take};
 /// nothing has changed; after `Memory` the game is only dropped. It costs a copy of the event's texts, its
 /// model and its value, and a walk over the lists that the move looks at or changes.
 pub fn play(alloc: Global, event: &Event, game: &mut Game) -> Result<(), TableFault>
-    ensures legal { OnOk result (IsTrue (may (shown event.now) game.old)) }
+    ensures legal { OnOk result (IsTrue (is_possible (shown event.now) game.old)) }
     ensures played { OnOk result (after_shown game.old (shown event.now) ≡ Some game.new) }
-    ensures illegal { IsErrOf result TableFault.NotApplicable → IsFalse (may (shown event.now) game.old) }
+    ensures illegal { IsErrOf result TableFault.NotApplicable → IsFalse (is_possible (shown event.now) game.old) }
     ensures kept { IsErrOf result TableFault.NotApplicable → game.new ≡ game.old }
 {
     match shown(alloc, event)? {

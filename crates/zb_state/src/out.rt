@@ -1,7 +1,7 @@
 ghost use Rattle.std.specs.Prelude.{◌≡◌, ◌++◌, ◌∷◌, List, [], length, IsTrue, OnOk};
 ghost use Rattle.zb_model.specs.declared.record.Event.{Event};
 ghost use Rattle.zb_rules.specs.Applies.{applies};
-ghost use Rattle.zb_state.specs.State.{place_of, IsStateOf};
+ghost use Rattle.zb_state.specs.State.{partition_of, IsStateOf};
 
 use crate::State;
 use std::alloc::{AllocError, Global};
@@ -49,8 +49,8 @@ impl Out {
     /// `State::apply` does.
     pub fn put(&mut self, alloc: Global, state: &mut State, event: Event) -> Result<(), AllocError>
         ensures put { OnOk result (self.new ≡ self.old ++ event ∷ []) }
-        ensures place { place_of state.new ≡ place_of state.old }
-        ensures applied { (es : List Event) → IsStateOf es state.old → OnOk result (IsTrue (applies (place_of state.old) es event)) }
+        ensures place { partition_of state.new ≡ partition_of state.old }
+        ensures applied { (es : List Event) → IsStateOf es state.old → OnOk result (IsTrue (applies (partition_of state.old) es event)) }
         ensures state { (es : List Event) → IsStateOf es state.old → OnOk result (IsStateOf (es ++ event ∷ []) state.new) }
     {
         match state.apply(alloc, &event) {

@@ -50,11 +50,11 @@ pub struct State {
 }
 
 impl State {
-    ghost use Rattle.zb_state.specs.State.{place_of, IsStateOf, IsSameBeside};
+    ghost use Rattle.zb_state.specs.State.{partition_of, IsStateOf, IsSameBeside};
 
     /// The state of a log without events.
     pub fn empty(alloc: Global, place: PartitionId) -> State
-        ensures place { place_of result ≡ place }
+        ensures place { partition_of result ≡ place }
         ensures state { IsStateOf [] result }
     {
         State {
@@ -72,11 +72,11 @@ impl State {
     /// expires costs the logarithm of how many are buffered, on average. An event of the game costs a walk over
     /// the cells, the tokens and one model; a model costs its check and its copies.
     pub fn apply(&mut self, alloc: Global, event: &Event) -> Result<(), TableFault>
-        ensures place { place_of self.new ≡ place_of self.old }
-        ensures applied { (es : List Event) → IsStateOf es self.old → OnOk result (IsTrue (applies (place_of self.old) es event.now)) }
+        ensures place { partition_of self.new ≡ partition_of self.old }
+        ensures applied { (es : List Event) → IsStateOf es self.old → OnOk result (IsTrue (applies (partition_of self.old) es event.now)) }
         ensures state { (es : List Event) → IsStateOf es self.old → OnOk result (IsStateOf (es ++ event.now ∷ []) self.new) }
         ensures refused { (es : List Event) → IsStateOf es self.old
-            → IsErrOf result TableFault.NotApplicable → IsFalse (applies (place_of self.old) es event.now) }
+            → IsErrOf result TableFault.NotApplicable → IsFalse (applies (partition_of self.old) es event.now) }
         ensures kept { IsErrOf result TableFault.NotApplicable → self.new ≡ self.old }
     {
         self.admit(alloc, event)?;
@@ -88,11 +88,11 @@ impl State {
 
     /// Takes in an event as `apply` does, and moves its message in place of a copy.
     pub fn take_in(&mut self, alloc: Global, event: Event) -> Result<(), TableFault>
-        ensures place { place_of self.new ≡ place_of self.old }
-        ensures applied { (es : List Event) → IsStateOf es self.old → OnOk result (IsTrue (applies (place_of self.old) es event)) }
+        ensures place { partition_of self.new ≡ partition_of self.old }
+        ensures applied { (es : List Event) → IsStateOf es self.old → OnOk result (IsTrue (applies (partition_of self.old) es event)) }
         ensures state { (es : List Event) → IsStateOf es self.old → OnOk result (IsStateOf (es ++ event ∷ []) self.new) }
         ensures refused { (es : List Event) → IsStateOf es self.old
-            → IsErrOf result TableFault.NotApplicable → IsFalse (applies (place_of self.old) es event) }
+            → IsErrOf result TableFault.NotApplicable → IsFalse (applies (partition_of self.old) es event) }
         ensures kept { IsErrOf result TableFault.NotApplicable → self.new ≡ self.old }
     {
         self.admit(alloc, &event)?;
@@ -104,7 +104,7 @@ impl State {
 
     /// The next key that the partition draws, as far as it has counters.
     pub fn next_key(&self) -> Key
-        ensures { (es : List Event) → IsStateOf es self.now → result ≡ next_key (place_of self.now) es }
+        ensures { (es : List Event) → IsStateOf es self.now → result ≡ next_key (partition_of self.now) es }
     {
         self.fresh()
     }
@@ -161,7 +161,7 @@ impl State {
     #[tactic(auto, unfolding(zb_rules::specs::Settling::turn))]
     pub fn turn(&self, alloc: Global) -> Result<Option<Event>, AllocError>
         ensures { (es : List Event) → IsStateOf es self.now
-            → IfOk result (λ event. turn (place_of self.now) es ≡ option_map (λ e. e ∷ []) event) }
+            → IfOk result (λ event. turn (partition_of self.now) es ≡ option_map (λ e. e ∷ []) event) }
     {
         match self.game.forced(alloc, self.next_key())? {
             Some(forced) => Ok(event_of(alloc, forced, &self.game)),
@@ -171,7 +171,7 @@ impl State {
 
     // The key behind the greatest one so far.
     fn fresh(&self) -> Key
-        ensures { result ≡ key_of (place_of self.now) (self.now.counter + 1) }
+        ensures { result ≡ key_of (partition_of self.now) (self.now.counter + 1) }
     {
         let place = u64::from(self.place.number());
         Key::new(place * Key::COUNTERS + self.counter + 1)
@@ -179,8 +179,8 @@ impl State {
 
     // Whether the key is the next one that the partition draws, and there is one.
     fn is_fresh(&self, key: Key) -> bool
-        ensures fresh { (es : List Event) → IsStateOf es self.now → result ≡ is_fresh (place_of self.now) es key }
-        ensures next { IsTrue result → IsNext (place_of self.now) self.now.counter key }
+        ensures fresh { (es : List Event) → IsStateOf es self.now → result ≡ is_fresh (partition_of self.now) es key }
+        ensures next { IsTrue result → IsNext (partition_of self.now) self.now.counter key }
     {
         self.counter + 1 < Key::COUNTERS && key == self.fresh()
     }
@@ -188,8 +188,8 @@ impl State {
     // Whether the event meets its own condition, beside the move that it shows. The events of the last arm are
     // made by no command so far.
     fn meets_own(&self, alloc: Global, event: &Event) -> Result<bool, AllocError>
-        ensures own { (es : List Event) → IsStateOf es self.now → IfOk result (λ meets. meets ≡ holds_own (place_of self.now) es event.now) }
-        ensures next { IfOk result (λ meets. IsTrue meets → HasNextKey (place_of self.now) self.now.counter event.now) }
+        ensures own { (es : List Event) → IsStateOf es self.now → IfOk result (λ meets. meets ≡ holds_own (partition_of self.now) es event.now) }
+        ensures next { IfOk result (λ meets. IsTrue meets → HasNextKey (partition_of self.now) self.now.counter event.now) }
     {
         match event {
             Event::ProcessCreated(process) => is_well_formed(alloc, &process.model),
@@ -212,14 +212,14 @@ impl State {
     // Whether the key is fresh, and the definition is there.
     fn names_definition(&self, key: Key, definition: Key) -> bool
         ensures { (es : List Event) → IsStateOf es self.now
-            → result ≡ (is_fresh (place_of self.now) es key && has_definition definition es) }
+            → result ≡ (is_fresh (partition_of self.now) es key && has_definition definition es) }
     {
         self.is_fresh(key) && definitions::has_key(definition, &self.definitions)
     }
 
     // Whether the cell that begins is plain, and begins an instance or stands in its scope.
     fn begins_well(&self, element: &ElementActivating) -> bool
-        ensures { (es : List Event) → IsStateOf es self.now → result ≡ begins_well (place_of self.now) es element.now }
+        ensures { (es : List Event) → IsStateOf es self.now → result ≡ begins_well (partition_of self.now) es element.now }
     {
         if element.role != Role::Plain || !element.started.as_str().is_empty() {
             return false;
@@ -254,7 +254,7 @@ impl State {
 
     // Whether the cell has a fresh key, and the definition of its scope.
     fn begins_cell(&self, element: &ElementActivating) -> bool
-        ensures { (es : List Event) → IsStateOf es self.now → result ≡ begins_cell (place_of self.now) es element.now }
+        ensures { (es : List Event) → IsStateOf es self.now → result ≡ begins_cell (partition_of self.now) es element.now }
     {
         self.is_fresh(element.key) && self.is_definition_of(element.scope, element.definition)
     }
@@ -273,11 +273,11 @@ impl State {
     // changed; after `Memory` the state is only dropped.
     fn admit(&mut self, alloc: Global, event: &Event) -> Result<(), TableFault>
         ensures beside { IsSameBeside self.old self.new }
-        ensures applied { (es : List Event) → IsStateOf es self.old → OnOk result (IsTrue (applies (place_of self.old) es event.now)) }
+        ensures applied { (es : List Event) → IsStateOf es self.old → OnOk result (IsTrue (applies (partition_of self.old) es event.now)) }
         ensures played { OnOk result (after_shown self.old.game (shown event.now) ≡ Some self.new.game) }
-        ensures next { OnOk result (HasNextKey (place_of self.old) self.old.counter event.now) }
+        ensures next { OnOk result (HasNextKey (partition_of self.old) self.old.counter event.now) }
         ensures refused { (es : List Event) → IsStateOf es self.old
-            → IsErrOf result TableFault.NotApplicable → IsFalse (applies (place_of self.old) es event.now) }
+            → IsErrOf result TableFault.NotApplicable → IsFalse (applies (partition_of self.old) es event.now) }
         ensures kept { IsErrOf result TableFault.NotApplicable → self.new ≡ self.old }
     {
         if !self.meets_own(alloc, event)? {
@@ -291,8 +291,8 @@ impl State {
     // state is only dropped.
     fn note(&mut self, counter: u64, change: Change) -> Result<(), AllocError>
         requires small { counter < 2 ^ 51 }
-        requires draws { Draws (place_of self.old) self.old.counter counter change }
-        ensures place { place_of self.new ≡ place_of self.old }
+        requires draws { Draws (partition_of self.old) self.old.counter counter change }
+        ensures place { partition_of self.new ≡ partition_of self.old }
         ensures counter { OnOk result (self.new.counter ≡ max self.old.counter counter) }
         ensures messages { OnOk result (self.new.messages ≡ with_change change self.old.messages) }
         ensures definitions { OnOk result (self.new.definitions.items ≡ self.old.definitions.items ++ definition_in change) }

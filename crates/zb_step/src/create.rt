@@ -1,9 +1,9 @@
 // Making an instance of a process.
 ghost use Rattle.std.specs.Prelude.{◌≡◌, ◌++◌, List, [], Some, map, IfOk, OnOk, string_bytes};
 ghost use Rattle.zb_model.specs.declared.record.Event.{Event};
-ghost use Rattle.zb_rules.specs.Create.{reason_to_create, no_process, no_version, variable_of, created};
-ghost use Rattle.zb_state.specs.State.{place_of, IsStateOf};
-ghost use Rattle.zb_step.specs.Made.{IsMade};
+ghost use Rattle.zb_rules.specs.Create.{reason_to_create, no_process, no_version, variable_event, created};
+ghost use Rattle.zb_state.specs.State.{partition_of, IsStateOf};
+ghost use Rattle.zb_step.specs.Made.{AreMadeEvents};
 
 use crate::adding::add;
 use crate::rejection::rejection;
@@ -33,7 +33,7 @@ pub fn reason(
     Ok(None)
 }
 
-/// The rejection where there is no such process.
+// The rejection where there is no such process.
 fn unknown_process(alloc: Global, process: &str) -> Result<Rejection, AllocError>
     ensures { IfOk result (λ rejection. rejection ≡ record { kind = RejectionKind.NotFound; reason = no_process process.now }) }
 {
@@ -42,7 +42,7 @@ fn unknown_process(alloc: Global, process: &str) -> Result<Rejection, AllocError
     rejection(alloc, RejectionKind::NotFound, text.as_str())
 }
 
-/// The rejection where there is no such version of a process.
+// The rejection where there is no such version of a process.
 fn unknown_version(alloc: Global, process: &str, version: u32) -> Result<Rejection, AllocError>
     ensures { IfOk result (λ rejection. rejection ≡ record { kind = RejectionKind.NotFound; reason = no_version process.now version }) }
 {
@@ -69,9 +69,9 @@ pub fn emit(
     out: &mut Out,
 ) -> Result<(), AllocError>
     requires { out.old ≡ [] }
-    ensures own { (es : List Event) → IsStateOf es state.old → OnOk result (created (place_of state.old) es command.now ≡ Some out.new) }
-    ensures made { (es : List Event) → IsStateOf es state.old → OnOk result (IsMade (place_of state.old) es out.new state.new) }
-    ensures place { place_of state.new ≡ place_of state.old }
+    ensures own { (es : List Event) → IsStateOf es state.old → OnOk result (created (partition_of state.old) es command.now ≡ Some out.new) }
+    ensures made { (es : List Event) → IsStateOf es state.old → OnOk result (AreMadeEvents (partition_of state.old) es out.new state.new) }
+    ensures place { partition_of state.new ≡ partition_of state.old }
 {
     let process = command.process.as_str();
     let Some(definition) = state.definition_for(process, command.version) else {
@@ -90,7 +90,7 @@ pub fn emit(
     add_variables(alloc, state, key, command.variables.as_slice(), out)
 }
 
-/// The root of an instance of this definition.
+// The root of an instance of this definition.
 fn root(
     alloc: Global,
     key: Key,
@@ -110,7 +110,7 @@ fn root(
     })
 }
 
-/// Adds the variables of an instance, in order.
+// Adds the variables of an instance, in order.
 fn add_variables(
     alloc: Global,
     state: &mut State,
@@ -118,9 +118,9 @@ fn add_variables(
     variables: &[Variable],
     out: &mut Out,
 ) -> Result<(), AllocError>
-    ensures added { OnOk result (out.new ≡ out.old ++ map (variable_of root) variables.now) }
-    ensures made { (es : List Event) → IsMade (place_of state.old) es out.old state.old → OnOk result (IsMade (place_of state.old) es out.new state.new) }
-    ensures place { place_of state.new ≡ place_of state.old }
+    ensures added { OnOk result (out.new ≡ out.old ++ map (variable_event root) variables.now) }
+    ensures made { (es : List Event) → AreMadeEvents (partition_of state.old) es out.old state.old → OnOk result (AreMadeEvents (partition_of state.old) es out.new state.new) }
+    ensures place { partition_of state.new ≡ partition_of state.old }
 {
     for variable in variables {
         let event = event_of_variable(alloc, root, variable)?;
@@ -129,9 +129,9 @@ fn add_variables(
     Ok(())
 }
 
-/// The event of one of them.
+// The event of one of them.
 fn event_of_variable(alloc: Global, root: Key, variable: &Variable) -> Result<Event, AllocError>
-    ensures { IfOk result (λ event. event ≡ variable_of root variable.now) }
+    ensures { IfOk result (λ event. event ≡ variable_event root variable.now) }
 {
     Ok(Event::VariableCreated(VariableCreated {
         scope: root,

@@ -3,8 +3,8 @@ ghost use Rattle.std.specs.Prelude.{◌≡◌, List, [], IfOk, OnOk, string_byte
 ghost use Rattle.zb_model.specs.declared.record.Event.{Event};
 ghost use Rattle.zb_rules.specs.Deploy.{reason_to_deploy, version_behind, deployed};
 ghost use Rattle.zb_rules.specs.Faults.{fault_text};
-ghost use Rattle.zb_state.specs.State.{place_of, IsStateOf};
-ghost use Rattle.zb_step.specs.Made.{IsMade};
+ghost use Rattle.zb_state.specs.State.{partition_of, IsStateOf};
+ghost use Rattle.zb_step.specs.Made.{AreMadeEvents};
 
 use crate::adding::add;
 use crate::rejection::rejection;
@@ -27,7 +27,7 @@ pub fn reason(alloc: Global, model: &Model) -> Result<Option<Rejection>, AllocEr
     }
 }
 
-/// The rejection of a model with this fault, whose first offender has this id.
+// The rejection of a model with this fault, whose first offender has this id.
 fn faulty(alloc: Global, fault: Fault, id: &str) -> Result<Rejection, AllocError>
     ensures { IfOk result (λ rejection. rejection ≡ record { kind = RejectionKind.InvalidArgument; reason = fault_text fault id.now }) }
 {
@@ -52,9 +52,9 @@ pub fn emit(
     out: &mut Out,
 ) -> Result<(), AllocError>
     requires { out.old ≡ [] }
-    ensures own { (es : List Event) → IsStateOf es state.old → OnOk result (out.new ≡ deployed (place_of state.old) es model.now) }
-    ensures made { (es : List Event) → IsStateOf es state.old → OnOk result (IsMade (place_of state.old) es out.new state.new) }
-    ensures place { place_of state.new ≡ place_of state.old }
+    ensures own { (es : List Event) → IsStateOf es state.old → OnOk result (out.new ≡ deployed (partition_of state.old) es model.now) }
+    ensures made { (es : List Event) → IsStateOf es state.old → OnOk result (AreMadeEvents (partition_of state.old) es out.new state.new) }
+    ensures place { partition_of state.new ≡ partition_of state.old }
 {
     let definition = state.next_key();
     let created = ProcessCreated {
@@ -70,7 +70,7 @@ pub fn emit(
     add(alloc, state, Event::DeploymentCreated(deployment), out)
 }
 
-/// The version behind this one; it stands still at the greatest number of 32 bits.
+// The version behind this one; it stands still at the greatest number of 32 bits.
 fn version_behind(version: u32) -> u32
     ensures { result ≡ version_behind version }
 {

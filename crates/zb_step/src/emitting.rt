@@ -1,8 +1,8 @@
 ghost use Rattle.std.specs.Prelude.{◌≡◌, ◌++◌, List, [], Some, IsTrue, OnOk};
 ghost use Rattle.zb_model.specs.declared.record.Event.{Event};
-ghost use Rattle.zb_rules.specs.Own.{IsRun, own_events};
+ghost use Rattle.zb_rules.specs.Own.{IsSupported, own_events};
 ghost use Rattle.zb_rules.specs.Applies.{all_apply};
-ghost use Rattle.zb_state.specs.State.{place_of, IsStateOf};
+ghost use Rattle.zb_state.specs.State.{partition_of, IsStateOf};
 
 use crate::{create, deploy, expire, publish};
 use std::alloc::{AllocError, Global};
@@ -18,12 +18,12 @@ pub fn emit(
     command: &Command,
     out: &mut Out,
 ) -> Result<(), AllocError>
-    requires run { IsRun command.now }
+    requires run { IsSupported command.now }
     requires none { out.old ≡ [] }
-    ensures own { (es : List Event) → IsStateOf es state.old → OnOk result (own_events (place_of state.old) es moment command.now ≡ Some out.new) }
-    ensures applied { (es : List Event) → IsStateOf es state.old → OnOk result (IsTrue (all_apply (place_of state.old) es out.new)) }
+    ensures own { (es : List Event) → IsStateOf es state.old → OnOk result (own_events (partition_of state.old) es moment command.now ≡ Some out.new) }
+    ensures applied { (es : List Event) → IsStateOf es state.old → OnOk result (IsTrue (all_apply (partition_of state.old) es out.new)) }
     ensures state { (es : List Event) → IsStateOf es state.old → OnOk result (IsStateOf (es ++ out.new) state.new) }
-    ensures place { place_of state.new ≡ place_of state.old }
+    ensures place { partition_of state.new ≡ partition_of state.old }
 {
     match command {
         Command::DeploymentCreate(model) => deploy::emit(alloc, state, model, out),

@@ -2,8 +2,8 @@
 ghost use Rattle.std.specs.Prelude.{◌≡◌, List, [], IfOk, OnOk, string_bytes};
 ghost use Rattle.zb_model.specs.declared.record.Event.{Event};
 ghost use Rattle.zb_rules.specs.Expire.{reason_to_expire, no_message, not_due, expired};
-ghost use Rattle.zb_state.specs.State.{place_of, IsStateOf};
-ghost use Rattle.zb_step.specs.Made.{IsMade};
+ghost use Rattle.zb_state.specs.State.{partition_of, IsStateOf};
+ghost use Rattle.zb_step.specs.Made.{AreMadeEvents};
 
 use crate::adding::add;
 use crate::rejection::rejection;
@@ -28,7 +28,7 @@ pub fn reason(
     }
 }
 
-/// The rejection where no message with this key is buffered.
+// The rejection where no message with this key is buffered.
 fn unknown(alloc: Global, key: Key) -> Result<Rejection, AllocError>
     ensures { IfOk result (λ rejection. rejection ≡ record { kind = RejectionKind.NotFound; reason = no_message key }) }
 {
@@ -37,7 +37,7 @@ fn unknown(alloc: Global, key: Key) -> Result<Rejection, AllocError>
     rejection(alloc, RejectionKind::NotFound, text.as_str())
 }
 
-/// The rejection where its deadline lies ahead.
+// The rejection where its deadline lies ahead.
 fn early(alloc: Global, key: Key) -> Result<Rejection, AllocError>
     ensures { IfOk result (λ rejection. rejection ≡ record { kind = RejectionKind.InvalidState; reason = not_due key }) }
 {
@@ -51,8 +51,8 @@ fn early(alloc: Global, key: Key) -> Result<Rejection, AllocError>
 pub fn emit(alloc: Global, state: &mut State, key: Key, out: &mut Out) -> Result<(), AllocError>
     requires { out.old ≡ [] }
     ensures own { OnOk result (out.new ≡ expired key) }
-    ensures made { (es : List Event) → IsStateOf es state.old → OnOk result (IsMade (place_of state.old) es out.new state.new) }
-    ensures place { place_of state.new ≡ place_of state.old }
+    ensures made { (es : List Event) → IsStateOf es state.old → OnOk result (AreMadeEvents (partition_of state.old) es out.new state.new) }
+    ensures place { partition_of state.new ≡ partition_of state.old }
 {
     add(alloc, state, Event::MessageExpired(key), out)
 }

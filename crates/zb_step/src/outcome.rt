@@ -2,9 +2,9 @@ ghost use Rattle.std.specs.Prelude.{◌≡◌, ◌++◌, List, IfOk};
 ghost use Rattle.zb_model.specs.declared.record.Event.{Event};
 ghost use Rattle.zb_rules.specs.View.{events_in};
 ghost use Rattle.zb_rules.specs.Reason.{reason_for};
-ghost use Rattle.zb_rules.specs.Own.{IsRun, own_events};
-ghost use Rattle.zb_rules.specs.Step.{IsAcceptance, IsOutcome};
-ghost use Rattle.zb_state.specs.State.{place_of, IsStateOf};
+ghost use Rattle.zb_rules.specs.Own.{IsSupported, own_events};
+ghost use Rattle.zb_rules.specs.Step.{IsAcceptance, IsOutcomeOf};
+ghost use Rattle.zb_state.specs.State.{partition_of, IsStateOf};
 
 use crate::emitting::emit;
 use crate::reasons::reason;
@@ -21,11 +21,11 @@ pub fn outcome_of(
     moment: Moment,
     command: &Command,
 ) -> Result<Outcome, AllocError>
-    requires { IsRun command.now }
+    requires { IsSupported command.now }
     ensures outcome { (es : List Event) → IsStateOf es state.old
-        → IfOk result (IsOutcome (place_of state.old) es (reason_for es moment command.now) (own_events (place_of state.old) es moment command.now)) }
+        → IfOk result (IsOutcomeOf (partition_of state.old) es (reason_for es moment command.now) (own_events (partition_of state.old) es moment command.now)) }
     ensures state { (es : List Event) → IsStateOf es state.old → IfOk result (λ outcome. IsStateOf (es ++ events_in outcome) state.new) }
-    ensures place { place_of state.new ≡ place_of state.old }
+    ensures place { partition_of state.new ≡ partition_of state.old }
 {
     match reason(alloc, state, moment, command)? {
         Some(rejection) => Ok(Outcome::Rejected(rejection)),
@@ -33,18 +33,18 @@ pub fn outcome_of(
     }
 }
 
-/// Runs a command: its outcome are its own events, and what they force.
+// Runs a command: its outcome are its own events, and what they force.
 fn run(
     alloc: Global,
     state: &mut State,
     moment: Moment,
     command: &Command,
 ) -> Result<Outcome, AllocError>
-    requires { IsRun command.now }
+    requires { IsSupported command.now }
     ensures acceptance { (es : List Event) → IsStateOf es state.old
-        → IfOk result (IsAcceptance (place_of state.old) es (own_events (place_of state.old) es moment command.now)) }
+        → IfOk result (IsAcceptance (partition_of state.old) es (own_events (partition_of state.old) es moment command.now)) }
     ensures state { (es : List Event) → IsStateOf es state.old → IfOk result (λ outcome. IsStateOf (es ++ events_in outcome) state.new) }
-    ensures place { place_of state.new ≡ place_of state.old }
+    ensures place { partition_of state.new ≡ partition_of state.old }
 {
     let mut out = Out::new(alloc);
     emit(alloc, state, moment, command, &mut out)?;

@@ -3,8 +3,8 @@ ghost use Rattle.std.specs.Prelude.{◌≡◌, List, [], IfOk, OnOk, string_byte
 ghost use Rattle.zb_model.specs.declared.record.Event.{Event};
 ghost use Rattle.zb_rules.specs.View.{next_key};
 ghost use Rattle.zb_rules.specs.Publish.{reason_to_publish, is_repeated, buffered_text, message_under, published_under};
-ghost use Rattle.zb_state.specs.State.{place_of, IsStateOf};
-ghost use Rattle.zb_step.specs.Made.{IsMade};
+ghost use Rattle.zb_state.specs.State.{partition_of, IsStateOf};
+ghost use Rattle.zb_step.specs.Made.{AreMadeEvents};
 
 use crate::adding::add;
 use crate::rejection::rejection;
@@ -29,14 +29,14 @@ pub fn reason(
     Ok(None)
 }
 
-/// Whether the id isn't empty and such a message is buffered.
+// Whether the id isn't empty and such a message is buffered.
 fn is_repeated(state: &State, command: &MessagePublish) -> bool
     ensures { (es : List Event) → IsStateOf es state.now → result ≡ is_repeated es command.now }
 {
     !command.id.as_str().is_empty() && state.buffers(command)
 }
 
-/// The rejection of a message that is buffered.
+// The rejection of a message that is buffered.
 fn repeated(alloc: Global, command: &MessagePublish) -> Result<Rejection, AllocError>
     ensures { IfOk result (λ rejection. rejection ≡ record { kind = RejectionKind.AlreadyExists; reason = buffered_text command.now }) }
 {
@@ -67,9 +67,9 @@ pub fn emit(
     out: &mut Out,
 ) -> Result<(), AllocError>
     requires { out.old ≡ [] }
-    ensures own { (es : List Event) → IsStateOf es state.old → OnOk result (out.new ≡ published_under (next_key (place_of state.old) es) moment command.now) }
-    ensures made { (es : List Event) → IsStateOf es state.old → OnOk result (IsMade (place_of state.old) es out.new state.new) }
-    ensures place { place_of state.new ≡ place_of state.old }
+    ensures own { (es : List Event) → IsStateOf es state.old → OnOk result (out.new ≡ published_under (next_key (partition_of state.old) es) moment command.now) }
+    ensures made { (es : List Event) → IsStateOf es state.old → OnOk result (AreMadeEvents (partition_of state.old) es out.new state.new) }
+    ensures place { partition_of state.new ≡ partition_of state.old }
 {
     let key = state.next_key();
     let message = message(alloc, key, moment, command)?;
@@ -80,7 +80,7 @@ pub fn emit(
     Ok(())
 }
 
-/// The message under this key.
+// The message under this key.
 fn message(
     alloc: Global,
     key: Key,

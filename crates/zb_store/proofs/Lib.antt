@@ -1,9 +1,9 @@
-mod Leading
-mod Numbers
-mod Pieces
-mod Bodies
-mod Scanning
-mod Opening
+mod GateLemmas
+mod NumberLemmas
+mod PieceLemmas
+mod BodyLemmas
+mod ScanLemmas
+mod OpeningLemmas
 mod Settling
-mod Appending
-mod Frames
+mod AppendLemmas
+mod FrameLemmas

@@ -1,9 +1,9 @@
 -- Laws of calls of a disk, one after another.
-use Rattle.std.proofs.Common.{◌≡◌, ◌⊎◌, inl, inr, ℕ, ◌<◌, ◌≤◌, List, length, IsTrue, Result, Ok, Err, OnOk, ◌∙◌, ap, refl, arith}
+use Rattle.std.proofs.Common.{◌≡◌, ◌⊎◌, inl, inr, ℕ, ◌<◌, ◌≤◌, List, length, IsTrue, Result, Ok, Err, OnOk, ◌∙◌, ap, arith}
 use Rattle.std.proofs.lemmas.Bool.{cases_lt}
 use Rattle.zb_disk.specs.Disk.{Elapses}
 use Rattle.zb_disk.specs.declared.disk.Disk.{Ghosts}
-use Rattle.zb_store.specs.Calls.{LeavesOnly, OnlyReads, OnlyOpens, LeftByOpening, Settles}
+use Rattle.zb_store.specs.Calls.{LeavesOnly, OnlyReads, OnlyOpens, Settles}
 
 -- no call leaves anything more
 pub leaves_none : (now : ℕ) (since : ℕ → List ℕ → Type 0) (P : List ℕ → Type 0) → LeavesOnly now now since since P
@@ -117,32 +117,19 @@ settles_weaker began now before since P Q so settled = record {
 
 module _ {D : Type 0} (disks : Ghosts D) where
   -- a disk, and what it became: a crash since leaves a file that has P
-  abbrev pub Leaves : D → D → (List ℕ → Type 0) → Type 0
-  Leaves old new P = LeavesOnly (disks.view old).moment (disks.view new).moment (disks.since old) (disks.since new) P
+  abbrev pub CallsLeave : D → D → (List ℕ → Type 0) → Type 0
+  CallsLeave old new P = LeavesOnly (disks.view old).moment (disks.view new).moment (disks.since old) (disks.since new) P
 
   -- a disk, and what it became by reading alone
-  abbrev pub Reads : D → D → Type 0
-  Reads old new = OnlyReads disks.tells disks.tells_images disks.view disks.images disks.since old new
+  abbrev pub CallsRead : D → D → Type 0
+  CallsRead old new = OnlyReads disks.tells disks.tells_images disks.view disks.images disks.since old new
 
   -- a disk, and what it became by an opening
   abbrev pub Opens : D → D → Type 0
   Opens old new = OnlyOpens disks.tells disks.tells_images disks.view disks.images disks.since old new
 
-  -- a disk that is as it was leaves nothing more
-  pub leaves_same : (old new : D) (P : List ℕ → Type 0) → new ≡ old → Leaves old new P
-  leaves_same old new P same = rw same (leaves_none (disks.view old).moment (disks.since old) P)
-
-  -- no call reads
-  pub reads_none : (disk : D) → Reads disk disk
-  reads_none disk = record {
-    later = omega arith;
-    same = λ told. refl;
-    crash = λ told c image. image;
-    time = λ told. leaves_none (disks.view disk).moment (disks.since disk) (disks.images disk);
-  }
-
   -- what reading leaves after other calls that leave no more than P, P is left of it all
-  leaves_read : (old mid new : D) (P : List ℕ → Type 0) → ((c : List ℕ) → disks.images mid c → P c) → Leaves old mid P → Leaves mid new (disks.images mid) → Leaves old new P
+  leaves_read : (old mid new : D) (P : List ℕ → Type 0) → ((c : List ℕ) → disks.images mid c → P c) → CallsLeave old mid P → CallsLeave mid new (disks.images mid) → CallsLeave old new P
   leaves_read old mid new P within first second =
       let was = disks.since old in
       let is = disks.since new in
@@ -150,7 +137,7 @@ module _ {D : Type 0} (disks : Ghosts D) where
       (leaves_then (disks.view old).moment (disks.view mid).moment (disks.view new).moment was (disks.since mid) is P (disks.images mid) first second)
 
   -- reading, and then more of it
-  pub reads_then : (old mid new : D) → Reads old mid → Reads mid new → Reads old new
+  pub reads_then : (old mid new : D) → CallsRead old mid → CallsRead mid new → CallsRead old new
   reads_then old mid new first second = record {
     later = omega (arith, first.later, second.later);
     same = λ told. second.same told ∙ first.same told;
@@ -161,29 +148,19 @@ module _ {D : Type 0} (disks : Ghosts D) where
   -- what is settled stays so where it is read
   pub settles_read : (began : ℕ) (before P : List ℕ → Type 0) (old new : D) → IsTrue disks.tells_images
       → ((t : ℕ) (c : List ℕ) → t ≤ (disks.view old).moment → disks.images old c → disks.since old t c)
-      → Settles began (disks.view old).moment before (disks.since old) P → Reads old new → Settles began (disks.view new).moment before (disks.since new) P
+      → Settles began (disks.view old).moment before (disks.since old) P → CallsRead old new → Settles began (disks.view new).moment before (disks.since new) P
   settles_read began before P old new told counts first reads =
       settles_then began (disks.view old).moment (disks.view new).moment before (disks.since old) (disks.since new) P (disks.images old) first (reads.time told)
       (λ c image. first.left c (counts first.opened_at c first.later image))
 
   -- an opening, and then reading
-  pub opens_then : (old mid new : D) → Opens old mid → Reads mid new → Opens old new
+  pub opens_then : (old mid new : D) → Opens old mid → CallsRead mid new → Opens old new
   opens_then old mid new first second = record {
     later = omega (arith, first.later, second.later);
     same = λ told long. second.same told ∙ first.same told long;
     short = λ told few. omega (arith, ap length (second.same told), first.short told few);
     crash = λ told c image. first.crash told c (second.crash told c image);
     time = λ told. leaves_read old mid new _ (first.crash told) (first.time told) (second.time told);
-  }
-
-  -- nothing done is an opening
-  pub opens_none : (disk : D) → Opens disk disk
-  opens_none disk = record {
-    later = omega arith;
-    same = λ told long. refl;
-    short = λ told few. few;
-    crash = λ told c image. inl image;
-    time = λ told. leaves_none (disks.view disk).moment (disks.since disk) (LeftByOpening (disks.view disk).contents (disks.images disk));
   }
 
   -- after an opening, a file of more than one byte is as it was

@@ -4,15 +4,15 @@ use Rattle.zb_disk.specs.declared.disk.Disk.{Ghosts}
 use Rattle.zb_store.specs.declared.fault.StoreFault.{StoreFault}
 use Rattle.zb_store.specs.declared.gate_log.GateLog.{GateLog}
 use Rattle.zb_store.specs.Log.{extent}
-use Rattle.zb_store.specs.Stands.{Leads, Stands, closed_stands}
+use Rattle.zb_store.specs.Stands.{Leads}
 
 -- the disk that it lies on
-abbrev pub disk_of : {D : Type 0} {disks : Ghosts D} → GateLog D disks → D
-disk_of log = log.disk
+abbrev pub disk_of_log : {D : Type 0} {disks : Ghosts D} → GateLog D disks → D
+disk_of_log log = log.disk
 
 -- how long it may become
-abbrev pub limit_of : {D : Type 0} {disks : Ghosts D} → GateLog D disks → ℕ
-limit_of log = log.limit
+abbrev pub limit_of_log : {D : Type 0} {disks : Ghosts D} → GateLog D disks → ℕ
+limit_of_log log = log.limit
 
 -- how many frames it has
 abbrev pub count_of : {D : Type 0} {disks : Ghosts D} → GateLog D disks → ℕ
@@ -27,8 +27,8 @@ abbrev pub length_of : {D : Type 0} {disks : Ghosts D} → GateLog D disks → �
 length_of log = last_gate_of log + 1
 
 -- whether no frame runs past the end of the file
-abbrev pub is_whole : {D : Type 0} {disks : Ghosts D} → GateLog D disks → Bool
-is_whole log = log.whole
+abbrev pub is_whole_log : {D : Type 0} {disks : Ghosts D} → GateLog D disks → Bool
+is_whole_log log = log.whole
 
 -- whether no append to it has failed but for want of room
 abbrev pub is_sound : {D : Type 0} {disks : Ghosts D} → GateLog D disks → Bool
@@ -43,22 +43,18 @@ pub record HasFrames {D : Type 0} {disks : Ghosts D} (file : List ℕ) (log : Ga
   pub length : length_of log ≡ extent bodies
 
 -- and its last gate is closed in this file
-pub record HasLog {D : Type 0} {disks : Ghosts D} (file : List ℕ) (log : GateLog D disks) (bodies : List (List ℕ)) : Type 0 where
+pub record HasClosedFrames {D : Type 0} {disks : Ghosts D} (file : List ℕ) (log : GateLog D disks) (bodies : List (List ℕ)) : Type 0 where
   pub frames : HasFrames file log bodies
   pub closed : slice_index file (last_gate_of log) ≡ 0
 
--- the file of a log stands for its bodies
-pub log_stands : {D : Type 0} {disks : Ghosts D} (file : List ℕ) (log : GateLog D disks) (bodies : List (List ℕ)) → HasLog file log bodies → Stands file bodies
-log_stands file log bodies has = closed_stands file bodies (last_gate_of log) has.frames.leads has.closed
-
 -- the log is the same but for what its disk did
 pub record IsSameLog {D : Type 0} {disks : Ghosts D} (old new : GateLog D disks) : Type 0 where
-  pub limit : limit_of new ≡ limit_of old
+  pub limit : limit_of_log new ≡ limit_of_log old
   pub count : count_of new ≡ count_of old
   pub last_gate : last_gate_of new ≡ last_gate_of old
-  pub whole : is_whole new ≡ is_whole old
+  pub whole : is_whole_log new ≡ is_whole_log old
 
 -- the disk behind an opening, whether it was refused or not
-abbrev pub disk_after : {D : Type 0} {disks : Ghosts D} → Result (GateLog D disks) (StoreFault × D) → D
-disk_after (Ok log) = log.disk
-disk_after (Err refused) = refused.1
+abbrev pub disk_after_log : {D : Type 0} {disks : Ghosts D} → Result (GateLog D disks) (StoreFault × D) → D
+disk_after_log (Ok log) = log.disk
+disk_after_log (Err refused) = refused.1

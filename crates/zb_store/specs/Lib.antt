@@ -1,5 +1,7 @@
 pub mod Log
+pub mod LogLaws
 pub mod Stands
+pub mod StandsLaws
 pub mod Step
 pub mod Cause
 pub mod Calls
@@ -7,3 +9,4 @@ pub mod CallLaws
 pub mod Window
 pub mod Scan
 pub mod GateLog
+pub mod GateLogLaws

@@ -1,8 +1,7 @@
 -- What the file of a log stands for, by its bytes. A gate stands at offset 0. Behind an open gate come eight
 -- bytes that tell how long the body is, highest first, then the body, and then the next gate. A gate of 0 is
 -- closed, any other byte is an open one. A file of at most one byte is a log without frames.
-use Rattle.std.specs.Prelude.{◌≡◌, ◌≢◌, ◌⊎◌, ◌<◌, ◌≤◌, ◌+◌, ℕ, List, [], ◌∷◌, ◌++◌, length, slice_index, slice_range, refl}
-use Rattle.std.proofs.Common.{arith}
+use Rattle.std.specs.Prelude.{◌≡◌, ◌≢◌, ◌⊎◌, ◌<◌, ◌≤◌, ◌+◌, ℕ, List, [], ◌∷◌, ◌++◌, length, slice_index, slice_range}
 use Rattle.std.specs.Int.{w64, from_be_bytes}
 
 -- where the gate behind the frame of the gate at `at` has its place, by the length that is told there
@@ -40,16 +39,6 @@ pub record EndsAt (file : List ℕ) (bodies : List (List ℕ)) (gate : ℕ) : Ty
   pub leads : Leads file 0 bodies gate
   pub inside : gate < length file
   pub closed : slice_index file gate ≡ 0
-
--- a file of at most one byte has no frames
-none_in_short : (file : List ℕ) (bodies : List (List ℕ)) (gate : ℕ) → length file ≤ 1 → Leads file 0 bodies gate → bodies ≡ []
-unfolding next_gate
-none_in_short file [] gate few leads = refl
-none_in_short file (body ∷ bodies) gate few leads = absurd (omega (arith, leads.0.fits))
-
--- a file in which frames lead to a closed gate stands for their bodies
-pub closed_stands : (file : List ℕ) (bodies : List (List ℕ)) (gate : ℕ) → Leads file 0 bodies gate → slice_index file gate ≡ 0 → Stands file bodies
-closed_stands file bodies gate leads closed = record { short = λ few. none_in_short file bodies gate few leads; long = λ _. (gate, leads, closed) }
 
 -- the file stands for these bodies, without this one behind them or with it
 abbrev pub StandsWithOrWithout : List (List ℕ) → List ℕ → List ℕ → Type 0

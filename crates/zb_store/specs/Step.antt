@@ -5,10 +5,10 @@ use Rattle.zb_store.specs.declared.step.Step.TheVariants.{Closed, Cut, Next}
 use Rattle.zb_store.specs.Stands.{next_gate, RunsPast}
 
 -- what stands at the gate at `at`: it is closed, its frame runs past the end, or there is a next gate
-abbrev pub IsStep : List ℕ → ℕ → Step → Type 0
-IsStep file at Closed = slice_index file at ≡ 0
-IsStep file at Cut = RunsPast file at
-IsStep file at (Next next) = (slice_index file at ≢ 0) × (next ≡ next_gate file at) × (next < length file)
+abbrev pub IsAtGate : List ℕ → ℕ → Step → Type 0
+IsAtGate file at Closed = slice_index file at ≡ 0
+IsAtGate file at Cut = RunsPast file at
+IsAtGate file at (Next next) = (slice_index file at ≢ 0) × (next ≡ next_gate file at) × (next < length file)
 
 -- a next gate is behind this one and inside the file
 abbrev pub LiesBehind : ℕ → ℕ → Step → Type 0

@@ -37,38 +37,38 @@ pub struct GateLog<D: Disk> {
 }
 
 impl<D: Disk> GateLog<D> {
-    ghost use Rattle.zb_store.specs.GateLog.{disk_of, limit_of, count_of, length_of, last_gate_of, is_whole, is_sound, HasFrames, HasLog, IsSameLog, disk_after};
+    ghost use Rattle.zb_store.specs.GateLog.{disk_of_log, limit_of_log, count_of, length_of, last_gate_of, is_whole_log, is_sound, HasFrames, HasClosedFrames, IsSameLog, disk_after_log};
 
     /// Opens the log in a file, once all that was written to it is on the disk, by a `Scan`. A file of at most one byte becomes a closed gate; no frame is changed.
     pub fn open(alloc: Global, disk: D, limit: u64) -> Result<GateLog<D>, (StoreFault, D)>
         requires { limit ≤ 2 ^ 32 }
 
         // Its frames are those that the file stood for. One that isn't whole has those before the cut.
-        ensures whole { IsTrue D.tells → IfOk result (λ log. IsTrue (is_whole log)
-            → (bodies : List (List ℕ)) × Stands (D.view disk).contents bodies × HasLog (D.view (disk_of log)).contents log bodies) }
-        ensures cut { IsTrue D.tells → IfOk result (λ log. IsFalse (is_whole log)
-            → (bodies : List (List ℕ)) × IsCutAfter (D.view disk).contents bodies × HasFrames (D.view (disk_of log)).contents log bodies) }
-        ensures limit { IfOk result (λ log. limit_of log ≡ limit) }
+        ensures whole { IsTrue D.tells → IfOk result (λ log. IsTrue (is_whole_log log)
+            → (bodies : List (List ℕ)) × Stands (D.view disk).contents bodies × HasClosedFrames (D.view (disk_of_log log)).contents log bodies) }
+        ensures cut { IsTrue D.tells → IfOk result (λ log. IsFalse (is_whole_log log)
+            → (bodies : List (List ℕ)) × IsCutAfter (D.view disk).contents bodies × HasFrames (D.view (disk_of_log log)).contents log bodies) }
+        ensures limit { IfOk result (λ log. limit_of_log log ≡ limit) }
         ensures sound { IfOk result (λ log. IsTrue (is_sound log)) }
 
         // No frame is changed: the file goes on to stand for the same bodies, and so does what a crash at any
         // moment since leaves, if all that one before might have left does.
         ensures frames { IsTrue D.tells → (bodies : List (List ℕ)) → Stands (D.view disk).contents bodies
-            → Stands (D.view (disk_after result)).contents bodies }
+            → Stands (D.view (disk_after_log result)).contents bodies }
         ensures since { IsTrue D.tells_images → (bodies : List (List ℕ)) → ((c : List ℕ) → D.images disk c → Stands c bodies)
-            → (c : List ℕ) → D.since (disk_after result) (D.view disk).moment c → Stands c bodies }
+            → (c : List ℕ) → D.since (disk_after_log result) (D.view disk).moment c → Stands c bodies }
 
         // What becomes of the file, and what a crash may leave of it at any moment.
-        ensures opens { OnlyOpens D.tells D.tells_images D.view D.images D.since disk (disk_after result) }
-        ensures gate { IsTrue D.tells → length (D.view disk).contents ≤ 1 → OnOk result ((D.view (disk_after result)).contents ≡ 0 ∷ []) }
-        ensures durable { IsTrue D.tells_images → OnOk result (Only (D.view (disk_after result)).contents (D.images (disk_after result))) }
+        ensures opens { OnlyOpens D.tells D.tells_images D.view D.images D.since disk (disk_after_log result) }
+        ensures gate { IsTrue D.tells → length (D.view disk).contents ≤ 1 → OnOk result ((D.view (disk_after_log result)).contents ≡ 0 ∷ []) }
+        ensures durable { IsTrue D.tells_images → OnOk result (Only (D.view (disk_after_log result)).contents (D.images (disk_after_log result))) }
 
         // From the first call of the disk on a crash leaves the file as it was, or at most one byte of one that had no more.
-        ensures settled { IsTrue D.tells_images → OnOk result (Settles (D.view disk).moment (D.view (disk_after result)).moment
-            (D.images disk) (D.since (disk_after result)) (IsAsOpened (D.view disk).contents)) }
+        ensures settled { IsTrue D.tells_images → OnOk result (Settles (D.view disk).moment (D.view (disk_after_log result)).moment
+            (D.images disk) (D.since (disk_after_log result)) (IsAsOpened (D.view disk).contents)) }
 
-        ensures later { (D.view disk).faults ≤ (D.view (disk_after result)).faults }
-        ensures steady { IsTrue D.counts_failures → OnOk result ((D.view (disk_after result)).faults ≡ (D.view disk).faults) }
+        ensures later { (D.view disk).faults ≤ (D.view (disk_after_log result)).faults }
+        ensures steady { IsTrue D.counts_failures → OnOk result ((D.view (disk_after_log result)).faults ≡ (D.view disk).faults) }
         ensures cause { IfErr result (λ refused. IsCaused D.counts_failures (D.view disk).faults (D.view refused.1).faults refused.0) }
     {
         match Scan::begin(alloc, disk, limit) {
@@ -77,17 +77,17 @@ impl<D: Disk> GateLog<D> {
         }
     }
 
-    /// The log that was found on a disk: so many frames, and the gate behind them.
+    // The log that was found on a disk: so many frames, and the gate behind them.
     pub(crate) fn over(disk: D, limit: u64, count: u64, last: u64, whole: bool) -> GateLog<D>
         requires inside { IsTrue D.tells → last < length (D.view disk).contents }
         requires small { limit ≤ 2 ^ 32 }
         requires close { last < 2 ^ 58 }
         requires counted { count ≤ last }
-        ensures disk { disk_of result ≡ disk }
-        ensures limit { limit_of result ≡ limit }
+        ensures disk { disk_of_log result ≡ disk }
+        ensures limit { limit_of_log result ≡ limit }
         ensures count { count_of result ≡ count }
         ensures last { last_gate_of result ≡ last }
-        ensures whole { is_whole result ≡ whole }
+        ensures whole { is_whole_log result ≡ whole }
         ensures sound { IsTrue (is_sound result) }
         ensures near_frame { result.near_frame ≡ 0 }
         ensures near_gate { result.near_gate ≡ 0 }
@@ -121,14 +121,14 @@ impl<D: Disk> GateLog<D> {
 
     /// How many bytes it may have.
     pub fn limit(&self) -> u64
-        ensures { result ≡ limit_of self.now }
+        ensures { result ≡ limit_of_log self.now }
     {
         self.limit
     }
 
     /// Whether the last gate is closed. Where it isn't, its frame runs past the end of the file.
     pub fn whole(&self) -> bool
-        ensures { result ≡ is_whole self.now }
+        ensures { result ≡ is_whole_log self.now }
     {
         self.whole
     }
@@ -145,17 +145,17 @@ impl<D: Disk> GateLog<D> {
     /// isn't later.
     pub fn frame(&mut self, i: u64, body: &mut Vec<u8>) -> Result<(), StoreFault>
         requires { i < count_of self.old }
-        ensures body { IsTrue D.tells → (bodies : List (List ℕ)) → HasFrames (D.view (disk_of self.old)).contents self.old bodies
+        ensures body { IsTrue D.tells → (bodies : List (List ℕ)) → HasFrames (D.view (disk_of_log self.old)).contents self.old bodies
             → OnOk result (slice_get bodies i ≡ Some body.new.items) }
-        ensures kept { IsTrue D.tells → (bodies : List (List ℕ)) → HasFrames (D.view (disk_of self.old)).contents self.old bodies
-            → HasFrames (D.view (disk_of self.new)).contents self.new bodies }
-        ensures kept_log { IsTrue D.tells → (bodies : List (List ℕ)) → HasLog (D.view (disk_of self.old)).contents self.old bodies
-            → HasLog (D.view (disk_of self.new)).contents self.new bodies }
+        ensures kept { IsTrue D.tells → (bodies : List (List ℕ)) → HasFrames (D.view (disk_of_log self.old)).contents self.old bodies
+            → HasFrames (D.view (disk_of_log self.new)).contents self.new bodies }
+        ensures kept_log { IsTrue D.tells → (bodies : List (List ℕ)) → HasClosedFrames (D.view (disk_of_log self.old)).contents self.old bodies
+            → HasClosedFrames (D.view (disk_of_log self.new)).contents self.new bodies }
         ensures same { IsSameLog self.old self.new }
-        ensures reads { OnlyReads D.tells D.tells_images D.view D.images D.since (disk_of self.old) (disk_of self.new) }
+        ensures reads { OnlyReads D.tells D.tells_images D.view D.images D.since (disk_of_log self.old) (disk_of_log self.new) }
         ensures sound { is_sound self.new ≡ is_sound self.old }
-        ensures steady { IsTrue D.counts_failures → OnOk result ((D.view (disk_of self.new)).faults ≡ (D.view (disk_of self.old)).faults) }
-        ensures cause { IfErr result (IsCaused D.counts_failures (D.view (disk_of self.old)).faults (D.view (disk_of self.new)).faults) }
+        ensures steady { IsTrue D.counts_failures → OnOk result ((D.view (disk_of_log self.new)).faults ≡ (D.view (disk_of_log self.old)).faults) }
+        ensures cause { IfErr result (IsCaused D.counts_failures (D.view (disk_of_log self.old)).faults (D.view (disk_of_log self.new)).faults) }
     {
         let near = self.near(i);
         let gate = walk(&mut self.disk, near, i, self.last)?;
@@ -170,53 +170,53 @@ impl<D: Disk> GateLog<D> {
     /// wants no memory where the disk takes none.
     pub fn append(&mut self, frame: &[u8]) -> Result<(), StoreFault>
         requires form { (body : List ℕ) × (frame.now ≡ framed body) }
-        requires whole { IsTrue (is_whole self.old) }
+        requires whole { IsTrue (is_whole_log self.old) }
         requires sound { IsTrue (is_sound self.old) }
 
         ensures appended { IsTrue D.tells → (bodies : List (List ℕ)) (body : List ℕ)
-            → HasLog (D.view (disk_of self.old)).contents self.old bodies → frame.now ≡ framed body
-            → OnOk result (HasLog (D.view (disk_of self.new)).contents self.new (bodies ++ body ∷ [])) }
+            → HasClosedFrames (D.view (disk_of_log self.old)).contents self.old bodies → frame.now ≡ framed body
+            → OnOk result (HasClosedFrames (D.view (disk_of_log self.new)).contents self.new (bodies ++ body ∷ [])) }
         ensures count { OnOk result (count_of self.new ≡ count_of self.old + 1) }
         ensures length { OnOk result (length_of self.new ≡ length_of self.old + length frame.now) }
-        ensures fits { OnOk result (length_of self.old + length frame.now ≤ limit_of self.old) }
-        ensures limit { limit_of self.new ≡ limit_of self.old }
-        ensures whole { IsTrue (is_whole self.new) }
+        ensures fits { OnOk result (length_of self.old + length frame.now ≤ limit_of_log self.old) }
+        ensures limit { limit_of_log self.new ≡ limit_of_log self.old }
+        ensures whole { IsTrue (is_whole_log self.new) }
         ensures same { OnErr result (IsSameLog self.old self.new) }
 
         // The frame stands behind the gate that was the last one, which was opened by 1.
-        ensures written { IsTrue D.tells → OnOk result ((D.view (disk_of self.new)).contents
-            ≡ overwritten (overwritten (D.view (disk_of self.old)).contents (length_of self.old) frame.now) (last_gate_of self.old) (1 ∷ [])) }
+        ensures written { IsTrue D.tells → OnOk result ((D.view (disk_of_log self.new)).contents
+            ≡ overwritten (overwritten (D.view (disk_of_log self.old)).contents (length_of self.old) frame.now) (last_gate_of self.old) (1 ∷ [])) }
 
         // What it leaves, refused or not, and what a crash at any moment since the call began might have left.
         ensures left { IsTrue D.tells → (bodies : List (List ℕ)) (body : List ℕ)
-            → HasLog (D.view (disk_of self.old)).contents self.old bodies → frame.now ≡ framed body
-            → StandsWithOrWithout bodies body (D.view (disk_of self.new)).contents }
+            → HasClosedFrames (D.view (disk_of_log self.old)).contents self.old bodies → frame.now ≡ framed body
+            → StandsWithOrWithout bodies body (D.view (disk_of_log self.new)).contents }
         ensures time { IsTrue D.tells_images → (bodies : List (List ℕ)) (body : List ℕ)
-            → HasLog (D.view (disk_of self.old)).contents self.old bodies
-            → Only (D.view (disk_of self.old)).contents (D.images (disk_of self.old)) → frame.now ≡ framed body
-            → LeavesOnly (D.view (disk_of self.old)).moment (D.view (disk_of self.new)).moment
-            (D.since (disk_of self.old)) (D.since (disk_of self.new)) (StandsWithOrWithout bodies body) }
+            → HasClosedFrames (D.view (disk_of_log self.old)).contents self.old bodies
+            → Only (D.view (disk_of_log self.old)).contents (D.images (disk_of_log self.old)) → frame.now ≡ framed body
+            → LeavesOnly (D.view (disk_of_log self.old)).moment (D.view (disk_of_log self.new)).moment
+            (D.since (disk_of_log self.old)) (D.since (disk_of_log self.new)) (StandsWithOrWithout bodies body) }
         ensures since { IsTrue D.tells_images → (bodies : List (List ℕ)) (body : List ℕ)
-            → HasLog (D.view (disk_of self.old)).contents self.old bodies
-            → Only (D.view (disk_of self.old)).contents (D.images (disk_of self.old)) → frame.now ≡ framed body
-            → (c : List ℕ) → D.since (disk_of self.new) (D.view (disk_of self.old)).moment c → StandsWithOrWithout bodies body c }
+            → HasClosedFrames (D.view (disk_of_log self.old)).contents self.old bodies
+            → Only (D.view (disk_of_log self.old)).contents (D.images (disk_of_log self.old)) → frame.now ≡ framed body
+            → (c : List ℕ) → D.since (disk_of_log self.new) (D.view (disk_of_log self.old)).moment c → StandsWithOrWithout bodies body c }
         ensures crash { IsTrue D.tells_images → (bodies : List (List ℕ)) (body : List ℕ)
-            → HasLog (D.view (disk_of self.old)).contents self.old bodies
-            → Only (D.view (disk_of self.old)).contents (D.images (disk_of self.old)) → frame.now ≡ framed body
-            → (c : List ℕ) → D.images (disk_of self.new) c → StandsWithOrWithout bodies body c }
-        ensures durable { IsTrue D.tells_images → OnOk result (Only (D.view (disk_of self.new)).contents (D.images (disk_of self.new))) }
+            → HasClosedFrames (D.view (disk_of_log self.old)).contents self.old bodies
+            → Only (D.view (disk_of_log self.old)).contents (D.images (disk_of_log self.old)) → frame.now ≡ framed body
+            → (c : List ℕ) → D.images (disk_of_log self.new) c → StandsWithOrWithout bodies body c }
+        ensures durable { IsTrue D.tells_images → OnOk result (Only (D.view (disk_of_log self.new)).contents (D.images (disk_of_log self.new))) }
 
         // Why it is refused. A full log leaves the disk alone; after another refusal the log takes no append any more.
-        ensures over { limit_of self.old < length_of self.old + length frame.now
-            → result ≡ Err (StoreFault.LogFull (length_of self.old) (length frame.now) (limit_of self.old)) }
-        ensures full { IfErr result (IsFullAt (length_of self.old) (length frame.now) (limit_of self.old)) }
+        ensures over { limit_of_log self.old < length_of self.old + length frame.now
+            → result ≡ Err (StoreFault.LogFull (length_of self.old) (length frame.now) (limit_of_log self.old)) }
+        ensures full { IfErr result (IsFullAt (length_of self.old) (length frame.now) (limit_of_log self.old)) }
         ensures untouched { (n m k : ℕ) → IsErrOf result (StoreFault.LogFull n m k) → self.new ≡ self.old }
         ensures sound { OnOk result (IsTrue (is_sound self.new)) }
         ensures unsound { OnErr result (IsTrue (is_sound self.new) → self.new ≡ self.old) }
-        ensures steady { IsTrue D.counts_failures → UnlessDiskFault result ((D.view (disk_of self.new)).faults ≡ (D.view (disk_of self.old)).faults) }
-        ensures later { (D.view (disk_of self.old)).faults ≤ (D.view (disk_of self.new)).faults }
+        ensures steady { IsTrue D.counts_failures → UnlessDiskFault result ((D.view (disk_of_log self.new)).faults ≡ (D.view (disk_of_log self.old)).faults) }
+        ensures later { (D.view (disk_of_log self.old)).faults ≤ (D.view (disk_of_log self.new)).faults }
         ensures failed { IsErrOf result StoreFault.DiskFault
-            → Rose (D.view (disk_of self.old)).faults (D.view (disk_of self.new)).faults }
+            → Rose (D.view (disk_of_log self.old)).faults (D.view (disk_of_log self.new)).faults }
         ensures memory { IsErrOf result StoreFault.Memory → IsTrue D.takes_memory }
     {
         let gate = self.last;
@@ -242,7 +242,7 @@ impl<D: Disk> GateLog<D> {
 
     /// The disk that it lies on.
     pub fn into_disk(self) -> D
-        ensures { result ≡ disk_of self }
+        ensures { result ≡ disk_of_log self }
     {
         let GateLog {
             disk,

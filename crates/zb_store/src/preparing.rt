@@ -7,7 +7,7 @@ ghost use Rattle.zb_store.specs.Calls.{OnlyOpens, IsAsOpened, Settles};
 use crate::fault::StoreFault;
 use zb_disk::Disk;
 
-/// The gate of a log without frames.
+// The gate of a log without frames.
 const CLOSED_GATE: u8 = 0;
 
 /// Brings all that was written to a file onto the disk, and makes a closed gate of a file of at most one byte. It

@@ -187,14 +187,14 @@ impl<D: Disk> Scan<D> {
     pub(crate) fn run(self) -> Result<GateLog<D>, (StoreFault, D)>
         requires { IsFalse (is_over self) }
         ensures whole { IsTrue D.tells → (bodies : List (List ℕ)) → HasFound (D.view (disk_of_scan self)).contents self bodies
-            → IfOk result (λ log. IsTrue (gates.is_whole log) → (all : List (List ℕ)) × gates.HasLog (D.view (gates.disk_of log)).contents log all) }
+            → IfOk result (λ log. IsTrue (gates.is_whole_log log) → (all : List (List ℕ)) × gates.HasClosedFrames (D.view (gates.disk_of_log log)).contents log all) }
         ensures cut { IsTrue D.tells → (bodies : List (List ℕ)) → HasFound (D.view (disk_of_scan self)).contents self bodies
-            → IfOk result (λ log. IsFalse (gates.is_whole log) → (all : List (List ℕ)) × IsCutAfter (D.view (gates.disk_of log)).contents all
-            × gates.HasFrames (D.view (gates.disk_of log)).contents log all) }
-        ensures limit { IfOk result (λ log. gates.limit_of log ≡ limit_of_scan self) }
+            → IfOk result (λ log. IsFalse (gates.is_whole_log log) → (all : List (List ℕ)) × IsCutAfter (D.view (gates.disk_of_log log)).contents all
+            × gates.HasFrames (D.view (gates.disk_of_log log)).contents log all) }
+        ensures limit { IfOk result (λ log. gates.limit_of_log log ≡ limit_of_scan self) }
         ensures sound { IfOk result (λ log. IsTrue (gates.is_sound log)) }
-        ensures reads { OnlyReads D.tells D.tells_images D.view D.images D.since (disk_of_scan self) (gates.disk_after result) }
-        ensures steady { IsTrue D.counts_failures → OnOk result ((D.view (gates.disk_after result)).faults ≡ (D.view (disk_of_scan self)).faults) }
+        ensures reads { OnlyReads D.tells D.tells_images D.view D.images D.since (disk_of_scan self) (gates.disk_after_log result) }
+        ensures steady { IsTrue D.counts_failures → OnOk result ((D.view (gates.disk_after_log result)).faults ≡ (D.view (disk_of_scan self)).faults) }
         ensures cause { IfErr result (λ refused. IsCaused D.counts_failures (D.view (disk_of_scan self)).faults (D.view refused.1).faults refused.0) }
     {
         let mut scan = self;
@@ -213,11 +213,11 @@ impl<D: Disk> Scan<D> {
         requires { IsTrue (is_over self) }
         ensures frames { IsTrue D.tells → (bodies : List (List ℕ)) → HasFound (D.view (disk_of_scan self)).contents self bodies
             → gates.HasFrames (D.view (disk_of_scan self)).contents result bodies }
-        ensures disk { gates.disk_of result ≡ disk_of_scan self }
-        ensures limit { gates.limit_of result ≡ limit_of_scan self }
+        ensures disk { gates.disk_of_log result ≡ disk_of_scan self }
+        ensures limit { gates.limit_of_log result ≡ limit_of_scan self }
         ensures count { gates.count_of result ≡ count_of_scan self }
         ensures last { gates.last_gate_of result ≡ gate_of_scan self }
-        ensures whole { gates.is_whole result ≡ is_closed self }
+        ensures whole { gates.is_whole_log result ≡ is_closed self }
         ensures sound { IsTrue (gates.is_sound result) }
     {
         GateLog::over(self.disk, self.limit, self.count, self.gate, self.closed)

@@ -1,7 +1,7 @@
 // One step from a gate to the next.
 ghost use Rattle.std.specs.Prelude.{◌≡◌, ◌<◌, ◌≤◌, ◌+◌, ◌^◌, ℕ, List, length};
 ghost use Rattle.std.specs.Int.{w64, from_be_bytes};
-ghost use Rattle.zb_store.specs.Step.{IsStep, LiesBehind, AreFrom};
+ghost use Rattle.zb_store.specs.Step.{IsAtGate, LiesBehind, AreFrom};
 
 use crate::scan::HEAD_BYTES;
 
@@ -22,7 +22,7 @@ pub fn step_at(bytes: &[u8], at: u64, end: u64) -> Step
     requires inside { at + length bytes.now ≤ end }
     requires enough { length bytes.now < 9 → at + length bytes.now ≡ end }
     requires small { end < 2 ^ 58 }
-    ensures step { (file : List ℕ) → length file ≡ end → AreFrom file at bytes.now → IsStep file at result }
+    ensures step { (file : List ℕ) → length file ≡ end → AreFrom file at bytes.now → IsAtGate file at result }
     ensures behind { LiesBehind at end result }
 {
     if bytes[0] == 0 {
@@ -38,7 +38,7 @@ pub fn step_at(bytes: &[u8], at: u64, end: u64) -> Step
     Step::Next(at + HEAD_BYTES + size)
 }
 
-/// The number that eight bytes spell, highest first.
+// The number that eight bytes spell, highest first.
 fn number(bytes: &[u8]) -> u64
     requires { length bytes.now ≡ 8 }
     ensures { result ≡ from_be_bytes w64 bytes.now }

@@ -3,7 +3,7 @@ ghost use Rattle.std.specs.Prelude.{◌≡◌, ◌<◌, ◌≤◌, ◌+◌, ◌^
 ghost use Rattle.zb_disk.specs.Cause.{HasCause};
 ghost use Rattle.zb_store.specs.Cause.{IsCaused};
 ghost use Rattle.zb_store.specs.Calls.{OnlyReads};
-ghost use Rattle.zb_store.specs.Step.{IsStep, LiesBehind};
+ghost use Rattle.zb_store.specs.Step.{IsAtGate, LiesBehind};
 
 use crate::fault::StoreFault;
 use crate::scan::HEAD_BYTES;
@@ -11,7 +11,7 @@ use crate::step::{Step, step_at};
 use std::alloc::{AllocError, Global};
 use zb_disk::{Disk, Trouble};
 
-/// The most bytes that are read at once, unless a frame has more.
+// The most bytes that are read at once, unless a frame has more.
 const PIECE_BYTES: u64 = 65_536;
 
 /// A piece of a file: the bytes that were read last, in a buffer that is used again and again.
@@ -50,7 +50,7 @@ impl Window {
         requires at { at < self.old.end }
         requires end { IsTrue D.tells → self.old.end ≡ length (D.view disk.old).contents }
         requires piece { IsTrue D.tells → IsPieceOf (D.view disk.old).contents self.old }
-        ensures step { IsTrue D.tells → IfOk result (IsStep (D.view disk.old).contents at) }
+        ensures step { IsTrue D.tells → IfOk result (IsAtGate (D.view disk.old).contents at) }
         ensures behind { IfOk result (LiesBehind at self.old.end) }
         ensures holds { IfOk result (HoldsFrame at self.new) }
         ensures piece { IsTrue D.tells → IsPieceOf (D.view disk.new).contents self.new }
@@ -75,7 +75,7 @@ impl Window {
         requires at { at < self.old.end }
         requires end { IsTrue D.tells → self.old.end ≡ length (D.view disk.old).contents }
         requires piece { IsTrue D.tells → IsPieceOf (D.view disk.old).contents self.old }
-        ensures step { IsTrue D.tells → IfOk result (IsStep (D.view disk.old).contents at) }
+        ensures step { IsTrue D.tells → IfOk result (IsAtGate (D.view disk.old).contents at) }
         ensures behind { IfOk result (LiesBehind at self.old.end) }
         ensures piece { IsTrue D.tells → IsPieceOf (D.view disk.new).contents self.new }
         ensures end { self.new.end ≡ self.old.end }

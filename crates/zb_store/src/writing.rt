@@ -8,7 +8,7 @@ ghost use Rattle.zb_store.specs.Stands.{EndsAt, StandsWithOrWithout};
 
 use zb_disk::{Disk, Trouble};
 
-/// A gate that is open, as any byte but 0 is.
+// A gate that is open, as any byte but 0 is.
 const OPEN_GATE: u8 = 1;
 
 /// Writes a frame behind the closed gate at this place, and opens that gate once the frame is on the disk.
@@ -42,7 +42,7 @@ pub fn write_frame<D: Disk>(disk: &mut D, gate: u64, frame: &[u8]) -> Result<(),
     write_through(disk, gate, &[OPEN_GATE])
 }
 
-/// Writes a piece, and brings it onto the disk.
+// Writes a piece, and brings it onto the disk.
 fn write_through<D: Disk>(disk: &mut D, at: u64, piece: &[u8]) -> Result<(), Trouble>
     requires inside { IsTrue D.tells → at ≤ length (D.view disk.old).contents }
     requires end { at + length piece.now < 2 ^ 58 }

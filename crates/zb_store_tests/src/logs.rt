@@ -1,5 +1,5 @@
 ghost use Rattle.std.specs.Prelude.{◌<◌, ◌^◌, length, IsTrue};
-ghost use Rattle.zb_store.specs.GateLog.{is_whole, is_sound};
+ghost use Rattle.zb_store.specs.GateLog.{is_whole_log, is_sound};
 
 use std::alloc::Global;
 use std::process::Abort;
@@ -15,7 +15,7 @@ const TWO_FRAMES: [u8; 22] = [
     1, 0, 0, 0, 0, 0, 0, 0, 2, 7, 8, 1, 0, 0, 0, 0, 0, 0, 0, 1, 9, 0,
 ];
 
-/// The log on a disk whose calls succeed.
+// The log on a disk whose calls succeed.
 fn opened(alloc: Global, disk: MemDisk) -> Result<GateLog<MemDisk>, StoreFault> {
     match GateLog::open(alloc, disk, 1_000_000) {
         Ok(log) => Ok(log),
@@ -23,7 +23,7 @@ fn opened(alloc: Global, disk: MemDisk) -> Result<GateLog<MemDisk>, StoreFault> 
     }
 }
 
-/// Wants the frame with this number to have this body.
+// Wants the frame with this number to have this body.
 fn expect_frame(
     rt: &impl Abort,
     alloc: Global,
@@ -38,7 +38,7 @@ fn expect_frame(
     Ok(())
 }
 
-/// Wants this file to be a log with these bodies, of this length, and whole or not.
+// Wants this file to be a log with these bodies, of this length, and whole or not.
 fn expect_log(
     rt: &impl Abort,
     alloc: Global,
@@ -89,7 +89,7 @@ fn files_and_their_bodies(rt: HostRuntime) -> Result<(), Fail> {
     Ok(())
 }
 
-/// Opens a file on a disk whose call with this number fails, and wants that fault and this file then.
+// Opens a file on a disk whose call with this number fails, and wants that fault and this file then.
 fn expect_fault(
     rt: &impl Abort,
     alloc: Global,
@@ -129,7 +129,7 @@ fn each_call_of_an_opening_fails(rt: HostRuntime) -> Result<(), Fail> {
     Ok(())
 }
 
-/// Adds an open gate and a frame with a body of this byte, repeated.
+// Adds an open gate and a frame with a body of this byte, repeated.
 fn push_frame(alloc: Global, file: &mut Vec<u8>, size: usize, byte: u8) -> Result<(), Fail> {
     file.push(1)?;
     file.extend_from_slice(&(size as u64).to_be_bytes())?;
@@ -138,7 +138,7 @@ fn push_frame(alloc: Global, file: &mut Vec<u8>, size: usize, byte: u8) -> Resul
     Ok(())
 }
 
-/// Wants the next frame to have a body of this byte, repeated.
+// Wants the next frame to have a body of this byte, repeated.
 fn expect_next(
     rt: &impl Abort,
     scan: &mut Scan<MemDisk>,
@@ -186,16 +186,16 @@ fn a_log_longer_than_a_piece(rt: HostRuntime) -> Result<(), Fail> {
     Ok(())
 }
 
-/// Adds a frame with this body.
+// Adds a frame with this body.
 fn add(alloc: Global, log: &mut GateLog<MemDisk>, body: &[u8]) -> Result<(), StoreFault>
-    requires whole { IsTrue (is_whole log.old) }
+    requires whole { IsTrue (is_whole_log log.old) }
     requires sound { IsTrue (is_sound log.old) }
 {
     let frame = framed(alloc, body)?;
     log.append(&frame)
 }
 
-/// Adds these frames to a log, which must be whole.
+// Adds these frames to a log, which must be whole.
 fn add_all(
     rt: &impl Abort,
     alloc: Global,
@@ -226,8 +226,8 @@ fn a_frame_is_added_in_front_of_what_a_crash_left(rt: HostRuntime) -> Result<(),
     Ok(())
 }
 
-/// Adds a frame to a new log on a disk whose call with this number fails, and wants that fault and this file
-/// then.
+// Adds a frame to a new log on a disk whose call with this number fails, and wants that fault and this file
+// then.
 fn expect_refusal(rt: &impl Abort, alloc: Global, call: u64, left: &[u8]) -> Result<(), Fail>
     requires { call < 100 }
 {
@@ -255,8 +255,8 @@ fn each_call_of_an_addition_fails(rt: HostRuntime) -> Result<(), Fail> {
     expect_refusal(&rt, alloc, 8, &FRAME)
 }
 
-/// Wants the image of a moment, with this byte in place of what wasn't on the disk yet, to be a whole log of so
-/// many frames.
+// Wants the image of a moment, with this byte in place of what wasn't on the disk yet, to be a whole log of so
+// many frames.
 fn expect_image(
     rt: &impl Abort,
     alloc: Global,
@@ -278,7 +278,7 @@ fn expect_image(
     Ok(())
 }
 
-/// The disk of a new log to which these frames were added, and then one more.
+// The disk of a new log to which these frames were added, and then one more.
 fn disk_of_additions(rt: &impl Abort, alloc: Global, bodies: &[&[u8]]) -> Result<MemDisk, Fail> {
     let disk = MemDisk::new(alloc, Vec::new(alloc), Vec::new(alloc))?;
     let mut log = opened(alloc, disk)?;

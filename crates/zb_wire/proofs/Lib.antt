@@ -1,4 +1,4 @@
-pub mod LineValues
-pub mod Names
-pub mod Members
-pub mod Within
+pub mod LineLemmas
+pub mod NameLemmas
+pub mod MemberLemmas
+pub mod LimitLemmas

@@ -9,18 +9,18 @@ use Rattle.zb_base.specs.declared.vars.Variable.{Variable}
 use Rattle.zb_wire.specs.Variables.{longest_name, unsigned_of, all_variables, variables_of}
 
 -- a field: its name, whether a line must have it, the kind of its value, and the limits of a value of that kind
-pub record Field : Type 0 where
+pub record FieldRule : Type 0 where
   pub name : List ℕ
   pub needed : Bool
   pub kind : Data → Bool
   pub limit : Data → Bool
 
 -- a field that a line must have
-abbrev pub must : List ℕ → (Data → Bool) → (Data → Bool) → Field
+abbrev pub must : List ℕ → (Data → Bool) → (Data → Bool) → FieldRule
 must name kind limit = record { name = name; needed = true; kind = kind; limit = limit }
 
 -- a field that a line may have
-abbrev pub may : List ℕ → (Data → Bool) → (Data → Bool) → Field
+abbrev pub may : List ℕ → (Data → Bool) → (Data → Bool) → FieldRule
 may name kind limit = record { name = name; needed = false; kind = kind; limit = limit }
 
 -- a text (RFC 8259, section 7)
@@ -56,20 +56,20 @@ abbrev pub are_within : Data → Bool
 are_within d = is_some (variables_in d)
 
 -- a field is there and of its kind, or it isn't there and needn't be
-abbrev pub is_right : Data → Field → Bool
+abbrev pub is_right : Data → FieldRule → Bool
 is_right d f = option_map_or f.kind (get f.name d) (not f.needed)
 
 -- a field is within its limits, or it isn't there
-abbrev pub is_within : Data → Field → Bool
+abbrev pub is_within : Data → FieldRule → Bool
 is_within d f = option_map_or f.limit (get f.name d) true
 
 -- the first field that doesn't pass
-abbrev pub first_failing : (Field → Bool) → List Field → Option (List ℕ)
+abbrev pub first_failing : (FieldRule → Bool) → List FieldRule → Option (List ℕ)
 first_failing passes [] = None
 first_failing passes (f ∷ fs) = if passes f then first_failing passes fs else Some f.name
 
 -- the names of the fields
-abbrev pub names_of : List Field → List (List ℕ)
+abbrev pub names_of : List FieldRule → List (List ℕ)
 names_of fields = map (λ f. f.name) fields
 
 -- op, or one of these names
@@ -81,14 +81,10 @@ abbrev pub first_unknown : List (List ℕ) → Members → Option (List ℕ)
 first_unknown names no_members = None
 first_unknown names (member name d ms) = if is_known names name then first_unknown names ms else Some name
 
--- the text of a field, and the empty one where it isn't there
-abbrev pub text_at : List ℕ → Data → List ℕ
-text_at field d = unwrap_or (option_and_then as_str (get field d)) []
-
 -- the number of a field
 abbrev pub count_at : List ℕ → Data → ℕ
 count_at field d = unwrap_or (option_and_then unsigned_of (get field d)) 0
 
 -- the variables of a field, and none where it isn't there
-abbrev pub variables_at : List ℕ → Data → List Variable
-variables_at field d = unwrap_or (option_and_then variables_in (get field d)) []
+abbrev pub variables_of_field : List ℕ → Data → List Variable
+variables_of_field field d = unwrap_or (option_and_then variables_in (get field d)) []

@@ -9,10 +9,10 @@ use Rattle.zb_wire.specs.declared.request.LineFault.{LineFault}
 use Rattle.zb_wire.specs.declared.request.LineFault.TheVariants as faults
 
 -- this value was found, or this fault, unless memory ran out
-abbrev pub Reads : Result Value LineFault → Result Data LineFault → Type 0
-Reads (Ok value) found = found ≡ Ok (view value)
-Reads (Err faults.Memory) found = Unit {0}
-Reads (Err fault) found = found ≡ Err fault
+abbrev pub ReadsValue : Result Value LineFault → Result Data LineFault → Type 0
+ReadsValue (Ok value) found = found ≡ Ok (view value)
+ReadsValue (Err faults.Memory) found = Unit {0}
+ReadsValue (Err fault) found = found ≡ Err fault
 
 -- a fault that tells want of memory from a text that is no JSON
 abbrev pub Blames : LineFault → Error → Type 0

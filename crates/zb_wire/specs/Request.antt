@@ -5,7 +5,7 @@ use Rattle.std.specs.Str.{bytes_eq, is_utf8}
 use Rattle.serde_json.specs.Data.{Data, Members}
 use Rattle.serde_json.specs.Read.{read}
 use Rattle.serde_json.specs.Find.{get, as_str, as_object}
-use Rattle.zb_wire.specs.Op.{request_with, ◌>>=◌}
+use Rattle.zb_wire.specs.Op.{request_with}
 use Rattle.zb_wire.specs.DeployFields.{deploy_with}
 use Rattle.zb_wire.specs.CreateFields.{create}
 use Rattle.zb_wire.specs.PublishFields.{publish}
@@ -13,6 +13,7 @@ use Rattle.zb_wire.specs.ClockFields.{tick, advance}
 use Rattle.zb_wire.specs.declared.request.Request.{Request}
 use Rattle.zb_wire.specs.declared.request.LineFault.{LineFault}
 use Rattle.zb_wire.specs.declared.request.LineFault.TheVariants as faults
+use Rattle.zb_base.specs.Results.{◌>>=◌}
 
 -- a line has at most so many bytes (own)
 unfoldable pub longest_line : ℕ
@@ -69,6 +70,6 @@ Tells faults.Memory found = Unit {0}
 Tells fault found = found ≡ Err fault
 
 -- this was found, unless memory ran out
-abbrev pub Gives : Result Request LineFault → Result Request LineFault → Type 0
-Gives (Ok request) found = found ≡ Ok request
-Gives (Err fault) found = Tells fault found
+abbrev pub GivesRequest : Result Request LineFault → Result Request LineFault → Type 0
+GivesRequest (Ok request) found = found ≡ Ok request
+GivesRequest (Err fault) found = Tells fault found

@@ -1,5 +1,5 @@
 -- Laws of the request that a line is.
-use Rattle.std.specs.Prelude.{◌≡◌, ℕ, ◌+◌, ◌<◌, List, length, take, Bool, true, false, nat_le, Result, Err, refl}
+use Rattle.std.specs.Prelude.{◌≡◌, ℕ, ◌<◌, List, length, take, Bool, true, false, nat_le, Result, Err, refl}
 use Rattle.std.proofs.Common.{sym, ap, ◌∙◌, arith}
 use Rattle.std.proofs.lemmas.Bool.{leb-true, leb-false, lt-leb}
 use Rattle.std.proofs.lemmas.List.{take_all, length-take-le}
@@ -23,10 +23,6 @@ request_of_take_by false manual n line long above =
 -- one byte more than the longest line, and the front of a line asks for what the whole asks for
 pub request_of-take : (manual : Bool) (n : ℕ) (line : List ℕ) → longest_line < n → request_of manual (take n line) ≡ request_of manual line
 request_of-take manual n line above = request_of_take_by _ manual n line refl above
-
--- the first bytes of a line, one more than the longest line has, ask for what the line asks for
-pub request_of-front : (manual : Bool) (line : List ℕ) → request_of manual (take (longest_line + 1) line) ≡ request_of manual line
-request_of-front manual line = request_of-take manual (longest_line + 1) line (omega arith)
 
 -- a fault that isn't want of memory is the one that was found
 pub Tells-fault : (fault : LineFault) (found : Result Request LineFault) → Tells fault found → ¬ (fault ≡ faults.Memory) → found ≡ Err fault

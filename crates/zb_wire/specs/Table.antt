@@ -21,19 +21,19 @@ kind_of kinds.Partition = spec.is_count
 kind_of kinds.Variables = spec.are_variables
 
 -- those within its limits
-abbrev pub limit_of : Kind → Data → Bool
-limit_of kinds.Name = spec.is_name
-limit_of kinds.Duration = spec.is_duration
-limit_of kinds.Version = is_version
-limit_of kinds.Partition = is_partition
-limit_of kinds.Variables = spec.are_within
+abbrev pub bounds_of : Kind → Data → Bool
+bounds_of kinds.Name = spec.is_name
+bounds_of kinds.Duration = spec.is_duration
+bounds_of kinds.Version = is_version
+bounds_of kinds.Partition = is_partition
+bounds_of kinds.Variables = spec.are_within
 
 -- the field that a row of a table is
-abbrev pub field_of : Field → spec.Field
-field_of (fields.Must name kind) = spec.must name.now (kind_of kind) (limit_of kind)
-field_of (fields.May name kind) = spec.may name.now (kind_of kind) (limit_of kind)
+abbrev pub field_of : Field → spec.FieldRule
+field_of (fields.Must name kind) = spec.must name.now (kind_of kind) (bounds_of kind)
+field_of (fields.May name kind) = spec.may name.now (kind_of kind) (bounds_of kind)
 
 -- a value has these fields, or it is no request of them by this fault, unless memory ran out
-abbrev pub Judges : Option LineFault → List spec.Field → Members → Data → Type 0
+abbrev pub Judges : Option LineFault → List spec.FieldRule → Members → Data → Type 0
 Judges None fields members value = none_amiss fields members value ≡ Ok tt
 Judges (Some fault) fields members value = (request : Data → Request) → Tells fault (request_with (record { fields = fields; request = request }) members value)

@@ -56,17 +56,17 @@ abbrev pub short_text : List ℕ → Option (List ℕ)
 short_text s = if nat_le (length s) longest_text then Some s else None
 
 -- what a variable of this value holds; None where it is outside the limits (own)
-abbrev pub value_of : Data → Option Value
-value_of null = None
-value_of (boolean b) = Some (values.Bool b)
-value_of (number n) = option_map values.Int (as_i64 n)
-value_of (string s) = option_map values.Text (short_text s)
-value_of (array ds) = option_map values.List (numbers_of ds)
-value_of (object ms) = None
+abbrev pub variable_value : Data → Option Value
+variable_value null = None
+variable_value (boolean b) = Some (values.Bool b)
+variable_value (number n) = option_map values.Int (as_i64 n)
+variable_value (string s) = option_map values.Text (short_text s)
+variable_value (array ds) = option_map values.List (numbers_of ds)
+variable_value (object ms) = None
 
 -- the variable that a member is; None where its name or its value is outside the limits (own)
 abbrev pub variable_of : List ℕ → Data → Option Variable
-variable_of name d = if nat_le (length name) longest_name then option_map (λ value. record { name = name; value = value }) (value_of d) else None
+variable_of name d = if nat_le (length name) longest_name then option_map (λ value. record { name = name; value = value }) (variable_value d) else None
 
 -- the variables that the members are, in byte order of their names; None where one is outside the limits (own)
 abbrev pub variables_of : Members → Option (List Variable)

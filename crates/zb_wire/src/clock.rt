@@ -2,7 +2,7 @@ ghost use Rattle.std.specs.Prelude.{◌≡◌};
 ghost use Rattle.serde_json.specs.View.{view, members_view};
 ghost use Rattle.zb_wire.specs.ClockFields.{tick, advance};
 ghost use Rattle.zb_wire.specs.Op.{request_with};
-ghost use Rattle.zb_wire.specs.Request.{Gives};
+ghost use Rattle.zb_wire.specs.Request.{GivesRequest};
 
 use crate::fields::{Field, fault_in};
 use crate::kind::Kind;
@@ -21,7 +21,7 @@ pub fn tick_in(
     members: &Map<String, Json>,
     value: &Json,
 ) -> Result<Request, LineFault>
-    ensures { Gives result (request_with tick (members_view members.now.entries)
+    ensures { GivesRequest result (request_with tick (members_view members.now.entries)
         (view value.now)) }
 {
     match fault_in(alloc, &TICK_FIELDS, members, value) {
@@ -36,7 +36,7 @@ pub fn advance_in(
     members: &Map<String, Json>,
     value: &Json,
 ) -> Result<Request, LineFault>
-    ensures { Gives result (request_with advance (members_view members.now.entries)
+    ensures { GivesRequest result (request_with advance (members_view members.now.entries)
         (view value.now)) }
 {
     match fault_in(alloc, &ADVANCE_FIELDS, members, value) {

@@ -61,7 +61,7 @@ impl AsStr for Field {
 
 /// What is wrong with a value that has no such fields, these being its members. It takes time in proportion
 /// to the members.
-#[tactic(auto, using(crate::proofs::Names::names_of_rows))]
+#[tactic(auto, using(crate::proofs::NameLemmas::names_of_rows))]
 pub fn fault_in(
     alloc: Global,
     fields: &[Field],

@@ -2,7 +2,7 @@ ghost use Rattle.std.specs.Prelude.{◌≡◌, is_some};
 ghost use Rattle.serde_json.specs.View.{view};
 ghost use Rattle.zb_wire.specs.Fields as spec;
 ghost use Rattle.zb_wire.specs.CreateFields.{is_version, is_partition};
-ghost use Rattle.zb_wire.specs.Table.{kind_of, limit_of};
+ghost use Rattle.zb_wire.specs.Table.{kind_of, bounds_of};
 
 use crate::values::version_in;
 use crate::variables::{all_variables, all_within};
@@ -46,7 +46,7 @@ impl Kind {
 
     /// Whether the value is of this kind and within its limits.
     pub fn allows(self, value: &Json) -> bool
-        ensures { result ≡ limit_of self (view value.now) }
+        ensures { result ≡ bounds_of self (view value.now) }
     {
         match self {
             Kind::Name => is_name(value),

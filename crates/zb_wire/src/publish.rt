@@ -2,7 +2,7 @@ ghost use Rattle.std.specs.Prelude.{◌≡◌, IfOk};
 ghost use Rattle.serde_json.specs.View.{view, members_view};
 ghost use Rattle.zb_wire.specs.Op.{request_with};
 ghost use Rattle.zb_wire.specs.PublishFields.{publish, message_of};
-ghost use Rattle.zb_wire.specs.Request.{Gives};
+ghost use Rattle.zb_wire.specs.Request.{GivesRequest};
 
 use crate::fields::{Field, fault_in};
 use crate::kind::Kind;
@@ -26,7 +26,7 @@ pub fn publish_in(
     members: &Map<String, Json>,
     value: &Json,
 ) -> Result<Request, LineFault>
-    ensures { Gives result (request_with publish (members_view members.now.entries)
+    ensures { GivesRequest result (request_with publish (members_view members.now.entries)
         (view value.now)) }
 {
     if let Some(fault) = fault_in(alloc, &FIELDS, members, value) {

@@ -1,8 +1,8 @@
 ghost use Rattle.std.specs.Prelude.{◌≡◌, ◌+◌, ℕ, Bool, List, take, IfOk};
 ghost use Rattle.zb_wire.specs.Limits.{IsWithinLimits};
 ghost use Rattle.serde_json.specs.View.{view};
-ghost use Rattle.zb_wire.specs.Reading.{Reads, Blames};
-ghost use Rattle.zb_wire.specs.Request.{longest_line, value_in, request_in, request_of, Gives};
+ghost use Rattle.zb_wire.specs.Reading.{ReadsValue, Blames};
+ghost use Rattle.zb_wire.specs.Request.{longest_line, value_in, request_in, request_of, GivesRequest};
 
 use crate::clock::{advance_in, tick_in};
 use crate::create::create_in;
@@ -29,7 +29,7 @@ pub fn longest_shown() -> usize
 /// moved by hand. It takes time and memory in proportion to the line.
 #[tactic(auto, unfolding(crate::specs::Request::request_of, crate::specs::Request::short_line, crate::specs::Request::longest_line))]
 pub fn read_line(alloc: Global, line: &[u8], manual: bool) -> Result<Request, LineFault>
-    ensures found { Gives result (request_of manual line.now) }
+    ensures found { GivesRequest result (request_of manual line.now) }
     ensures within { IfOk result IsWithinLimits }
 {
     if line.len() > LONGEST_LINE {
@@ -42,9 +42,9 @@ pub fn read_line(alloc: Global, line: &[u8], manual: bool) -> Result<Request, Li
 }
 
 // The JSON value that a text is.
-#[tactic(auto, using(crate::proofs::LineValues::value_laws))]
+#[tactic(auto, using(crate::proofs::LineLemmas::value_laws))]
 fn value_in(alloc: Global, text: &[u8]) -> Result<Json, LineFault>
-    ensures { Reads result (value_in text.now) }
+    ensures { ReadsValue result (value_in text.now) }
 {
     match Json::from_slice(alloc, text) {
         Ok(value) => Ok(value),
@@ -64,7 +64,7 @@ fn fault_of(error: &Error) -> LineFault
 
 // The request that a value is.
 fn request_in(alloc: Global, value: &Json, manual: bool) -> Result<Request, LineFault>
-    ensures { Gives result (request_in manual (view value.now)) }
+    ensures { GivesRequest result (request_in manual (view value.now)) }
 {
     let Some(members) = value.as_object() else {
         return Err(LineFault::NotObject);

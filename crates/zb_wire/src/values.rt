@@ -1,3 +1,4 @@
+ghost use Rattle.zb_reader.specs.Layout.{text_in};
 ghost use Rattle.std.specs.Prelude.{◌≡◌, IfOk};
 ghost use Rattle.serde_json.specs.View.{view};
 ghost use Rattle.zb_wire.specs.Fields as spec;
@@ -10,7 +11,7 @@ use zb_model::Vars;
 
 /// The text of a field, and the empty one where it isn't there.
 pub fn text_at<'v>(value: &'v Json, field: &str) -> &'v str
-    ensures { result.now ≡ spec.text_at field.now (view value.now) }
+    ensures { result.now ≡ text_in field.now (view value.now) }
 {
     value.get(field).and_then(Json::as_str).unwrap_or("")
 }
@@ -41,7 +42,7 @@ pub fn version_in(value: &Json) -> Option<u32>
 
 /// The variables of a field, and none where it isn't there.
 pub fn variables_at(alloc: Global, value: &Json, field: &str) -> Result<Vars, AllocError>
-    ensures { IfOk result (λ variables. variables ≡ spec.variables_at field.now (view value.now)) }
+    ensures { IfOk result (λ variables. variables ≡ spec.variables_of_field field.now (view value.now)) }
 {
     let found = match value.get(field) {
         Some(found) => variables_in(alloc, found)?,

@@ -68,7 +68,7 @@ pub fn all_within(members: &Map<String, Json>) -> bool
 
 // Whether the value is within the limits of what a variable may hold.
 fn is_within(value: &Json) -> bool
-    ensures { result ≡ is_some (spec.value_of (view value.now)) }
+    ensures { result ≡ is_some (spec.variable_value (view value.now)) }
 {
     match value {
         Json::Null | Json::Object(_) => false,
@@ -121,7 +121,7 @@ fn variable_of(alloc: Global, name: &str, value: &Json) -> Result<Option<Variabl
 
 // What a variable of this value holds, if it is within its limits.
 fn value_of(alloc: Global, value: &Json) -> Result<Option<Value>, AllocError>
-    ensures { IfOk result (λ held. held ≡ spec.value_of (view value.now)) }
+    ensures { IfOk result (λ held. held ≡ spec.variable_value (view value.now)) }
 {
     match value {
         Json::Bool(flag) => Ok(Some(Value::Bool(*flag))),

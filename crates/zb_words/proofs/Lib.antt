@@ -1,5 +1,5 @@
-mod Spellings
-mod Options
-mod Adding
-mod Plans
-pub mod Laws
+mod SpellingLemmas
+mod OptionLemmas
+mod SettingLemmas
+mod PlanLemmas
+pub mod WordLaws

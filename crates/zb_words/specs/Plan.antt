@@ -22,10 +22,10 @@ option_of (Clock kind) = codes "--clock"
 option_of (Limit bytes) = codes "--limit"
 
 -- the text is the value that the option gives the setting by
-abbrev pub IsValue : Setting → List ℕ → Type 0
-IsValue (Clock Real) text = text ≡ codes "real"
-IsValue (Clock Manual) text = text ≡ codes "manual"
-IsValue (Limit bytes) text = IsLimit text bytes
+abbrev pub IsOptionValue : Setting → List ℕ → Type 0
+IsOptionValue (Clock Real) text = text ≡ codes "real"
+IsOptionValue (Clock Manual) text = text ≡ codes "manual"
+IsOptionValue (Limit bytes) text = IsLimit text bytes
 
 -- the words are an option and its value: two words, or one with '=' between the two
 abbrev pub Joins : List ℕ → List ℕ → List (List ℕ) → Type 0
@@ -33,7 +33,7 @@ Joins option value words = (words ≡ option ∷ value ∷ []) ⊎ (words ≡ (o
 
 -- the words give the setting
 abbrev pub Gives : List (List ℕ) → Setting → Type 0
-Gives words setting = (value : List ℕ) × IsValue setting value × Joins (option_of setting) value words
+Gives words setting = (value : List ℕ) × IsOptionValue setting value × Joins (option_of setting) value words
 
 -- the words give these settings, one after another
 abbrev pub GiveAll : List (List ℕ) → List Setting → Type 0

@@ -1,5 +1,5 @@
 ghost use Rattle.std.specs.Prelude.{◌≡◌, ◌≤◌, ◌<◌, ◌^◌, ◌++◌, ◌∷◌, [], ℕ, List, map, take, length, string_bytes, IfSome, IfNone};
-ghost use Rattle.zb_words.specs.Plan.{IsLimit, IsValue, Gives, option_of};
+ghost use Rattle.zb_words.specs.Plan.{IsLimit, IsOptionValue, Gives, option_of};
 
 use crate::plan::ClockKind;
 
@@ -39,8 +39,8 @@ pub fn first_setting(words: &[String]) -> Option<(Setting, usize)>
 
 // The setting that an option gives by this value.
 fn setting_of(option: &str, value: &str) -> Option<Setting>
-    ensures some { IfSome result (λ setting. (option_of setting ≡ option.now) × IsValue setting value.now) }
-    ensures none { IfNone result ((setting : Setting) → option_of setting ≡ option.now → IsValue setting value.now → ⊥) }
+    ensures some { IfSome result (λ setting. (option_of setting ≡ option.now) × IsOptionValue setting value.now) }
+    ensures none { IfNone result ((setting : Setting) → option_of setting ≡ option.now → IsOptionValue setting value.now → ⊥) }
 {
     match option {
         "--clock" => Some(Setting::Clock(clock_of(value)?)),
@@ -51,8 +51,8 @@ fn setting_of(option: &str, value: &str) -> Option<Setting>
 
 // The clock of this name.
 fn clock_of(name: &str) -> Option<ClockKind>
-    ensures some { IfSome result (λ kind. IsValue (Setting.Clock kind) name.now) }
-    ensures none { IfNone result ((kind : ClockKind) → IsValue (Setting.Clock kind) name.now → ⊥) }
+    ensures some { IfSome result (λ kind. IsOptionValue (Setting.Clock kind) name.now) }
+    ensures none { IfNone result ((kind : ClockKind) → IsOptionValue (Setting.Clock kind) name.now → ⊥) }
 {
     match name {
         "real" => Some(ClockKind::Real),

@@ -7,16 +7,16 @@ use std::rt::Files;
 use zb_disk::FileDisk;
 use zb_store::Volume;
 
-/// The directory of the volumes.
+// The directory of the volumes.
 const DIRECTORY: &str = "zb";
 
-/// What the name of a log ends in.
+// What the name of a log ends in.
 const LOG: &str = "log";
 
-/// What the name of the first slot for snapshots ends in.
+// What the name of the first slot for snapshots ends in.
 const SNAP_A: &str = "a";
 
-/// What the name of the second slot ends in.
+// What the name of the second slot ends in.
 const SNAP_B: &str = "b";
 
 /// The volumes of so many partitions, as files of the directory. What is missing is made, and its name is on the

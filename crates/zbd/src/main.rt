@@ -20,13 +20,13 @@ use zb_outside::{OpenDoor, StdClock, StdSink, StdSource};
 use zb_serve::{Cause, Session, plan_for, serve};
 use zb_store::Volume;
 
-/// How the program is called, as it is told where other words were given.
+// How the program is called, as it is told where other words were given.
 const USAGE: &str = "usage: zbd serve [--clock real|manual] [--limit n]";
 
-/// A session over standard input and output.
+// A session over standard input and output.
 type Terminal = Session<StdSource<Stdin>, StdSink<Stdout>>;
 
-/// What is served: the words, the sessions and the volumes.
+// What is served: the words, the sessions and the volumes.
 struct Real {
     words: Vec<String>,
     sessions: Vec<Terminal>,

@@ -5,10 +5,10 @@ use std::fs::{File, OpenOptions};
 use std::os::fd::AsRawFd;
 use std::rt::Files;
 
-/// What is written here is dropped, and nothing is there to be read.
+// What is written here is dropped, and nothing is there to be read.
 const NULL: &str = "/dev/null";
 
-/// The number of standard error, the last of the three.
+// The number of standard error, the last of the three.
 const STDERR: i32 = 2;
 
 /// Takes the numbers of those standard streams that the program was started without. Else the next file that

@@ -1,6 +1,6 @@
 use Rattle.std.proofs.Common.{◌≡◌, Some, arith}
 use Rattle.zb_model.specs.Layouts.{batch}
-use Rattle.zb_codec.proofs.Reading.{found_where}
+use Rattle.zb_codec.proofs.BatchLemmas.{found_where}
 use Rattle.zb_codec.proofs.read.Goals as goal
 
 pub returns-in-Ok-clause-found : goal.returns-in-Ok-clause-found

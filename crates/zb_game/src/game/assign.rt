@@ -8,15 +8,15 @@ use zb_model::TryCopy;
 use zb_rules::Assigned;
 
 impl Game {
-    /// Whether a cell may get a variable. It goes through the cells and the variables.
-    #[tactic(auto, using(crate::proofs::Firsts::any_first))]
+    // Whether a cell may get a variable.
+    #[tactic(auto, using(crate::proofs::FirstLemmas::any_first))]
     pub(super) fn can_assign(&self, a: &Assigned) -> bool
         ensures { result ≡ can_assign self.now a.now }
     {
         self.cell(a.scope).is_some() && !has_variable(a.scope, a.name.as_str(), &self.variables)
     }
 
-    /// Plays that a variable gets its first value. It goes through the cells.
+    // Plays that a variable gets its first value.
     pub(super) fn assign(&mut self, alloc: Global, a: &Assigned) -> Result<(), GameFault>
         ensures played { OnOk result (play_assign self.old a.now ≡ Some self.new) }
         ensures illegal { IsErrOf result GameFault.Illegal → play_assign self.old a.now ≡ None }

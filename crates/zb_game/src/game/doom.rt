@@ -6,7 +6,7 @@ use zb_model::Key;
 use zb_rules::{Cell, Phase};
 
 impl Game {
-    /// Whether a cell or one above it is terminating. It goes through the cells once for each of these.
+    // Whether a cell or one above it is terminating.
     pub(super) fn is_called_off(&self, key: Key) -> bool
         ensures { result ≡ is_called_off self.now.cells self.now key }
     {
@@ -25,7 +25,7 @@ impl Game {
         false
     }
 
-    /// Whether a cell above this one is terminating. It goes through the cells once for each cell above.
+    // Whether a cell above this one is terminating.
     pub(super) fn is_doomed(&self, cell: &Cell) -> bool
         ensures { result ≡ is_doomed self.now cell.now }
     {

@@ -10,9 +10,8 @@ use zb_model::{Key, List, Model, Role, TryCopy};
 use zb_rules::{Cell, Enter, Phase};
 
 impl Game {
-    /// Whether a token may enter a node. It goes through the cells once for each cell above the token, and through
-    /// the tokens, the models, and the nodes and flows of one.
-    #[tactic(auto, using(crate::proofs::Firsts::any_first))]
+    // Whether a token may enter a node.
+    #[tactic(auto, using(crate::proofs::FirstLemmas::any_first))]
     pub(super) fn can_enter(&self, e: &Enter) -> bool
         ensures { result ≡ can_enter self.now e.now }
     {
@@ -27,7 +26,7 @@ impl Game {
     }
 
     // Whether the node is there, and the token comes to it.
-    #[tactic(auto, using(crate::proofs::Firsts::found_first))]
+    #[tactic(auto, using(crate::proofs::FirstLemmas::found_first))]
     fn comes_by(&self, definition: Key, e: &Enter) -> bool
         ensures { result ≡ comes_by self.now definition e.now }
     {
@@ -39,7 +38,7 @@ impl Game {
         }
     }
 
-    /// Plays that a token enters a node. It goes through the cells and the tokens.
+    // Plays that a token enters a node.
     pub(super) fn enter(&mut self, alloc: Global, e: &Enter) -> Result<(), GameFault>
         ensures played { OnOk result (play_enter self.old e.now ≡ Some self.new) }
         ensures illegal { IsErrOf result GameFault.Illegal → play_enter self.old e.now ≡ None }

@@ -1,7 +1,7 @@
 ghost use Rattle.std.specs.Prelude.{◌≡◌, Some, None, false, OnOk, IsErrOf};
 ghost use Rattle.std.specs.Option.{option_map_or};
-ghost use Rattle.zb_rules.specs.Board.{is_empty, node_at};
-ghost use Rattle.zb_rules.specs.MoveFinish.{can_finish, goes_on, is_done, play_finish, waits_for_nothing};
+ghost use Rattle.zb_rules.specs.Board.{is_empty, node_with};
+ghost use Rattle.zb_rules.specs.MoveFinish.{can_finish, node_goes_on, is_done, play_finish, waits_for_nothing};
 
 use crate::edits::put_in_phase;
 use crate::lookups::{has_cell_in, has_token_in, node_among};
@@ -11,8 +11,7 @@ use zb_model::{Key, List, Model, NodeKind};
 use zb_rules::{Cell, Phase};
 
 impl Game {
-    /// Whether a cell may begin to complete. It goes through the cells; for a root also through the tokens, for
-    /// another cell through the models and the nodes of one.
+    // Whether a cell may begin to complete.
     pub(super) fn can_finish(&self, key: Key) -> bool
         ensures { result ≡ can_finish self.now key }
     {
@@ -35,7 +34,7 @@ impl Game {
 
     // Whether the node of a cell is there, and waits for nothing.
     fn goes_on(&self, cell: &Cell) -> bool
-        ensures { result ≡ goes_on self.now cell.now }
+        ensures { result ≡ node_goes_on self.now cell.now }
     {
         match self.model(cell.definition) {
             Some(model) => goes_on_at(model, cell.node.as_str()),
@@ -44,14 +43,14 @@ impl Game {
     }
 
     // Whether nothing runs in a cell, and no token is in it.
-    #[tactic(auto, using(crate::proofs::Firsts::any_first))]
+    #[tactic(auto, using(crate::proofs::FirstLemmas::any_first))]
     fn is_empty(&self, key: Key) -> bool
         ensures { result ≡ is_empty self.now key }
     {
         !has_cell_in(key, &self.cells) && !has_token_in(key, &self.tokens)
     }
 
-    /// Plays that a cell begins to complete. It goes through the cells.
+    // Plays that a cell begins to complete.
     pub(super) fn finish(&mut self, alloc: Global, key: Key) -> Result<(), GameFault>
         ensures played { OnOk result (play_finish self.old key ≡ Some self.new) }
         ensures illegal { IsErrOf result GameFault.Illegal → play_finish self.old key ≡ None }
@@ -62,9 +61,9 @@ impl Game {
 }
 
 // Whether the node with an id is there, and waits for nothing.
-#[tactic(auto, using(crate::proofs::Firsts::found_first))]
+#[tactic(auto, using(crate::proofs::FirstLemmas::found_first))]
 fn goes_on_at(model: &Model, id: &str) -> bool
-    ensures { result ≡ option_map_or (λ n. waits_for_nothing n.kind) (node_at model.now id.now) false }
+    ensures { result ≡ option_map_or (λ n. waits_for_nothing n.kind) (node_with model.now id.now) false }
 {
     match node_among(id, model.nodes.as_slice()) {
         Some(node) => waits_for_nothing(node.kind),

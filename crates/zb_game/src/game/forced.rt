@@ -1,7 +1,7 @@
 ghost use Rattle.std.specs.Prelude.{◌≡◌, IsTrue, IfOk, IfSome, is_some, option_map};
 ghost use Rattle.std.specs.Option.{option_copied};
 ghost use Rattle.zb_rules.specs.Forced.{entry_at, entry_of, first_entry, forced_at, forced_in, if_can, newest, next_forced, take_first};
-ghost use Rattle.zb_game.specs.Newest.{answer_of, is_newer};
+ghost use Rattle.zb_game.specs.Newest.{keyed_answer, is_newer};
 
 use crate::Game;
 use crate::lookups::flow_among;
@@ -25,7 +25,7 @@ impl Game {
 
     // The cell with the greatest key of those that are forced to a move.
     fn newest(&self) -> Option<&Cell>
-        ensures newest { newest (forced_at self.now) self.now.cells ≡ answer_of (forced_at self.now) (option_copied result) }
+        ensures newest { newest (forced_at self.now) self.now.cells ≡ keyed_answer (forced_at self.now) (option_copied result) }
         ensures forced { IfSome result (λ cell. IsTrue (is_some (forced_at self.now cell.now))) }
     {
         let mut best: Option<&Cell> = None;
@@ -142,7 +142,7 @@ fn take_first(alloc: Global, key: Key, owed: &[Text]) -> Result<Option<Move>, Al
 }
 
 // The entry that a token would make in a model.
-#[tactic(auto, using(crate::proofs::Firsts::found_first))]
+#[tactic(auto, using(crate::proofs::FirstLemmas::found_first))]
 fn entry_in(
     alloc: Global,
     model: &Model,

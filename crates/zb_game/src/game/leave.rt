@@ -9,8 +9,7 @@ use zb_model::{Key, List, Text};
 use zb_rules::{Cell, Leave, Phase};
 
 impl Game {
-    /// Whether a cell has completed, and owes these flows. It goes through the cells, the models and the flows of
-    /// one.
+    // Whether a cell has completed, and owes these flows.
     pub(super) fn can_leave(&self, l: &Leave) -> bool
         ensures { result ≡ can_leave self.now l.now }
     {
@@ -21,7 +20,7 @@ impl Game {
     }
 
     // Whether these are the flows that a cell owes.
-    #[tactic(auto, using(crate::proofs::Outs::compared))]
+    #[tactic(auto, using(crate::proofs::FlowLemmas::compared))]
     fn owes(&self, cell: &Cell, ids: &[Text]) -> bool
         ensures { result ≡ ids_eq ids.now (owed_by self.now cell.now) }
     {
@@ -34,7 +33,7 @@ impl Game {
         }
     }
 
-    /// The flows that a cell owes. It goes through the models and the flows of one.
+    // The flows that a cell owes.
     pub(super) fn owed_by(&self, alloc: Global, cell: &Cell) -> Result<List<Text>, AllocError>
         ensures { IfOk result (λ ids. ids ≡ owed_by self.now cell.now) }
     {
@@ -47,7 +46,7 @@ impl Game {
         }
     }
 
-    /// Plays that a cell has completed. It goes through the cells and the variables.
+    // Plays that a cell has completed.
     pub(super) fn leave(&mut self, alloc: Global, l: &Leave) -> Result<(), GameFault>
         ensures played { OnOk result (play_leave self.old l.now ≡ Some self.new) }
         ensures illegal { IsErrOf result GameFault.Illegal → play_leave self.old l.now ≡ None }
@@ -57,8 +56,7 @@ impl Game {
         self.leaving(l.key, owed)
     }
 
-    /// A cell leaves and owes these flows; where there are none it is gone, and so are its variables. It goes
-    /// through the cells and the variables.
+    // A cell leaves and owes these flows; where there are none it is gone, and so are its variables.
     pub(super) fn leaving(&mut self, key: Key, owed: List<Text>) -> Result<(), GameFault>
         ensures left { OnOk result (leaving owed key self.old ≡ Some self.new) }
         ensures none { IsErrOf result GameFault.Illegal → leaving owed key self.old ≡ None }

@@ -10,7 +10,7 @@ use zb_model::{Key, List, TryCopy};
 use zb_rules::{Cell, Phase, Spot, Token};
 
 impl Game {
-    /// Whether a cell may become active. It goes through the cells.
+    // Whether a cell may become active.
     pub(super) fn can_open(&self, key: Key) -> bool
         ensures { result ≡ can_open self.now key }
     {
@@ -20,7 +20,7 @@ impl Game {
         }
     }
 
-    /// Plays that a cell becomes active. It goes through the cells, the models and the nodes of one.
+    // Plays that a cell becomes active.
     pub(super) fn open(&mut self, alloc: Global, key: Key) -> Result<(), GameFault>
         ensures played { OnOk result (play_open self.old key ≡ Some self.new) }
         ensures illegal { IsErrOf result GameFault.Illegal → play_open self.old key ≡ None }
@@ -36,7 +36,7 @@ impl Game {
     }
 
     // The token that this cell gets as it opens, if it gets one.
-    #[tactic(auto, using(crate::proofs::Firsts::found_first))]
+    #[tactic(auto, using(crate::proofs::FirstLemmas::found_first))]
     fn first_token(&self, alloc: Global, cell: &Cell) -> Result<Option<Token>, AllocError>
         ensures { IfOk result (λ token. first_tokens self.now cell.now ≡ option_map_or (λ t. t ∷ []) token []) }
     {

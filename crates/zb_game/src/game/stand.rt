@@ -7,14 +7,14 @@ use zb_model::TryCopy;
 use zb_rules::Deployed;
 
 impl Game {
-    /// Whether a model may stand under a key. It goes through the models.
+    // Whether a model may stand under a key.
     pub(super) fn can_stand(&self, d: &Deployed) -> bool
         ensures { result ≡ can_stand self.now d.now }
     {
         self.model(d.key).is_none()
     }
 
-    /// Plays that a model stands under a key. It takes a step for each part of the model.
+    // Plays that a model stands under a key.
     pub(super) fn stand(&mut self, alloc: Global, d: &Deployed) -> Result<(), GameFault>
         ensures played { OnOk result (play_stand self.old d.now ≡ Some self.new) }
         ensures illegal { IsErrOf result GameFault.Illegal → play_stand self.old d.now ≡ None }

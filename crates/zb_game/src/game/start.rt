@@ -7,14 +7,14 @@ use zb_model::{Key, List, Role, TryCopy};
 use zb_rules::{Cell, Phase, Start};
 
 impl Game {
-    /// Whether a process may be instantiated. It goes through the models.
+    // Whether a process may be instantiated.
     pub(super) fn can_start(&self, s: &Start) -> bool
         ensures { result ≡ can_start self.now s.now }
     {
         self.model(s.definition).is_some()
     }
 
-    /// Plays that a process is instantiated. It goes through the models.
+    // Plays that a process is instantiated.
     pub(super) fn start(&mut self, alloc: Global, s: &Start) -> Result<(), GameFault>
         ensures played { OnOk result (play_start self.old s.now ≡ Some self.new) }
         ensures illegal { IsErrOf result GameFault.Illegal → play_start self.old s.now ≡ None }

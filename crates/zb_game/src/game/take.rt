@@ -8,7 +8,7 @@ use zb_model::{List, Text, TryCopy};
 use zb_rules::{Phase, Spot, Take, Token};
 
 impl Game {
-    /// Whether a cell leaves, and owes this flow first. It goes through the cells.
+    // Whether a cell leaves, and owes this flow first.
     pub(super) fn can_take(&self, t: &Take) -> bool
         ensures { result ≡ can_take self.now t.now }
     {
@@ -19,7 +19,7 @@ impl Game {
         }
     }
 
-    /// Plays that a cell takes the first flow that it owes. It goes through the cells and the variables.
+    // Plays that a cell takes the first flow that it owes.
     pub(super) fn take(&mut self, alloc: Global, t: &Take) -> Result<(), GameFault>
         ensures played { OnOk result (play_take self.old t.now ≡ Some self.new) }
         ensures illegal { IsErrOf result GameFault.Illegal → play_take self.old t.now ≡ None }

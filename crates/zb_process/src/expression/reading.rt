@@ -24,9 +24,9 @@ pub fn read_tree(alloc: Global, levels: u32, cursor: &mut Cursor<'_>) -> Result<
     Ok(Expr { node })
 }
 
-/// Reads what an expression is made of, whose parts have fewer levels.
+// Reads what an expression is made of, whose parts have fewer levels.
 #[cycle(read)]
-#[tactic(auto, using(crate::proofs::Members::members), unfolding(zb_format::specs::Layout::signed, zb_format::specs::Layout::flag, zb_format::specs::Layout::text))]
+#[tactic(auto, using(crate::proofs::MemberLemmas::members), unfolding(zb_format::specs::Layout::signed, zb_format::specs::Layout::flag, zb_format::specs::Layout::text))]
 fn read_node(alloc: Global, levels: u32, cursor: &mut Cursor<'_>) -> Result<ExprNode, ReadFault>
     requires { levels < 65 }
     ensures read { ReadsAs tree_of (expressions.tree_with (expressions.tree_at levels) cursor.old) result cursor.new }
@@ -53,7 +53,7 @@ fn read_boxed(alloc: Global, levels: u32, cursor: &mut Cursor<'_>) -> Result<Box
     Ok(Box::new(alloc, read_tree(alloc, levels, cursor)?)?)
 }
 
-/// Reads the two operands behind the byte of an operator.
+// Reads the two operands behind the byte of an operator.
 #[cycle(read)]
 fn read_binary(
     alloc: Global,
@@ -73,7 +73,7 @@ fn read_binary(
     Ok(ExprNode::Binary(operator, left, right))
 }
 
-/// Reads the members of a list behind their number.
+// Reads the members of a list behind their number.
 #[cycle(read)]
 #[tactic(auto, unfolding(zb_format::specs::Reading::counted_at, zb_format::specs::Layout::number))]
 fn read_members(alloc: Global, levels: u32, cursor: &mut Cursor<'_>) -> Result<Vec<Expr>, ReadFault>
@@ -86,7 +86,7 @@ fn read_members(alloc: Global, levels: u32, cursor: &mut Cursor<'_>) -> Result<V
 }
 
 #[cycle(read)]
-#[tactic(auto, using(crate::proofs::Pieces::many, crate::proofs::Members::members))]
+#[tactic(auto, using(crate::proofs::PieceLemmas::many, crate::proofs::MemberLemmas::members))]
 fn read_many(
     alloc: Global,
     levels: u32,
@@ -104,7 +104,7 @@ fn read_many(
     Ok(members)
 }
 
-/// The operator that a byte stands for.
+// The operator that a byte stands for.
 fn operator_of(byte: u8) -> Option<Operator>
     ensures { result ≡ one_of expressions.operator expressions.each_operator byte }
 {

@@ -1,7 +1,7 @@
 ghost use Rattle.std.specs.Prelude.{◌≡◌, ◌∷◌, ◌++◌, ◌^◌, ◌<◌, ◌≤◌, [], length, IsOk, OnOk};
 ghost use Rattle.zb_process.specs.ExprView.{tree_of};
 ghost use Rattle.zb_process.specs.Expression as expressions;
-ghost use Rattle.zb_format.specs.Encoded.{Adds, Keeps, IsCounting};
+ghost use Rattle.zb_format.specs.Encoded.{Adds, KeepsEncoded, IsCounting};
 ghost use Rattle.zb_format.specs.Field as fields;
 ghost use Rattle.zb_format.specs.Fits.{AreCounted};
 
@@ -12,7 +12,7 @@ use zb_format::{Encoder, write_count, write_tagged};
 #[cycle(write)]
 pub fn write_tree(expr: &Expr, encoder: &mut Encoder) -> Result<(), AllocError>
     ensures added { OnOk result (Adds encoder.old (expressions.tree expr.now) encoder.new) }
-    ensures kept { Keeps encoder.old encoder.new }
+    ensures kept { KeepsEncoded encoder.old encoder.new }
     ensures counts { IsCounting encoder.old → IsOk result }
     ensures some { OnOk result (1 ≤ length (expressions.tree expr.now)) }
     ensures fits { OnOk result (length (expressions.tree expr.now) < 2 ^ 32 → expressions.IsExpression expr.now) }
@@ -21,10 +21,10 @@ pub fn write_tree(expr: &Expr, encoder: &mut Encoder) -> Result<(), AllocError>
 }
 
 #[cycle(write)]
-#[tactic(auto, using(crate::proofs::Members::members), unfolding(zb_format::specs::Layout::signed, zb_format::specs::Layout::flag, zb_format::specs::Layout::text))]
+#[tactic(auto, using(crate::proofs::MemberLemmas::members), unfolding(zb_format::specs::Layout::signed, zb_format::specs::Layout::flag, zb_format::specs::Layout::text))]
 fn write_node(node: &ExprNode, encoder: &mut Encoder) -> Result<(), AllocError>
     ensures added { OnOk result (Adds encoder.old (expressions.tree (tree_of node.now)) encoder.new) }
-    ensures kept { Keeps encoder.old encoder.new }
+    ensures kept { KeepsEncoded encoder.old encoder.new }
     ensures counts { IsCounting encoder.old → IsOk result }
     ensures some { OnOk result (1 ≤ length (expressions.tree (tree_of node.now))) }
     ensures fits { OnOk result (length (expressions.tree (tree_of node.now)) < 2 ^ 32 → expressions.IsTree (tree_of node.now)) }
@@ -42,10 +42,10 @@ fn write_node(node: &ExprNode, encoder: &mut Encoder) -> Result<(), AllocError>
 }
 
 #[cycle(write)]
-#[tactic(auto, using(crate::proofs::Pieces::pieces))]
+#[tactic(auto, using(crate::proofs::PieceLemmas::pieces))]
 fn write_unary(tag: u8, operand: &Expr, encoder: &mut Encoder) -> Result<(), AllocError>
     ensures added { OnOk result (Adds encoder.old (tag ∷ expressions.tree operand.now) encoder.new) }
-    ensures kept { Keeps encoder.old encoder.new }
+    ensures kept { KeepsEncoded encoder.old encoder.new }
     ensures counts { IsCounting encoder.old → IsOk result }
     ensures fits { OnOk result (length (expressions.tree operand.now) < 2 ^ 32 → expressions.IsTree operand.now) }
 {
@@ -54,7 +54,7 @@ fn write_unary(tag: u8, operand: &Expr, encoder: &mut Encoder) -> Result<(), All
 }
 
 #[cycle(write)]
-#[tactic(auto, using(crate::proofs::Pieces::pieces))]
+#[tactic(auto, using(crate::proofs::PieceLemmas::pieces))]
 fn write_binary(
     operator: Operator,
     left: &Expr,
@@ -62,7 +62,7 @@ fn write_binary(
     encoder: &mut Encoder,
 ) -> Result<(), AllocError>
     ensures added { OnOk result (Adds encoder.old (expressions.operator operator ∷ (expressions.tree left.now ++ expressions.tree right.now)) encoder.new) }
-    ensures kept { Keeps encoder.old encoder.new }
+    ensures kept { KeepsEncoded encoder.old encoder.new }
     ensures counts { IsCounting encoder.old → IsOk result }
     ensures fits { OnOk result (length (expressions.tree left.now ++ expressions.tree right.now) < 2 ^ 32 → expressions.IsTree left.now × expressions.IsTree right.now) }
 {
@@ -71,10 +71,10 @@ fn write_binary(
 }
 
 #[cycle(write)]
-#[tactic(auto, using(crate::proofs::Pieces::pieces, crate::proofs::Members::members), unfolding(zb_format::specs::Field::counted))]
+#[tactic(auto, using(crate::proofs::PieceLemmas::pieces, crate::proofs::MemberLemmas::members), unfolding(zb_format::specs::Field::counted))]
 fn write_members(members: &[Expr], encoder: &mut Encoder) -> Result<(), AllocError>
     ensures added { OnOk result (Adds encoder.old (4 ∷ fields.counted expressions.tree members.now) encoder.new) }
-    ensures kept { Keeps encoder.old encoder.new }
+    ensures kept { KeepsEncoded encoder.old encoder.new }
     ensures counts { IsCounting encoder.old → IsOk result }
     ensures fits { OnOk result (length (fields.counted expressions.tree members.now) < 2 ^ 32 → AreCounted expressions.IsTree members.now) }
 {

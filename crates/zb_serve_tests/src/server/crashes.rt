@@ -5,14 +5,14 @@ use std::test::Fail;
 use zb_disk::MemDisk;
 use zb_store::GateLog;
 
-/// A message that expires when the clock is moved by a millisecond, and the request that goes on with it.
+// A message that expires when the clock is moved by a millisecond, and the request that goes on with it.
 const LINES: &str =
     "{\"op\":\"publish\",\"name\":\"paid\",\"correlationKey\":\"o-1\",\"timeToLive\":1}\n{\"op\":\"advance\",\"ms\":1}\n{\"op\":\"tick\"}\n";
 
-/// How many of the first replies to these lines have a batch.
+// How many of the first replies to these lines have a batch.
 const ACKNOWLEDGED: [u64; 4] = [0, 1, 1, 2];
 
-/// How many frames a log of these bytes has; `None` where it can't be opened.
+// How many frames a log of these bytes has; `None` where it can't be opened.
 fn frames_in(alloc: Global, bytes: Vec<u8>) -> Result<Option<u64>, AllocError> {
     if bytes.len() > 4096 {
         return Ok(None);
@@ -24,7 +24,7 @@ fn frames_in(alloc: Global, bytes: Vec<u8>) -> Result<Option<u64>, AllocError> {
     }
 }
 
-/// How many frames a crash at the end, with this fill, leaves of the one log.
+// How many frames a crash at the end, with this fill, leaves of the one log.
 fn frames_left(alloc: Global, ended: &Ended, fill: &[u8]) -> Result<Option<u64>, AllocError> {
     match ended.volumes.as_slice() {
         [volume] => frames_in(alloc, volume.log.image(alloc, volume.log.moment(), fill)?),
@@ -32,12 +32,12 @@ fn frames_left(alloc: Global, ended: &Ended, fill: &[u8]) -> Result<Option<u64>,
     }
 }
 
-/// How many lines a text has.
+// How many lines a text has.
 fn lines_in(text: &[u8]) -> usize {
     text.iter().filter(|byte| **byte == b'\n').count()
 }
 
-/// Whether a crash at the end of this run leaves each batch that was acknowledged, and at most one more.
+// Whether a crash at the end of this run leaves each batch that was acknowledged, and at most one more.
 fn is_kept(alloc: Global, ended: &Ended) -> Result<bool, AllocError> {
     let Some(acknowledged) = ACKNOWLEDGED.get(lines_in(output(ended))) else {
         return Ok(false);
@@ -53,13 +53,13 @@ fn is_kept(alloc: Global, ended: &Ended) -> Result<bool, AllocError> {
     Ok(ended.status == 4)
 }
 
-/// Whether the run of this script ends so.
+// Whether the run of this script ends so.
 fn keeps(alloc: Global, script: &Script<'_>) -> Result<bool, AllocError> {
     let ended = served(alloc, script)?;
     is_kept(alloc, &ended)
 }
 
-/// The same of the run over the lines whose call of the disk with this number fails.
+// The same of the run over the lines whose call of the disk with this number fails.
 fn keeps_behind(alloc: Global, call: u64) -> Result<bool, AllocError> {
     let calls = [call];
     let script = Script {

@@ -6,21 +6,21 @@ use zb_disk::MemDisk;
 use zb_model::{Batch, Event, Outcome};
 use zb_store::GateLog;
 
-/// A process of one start event, one flow and one end event.
+// A process of one start event, one flow and one end event.
 const DEPLOY: &str =
     "{\"op\":\"deploy\",\"model\":{\"process\":\"p\",\"nodes\":[{\"id\":\"s\",\"kind\":\"startEvent\"},{\"id\":\"e\",\"kind\":\"endEvent\"}],\"flows\":[{\"id\":\"f\",\"sourceRef\":\"s\",\"targetRef\":\"e\"}]}}\n";
 
-/// A process with two flows to two end events.
+// A process with two flows to two end events.
 const FORK: &str =
     "{\"op\":\"deploy\",\"model\":{\"process\":\"q\",\"nodes\":[{\"id\":\"s\",\"kind\":\"startEvent\"},{\"id\":\"x\",\"kind\":\"endEvent\"},{\"id\":\"y\",\"kind\":\"endEvent\"}],\"flows\":[{\"id\":\"a\",\"sourceRef\":\"s\",\"targetRef\":\"y\"},{\"id\":\"b\",\"sourceRef\":\"s\",\"targetRef\":\"x\"}]}}\n";
 
-/// An instance of the first process, and one of the other process, with variables.
+// An instance of the first process, and one of the other process, with variables.
 const CREATE: &str = "{\"op\":\"create\",\"process\":\"p\"}\n";
 
 const CREATE_FORK: &str =
     "{\"op\":\"create\",\"process\":\"q\",\"variables\":{\"n\":7,\"a\":true}}\n";
 
-/// What an event says, with the counters of its keys.
+// What an event says, with the counters of its keys.
 fn told(alloc: Global, event: &Event) -> Result<String, AllocError> {
     match event {
         Event::ProcessInstanceCreationCreated(e) => {
@@ -54,7 +54,7 @@ fn told(alloc: Global, event: &Event) -> Result<String, AllocError> {
     }
 }
 
-/// What the events of a batch say, one a line.
+// What the events of a batch say, one a line.
 fn all_told(alloc: Global, batch: &Batch) -> Result<String, AllocError> {
     let mut text = String::new(alloc);
     if let Outcome::Accepted(events) = &batch.outcome {
@@ -65,7 +65,7 @@ fn all_told(alloc: Global, batch: &Batch) -> Result<String, AllocError> {
     Ok(text)
 }
 
-/// What the events of the second batch of a log of two say.
+// What the events of the second batch of a log of two say.
 fn second_told(alloc: Global, bytes: Vec<u8>) -> Result<Option<String>, AllocError> {
     let mut body = Vec::new(alloc);
     if bytes.len() > 4096 {
@@ -84,11 +84,11 @@ fn second_told(alloc: Global, bytes: Vec<u8>) -> Result<Option<String>, AllocErr
     }
 }
 
-/// The play of the first process.
+// The play of the first process.
 const PLAY: &str =
     "CREATED 3 of 1\nACTIVATING 3 in 0: p by \nACTIVATED 3\nACTIVATING 4 in 3: s by \nACTIVATED 4\nCOMPLETING 4\nCOMPLETED 4 owes 1\nTAKEN 4 f\nACTIVATING 5 in 3: e by f\nACTIVATED 5\nCOMPLETING 5\nCOMPLETED 5 owes 0\nCOMPLETING 3\nCOMPLETED 3 owes 0\n";
 
-/// The play of the other process, with its variables in the order of their names.
+// The play of the other process, with its variables in the order of their names.
 const FORK_PLAY: &str =
     "CREATED 3 of 1\nACTIVATING 3 in 0: q by \nVARIABLE 3 a\nVARIABLE 3 n\nACTIVATED 3\nACTIVATING 4 in 3: s by \nACTIVATED 4\nCOMPLETING 4\nCOMPLETED 4 owes 2\nTAKEN 4 a\nTAKEN 4 b\nACTIVATING 5 in 3: y by a\nACTIVATED 5\nCOMPLETING 5\nCOMPLETED 5 owes 0\nACTIVATING 6 in 3: x by b\nACTIVATED 6\nCOMPLETING 6\nCOMPLETED 6 owes 0\nCOMPLETING 3\nCOMPLETED 3 owes 0\n";
 

@@ -1,6 +1,6 @@
 use Rattle.std.proofs.Common.{sym, ◌∙◌}
 use Rattle.zb_rules.specs.Faults.{all_faults}
-use Rattle.zb_check.proofs.Order.{first_of_here, first_of_later}
+use Rattle.zb_check.proofs.FaultLemmas.{first_of_here, first_of_later}
 use Rattle.zb_check.proofs.checking.check.Goals as goal
 
 pub returns-in-Some : goal.returns-in-Some

@@ -1,7 +1,7 @@
 use Rattle.std.proofs.Common.{◌≡◌, drop}
-use Rattle.zb_rules.specs.Faults.{all_faults, first_fault, first_of}
+use Rattle.zb_rules.specs.Faults.{all_faults, first_fault, first_fault_among}
 use Rattle.zb_check.proofs.checking.check.Given as goal
 
 -- the model has none of the faults so far
 abbrev pub invariant-loop-fault : goal.invariant-loop-fault
-invariant-loop-fault l = first_of (drop l.fault-index all_faults) l.model ≡ first_fault l.model
+invariant-loop-fault l = first_fault_among (drop l.fault-index all_faults) l.model ≡ first_fault l.model

@@ -1,6 +1,6 @@
 use Rattle.std.proofs.Common.{◌∷◌, map, sym, ◌∙◌}
 use Rattle.zb_process.specs.declared.model.Node.{Node}
-use Rattle.zb_check.proofs.Listing.{repeated_here, repeated_later}
+use Rattle.zb_check.proofs.IdLemmas.{repeated_here, repeated_later}
 use Rattle.zb_check.proofs.ids.first_used.Goals as goal
 
 pub returns-then-is_used : goal.returns-then-is_used

@@ -1,7 +1,7 @@
 use Rattle.std.proofs.Common.{inl, inr, ap, sym, ◌∙◌}
 use Rattle.std.proofs.lemmas.Bool.{false≢true}
 use Rattle.zb_disk.specs.Image.{is_sync}
-use Rattle.zb_disk.proofs.Covering.{covered_other}
+use Rattle.zb_disk.proofs.ImageLemmas.{covered_other}
 use Rattle.zb_disk.proofs.image.cover_call.Goals as goal
 
 pub returns-in-Synced-2 : goal.returns-in-Synced-2

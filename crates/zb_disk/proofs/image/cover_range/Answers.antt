@@ -3,7 +3,7 @@ use Rattle.std.proofs.lemmas.Result.{on_ok_weaker}
 use Rattle.zb_disk.specs.declared.calls.Call.TheVariants.{Wrote}
 use Rattle.zb_disk.specs.Disk.{overwritten}
 use Rattle.zb_disk.specs.Image.{IsCovered}
-use Rattle.zb_disk.proofs.Covering.{covered_past, covered_write}
+use Rattle.zb_disk.proofs.ImageLemmas.{covered_past, covered_write}
 use Rattle.zb_disk.proofs.image.cover_range.Goals as goal
 
 pub returns-then-write-len : goal.returns-then-write-len

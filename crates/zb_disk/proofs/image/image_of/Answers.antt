@@ -2,7 +2,7 @@ use Rattle.std.proofs.Common.{◌≡◌, ◌∙◌, ap, subst, arith, take, drop
 use Rattle.std.proofs.lemmas.List.{take_all, length-drop}
 use Rattle.zb_disk.specs.Kept.{file_after}
 use Rattle.zb_disk.specs.Image.{IsCovered, synced_file, unsynced}
-use Rattle.zb_disk.proofs.Syncing.{same_since, file_synced}
+use Rattle.zb_disk.proofs.SyncLemmas.{same_since, file_synced}
 use Rattle.zb_disk.proofs.image.image_of.Goals as goal
 
 covered : (c : goal.In_ok-cover) → IsCovered (synced_file c.args.first.now c.args.calls.now) (unsynced c.args.calls.now) c.args.fill.now c.cover.new.image.items

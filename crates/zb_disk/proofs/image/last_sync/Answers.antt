@@ -2,7 +2,7 @@ use Rattle.std.proofs.Common.{◌-◌, ◌∙◌, ap, sym, arith}
 use Rattle.std.proofs.lemmas.List.{get_or_default}
 use Rattle.zb_disk.specs.declared.calls.Call.TheVariants.{Other}
 use Rattle.zb_disk.specs.Image.{is_sync}
-use Rattle.zb_disk.proofs.Syncing.{ends_at_sync}
+use Rattle.zb_disk.proofs.SyncLemmas.{ends_at_sync}
 use Rattle.zb_disk.proofs.image.last_sync.Goals as goal
 
 pub returns-else-not-is_sync : goal.returns-else-not-is_sync

@@ -1,5 +1,5 @@
 use Rattle.zb_disk.specs.declared.calls.Call.TheVariants.{Other}
-use Rattle.zb_disk.proofs.Steps.{elapses_push}
+use Rattle.zb_disk.proofs.CallLemmas.{elapses_push}
 use Rattle.zb_disk.proofs.memory.keep.Goals as goal
 
 pub returns-then-fails_next-clause-time : goal.returns-then-fails_next-clause-time

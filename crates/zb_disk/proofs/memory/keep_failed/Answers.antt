@@ -1,5 +1,5 @@
 use Rattle.zb_disk.specs.declared.calls.Call.TheVariants.{Wrote}
-use Rattle.zb_disk.proofs.Steps.{elapses_push}
+use Rattle.zb_disk.proofs.CallLemmas.{elapses_push}
 use Rattle.zb_disk.proofs.memory.keep_failed.Goals as goal
 
 pub returns-in-Ok-clause-time : goal.returns-in-Ok-clause-time

@@ -1,6 +1,6 @@
 use Rattle.std.proofs.Common.{[], ◌∷◌, ◌++◌, ap, ◌∙◌}
 use Rattle.zb_disk.specs.declared.calls.Call.TheVariants.{Wrote}
-use Rattle.zb_disk.proofs.Steps.{elapses_push}
+use Rattle.zb_disk.proofs.CallLemmas.{elapses_push}
 use Rattle.zb_disk.proofs.memory.write.Goals as goal
 
 pub returns-clause-time : goal.returns-clause-time

@@ -2,8 +2,8 @@ use Rattle.std.proofs.Common.{◌≡◌, ◌∙◌, ℕ, ◌<◌, ◌≤◌, ◌
 use Rattle.zb_model.specs.declared.record.Event.{Event}
 use Rattle.zb_rules.specs.Applies.{applies}
 use Rattle.zb_rules.specs.Settling.{full, turn}
-use Rattle.zb_state.specs.State.{place_of, IsStateOf}
-use Rattle.zb_flow.proofs.Going.{goes_on_more, goes_on_end, full_is, on_ok, GoesOn}
+use Rattle.zb_state.specs.State.{partition_of, IsStateOf}
+use Rattle.zb_flow.proofs.TurnLemmas.{goes_on_more, goes_on_end, full_is, on_ok, GoesOn}
 use Rattle.zb_flow.specs.Settled.{SettlesTo}
 use Rattle.zb_flow.proofs.settling.settle.Goals as goal
 
@@ -14,7 +14,7 @@ loop-state-preserved c =
     let e = c.in-Some.event in (
       c.put.ensures.place ∙ here,
       λ before was.
-          let p = place_of c.args.state.now in
+          let p = partition_of c.args.state.now in
           let own = c.args.out.now in
           let so_far = c.loop-state.invariant.1 before was in
           let told = rw c.in-Some.is at c.in_ok-turn.ensures (before ++ made) so_far.1 in
@@ -33,7 +33,7 @@ pub returns-clause-settled : goal.returns-clause-settled
 returns-clause-settled c = λ before was.
     let so_far = c.loop-state.invariant.1 before was in
     let filled : full ≤ length c.loop-state.out = rw full_is (omega (arith, c.loop-state-test.false, c.len.ensures)) in
-    on_ok c.is_quiet.result (SettlesTo (place_of c.args.state.now) before c.args.out.now c.loop-state.out) (goes_on_end (place_of c.args.state.now) before c.args.out.now c.loop-state.out so_far.0 (inr filled))
+    on_ok c.is_quiet.result (SettlesTo (partition_of c.args.state.now) before c.args.out.now c.loop-state.out) (goes_on_end (partition_of c.args.state.now) before c.args.out.now c.loop-state.out so_far.0 (inr filled))
 
 pub returns-clause-quiet : goal.returns-clause-quiet
 returns-clause-quiet c = λ before was.

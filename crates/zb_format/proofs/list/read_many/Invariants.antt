@@ -1,6 +1,6 @@
 use Rattle.std.proofs.Common.{◌≡◌, ◌-◌}
 use Rattle.zb_format.specs.Reading.{many_at}
-use Rattle.zb_format.proofs.Many.{with_front}
+use Rattle.zb_format.proofs.ListLemmas.{with_front}
 use Rattle.zb_format.proofs.list.read_many.Given as goal
 
 -- the items so far and those that are left are all of them

@@ -1,6 +1,6 @@
 use Rattle.std.proofs.Common.{◌≡◌, drop}
 use Rattle.zb_rules.specs.MoveLeave.{ids_eq}
-use Rattle.zb_game.proofs.Outs.{ids_out}
+use Rattle.zb_game.proofs.FlowLemmas.{ids_out}
 use Rattle.zb_game.proofs.flows.are_flows_out.Given as goal
 
 -- the ids that are left are compared with the flows that are left

@@ -1,5 +1,5 @@
 use Rattle.std.proofs.Common.{◌≡◌, take}
-use Rattle.zb_game.proofs.Outs.{ids_out}
+use Rattle.zb_game.proofs.FlowLemmas.{ids_out}
 use Rattle.zb_game.proofs.flows.flows_out.Given as goal
 
 -- the ids of the flows so far that go out

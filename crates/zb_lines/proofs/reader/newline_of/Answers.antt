@@ -1,4 +1,4 @@
-use Rattle.zb_lines.proofs.Lines.{breaks_first}
+use Rattle.zb_lines.proofs.LineLemmas.{breaks_first}
 use Rattle.zb_lines.proofs.reader.newline_of.Goals as goal
 
 pub returns : goal.returns

@@ -1,6 +1,6 @@
 use Rattle.std.proofs.Common.{ℕ, ◌∙◌, arith}
 use Rattle.std.proofs.lemmas.List.{length-take, length-drop}
-use Rattle.zb_lines.proofs.Lines.{written_on}
+use Rattle.zb_lines.proofs.LineLemmas.{written_on}
 use Rattle.zb_lines.proofs.sender.send.Goals as goal
 
 pub loop-sent-preserved : goal.loop-sent-preserved

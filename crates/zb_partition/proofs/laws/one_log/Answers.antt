@@ -1,5 +1,5 @@
 use Rattle.zb_partition.specs.Log.{bodies_of}
-use Rattle.zb_partition.proofs.Logs.{same_log, none_bad, one_frame}
+use Rattle.zb_partition.proofs.LogLemmas.{same_log, none_bad, one_frame}
 use Rattle.zb_partition.proofs.laws.one_log.Goals as goal
 
 pub returns : goal.returns

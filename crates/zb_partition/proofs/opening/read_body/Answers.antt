@@ -1,4 +1,4 @@
-use Rattle.zb_partition.proofs.Read.{bad_body}
+use Rattle.zb_partition.proofs.ReadingLemmas.{bad_body}
 use Rattle.zb_partition.proofs.opening.read_body.Goals as goal
 
 pub returns-in-Some-clause-bad : goal.returns-in-Some-clause-bad

@@ -2,7 +2,7 @@ use Rattle.std.proofs.Common.{◌≡◌, sym, ap, ◌∙◌}
 use Rattle.std.specs.Prelude.{Err}
 use Rattle.zb_store.specs.Scan.{disk_of_scan}
 use Rattle.zb_partition.specs.declared.fault.OpenFault.TheVariants.{BadLog}
-use Rattle.zb_partition.proofs.Frames.{read_more, bad_frame}
+use Rattle.zb_partition.proofs.FrameLemmas.{read_more, bad_frame}
 use Rattle.zb_partition.proofs.opening.read_next.Goals as goal
 
 pub returns-in-Ok-clause-read : goal.returns-in-Ok-clause-read

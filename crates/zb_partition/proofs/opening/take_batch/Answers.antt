@@ -1,6 +1,6 @@
 use Rattle.std.proofs.Common.{refl}
 use Rattle.zb_rules.specs.View.{events_of}
-use Rattle.zb_partition.proofs.Read.{known_more}
+use Rattle.zb_partition.proofs.ReadingLemmas.{known_more}
 use Rattle.zb_partition.proofs.opening.take_batch.Goals as goal
 
 pub returns-in-Ok-clause-taken : goal.returns-in-Ok-clause-taken

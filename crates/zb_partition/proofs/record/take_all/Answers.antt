@@ -2,8 +2,8 @@ use Rattle.std.proofs.Common.{◌≡◌, ◌++◌, ◌∷◌, [], ◌∙◌, Lis
 use Rattle.std.specs.Vec.Iter.{into_iter_items}
 use Rattle.zb_rules.specs.Applies.{applies, all_apply}
 use Rattle.zb_model.specs.declared.record.Event.{Event}
-use Rattle.zb_state.specs.State.{place_of, IsStateOf}
-use Rattle.zb_partition.proofs.Read.{apply_next, one_fails, none_left}
+use Rattle.zb_state.specs.State.{partition_of, IsStateOf}
+use Rattle.zb_partition.proofs.ReadingLemmas.{apply_next, one_fails, none_left}
 use Rattle.zb_partition.proofs.record.take_all.Goals as goal
 
 pub returns-in-Err-clause-refused : goal.returns-in-Err-clause-refused
@@ -12,7 +12,7 @@ returns-in-Err-clause-refused c = λ es was failed.
     let e = c.in-Some.event in
     let so_far = at.invariant.taken es was in
     let Fails : ℕ → Type 0 = λ p. IsFalse (applies p (es ++ at.yielded) e) in
-    let All : List Event → Type 0 = λ l. IsFalse (all_apply (place_of c.args.state.now) es l) in
+    let All : List Event → Type 0 = λ l. IsFalse (all_apply (partition_of c.args.state.now) es l) in
     let events = sym (ap (λ l. at.yielded ++ l) c.in-Some.ensures.steps.0) ∙ (at.invariant.left ∙ c.into_iter-event-iterator.ensures.into_iter_gives.0 ∙ c.into_vec-event-items.ensures) in
     subst All events (one_fails _ es at.yielded e (into_iter_items c.next.new.self) (subst Fails at.invariant.place (c.in-Err.ensures.refused (es ++ at.yielded) so_far.1 failed)))
 
@@ -44,7 +44,7 @@ returns-clause-applied c = λ es was.
     let at = c.loop-event in
     let empty : into_iter_items at.event-iterator ≡ [] = none_left _ (sym at.invariant.len ∙ c.in-None.ensures.steps.0) in
     let events = sym (append-nil at.yielded) ∙ (rw empty at at.invariant.left ∙ c.into_iter-event-iterator.ensures.into_iter_gives.0 ∙ c.into_vec-event-items.ensures) in
-    let Applies : List Event → Type 0 = λ l. IsTrue (all_apply (place_of c.args.state.now) es l) in
+    let Applies : List Event → Type 0 = λ l. IsTrue (all_apply (partition_of c.args.state.now) es l) in
     subst Applies events (at.invariant.taken es was).0
 
 pub returns-clause-state : goal.returns-clause-state

@@ -2,7 +2,7 @@ use Rattle.std.proofs.Common.{◌≡◌, ◌++◌, List, length, IsTrue}
 use Rattle.std.specs.Vec.Iter.{into_iter_items, into_iter_len}
 use Rattle.zb_model.specs.declared.record.Event.{Event}
 use Rattle.zb_rules.specs.Applies.{all_apply}
-use Rattle.zb_state.specs.State.{place_of, IsStateOf}
+use Rattle.zb_state.specs.State.{partition_of, IsStateOf}
 use Rattle.zb_partition.proofs.record.take_all.Given as goal
 
 -- the events so far apply and were taken in, and the others are left
@@ -10,6 +10,6 @@ abbrev pub invariant-loop-event : goal.invariant-loop-event
 invariant-loop-event l = record {
   left : l.yielded ++ into_iter_items l.event-iterator ≡ into_iter_items l.initial.event-iterator;
   len : into_iter_len l.event-iterator ≡ length (into_iter_items l.event-iterator);
-  place : place_of l.state ≡ place_of l.fn.state;
-  taken : (es : List Event) → IsStateOf es l.fn.state → IsTrue (all_apply (place_of l.fn.state) es l.yielded) × IsStateOf (es ++ l.yielded) l.state;
+  place : partition_of l.state ≡ partition_of l.fn.state;
+  taken : (es : List Event) → IsStateOf es l.fn.state → IsTrue (all_apply (partition_of l.fn.state) es l.yielded) × IsStateOf (es ++ l.yielded) l.state;
 }

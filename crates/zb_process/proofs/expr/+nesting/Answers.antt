@@ -1,7 +1,7 @@
 use Rattle.std.proofs.Common.{arith, ap}
 use Rattle.std.proofs.lemmas.Grind.{common_steps}
 use Rattle.zb_process.specs.Tree.{nesting}
-use Rattle.zb_process.proofs.Nesting.{nesting-take}
+use Rattle.zb_process.proofs.NestingLemmas.{nesting-take}
 use Rattle.zb_process.proofs.expr.+nesting.Goals as goal
 
 pub members_nesting-loop-member-preserved : goal.members_nesting-loop-member-preserved

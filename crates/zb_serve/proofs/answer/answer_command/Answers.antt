@@ -1,8 +1,8 @@
 use Rattle.std.proofs.Common.{◌≡◌, ◌++◌, ◌∷◌, [], Some, sym, ap, ◌∙◌}
 use Rattle.std.proofs.lemmas.Result.{on_ok_weaker}
 use Rattle.zb_wire.specs.Asked.{command_of}
-use Rattle.zb_serve.proofs.Answering.{asked_run, step_answered, asks_first, made_for_none, made_for_one, command_served, unserved_memory}
-use Rattle.zb_serve.proofs.Handing.{if_err_as}
+use Rattle.zb_serve.proofs.AnswerLemmas.{asked_run, step_answered, asks_first, made_for_none, made_for_one, command_served, unserved_memory}
+use Rattle.zb_serve.proofs.ResultLemmas.{if_err_as}
 use Rattle.zb_serve.proofs.answer.answer_command.Goals as goal
 
 pub commit-requires-clause-run : goal.commit-requires-clause-run

@@ -2,10 +2,10 @@ use Rattle.std.proofs.Common.{◌≡◌, [], Ok, Err, inl, rules}
 use Rattle.std.proofs.lemmas.Result.{on_ok_weaker}
 use Rattle.zb_wire.specs.RequestLaws.{Tells-fault}
 use Rattle.zb_wire.specs.declared.request.LineFault.TheVariants as faults
-use Rattle.zb_serve.proofs.Answering.{fault_answered, request_answered, unanswered_memory, unserved_unanswered}
-use Rattle.zb_serve.proofs.Clocks.{found_at, at_fault}
-use Rattle.zb_serve.proofs.Handing.{if_err_as}
-use Rattle.zb_serve.proofs.Logs.{grown_none}
+use Rattle.zb_serve.proofs.AnswerLemmas.{fault_answered, request_answered, unanswered_memory, unserved_unanswered}
+use Rattle.zb_serve.proofs.ClockLemmas.{found_at, at_fault}
+use Rattle.zb_serve.proofs.ResultLemmas.{if_err_as}
+use Rattle.zb_serve.proofs.LogLemmas.{grown_none}
 use Rattle.zb_serve.proofs.answer.answer_line.Goals as goal
 
 pub answer_request-requires-clause-known : goal.answer_request-requires-clause-known

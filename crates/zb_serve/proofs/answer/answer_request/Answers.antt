@@ -1,8 +1,8 @@
 use Rattle.std.proofs.Common.{[]}
 use Rattle.std.proofs.lemmas.Result.{on_ok_weaker}
-use Rattle.zb_serve.proofs.Answering.{advance_served, made_for_none, unserved_memory}
-use Rattle.zb_serve.proofs.Handing.{if_err_as}
-use Rattle.zb_serve.proofs.Logs.{grown_none}
+use Rattle.zb_serve.proofs.AnswerLemmas.{advance_served, made_for_none, unserved_memory}
+use Rattle.zb_serve.proofs.ResultLemmas.{if_err_as}
+use Rattle.zb_serve.proofs.LogLemmas.{grown_none}
 use Rattle.zb_serve.proofs.answer.answer_request.Goals as goal
 
 pub returns-in-Tick-clause-done : goal.returns-in-Tick-clause-done

@@ -1,6 +1,6 @@
 use Rattle.std.proofs.lemmas.Result.{on_ok_weaker}
-use Rattle.zb_serve.proofs.Answering.{tick_served, unserved_memory}
-use Rattle.zb_serve.proofs.Handing.{if_err_as}
+use Rattle.zb_serve.proofs.AnswerLemmas.{tick_served, unserved_memory}
+use Rattle.zb_serve.proofs.ResultLemmas.{if_err_as}
 use Rattle.zb_serve.proofs.answer.answer_tick.Goals as goal
 
 pub returns-in-Ok-clause-done : goal.returns-in-Ok-clause-done

@@ -1,5 +1,5 @@
 use Rattle.std.proofs.Common.{◌++◌, ◌∷◌, [], Ok, refl}
-use Rattle.zb_serve.proofs.Clocks.{at_moved, reading_at}
+use Rattle.zb_serve.proofs.ClockLemmas.{at_moved, reading_at}
 use Rattle.zb_serve.proofs.dial.read_for.Goals as goal
 
 pub returns-clause-reading : goal.returns-clause-reading

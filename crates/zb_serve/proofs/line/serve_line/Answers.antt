@@ -1,6 +1,6 @@
 use Rattle.std.proofs.Common.{◌++◌, take, refl, ap, ◌∙◌, inl, inr}
 use Rattle.std.proofs.lemmas.Result.{on_ok_weaker}
-use Rattle.zb_serve.proofs.Handing.{on_ok_under, if_err_both}
+use Rattle.zb_serve.proofs.ResultLemmas.{on_ok_under, if_err_both}
 use Rattle.zb_serve.proofs.line.serve_line.Goals as goal
 
 -- nothing was written

@@ -2,7 +2,7 @@ use Rattle.std.proofs.Common.{ℕ, ◌∙◌, subst, inl, ⊎_elim, arith}
 use Rattle.zb_partition.specs.Log.{IsApplied, IsBadAt}
 use Rattle.zb_serve.specs.Ends.{told}
 use Rattle.zb_serve.specs.Ledger.{IsOpen}
-use Rattle.zb_serve.proofs.Opening.{fails_to_open, opened_ever}
+use Rattle.zb_serve.proofs.OpeningLemmas.{fails_to_open, opened_ever}
 use Rattle.zb_serve.proofs.running.run.Goals as goal
 
 pub returns-in-Err-clause-spared : goal.returns-in-Err-clause-spared

@@ -2,9 +2,9 @@ use Rattle.std.proofs.Common.{refl, arith}
 use Rattle.zb_partition.specs.Partition.{disk_of}
 use Rattle.zb_serve.specs.Hours.{setting_of}
 use Rattle.zb_serve.specs.Serving.{start_of}
-use Rattle.zb_serve.proofs.Clocks.{at_first}
-use Rattle.zb_serve.proofs.Opening.{serving_first, settled_still}
-use Rattle.zb_serve.proofs.Logs.{has_stored}
+use Rattle.zb_serve.proofs.ClockLemmas.{at_first}
+use Rattle.zb_serve.proofs.OpeningLemmas.{serving_first, settled_still}
+use Rattle.zb_serve.proofs.LogLemmas.{has_stored}
 use Rattle.zb_serve.proofs.running.serve_partition.Goals as goal
 
 pub serve_session-end-requires : goal.serve_session-end-requires

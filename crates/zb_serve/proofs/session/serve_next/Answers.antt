@@ -6,8 +6,8 @@ use Rattle.zb_partition.specs.Partition.{disk_of, in_writing}
 use Rattle.zb_serve.specs.Hours.{is_manual}
 use Rattle.zb_serve.specs.Ledger.{IsOpen}
 use Rattle.zb_serve.specs.Serving.{clocks_of}
-use Rattle.zb_serve.proofs.Turns.{past_of}
-use Rattle.zb_serve.proofs.Stops.{stops_reading, stops_done, stops_full, line_in, comes_next, turn_served, turn_stopped}
+use Rattle.zb_serve.proofs.TurnLemmas.{past_of}
+use Rattle.zb_serve.proofs.StopLemmas.{stops_reading, stops_done, stops_full, line_in, comes_next, turn_served, turn_stopped}
 use Rattle.zb_serve.proofs.session.serve_next.Goals as goal
 
 pub returns-in-Err-clause-goes_on : goal.returns-in-Err-clause-goes_on

@@ -1,10 +1,10 @@
 use Rattle.std.proofs.Common.{arith, ◌∙◌, sym, subst, IsTrue}
-use Rattle.zb_lines.specs.Taken.{takes_nothing}
+use Rattle.zb_lines.specs.TakenLaws.{takes_nothing}
 use Rattle.zb_partition.specs.Partition.{disk_of, in_writing}
 use Rattle.zb_serve.specs.Ledger.{IsOpen}
 use Rattle.zb_serve.specs.Serving.{clocks_of}
 use Rattle.zb_serve.specs.Session.{most_taken}
-use Rattle.zb_serve.proofs.Stops.{stops_memory, few, goes_over, goes_next}
+use Rattle.zb_serve.proofs.StopLemmas.{stops_memory, few, goes_over, goes_next}
 use Rattle.zb_serve.proofs.session.serve_session.Goals as goal
 
 pub returns-in-Err-clause-over : goal.returns-in-Err-clause-over

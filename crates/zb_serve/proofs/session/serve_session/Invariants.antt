@@ -1,15 +1,15 @@
 use Rattle.std.proofs.Common.{◌≡◌, [], IsTrue, is_some}
 use Rattle.zb_partition.specs.Partition.{disk_of, slots_of}
 use Rattle.zb_serve.specs.Ends.{told}
-use Rattle.zb_serve.specs.Hours.{Setting}
+use Rattle.zb_serve.specs.Hours.{RunSetting}
 use Rattle.zb_serve.specs.Ledger.{IsOpen}
 use Rattle.zb_serve.specs.Session.{most_taken}
-use Rattle.zb_serve.specs.Serving.{now_of, clocks_of, Start, IsServing}
+use Rattle.zb_serve.specs.Serving.{now_of, clocks_of, RunStart, IsServing}
 use Rattle.zb_serve.proofs.session.serve_session.Given as goal
 
 -- the lines before this one were served
 abbrev pub invariant-loop-number : goal.invariant-loop-number
-invariant-loop-number g l = ((setting : Setting) (start : Start) (first : g.row.D.Denot)
+invariant-loop-number g l = ((setting : RunSetting) (start : RunStart) (first : g.row.D.Denot)
     → IsServing (told g.S.Source.tells g.K.Sink.tells g.D.Disk.tells g.D.Disk.tells_images g.K.Sink.takes_memory g.D.Disk.takes_memory g.S.Source.counts_failures g.K.Sink.counts_failures g.D.Disk.counts_failures) setting start
     (now_of (g.S.Source.view l.fn.session.source) (g.K.Sink.view l.fn.session.sink) (g.D.Disk.view (disk_of l.fn.ledger.partition)))
     (g.D.Disk.images first) (g.D.Disk.images (disk_of l.fn.ledger.partition)) (g.D.Disk.since (disk_of l.fn.ledger.partition))

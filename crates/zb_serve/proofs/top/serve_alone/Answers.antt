@@ -2,11 +2,11 @@ use Rattle.std.proofs.Common.{length, map, ap, sym, ◌∙◌, arith, rules}
 use Rattle.std.proofs.lemmas.Grind.{common_steps}
 use Rattle.std.specs.String.{string_bytes}
 use Rattle.zb_words.specs.declared.plan.Plan.{Plan}
-use Rattle.zb_words.proofs.Laws.{one_plan}
+use Rattle.zb_words.proofs.WordLaws.{one_plan}
 use Rattle.zb_serve.specs.Words.{IsPlanned}
 use Rattle.zb_serve.specs.Ends.{told}
 use Rattle.zb_serve.specs.Hours.{setting_of}
-use Rattle.zb_serve.proofs.Single.{one_member, one_set, one_taken, one_put, run_single, safe_same, safe_single, slots_single}
+use Rattle.zb_serve.proofs.SingleLemmas.{one_member, one_set, one_taken, one_put, run_single, safe_same, safe_single, slots_single}
 use Rattle.zb_serve.proofs.top.serve_alone.Goals as goal
 
 pub returns-clause-closed : goal.returns-clause-closed

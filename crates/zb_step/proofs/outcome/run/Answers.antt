@@ -3,14 +3,14 @@ use Rattle.zb_model.specs.declared.record.Event.{Event}
 use Rattle.zb_model.specs.declared.record.Outcome.TheVariants as outcomes
 use Rattle.zb_rules.specs.Own.{own_events}
 use Rattle.zb_rules.specs.Step.{IsAcceptance}
-use Rattle.zb_state.specs.State.{place_of}
+use Rattle.zb_state.specs.State.{partition_of}
 use Rattle.zb_flow.specs.Settled.{SettlesTo}
-use Rattle.zb_step.proofs.Steps.{acceptance_of}
+use Rattle.zb_step.proofs.OutcomeLemmas.{acceptance_of}
 use Rattle.zb_step.proofs.outcome.run.Goals as goal
 
 pub returns-clause-acceptance : goal.returns-clause-acceptance
 returns-clause-acceptance c = λ es was.
-    let p = place_of c.args.state.now in
+    let p = partition_of c.args.state.now in
     let events = c.emit.new.out in
     let made = c.settle.new.out in
     let own = own_events p es c.args.moment c.args.command.now in

@@ -1,4 +1,4 @@
-use Rattle.zb_store.proofs.Leading.{one_or_other, not_both, one_standing, one_cut}
+use Rattle.zb_store.proofs.GateLemmas.{one_or_other, not_both, one_standing, one_cut}
 use Rattle.zb_store.proofs.reading.one_reading.Goals as goal
 
 pub returns : goal.returns

@@ -1,5 +1,5 @@
 use Rattle.std.proofs.Common.{sym, ◌∙◌, arith}
-use Rattle.zb_store.proofs.Numbers.{next_by_bytes, gate_by_bytes, short_is_past}
+use Rattle.zb_store.proofs.NumberLemmas.{next_by_bytes, gate_by_bytes, short_is_past}
 use Rattle.zb_store.proofs.step.step_at.Goals as goal
 
 pub returns-then-bytes-lt9-clause-step : goal.returns-then-bytes-lt9-clause-step

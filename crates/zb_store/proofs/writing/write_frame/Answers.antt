@@ -1,7 +1,7 @@
 use Rattle.std.proofs.Common.{length, inl, inr}
 use Rattle.std.proofs.lemmas.Result.{on_ok_weaker}
 use Rattle.zb_store.specs.CallLaws.{leaves_weaker, leaves_then}
-use Rattle.zb_store.proofs.Appending.{awaits, ends_standing, ends_kept, gate_torn, gate_opened, left_behind, left_on}
+use Rattle.zb_store.proofs.AppendLemmas.{awaits, ends_standing, ends_kept, gate_torn, gate_opened, left_behind, left_on}
 use Rattle.zb_store.proofs.writing.write_frame.Goals as goal
 
 pub returns-in_err-write_through-clause-left : goal.returns-in_err-write_through-clause-left

@@ -1,5 +1,5 @@
 use Rattle.serde_json.specs.View.{view}
-use Rattle.zb_wire.proofs.Within.{within_given}
+use Rattle.zb_wire.proofs.LimitLemmas.{within_given}
 use Rattle.zb_wire.proofs.reading.read_line.Goals as goal
 
 pub returns-in-Ok-clause-within : goal.returns-in-Ok-clause-within

@@ -2,7 +2,7 @@ use Rattle.std.proofs.Common.{◌≡◌, Some, sym, ap, ◌∙◌}
 use Rattle.std.specs.Prelude.{string_bytes}
 use Rattle.serde_json.specs.View.{view}
 use Rattle.zb_wire.specs.Variables.{variable_of}
-use Rattle.zb_wire.proofs.Members.{variables_of-step, variables_of-made}
+use Rattle.zb_wire.proofs.MemberLemmas.{variables_of-step, variables_of-made}
 use Rattle.zb_wire.proofs.variables.variables_of.Goals as goal
 
 pub loop-name-preserved : goal.loop-name-preserved

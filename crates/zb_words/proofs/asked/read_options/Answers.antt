@@ -1,6 +1,6 @@
 use Rattle.std.proofs.Common.{◌≡◌, ◌<◌, ℕ, [], List, map, string_bytes, length, drop, ◌∙◌, subst, arith}
 use Rattle.std.proofs.lemmas.List.{drop-drop, drop_all, length-drop, length-map}
-use Rattle.zb_words.proofs.Options.{HasRead, words_left, read_no_further, read_repeated, read_more, read_all}
+use Rattle.zb_words.proofs.OptionLemmas.{HasRead, words_left, read_no_further, read_repeated, read_more, read_all}
 use Rattle.zb_words.proofs.asked.read_options.Goals as goal
 
 pub returns-in_err-setting-clause-none : goal.returns-in_err-setting-clause-none

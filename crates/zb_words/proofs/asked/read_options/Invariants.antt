@@ -1,5 +1,5 @@
 use Rattle.std.proofs.Common.{length, ◌-◌, drop, map, string_bytes}
-use Rattle.zb_words.proofs.Options.{HasRead}
+use Rattle.zb_words.proofs.OptionLemmas.{HasRead}
 use Rattle.zb_words.proofs.asked.read_options.Given as goal
 
 -- the words before the place ask for what is asked so far

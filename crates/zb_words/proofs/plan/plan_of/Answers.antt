@@ -1,5 +1,5 @@
 use Rattle.std.proofs.Common.{map, string_bytes, ap}
-use Rattle.zb_words.proofs.Plans.{asked_within, unplanned}
+use Rattle.zb_words.proofs.PlanLemmas.{asked_within, unplanned}
 use Rattle.zb_words.proofs.plan.plan_of.Goals as goal
 
 pub returns-in_err-asked-clause-unplanned : goal.returns-in_err-asked-clause-unplanned

@@ -1,5 +1,5 @@
 use Rattle.std.proofs.Common.{rules}
-use Rattle.zb_game.proofs.Plays.{on_ok, left_gone, left_owing}
+use Rattle.zb_game.proofs.BoardLemmas.{on_ok, left_gone, left_owing}
 use Rattle.zb_game.proofs.game.Game.leaving.Goals as goal
 
 pub returns-in_ok-take_away-clause-left : goal.returns-in_ok-take_away-clause-left

@@ -1,5 +1,5 @@
 use Rattle.std.proofs.Common.{rules}
-use Rattle.zb_game.proofs.Plays.{never_illegal}
+use Rattle.zb_game.proofs.BoardLemmas.{never_illegal}
 use Rattle.zb_game.proofs.game.Game.make.Goals as goal
 
 pub returns-then-can-clause-illegal : goal.returns-then-can-clause-illegal

@@ -3,7 +3,7 @@ use Rattle.std.specs.Option.{option_copied}
 use Rattle.zb_rules.specs.Board.{Board}
 use Rattle.zb_rules.specs.Forced.{forced_at}
 use Rattle.zb_game.specs.Newest.{is_newer}
-use Rattle.zb_game.proofs.Scans.{newest-found, newest-older, newest-unforced}
+use Rattle.zb_game.proofs.NewestLemmas.{newest-found, newest-older, newest-unforced}
 use Rattle.zb_game.proofs.game.Game.newest.Goals as goal
 use Rattle.zb_game.proofs.game.Game.newest.Goals.{else-is_newer-via-then-is_newer+else-is_forced, else-is_newer-via-else-is_newer}
 

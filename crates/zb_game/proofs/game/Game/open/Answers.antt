@@ -1,5 +1,5 @@
 use Rattle.std.proofs.Common.{sym}
-use Rattle.zb_game.proofs.Plays.{opened}
+use Rattle.zb_game.proofs.BoardLemmas.{opened}
 use Rattle.zb_game.proofs.game.Game.open.Goals as goal
 
 pub returns-clause-played : goal.returns-clause-played

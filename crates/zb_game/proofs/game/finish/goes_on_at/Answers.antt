@@ -4,13 +4,13 @@ use Rattle.std.specs.Option.{option_map_or}
 use Rattle.std.specs.Str.{bytes_eq}
 use Rattle.zb_process.specs.declared.model.Model.{Model}
 use Rattle.zb_process.specs.declared.model.Node.{Node}
-use Rattle.zb_rules.specs.Board.{node_at}
+use Rattle.zb_rules.specs.Board.{node_with}
 use Rattle.zb_rules.specs.MoveFinish.{waits_for_nothing}
-use Rattle.zb_game.proofs.Firsts.{found_first}
+use Rattle.zb_game.proofs.FirstLemmas.{found_first}
 use Rattle.zb_game.proofs.game.finish.goes_on_at.Goals as goal
 
 -- the node that was found
-found_node : (m : Model) (id : List ℕ) (nodes : List Node) (n : Node) → nodes ≡ m.nodes → Some n ≡ find (λ (x : Node). bytes_eq x.id id) nodes → node_at m id ≡ Some n
+found_node : (m : Model) (id : List ℕ) (nodes : List Node) (n : Node) → nodes ≡ m.nodes → Some n ≡ find (λ (x : Node). bytes_eq x.id id) nodes → node_with m id ≡ Some n
 found_node m id nodes n same is = sym (is ∙ (ap (find (λ (x : Node). bytes_eq x.id id)) same ∙ found_first (λ (x : Node). bytes_eq x.id id) m.nodes))
 
 pub returns-in-Some : goal.returns-in-Some

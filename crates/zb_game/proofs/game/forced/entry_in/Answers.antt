@@ -1,5 +1,5 @@
 use Rattle.std.proofs.Common.{rules}
-use Rattle.zb_game.proofs.Entries.{entry-on_flow}
+use Rattle.zb_game.proofs.EntryLemmas.{entry-on_flow}
 use Rattle.zb_game.proofs.game.forced.entry_in.Goals as goal
 
 pub returns-in_ok-via-in-Some : goal.returns-in_ok-via-in-Some

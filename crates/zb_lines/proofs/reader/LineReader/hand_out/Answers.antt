@@ -1,5 +1,5 @@
 use Rattle.std.proofs.Common.{take, slice_range, sym, ◌∙◌}
-use Rattle.zb_lines.proofs.Lines.{line_held}
+use Rattle.zb_lines.proofs.LineLemmas.{line_held}
 use Rattle.zb_lines.proofs.reader.LineReader.hand_out.Goals as goal
 
 pub returns-in_ok-keep-in-Some-clause-hands_out : goal.returns-in_ok-keep-in-Some-clause-hands_out

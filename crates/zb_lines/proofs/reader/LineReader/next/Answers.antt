@@ -1,5 +1,5 @@
 use Rattle.std.proofs.Common.{◌∙◌, arith, refl}
-use Rattle.zb_lines.proofs.Reading.{starts, goes_on, ends_line, gives_no_more, none_came, ends_stream, stops}
+use Rattle.zb_lines.proofs.ReaderLemmas.{starts, goes_on, ends_line, gives_no_more, none_came, ends_stream, stops}
 use Rattle.zb_lines.proofs.reader.LineReader.next.Goals as goal
 
 pub loop-self-init : goal.loop-self-init

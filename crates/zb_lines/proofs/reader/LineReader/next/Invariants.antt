@@ -1,9 +1,9 @@
 use Rattle.std.proofs.Common.{◌≡◌, vec_len, vec_capacity, ◌-◌, ◌^◌, ◌≤◌, IsTrue}
-use Rattle.zb_lines.specs.Step.{Reads}
+use Rattle.zb_lines.specs.Step.{ReadsLine}
 use Rattle.zb_lines.proofs.reader.LineReader.next.Given as goal
 
 abbrev pub invariant-loop-self : goal.invariant-loop-self
-invariant-loop-self g l = Reads g.S.Source.tells (g.S.Source.view l.fn.source) (g.S.Source.view l.source) l.fn.budget l.budget l.most l.fn.self l.self l.line.items l.is_begun
+invariant-loop-self g l = ReadsLine g.S.Source.tells (g.S.Source.view l.fn.source) (g.S.Source.view l.source) l.fn.budget l.budget l.most l.fn.self l.self l.line.items l.is_begun
     × ((g.S.Source.view l.fn.source).faults ≤ (g.S.Source.view l.source).faults)
     × (vec_len l.line ≤ l.most)
     × (vec_capacity l.fn.line ≤ vec_capacity l.line)

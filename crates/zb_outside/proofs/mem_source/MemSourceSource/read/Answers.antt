@@ -1,5 +1,5 @@
 use Rattle.std.proofs.Common.{arith}
-use Rattle.zb_outside.proofs.Pieces.{hands_out}
+use Rattle.zb_outside.proofs.PieceLemmas.{hands_out}
 use Rattle.zb_outside.proofs.mem_source.MemSourceSource.read.Goals as goal
 
 pub returns-clause-taken : goal.returns-clause-taken

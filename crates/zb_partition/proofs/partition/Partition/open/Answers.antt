@@ -3,7 +3,7 @@ use Rattle.zb_store.specs.CallLaws.{opens_then, settles_read, settles_weaker, on
 use Rattle.zb_store.specs.Scan.{disk_of_scan}
 use Rattle.zb_partition.specs.Log.{bodies_of}
 use Rattle.zb_partition.specs.Opening.{disk_after}
-use Rattle.zb_partition.proofs.Opened.{bad_before, stands_open}
+use Rattle.zb_partition.proofs.OpeningLemmas.{bad_before, stands_open}
 use Rattle.zb_partition.proofs.partition.Partition.open.Goals as goal
 
 pub returns-in-Ok-clause-bad : goal.returns-in-Ok-clause-bad

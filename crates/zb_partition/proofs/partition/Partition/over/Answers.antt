@@ -1,6 +1,6 @@
 use Rattle.std.proofs.Common.{refl}
 use Rattle.zb_partition.specs.Log.{bodies_of}
-use Rattle.zb_partition.proofs.Opened.{opened_by}
+use Rattle.zb_partition.proofs.OpeningLemmas.{opened_by}
 use Rattle.zb_partition.proofs.partition.Partition.over.Goals as goal
 
 pub returns-in-Ok-clause-opened : goal.returns-in-Ok-clause-opened

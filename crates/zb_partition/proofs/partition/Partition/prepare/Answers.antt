@@ -1,6 +1,6 @@
 use Rattle.std.proofs.Common.{◌≡◌, ◌+◌, length, ap, ◌∙◌, arith}
 use Rattle.zb_model.specs.Record.{bytes_of}
-use Rattle.zb_store.specs.Log.{framed_length}
+use Rattle.zb_store.specs.LogLaws.{framed_length}
 use Rattle.zb_partition.proofs.partition.Partition.prepare.Goals as goal
 
 pub returns-clause-fits : goal.returns-clause-fits

@@ -2,7 +2,7 @@ use Rattle.std.proofs.Common.{◌≡◌, ◌+◌, ◌-◌, ◌*◌, ◌≤◌}
 use Rattle.zb_process.specs.Tree.{nesting_over, trees_of}
 use Rattle.zb_process.specs.Expression.{tree_at}
 use Rattle.zb_format.specs.Reading.{many_at}
-use Rattle.zb_format.proofs.Many.{with_front}
+use Rattle.zb_format.proofs.ListLemmas.{with_front}
 use Rattle.zb_process.proofs.expression.reading.+read.Given as goal
 
 abbrev pub decreases-read_tree : goal.decreases-read_tree

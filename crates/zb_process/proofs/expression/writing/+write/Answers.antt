@@ -2,7 +2,7 @@ use Rattle.std.proofs.Common.{◌∷◌}
 use Rattle.zb_format.proofs.Adding.{adds_then, adds_byte, keeps_then, on_ok, written_next}
 use Rattle.zb_format.specs.Encoded.{Adds}
 use Rattle.zb_process.specs.Expression.{operator, tree, IsTree}
-use Rattle.zb_process.proofs.Pieces.{written_none}
+use Rattle.zb_process.proofs.PieceLemmas.{written_none}
 use Rattle.zb_process.proofs.expression.writing.+write.Goals as goal
 
 pub write_binary-returns-clause-added : goal.write_binary-returns-clause-added

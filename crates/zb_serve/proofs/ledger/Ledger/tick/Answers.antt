@@ -2,8 +2,8 @@ use Rattle.std.proofs.Common.{◌≡◌, ◌<◌, ◌++◌, ℕ, refl, sym, ◌�
 use Rattle.zb_rules.specs.View.{events_of}
 use Rattle.zb_rules.specs.DueLaws.{due_command_is_run}
 use Rattle.zb_serve.specs.Made.{most_due}
-use Rattle.zb_serve.proofs.Logs.{grown_none}
-use Rattle.zb_serve.proofs.Ticking.{ticking_none, ticking_more, ticked_all, ticked_full, ticking_cut}
+use Rattle.zb_serve.proofs.LogLemmas.{grown_none}
+use Rattle.zb_serve.proofs.TickLemmas.{ticking_none, ticking_more, ticked_all, ticked_full, ticking_cut}
 use Rattle.zb_serve.proofs.ledger.Ledger.tick.Goals as goal
 
 pub loop-done-init : goal.loop-done-init

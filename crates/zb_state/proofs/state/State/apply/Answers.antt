@@ -1,4 +1,4 @@
-use Rattle.zb_state.proofs.Growth.{state_more, draws_of}
+use Rattle.zb_state.proofs.StateLemmas.{state_more, draws_of}
 use Rattle.zb_state.proofs.state.State.apply.Goals as goal
 
 pub note-requires : goal.note-requires

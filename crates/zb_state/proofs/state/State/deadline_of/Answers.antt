@@ -1,5 +1,5 @@
 use Rattle.std.proofs.Common.{ap, ◌∙◌, option_map}
-use Rattle.zb_state.proofs.Growth.{row_is_first, has_by_deadline, due_by_deadline}
+use Rattle.zb_state.proofs.StateLemmas.{row_is_first, has_by_deadline, due_by_deadline}
 use Rattle.zb_state.proofs.state.State.deadline_of.Goals as goal
 
 pub returns-clause-deadline : goal.returns-clause-deadline

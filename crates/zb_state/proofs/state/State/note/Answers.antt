@@ -1,5 +1,5 @@
 use Rattle.std.proofs.Common.{◌∙◌, arith}
-use Rattle.zb_state.proofs.Growth.{below_kept, below_added, below_expired, stands_last}
+use Rattle.zb_state.proofs.StateLemmas.{below_kept, below_added, below_expired, stands_last}
 use Rattle.zb_state.proofs.state.State.note.Goals as goal
 
 pub invariant_of-self : goal.invariant_of-self

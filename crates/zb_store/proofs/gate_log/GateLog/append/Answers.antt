@@ -1,9 +1,10 @@
 use Rattle.std.proofs.Common.{◌≡◌, ◌+◌, ◌++◌, ◌∷◌, [], ℕ, length, refl, sym, ap, subst, arith}
-use Rattle.zb_store.specs.GateLog.{last_gate_of, HasLog}
+use Rattle.zb_store.specs.GateLog.{last_gate_of, HasClosedFrames}
 use Rattle.zb_store.specs.Stands.{EndsAt}
-use Rattle.zb_store.specs.Log.{framed, framed_length}
+use Rattle.zb_store.specs.Log.{framed}
+use Rattle.zb_store.specs.LogLaws.{framed_length}
 use Rattle.zb_store.specs.CallLaws.{leaves_none}
-use Rattle.zb_store.proofs.Frames.{ends_at, stands_still, stood_since, log_more}
+use Rattle.zb_store.proofs.FrameLemmas.{ends_at, stands_still, stood_since, log_more}
 use Rattle.zb_store.proofs.gate_log.GateLog.append.Goals as goal
 
 pub returns-then-gate-size-clause-left : goal.returns-then-gate-size-clause-left
@@ -36,7 +37,7 @@ returns-in-Ok-clause-appended g c = λ told bodies body has form.
     let last : last_gate_of new ≡ last_gate_of log + length (framed body) = omega (arith, c.go_on.ensures.last, ap length form) in
     let ends_there = subst (λ (n : ℕ). EndsAt file (bodies ++ body ∷ []) n) (sym c.go_on.ensures.last) ends in
     let more = log_more file was log new bodies body has.frames log.near_counted c.go_on.ensures.near_frame c.go_on.ensures.near_gate c.go_on.ensures.count last ends_there in
-    subst (λ d. HasLog (disks.view d).contents new (bodies ++ body ∷ [])) (sym c.go_on.ensures.disk) more
+    subst (λ d. HasClosedFrames (disks.view d).contents new (bodies ++ body ∷ [])) (sym c.go_on.ensures.disk) more
 
 pub returns-then-gate-size-clause-since : goal.returns-then-gate-size-clause-since
 returns-then-gate-size-clause-since g c = λ tells bodies body has only form image was.

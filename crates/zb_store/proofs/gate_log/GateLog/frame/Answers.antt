@@ -2,7 +2,7 @@ use Rattle.std.proofs.Common.{◌≡◌, ◌+◌, ℕ, List, sym, ◌∙◌, ap,
 use Rattle.std.specs.Prelude.{Some, slice_range}
 use Rattle.std.proofs.lemmas.Result.{on_ok_weaker}
 use Rattle.zb_store.specs.Stands.{next_gate}
-use Rattle.zb_store.proofs.Bodies.{frame_at}
+use Rattle.zb_store.proofs.BodyLemmas.{frame_at}
 use Rattle.zb_store.proofs.gate_log.GateLog.frame.Goals as goal
 
 pub returns-clause-body : goal.returns-clause-body

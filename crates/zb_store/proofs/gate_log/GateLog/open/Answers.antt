@@ -1,7 +1,7 @@
 use Rattle.std.proofs.Common.{[]}
 use Rattle.zb_store.specs.CallLaws.{opens_then, settles_read, on_ok}
-use Rattle.zb_store.specs.GateLog.{disk_after}
-use Rattle.zb_store.proofs.Opening.{whole_opened, cut_opened, since_standing}
+use Rattle.zb_store.specs.GateLog.{disk_after_log}
+use Rattle.zb_store.proofs.OpeningLemmas.{whole_opened, cut_opened, since_standing}
 use Rattle.zb_store.proofs.gate_log.GateLog.open.Goals as goal
 
 pub returns-in-Ok-clause-whole : goal.returns-in-Ok-clause-whole
@@ -21,7 +21,7 @@ returns-in-Ok-clause-since g c = λ told bodies.
     let disks = g.D.Disk in
     let laws = g.met.D.Disk in
     let old = c.args.disk in
-    let new = disk_after c.run.result in
+    let new = disk_after_log c.run.result in
     let opens = opens_then disks old c.in-Ok.scan.disk new c.in-Ok.ensures.opens c.run.ensures.reads in
     since_standing (disks.view old).moment (disks.view new).moment (disks.since old) (disks.since new) (disks.view old).contents (disks.images old) bodies
     (opens.time told) (λ f was. laws.only_now old f told was) (laws.reads_image old told)
@@ -32,4 +32,4 @@ returns-in-Ok-clause-settled g c = λ tells.
     let old = c.args.disk in
     let mid = c.in-Ok.scan.disk in
     on_ok c.run.result _
-    (settles_read disks (disks.view old).moment (disks.images old) _ mid (disk_after c.run.result) tells (λ t f le is. g.met.D.Disk.counts_now mid t f tells le is) (c.in-Ok.ensures.settled tells) c.run.ensures.reads)
+    (settles_read disks (disks.view old).moment (disks.images old) _ mid (disk_after_log c.run.result) tells (λ t f le is. g.met.D.Disk.counts_now mid t f tells le is) (c.in-Ok.ensures.settled tells) c.run.ensures.reads)

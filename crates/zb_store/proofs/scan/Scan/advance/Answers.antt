@@ -3,7 +3,7 @@ use Rattle.zb_store.specs.Step.{LiesBehind}
 use Rattle.zb_store.specs.Window.{IsPieceOf, HoldsFrame}
 use Rattle.zb_store.specs.declared.step.Step.{Step}
 use Rattle.zb_store.specs.Scan.{HasFound, body_found}
-use Rattle.zb_store.proofs.Scanning.{found_more}
+use Rattle.zb_store.proofs.ScanLemmas.{found_more}
 use Rattle.zb_store.proofs.scan.Scan.advance.Goals as goal
 
 pub returns-in-Next-clause-found : goal.returns-in-Next-clause-found

@@ -1,5 +1,5 @@
 use Rattle.std.proofs.Common.{sym}
-use Rattle.zb_words.proofs.Adding.{clock_once, clock_twice, limit_once, limit_twice}
+use Rattle.zb_words.proofs.SettingLemmas.{clock_once, clock_twice, limit_once, limit_twice}
 use Rattle.zb_words.proofs.asked.Asked.with.Goals as goal
 
 pub returns-in-Clock-clause-none : goal.returns-in-Clock-clause-none

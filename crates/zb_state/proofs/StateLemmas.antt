@@ -1,0 +1,132 @@
+-- A state with an event more.
+use Rattle.std.proofs.Common.{◌≡◌, ℕ, ◌+◌, ◌<◌, ◌≤◌, ◌==◌, nat_le, max, Option, Some, None, is_some, option_map, false, ◌&&◌, if◌then◌else◌, Result, Ok, Err, OnOk, OnErr, List, [], ◌∷◌, ◌++◌, IsTrue, refl, sym, ap, ◌∙◌, arith, append-nil}
+use Rattle.std.specs.Prelude.{⊤}
+use Rattle.std.specs.List.{list_any}
+use Rattle.std.specs.Option.{option_map_or}
+use Rattle.std.specs.declared.alloc.AllocError.{AllocError}
+use Rattle.zb_base.specs.Key.{key_of}
+use Rattle.zb_exchange_records.specs.declared.message.MessagePublished.{MessagePublished}
+use Rattle.zb_model.specs.declared.record.Event.{Event}
+use Rattle.zb_model.specs.declared.record.Event.TheVariants as events
+use Rattle.zb_rules.specs.View.{counter_at, keys_in, greatest_among, greatest_counter}
+use Rattle.zb_table.specs.Rows.{Ascend, are_below, row_at, with_row}
+use Rattle.zb_table.proofs.Growing.{with_last, below_higher, below_more, below_without, has_row, passes_at}
+use Rattle.zb_rules.specs.Edits.{first}
+use Rattle.zb_rules.specs.Messages.{buffered, is_due, without}
+use Rattle.zb_rules.specs.MessageLaws.{buffered_published, buffered_expired}
+use Rattle.zb_rules.specs.GrowthLaws.{definitions_more, begun_more, board_of_more, buffered_kept}
+use Rattle.zb_rules.specs.Definitions.{definition_told}
+use Rattle.zb_rules.specs.Create.{instance_told}
+use Rattle.zb_rules.specs.Board.{Board}
+use Rattle.zb_rules.specs.Shown.{shown, after_shown}
+use Rattle.zb_rules.specs.StepLaws.{greatest_counter_more}
+use Rattle.zb_rules.proofs.CounterLemmas.{counter_at-key_of}
+use Rattle.zb_state.specs.declared.change.Change.{Change}
+use Rattle.zb_state.specs.declared.change.Change.TheVariants as changes
+use Rattle.zb_state.specs.Change.{change_told, definition_in, instance_in, with_change, HasNextKey, Draws}
+use Rattle.zb_state.specs.State.{IsStateOf, IsSameBeside}
+use Rattle.zb_state.specs.declared.state.State.{State}
+
+-- the greatest counter
+pub counter_more : (p : ℕ) (es : List Event) (e : Event) → greatest_counter p (es ++ e ∷ []) ≡ max (greatest_counter p es) (greatest_among p (keys_in e))
+counter_more p es e =
+    greatest_counter_more p es (e ∷ []) ∙ ap (λ (keys : List ℕ). max (greatest_counter p es) (greatest_among p keys)) (append-nil (keys_in e))
+
+-- the messages
+messages_more : (es : List Event) (e : Event) → buffered (es ++ e ∷ []) ≡ with_change (change_told e) (buffered es)
+messages_more es (events.MessagePublished m) = buffered_published es m
+messages_more es (events.MessageExpired key) = buffered_expired es key
+messages_more es e = buffered_kept es e refl refl
+
+-- the definition and the instance that an event makes
+definition_made : (e : Event) → definition_told e ≡ definition_in (change_told e)
+definition_made (events.ProcessCreated e) = refl
+definition_made (events.ProcessInstanceCreationCreated i) = refl
+definition_made (events.MessagePublished m) = refl
+definition_made (events.MessageExpired key) = refl
+definition_made e = refl
+
+instance_made : (e : Event) → instance_told e ≡ instance_in (change_told e)
+instance_made (events.ProcessCreated e) = refl
+instance_made (events.ProcessInstanceCreationCreated i) = refl
+instance_made (events.MessagePublished m) = refl
+instance_made (events.MessageExpired key) = refl
+instance_made e = refl
+
+-- the key of a message
+abbrev key : MessagePublished → ℕ
+key m = m.key
+
+-- below the next key of a counter that isn't lower
+pub below_kept : (p n n' : ℕ) (messages : List MessagePublished) → n ≤ n' → IsTrue (are_below key (key_of p (n + 1)) messages) → IsTrue (are_below key (key_of p (n' + 1)) messages)
+below_kept p n n' messages le below = below_higher key (key_of p (n + 1)) (key_of p (n' + 1)) messages (omega (arith, le)) below
+
+-- with a message that has the next key, whether or not there was memory for it
+module _ (p n counter n' : ℕ) (messages : List MessagePublished) (m : MessagePublished) (raised : n' ≡ max n counter) (draws : Draws p n counter (changes.Published m)) (below : IsTrue (are_below key (key_of p (n + 1)) messages)) where
+  at_next : m.key ≡ key_of p (n + 1)
+  at_next = draws.1 ∙ ap (λ (k : ℕ). key_of p k) draws.0
+
+  pub stands_last : with_row key m messages ≡ messages ++ m ∷ []
+  stands_last = with_last key m messages (rw at_next below)
+
+  pub below_added : (after : List MessagePublished) (result : Result ⊤ AllocError) → OnOk result (after ≡ with_row key m messages) → OnErr result (after ≡ messages) → IsTrue (are_below key (key_of p (n' + 1)) after)
+  below_added after (Ok done) ok err =
+      let kept = below_kept p n n' messages (omega (arith, raised)) below in
+      let less : m.key < key_of p (n' + 1) = omega (arith, raised, draws.0, at_next) in
+      rw (ok, stands_last) (below_more key (key_of p (n' + 1)) messages m less kept)
+  below_added after (Err fault) ok err = rw err (below_kept p n n' messages (omega (arith, raised)) below)
+
+-- without a message
+pub below_expired : (p n n' k : ℕ) (messages : List MessagePublished) → n ≤ n' → IsTrue (are_below key (key_of p (n + 1)) messages) → IsTrue (are_below key (key_of p (n' + 1)) (without k messages))
+below_expired p n n' k messages le below = below_kept p n n' (without k messages) le (below_without key k (key_of p (n + 1)) messages below)
+
+-- the message with a key
+pub row_is_first : (k : ℕ) (messages : List MessagePublished) → row_at key k messages ≡ first (λ m. m.key == k) messages
+row_is_first k [] = refl
+row_is_first k (m ∷ messages) = ap (λ (later : Option MessagePublished). if m.key == k then Some m else later) (row_is_first k messages)
+
+has_deadline : (found : Option MessagePublished) → is_some (option_map (λ m. m.deadline) found) ≡ is_some found
+has_deadline None = refl
+has_deadline (Some m) = refl
+
+pub has_by_deadline : (k : ℕ) (messages : List MessagePublished) → is_some (option_map (λ m. m.deadline) (row_at key k messages)) ≡ list_any (λ m. m.key == k) messages
+has_by_deadline k messages = has_deadline (row_at key k messages) ∙ has_row key k messages
+
+deadline_passed : (moment : ℕ) (found : Option MessagePublished) → option_map_or (λ deadline. nat_le deadline moment) (option_map (λ m. m.deadline) found) false ≡ option_map_or (is_due moment) found false
+deadline_passed moment None = refl
+deadline_passed moment (Some m) = refl
+
+pub due_by_deadline : (moment k : ℕ) (messages : List MessagePublished) → Ascend key 0 messages
+    → option_map_or (λ deadline. nat_le deadline moment) (option_map (λ m. m.deadline) (row_at key k messages)) false ≡ list_any (λ m. (m.key == k) && is_due moment m) messages
+due_by_deadline moment k messages up = deadline_passed moment (row_at key k messages) ∙ passes_at key (is_due moment) k 0 messages up
+
+-- a message that an event publishes draws the counter behind the last one
+pub draws : (p n : ℕ) (e : Event) → HasNextKey p n e → Draws p n (greatest_among p (keys_in e)) (change_told e)
+draws p n (events.MessagePublished m) next =
+    let drawn : counter_at p m.key ≡ n + 1 = ap (counter_at p) next.1 ∙ counter_at-key_of p (n + 1) next.0 in
+    let counter : max (counter_at p m.key) 0 ≡ n + 1 = omega (arith, drawn) in
+    (counter, next.1 ∙ ap (λ (k : ℕ). key_of p k) (sym counter))
+draws p n e next = tt
+
+pub draws_of : {counter : ℕ} {change : Change} → (old mid : State) (e : Event) → IsSameBeside old mid → counter ≡ greatest_among mid.place (keys_in e) → change ≡ change_told e → HasNextKey old.place old.counter e → Draws mid.place mid.counter counter change
+draws_of old mid e same counter change next = rw (counter, change, same.place, same.counter) (draws old.place old.counter e next)
+
+-- a state that took in a counter and a change
+pub record IsNoted (n : ℕ) (change : Change) (old new : State) : Type 0 where
+  pub place : new.place ≡ old.place
+  pub counter : new.counter ≡ max old.counter n
+  pub messages : new.messages ≡ with_change change old.messages
+  pub definitions : new.definitions.items ≡ old.definitions.items ++ definition_in change
+  pub begun : new.begun ≡ instance_in change
+  pub game : new.game ≡ old.game
+
+-- the state where each part grows
+pub state_more : {counter : ℕ} {change : Change} → (es : List Event) (e : Event) (old mid new : State) → IsStateOf es old → IsSameBeside old mid → after_shown old.game (shown e) ≡ Some mid.game
+    → change ≡ change_told e → counter ≡ greatest_among mid.place (keys_in e) → IsNoted counter change mid new → IsStateOf (es ++ e ∷ []) new
+state_more es e old mid new is same played change counter noted = record {
+  counter = rw (noted.place, same.place, counter_more old.place es e, is.counter) (sym (rw (counter, same.counter, same.place) at noted.counter));
+  messages = rw (messages_more es e, is.messages) (sym (rw (change, same.messages) at noted.messages));
+  definitions = rw (definitions_more es e, is.definitions, definition_made e) (sym (rw (change, same.definitions) at noted.definitions));
+  begun = begun_more es e ∙ (instance_made e ∙ sym (rw change at noted.begun));
+  game = rw (board_of_more es e, is.game) (played ∙ ap (λ (b : Board). Some b) (sym noted.game));
+}
