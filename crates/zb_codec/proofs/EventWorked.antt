@@ -13,185 +13,185 @@ use Rattle.zb_instance_records.specs.declared.happening.IncidentKind.TheVariants
 use Rattle.zb_process.specs.declared.model.NodeKind.TheVariants as kinds
 
 pub event_1 : event.spelling (events.ProcessCreated (record { key = 1; version = 2; model = record { process = (112 ∷ []); tag = []; nodes = ((record { id = (115 ∷ []); kind = kinds.StartEvent; parent = []; attached = []; cancel = false; otherwise = []; name = []; expr = None; retries = 0; handler = false; multi = None; inputs = []; outputs = [] }) ∷ (record { id = (101 ∷ []); kind = kinds.EndEvent; parent = []; attached = []; cancel = false; otherwise = []; name = []; expr = None; retries = 0; handler = false; multi = None; inputs = []; outputs = [] }) ∷ []); flows = ((record { id = (102 ∷ []); from = (115 ∷ []); to = (101 ∷ []); condition = None }) ∷ []) } })) ≡ 1 ∷ 0 ∷ 0 ∷ 0 ∷ 0 ∷ 0 ∷ 0 ∷ 0 ∷ 1 ∷ 0 ∷ 0 ∷ 0 ∷ 2 ∷ 0 ∷ 0 ∷ 0 ∷ 1 ∷ 112 ∷ 0 ∷ 0 ∷ 0 ∷ 0 ∷ 0 ∷ 0 ∷ 0 ∷ 2 ∷ 0 ∷ 0 ∷ 0 ∷ 1 ∷ 115 ∷ 2 ∷ 0 ∷ 0 ∷ 0 ∷ 0 ∷ 0 ∷ 0 ∷ 0 ∷ 0 ∷ 0 ∷ 0 ∷ 0 ∷ 0 ∷ 0 ∷ 0 ∷ 0 ∷ 0 ∷ 0 ∷ 0 ∷ 0 ∷ 0 ∷ 0 ∷ 0 ∷ 0 ∷ 0 ∷ 0 ∷ 0 ∷ 0 ∷ 0 ∷ 0 ∷ 0 ∷ 0 ∷ 0 ∷ 0 ∷ 0 ∷ 0 ∷ 1 ∷ 101 ∷ 4 ∷ 0 ∷ 0 ∷ 0 ∷ 0 ∷ 0 ∷ 0 ∷ 0 ∷ 0 ∷ 0 ∷ 0 ∷ 0 ∷ 0 ∷ 0 ∷ 0 ∷ 0 ∷ 0 ∷ 0 ∷ 0 ∷ 0 ∷ 0 ∷ 0 ∷ 0 ∷ 0 ∷ 0 ∷ 0 ∷ 0 ∷ 0 ∷ 0 ∷ 0 ∷ 0 ∷ 0 ∷ 0 ∷ 0 ∷ 0 ∷ 0 ∷ 1 ∷ 0 ∷ 0 ∷ 0 ∷ 1 ∷ 102 ∷ 0 ∷ 0 ∷ 0 ∷ 1 ∷ 115 ∷ 0 ∷ 0 ∷ 0 ∷ 1 ∷ 101 ∷ 0 ∷ []
-unfolding event expression flag flow kind long mapping model multi node number process_created text fields.counted fields.long fields.number fields.signed fields.text
+unfolding event expression flag flow kind long mapping model multi node number process_created text fields.counted_bytes fields.long_bytes fields.number_bytes fields.signed_bytes fields.text_bytes
 event_1 = refl
 
 pub event_2 : event.spelling (events.DeploymentCreated (record { key = 1; definition = 2 })) ≡ 2 ∷ 0 ∷ 0 ∷ 0 ∷ 0 ∷ 0 ∷ 0 ∷ 0 ∷ 1 ∷ 0 ∷ 0 ∷ 0 ∷ 0 ∷ 0 ∷ 0 ∷ 0 ∷ 2 ∷ []
-unfolding event deployment_created long fields.long
+unfolding event deployment_created long fields.long_bytes
 event_2 = refl
 
 pub event_3 : event.spelling (events.CommandDistributionDistributing (record { key = 1; partition = 2 })) ≡ 3 ∷ 0 ∷ 0 ∷ 0 ∷ 0 ∷ 0 ∷ 0 ∷ 0 ∷ 1 ∷ 0 ∷ 0 ∷ 0 ∷ 2 ∷ []
-unfolding event command_distribution_distributing long number fields.long fields.number
+unfolding event command_distribution_distributing long number fields.long_bytes fields.number_bytes
 event_3 = refl
 
 pub event_4 : event.spelling (events.CommandDistributionAcknowledged (record { key = 1; partition = 2 })) ≡ 4 ∷ 0 ∷ 0 ∷ 0 ∷ 0 ∷ 0 ∷ 0 ∷ 0 ∷ 1 ∷ 0 ∷ 0 ∷ 0 ∷ 2 ∷ []
-unfolding event command_distribution_acknowledged long number fields.long fields.number
+unfolding event command_distribution_acknowledged long number fields.long_bytes fields.number_bytes
 event_4 = refl
 
 pub event_5 : event.spelling (events.CommandDistributionFinished 5) ≡ 5 ∷ 0 ∷ 0 ∷ 0 ∷ 0 ∷ 0 ∷ 0 ∷ 0 ∷ 5 ∷ []
-unfolding event long fields.long
+unfolding event long fields.long_bytes
 event_5 = refl
 
 pub event_6 : event.spelling (events.ProcessInstanceCreationCreated (record { key = 1; definition = 2 })) ≡ 6 ∷ 0 ∷ 0 ∷ 0 ∷ 0 ∷ 0 ∷ 0 ∷ 0 ∷ 1 ∷ 0 ∷ 0 ∷ 0 ∷ 0 ∷ 0 ∷ 0 ∷ 0 ∷ 2 ∷ []
-unfolding event long process_instance_creation_created fields.long
+unfolding event long process_instance_creation_created fields.long_bytes
 event_6 = refl
 
 pub event_7 : event.spelling (events.ElementActivating (record { key = 1; scope = 2; definition = 3; node = (110 ∷ []); role = roles.Inner; via = (118 ∷ []); started = (115 ∷ []) })) ≡ 7 ∷ 0 ∷ 0 ∷ 0 ∷ 0 ∷ 0 ∷ 0 ∷ 0 ∷ 1 ∷ 0 ∷ 0 ∷ 0 ∷ 0 ∷ 0 ∷ 0 ∷ 0 ∷ 2 ∷ 0 ∷ 0 ∷ 0 ∷ 0 ∷ 0 ∷ 0 ∷ 0 ∷ 3 ∷ 0 ∷ 0 ∷ 0 ∷ 1 ∷ 110 ∷ 2 ∷ 0 ∷ 0 ∷ 0 ∷ 1 ∷ 118 ∷ 0 ∷ 0 ∷ 0 ∷ 1 ∷ 115 ∷ []
-unfolding event element_activating long role text fields.long fields.number fields.text
+unfolding event element_activating long role text fields.long_bytes fields.number_bytes fields.text_bytes
 event_7 = refl
 
 pub event_8 : event.spelling (events.ElementActivated (record { key = 1; items = ((pos 3) ∷ (pos 1) ∷ []) })) ≡ 8 ∷ 0 ∷ 0 ∷ 0 ∷ 0 ∷ 0 ∷ 0 ∷ 0 ∷ 1 ∷ 0 ∷ 0 ∷ 0 ∷ 2 ∷ 0 ∷ 0 ∷ 0 ∷ 0 ∷ 0 ∷ 0 ∷ 0 ∷ 3 ∷ 0 ∷ 0 ∷ 0 ∷ 0 ∷ 0 ∷ 0 ∷ 0 ∷ 1 ∷ []
-unfolding event element_activated long signed fields.counted fields.long fields.number fields.signed
+unfolding event element_activated long signed fields.counted_bytes fields.long_bytes fields.number_bytes fields.signed_bytes
 event_8 = refl
 
 pub event_9 : event.spelling (events.ElementCompleting 9) ≡ 9 ∷ 0 ∷ 0 ∷ 0 ∷ 0 ∷ 0 ∷ 0 ∷ 0 ∷ 9 ∷ []
-unfolding event long fields.long
+unfolding event long fields.long_bytes
 event_9 = refl
 
 pub event_10 : event.spelling (events.ElementCompleted (record { key = 1; owed = ((102 ∷ []) ∷ (103 ∷ []) ∷ []) })) ≡ 10 ∷ 0 ∷ 0 ∷ 0 ∷ 0 ∷ 0 ∷ 0 ∷ 0 ∷ 1 ∷ 0 ∷ 0 ∷ 0 ∷ 2 ∷ 0 ∷ 0 ∷ 0 ∷ 1 ∷ 102 ∷ 0 ∷ 0 ∷ 0 ∷ 1 ∷ 103 ∷ []
-unfolding event element_completed long text fields.counted fields.long fields.number fields.text
+unfolding event element_completed long text fields.counted_bytes fields.long_bytes fields.number_bytes fields.text_bytes
 event_10 = refl
 
 pub event_11 : event.spelling (events.ElementTerminating 11) ≡ 11 ∷ 0 ∷ 0 ∷ 0 ∷ 0 ∷ 0 ∷ 0 ∷ 0 ∷ 11 ∷ []
-unfolding event long fields.long
+unfolding event long fields.long_bytes
 event_11 = refl
 
 pub event_12 : event.spelling (events.ElementTerminated 12) ≡ 12 ∷ 0 ∷ 0 ∷ 0 ∷ 0 ∷ 0 ∷ 0 ∷ 0 ∷ 12 ∷ []
-unfolding event long fields.long
+unfolding event long fields.long_bytes
 event_12 = refl
 
 pub event_13 : event.spelling (events.SequenceFlowTaken (record { key = 1; flow = (102 ∷ []) })) ≡ 13 ∷ 0 ∷ 0 ∷ 0 ∷ 0 ∷ 0 ∷ 0 ∷ 0 ∷ 1 ∷ 0 ∷ 0 ∷ 0 ∷ 1 ∷ 102 ∷ []
-unfolding event long sequence_flow_taken text fields.long fields.number fields.text
+unfolding event long sequence_flow_taken text fields.long_bytes fields.number_bytes fields.text_bytes
 event_13 = refl
 
 pub event_14 : event.spelling (events.ElementMigrated (record { key = 1; node = (110 ∷ []) })) ≡ 14 ∷ 0 ∷ 0 ∷ 0 ∷ 0 ∷ 0 ∷ 0 ∷ 0 ∷ 1 ∷ 0 ∷ 0 ∷ 0 ∷ 1 ∷ 110 ∷ []
-unfolding event element_migrated long text fields.long fields.number fields.text
+unfolding event element_migrated long text fields.long_bytes fields.number_bytes fields.text_bytes
 event_14 = refl
 
 pub event_15 : event.spelling (events.ProcessInstanceMigrationMigrated (record { key = 1; definition = 2; pairs = ((record { from = (97 ∷ []); to = (98 ∷ []) }) ∷ []) })) ≡ 15 ∷ 0 ∷ 0 ∷ 0 ∷ 0 ∷ 0 ∷ 0 ∷ 0 ∷ 1 ∷ 0 ∷ 0 ∷ 0 ∷ 0 ∷ 0 ∷ 0 ∷ 0 ∷ 2 ∷ 0 ∷ 0 ∷ 0 ∷ 1 ∷ 0 ∷ 0 ∷ 0 ∷ 1 ∷ 97 ∷ 0 ∷ 0 ∷ 0 ∷ 1 ∷ 98 ∷ []
-unfolding event long pair process_instance_migration_migrated text fields.counted fields.long fields.number fields.text
+unfolding event long pair process_instance_migration_migrated text fields.counted_bytes fields.long_bytes fields.number_bytes fields.text_bytes
 event_15 = refl
 
 pub event_16 : event.spelling (events.JobCreated (record { key = 1; cell = 2; kind = (107 ∷ []); retries = 4 })) ≡ 16 ∷ 0 ∷ 0 ∷ 0 ∷ 0 ∷ 0 ∷ 0 ∷ 0 ∷ 1 ∷ 0 ∷ 0 ∷ 0 ∷ 0 ∷ 0 ∷ 0 ∷ 0 ∷ 2 ∷ 0 ∷ 0 ∷ 0 ∷ 1 ∷ 107 ∷ 0 ∷ 0 ∷ 0 ∷ 4 ∷ []
-unfolding event job_created long number text fields.long fields.number fields.text
+unfolding event job_created long number text fields.long_bytes fields.number_bytes fields.text_bytes
 event_16 = refl
 
 pub event_17 : event.spelling (events.JobActivated (record { key = 1; worker = (119 ∷ []); deadline = 3; instance = 4; node = (110 ∷ []); kind = (107 ∷ []); retries = 7; variables = (record { name = (97 ∷ []); value = (values.Int (pos 7)) } ∷ []) })) ≡ 17 ∷ 0 ∷ 0 ∷ 0 ∷ 0 ∷ 0 ∷ 0 ∷ 0 ∷ 1 ∷ 0 ∷ 0 ∷ 0 ∷ 1 ∷ 119 ∷ 0 ∷ 0 ∷ 0 ∷ 0 ∷ 0 ∷ 0 ∷ 0 ∷ 3 ∷ 0 ∷ 0 ∷ 0 ∷ 0 ∷ 0 ∷ 0 ∷ 0 ∷ 4 ∷ 0 ∷ 0 ∷ 0 ∷ 1 ∷ 110 ∷ 0 ∷ 0 ∷ 0 ∷ 1 ∷ 107 ∷ 0 ∷ 0 ∷ 0 ∷ 7 ∷ 0 ∷ 0 ∷ 0 ∷ 1 ∷ 0 ∷ 0 ∷ 0 ∷ 1 ∷ 97 ∷ 0 ∷ 0 ∷ 0 ∷ 0 ∷ 0 ∷ 0 ∷ 0 ∷ 0 ∷ 7 ∷ []
-unfolding event job_activated long number text variables variable value fields.counted fields.long fields.number fields.signed fields.text fields.value
+unfolding event job_activated long number text variables variable value fields.counted_bytes fields.long_bytes fields.number_bytes fields.signed_bytes fields.text_bytes fields.value_bytes
 event_17 = refl
 
 pub event_18 : event.spelling (events.JobTimedOut 18) ≡ 18 ∷ 0 ∷ 0 ∷ 0 ∷ 0 ∷ 0 ∷ 0 ∷ 0 ∷ 18 ∷ []
-unfolding event long fields.long
+unfolding event long fields.long_bytes
 event_18 = refl
 
 pub event_19 : event.spelling (events.JobCompleted 19) ≡ 19 ∷ 0 ∷ 0 ∷ 0 ∷ 0 ∷ 0 ∷ 0 ∷ 0 ∷ 19 ∷ []
-unfolding event long fields.long
+unfolding event long fields.long_bytes
 event_19 = refl
 
 pub event_20 : event.spelling (events.JobCanceled 20) ≡ 20 ∷ 0 ∷ 0 ∷ 0 ∷ 0 ∷ 0 ∷ 0 ∷ 0 ∷ 20 ∷ []
-unfolding event long fields.long
+unfolding event long fields.long_bytes
 event_20 = refl
 
 pub event_21 : event.spelling (events.JobFailed (record { key = 1; retries = 2; text = (116 ∷ []) })) ≡ 21 ∷ 0 ∷ 0 ∷ 0 ∷ 0 ∷ 0 ∷ 0 ∷ 0 ∷ 1 ∷ 0 ∷ 0 ∷ 0 ∷ 2 ∷ 0 ∷ 0 ∷ 0 ∷ 1 ∷ 116 ∷ []
-unfolding event job_failed long number text fields.long fields.number fields.text
+unfolding event job_failed long number text fields.long_bytes fields.number_bytes fields.text_bytes
 event_21 = refl
 
 pub event_22 : event.spelling (events.JobErrorThrown (record { key = 1; code = (99 ∷ []) })) ≡ 22 ∷ 0 ∷ 0 ∷ 0 ∷ 0 ∷ 0 ∷ 0 ∷ 0 ∷ 1 ∷ 0 ∷ 0 ∷ 0 ∷ 1 ∷ 99 ∷ []
-unfolding event job_error_thrown long text fields.long fields.number fields.text
+unfolding event job_error_thrown long text fields.long_bytes fields.number_bytes fields.text_bytes
 event_22 = refl
 
 pub event_23 : event.spelling (events.JobRetriesUpdated (record { key = 1; retries = 2 })) ≡ 23 ∷ 0 ∷ 0 ∷ 0 ∷ 0 ∷ 0 ∷ 0 ∷ 0 ∷ 1 ∷ 0 ∷ 0 ∷ 0 ∷ 2 ∷ []
-unfolding event job_retries_updated long number fields.long fields.number
+unfolding event job_retries_updated long number fields.long_bytes fields.number_bytes
 event_23 = refl
 
 pub event_24 : event.spelling (events.JobBatchActivated (record { key = 1; jobs = (5 ∷ 6 ∷ []) })) ≡ 24 ∷ 0 ∷ 0 ∷ 0 ∷ 0 ∷ 0 ∷ 0 ∷ 0 ∷ 1 ∷ 0 ∷ 0 ∷ 0 ∷ 2 ∷ 0 ∷ 0 ∷ 0 ∷ 0 ∷ 0 ∷ 0 ∷ 0 ∷ 5 ∷ 0 ∷ 0 ∷ 0 ∷ 0 ∷ 0 ∷ 0 ∷ 0 ∷ 6 ∷ []
-unfolding event job_batch_activated long fields.counted fields.long fields.number
+unfolding event job_batch_activated long fields.counted_bytes fields.long_bytes fields.number_bytes
 event_24 = refl
 
 pub event_25 : event.spelling (events.TimerCreated (record { key = 1; cell = 2; node = (110 ∷ []); due = 4 })) ≡ 25 ∷ 0 ∷ 0 ∷ 0 ∷ 0 ∷ 0 ∷ 0 ∷ 0 ∷ 1 ∷ 0 ∷ 0 ∷ 0 ∷ 0 ∷ 0 ∷ 0 ∷ 0 ∷ 2 ∷ 0 ∷ 0 ∷ 0 ∷ 1 ∷ 110 ∷ 0 ∷ 0 ∷ 0 ∷ 0 ∷ 0 ∷ 0 ∷ 0 ∷ 4 ∷ []
-unfolding event long text timer_created fields.long fields.number fields.text
+unfolding event long text timer_created fields.long_bytes fields.number_bytes fields.text_bytes
 event_25 = refl
 
 pub event_26 : event.spelling (events.TimerTriggered 26) ≡ 26 ∷ 0 ∷ 0 ∷ 0 ∷ 0 ∷ 0 ∷ 0 ∷ 0 ∷ 26 ∷ []
-unfolding event long fields.long
+unfolding event long fields.long_bytes
 event_26 = refl
 
 pub event_27 : event.spelling (events.TimerCanceled 27) ≡ 27 ∷ 0 ∷ 0 ∷ 0 ∷ 0 ∷ 0 ∷ 0 ∷ 0 ∷ 27 ∷ []
-unfolding event long fields.long
+unfolding event long fields.long_bytes
 event_27 = refl
 
 pub event_28 : event.spelling (events.ProcessEventTriggered (record { cell = 1; node = (110 ∷ []) })) ≡ 28 ∷ 0 ∷ 0 ∷ 0 ∷ 0 ∷ 0 ∷ 0 ∷ 0 ∷ 1 ∷ 0 ∷ 0 ∷ 0 ∷ 1 ∷ 110 ∷ []
-unfolding event long process_event_triggered text fields.long fields.number fields.text
+unfolding event long process_event_triggered text fields.long_bytes fields.number_bytes fields.text_bytes
 event_28 = refl
 
 pub event_29 : event.spelling (events.MessagePublished (record { key = 1; name = (110 ∷ []); correlation_key = (99 ∷ []); id = (105 ∷ []); deadline = 5; variables = (record { name = (97 ∷ []); value = (values.Int (pos 7)) } ∷ []) })) ≡ 29 ∷ 0 ∷ 0 ∷ 0 ∷ 0 ∷ 0 ∷ 0 ∷ 0 ∷ 1 ∷ 0 ∷ 0 ∷ 0 ∷ 1 ∷ 110 ∷ 0 ∷ 0 ∷ 0 ∷ 1 ∷ 99 ∷ 0 ∷ 0 ∷ 0 ∷ 1 ∷ 105 ∷ 0 ∷ 0 ∷ 0 ∷ 0 ∷ 0 ∷ 0 ∷ 0 ∷ 5 ∷ 0 ∷ 0 ∷ 0 ∷ 1 ∷ 0 ∷ 0 ∷ 0 ∷ 1 ∷ 97 ∷ 0 ∷ 0 ∷ 0 ∷ 0 ∷ 0 ∷ 0 ∷ 0 ∷ 0 ∷ 7 ∷ []
-unfolding event long message_published text variables variable value fields.counted fields.long fields.number fields.signed fields.text fields.value
+unfolding event long message_published text variables variable value fields.counted_bytes fields.long_bytes fields.number_bytes fields.signed_bytes fields.text_bytes fields.value_bytes
 event_29 = refl
 
 pub event_30 : event.spelling (events.MessageExpired 30) ≡ 30 ∷ 0 ∷ 0 ∷ 0 ∷ 0 ∷ 0 ∷ 0 ∷ 0 ∷ 30 ∷ []
-unfolding event long fields.long
+unfolding event long fields.long_bytes
 event_30 = refl
 
 pub event_31 : event.spelling (events.MessageStartEventSubscriptionCorrelated (record { message = 1; definition = 2; instance = 3 })) ≡ 31 ∷ 0 ∷ 0 ∷ 0 ∷ 0 ∷ 0 ∷ 0 ∷ 0 ∷ 1 ∷ 0 ∷ 0 ∷ 0 ∷ 0 ∷ 0 ∷ 0 ∷ 0 ∷ 2 ∷ 0 ∷ 0 ∷ 0 ∷ 0 ∷ 0 ∷ 0 ∷ 0 ∷ 3 ∷ []
-unfolding event long message_start_event_subscription_correlated fields.long
+unfolding event long message_start_event_subscription_correlated fields.long_bytes
 event_31 = refl
 
 pub event_32 : event.spelling (events.MessageSubscriptionCreated (record { subscription = 1; name = (110 ∷ []); correlation_key = (99 ∷ []); process = (112 ∷ []); cancel = true })) ≡ 32 ∷ 0 ∷ 0 ∷ 0 ∷ 0 ∷ 0 ∷ 0 ∷ 0 ∷ 1 ∷ 0 ∷ 0 ∷ 0 ∷ 1 ∷ 110 ∷ 0 ∷ 0 ∷ 0 ∷ 1 ∷ 99 ∷ 0 ∷ 0 ∷ 0 ∷ 1 ∷ 112 ∷ 1 ∷ []
-unfolding event flag long message_subscription_created text fields.long fields.number fields.text
+unfolding event flag long message_subscription_created text fields.long_bytes fields.number_bytes fields.text_bytes
 event_32 = refl
 
 pub event_33 : event.spelling (events.MessageSubscriptionCorrelating (record { subscription = 1; message = 2; variables = (record { name = (97 ∷ []); value = (values.Int (pos 7)) } ∷ []) })) ≡ 33 ∷ 0 ∷ 0 ∷ 0 ∷ 0 ∷ 0 ∷ 0 ∷ 0 ∷ 1 ∷ 0 ∷ 0 ∷ 0 ∷ 0 ∷ 0 ∷ 0 ∷ 0 ∷ 2 ∷ 0 ∷ 0 ∷ 0 ∷ 1 ∷ 0 ∷ 0 ∷ 0 ∷ 1 ∷ 97 ∷ 0 ∷ 0 ∷ 0 ∷ 0 ∷ 0 ∷ 0 ∷ 0 ∷ 0 ∷ 7 ∷ []
-unfolding event long message_subscription_correlating variables variable text value fields.counted fields.long fields.number fields.signed fields.text fields.value
+unfolding event long message_subscription_correlating variables variable text value fields.counted_bytes fields.long_bytes fields.number_bytes fields.signed_bytes fields.text_bytes fields.value_bytes
 event_33 = refl
 
 pub event_34 : event.spelling (events.MessageSubscriptionCorrelated (record { subscription = 1; message = 2 })) ≡ 34 ∷ 0 ∷ 0 ∷ 0 ∷ 0 ∷ 0 ∷ 0 ∷ 0 ∷ 1 ∷ 0 ∷ 0 ∷ 0 ∷ 0 ∷ 0 ∷ 0 ∷ 0 ∷ 2 ∷ []
-unfolding event long message_subscription_correlated fields.long
+unfolding event long message_subscription_correlated fields.long_bytes
 event_34 = refl
 
 pub event_35 : event.spelling (events.MessageSubscriptionRejected (record { subscription = 1; message = 2 })) ≡ 35 ∷ 0 ∷ 0 ∷ 0 ∷ 0 ∷ 0 ∷ 0 ∷ 0 ∷ 1 ∷ 0 ∷ 0 ∷ 0 ∷ 0 ∷ 0 ∷ 0 ∷ 0 ∷ 2 ∷ []
-unfolding event long message_subscription_rejected fields.long
+unfolding event long message_subscription_rejected fields.long_bytes
 event_35 = refl
 
 pub event_36 : event.spelling (events.MessageSubscriptionDeleted 36) ≡ 36 ∷ 0 ∷ 0 ∷ 0 ∷ 0 ∷ 0 ∷ 0 ∷ 0 ∷ 36 ∷ []
-unfolding event long fields.long
+unfolding event long fields.long_bytes
 event_36 = refl
 
 pub event_37 : event.spelling (events.ProcessMessageSubscriptionCreating (record { subscription = 1; cell = 2; node = (110 ∷ []); name = (110 ∷ []); correlation_key = (99 ∷ []); process = (112 ∷ []); cancel = true })) ≡ 37 ∷ 0 ∷ 0 ∷ 0 ∷ 0 ∷ 0 ∷ 0 ∷ 0 ∷ 1 ∷ 0 ∷ 0 ∷ 0 ∷ 0 ∷ 0 ∷ 0 ∷ 0 ∷ 2 ∷ 0 ∷ 0 ∷ 0 ∷ 1 ∷ 110 ∷ 0 ∷ 0 ∷ 0 ∷ 1 ∷ 110 ∷ 0 ∷ 0 ∷ 0 ∷ 1 ∷ 99 ∷ 0 ∷ 0 ∷ 0 ∷ 1 ∷ 112 ∷ 1 ∷ []
-unfolding event flag long process_message_subscription_creating text fields.long fields.number fields.text
+unfolding event flag long process_message_subscription_creating text fields.long_bytes fields.number_bytes fields.text_bytes
 event_37 = refl
 
 pub event_38 : event.spelling (events.ProcessMessageSubscriptionCreated 38) ≡ 38 ∷ 0 ∷ 0 ∷ 0 ∷ 0 ∷ 0 ∷ 0 ∷ 0 ∷ 38 ∷ []
-unfolding event long fields.long
+unfolding event long fields.long_bytes
 event_38 = refl
 
 pub event_39 : event.spelling (events.ProcessMessageSubscriptionCorrelated (record { subscription = 1; message = 2 })) ≡ 39 ∷ 0 ∷ 0 ∷ 0 ∷ 0 ∷ 0 ∷ 0 ∷ 0 ∷ 1 ∷ 0 ∷ 0 ∷ 0 ∷ 0 ∷ 0 ∷ 0 ∷ 0 ∷ 2 ∷ []
-unfolding event long process_message_subscription_correlated fields.long
+unfolding event long process_message_subscription_correlated fields.long_bytes
 event_39 = refl
 
 pub event_40 : event.spelling (events.ProcessMessageSubscriptionDeleted 40) ≡ 40 ∷ 0 ∷ 0 ∷ 0 ∷ 0 ∷ 0 ∷ 0 ∷ 0 ∷ 40 ∷ []
-unfolding event long fields.long
+unfolding event long fields.long_bytes
 event_40 = refl
 
 pub event_41 : event.spelling (events.ProcessMessageSubscriptionDeleting (record { subscription = 1; correlation_key = (99 ∷ []); keys = (5 ∷ 6 ∷ []) })) ≡ 41 ∷ 0 ∷ 0 ∷ 0 ∷ 0 ∷ 0 ∷ 0 ∷ 0 ∷ 1 ∷ 0 ∷ 0 ∷ 0 ∷ 1 ∷ 99 ∷ 0 ∷ 0 ∷ 0 ∷ 2 ∷ 0 ∷ 0 ∷ 0 ∷ 0 ∷ 0 ∷ 0 ∷ 0 ∷ 5 ∷ 0 ∷ 0 ∷ 0 ∷ 0 ∷ 0 ∷ 0 ∷ 0 ∷ 6 ∷ []
-unfolding event long process_message_subscription_deleting text fields.counted fields.long fields.number fields.text
+unfolding event long process_message_subscription_deleting text fields.counted_bytes fields.long_bytes fields.number_bytes fields.text_bytes
 event_41 = refl
 
 pub event_42 : event.spelling (events.VariableCreated (record { scope = 1; name = (110 ∷ []); value = (values.List ((negsuc 1) ∷ [])) })) ≡ 42 ∷ 0 ∷ 0 ∷ 0 ∷ 0 ∷ 0 ∷ 0 ∷ 0 ∷ 1 ∷ 0 ∷ 0 ∷ 0 ∷ 1 ∷ 110 ∷ 3 ∷ 0 ∷ 0 ∷ 0 ∷ 1 ∷ 255 ∷ 255 ∷ 255 ∷ 255 ∷ 255 ∷ 255 ∷ 255 ∷ 254 ∷ []
-unfolding event long text value variable_created fields.counted fields.long fields.number fields.signed fields.text fields.value
+unfolding event long text value variable_created fields.counted_bytes fields.long_bytes fields.number_bytes fields.signed_bytes fields.text_bytes fields.value_bytes
 event_42 = refl
 
 pub event_43 : event.spelling (events.VariableUpdated (record { scope = 1; name = (110 ∷ []); value = (values.List ((negsuc 1) ∷ [])) })) ≡ 43 ∷ 0 ∷ 0 ∷ 0 ∷ 0 ∷ 0 ∷ 0 ∷ 0 ∷ 1 ∷ 0 ∷ 0 ∷ 0 ∷ 1 ∷ 110 ∷ 3 ∷ 0 ∷ 0 ∷ 0 ∷ 1 ∷ 255 ∷ 255 ∷ 255 ∷ 255 ∷ 255 ∷ 255 ∷ 255 ∷ 254 ∷ []
-unfolding event long text value variable_updated fields.counted fields.long fields.number fields.signed fields.text fields.value
+unfolding event long text value variable_updated fields.counted_bytes fields.long_bytes fields.number_bytes fields.signed_bytes fields.text_bytes fields.value_bytes
 event_43 = refl
 
 pub event_44 : event.spelling (events.VariableDocumentUpdated 44) ≡ 44 ∷ 0 ∷ 0 ∷ 0 ∷ 0 ∷ 0 ∷ 0 ∷ 0 ∷ 44 ∷ []
-unfolding event long fields.long
+unfolding event long fields.long_bytes
 event_44 = refl
 
 pub event_45 : event.spelling (events.IncidentCreated (record { key = 1; kind = incidents.UnhandledErrorEvent; cell = 3; job = 4; text = (116 ∷ []) })) ≡ 45 ∷ 0 ∷ 0 ∷ 0 ∷ 0 ∷ 0 ∷ 0 ∷ 0 ∷ 1 ∷ 4 ∷ 0 ∷ 0 ∷ 0 ∷ 0 ∷ 0 ∷ 0 ∷ 0 ∷ 3 ∷ 0 ∷ 0 ∷ 0 ∷ 0 ∷ 0 ∷ 0 ∷ 0 ∷ 4 ∷ 0 ∷ 0 ∷ 0 ∷ 1 ∷ 116 ∷ []
-unfolding event incident_created incident_kind long text fields.long fields.number fields.text
+unfolding event incident_created incident_kind long text fields.long_bytes fields.number_bytes fields.text_bytes
 event_45 = refl
 
 pub event_46 : event.spelling (events.IncidentResolved (record { key = 1; job = 2 })) ≡ 46 ∷ 0 ∷ 0 ∷ 0 ∷ 0 ∷ 0 ∷ 0 ∷ 0 ∷ 1 ∷ 0 ∷ 0 ∷ 0 ∷ 0 ∷ 0 ∷ 0 ∷ 0 ∷ 2 ∷ []
-unfolding event incident_resolved long fields.long
+unfolding event incident_resolved long fields.long_bytes
 event_46 = refl

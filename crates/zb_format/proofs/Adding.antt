@@ -5,7 +5,7 @@ use Rattle.zb_format.specs.Front.{Begins}
 use Rattle.std.proofs.lemmas.List.{append-nil}
 use Rattle.std.proofs.lemmas.List.Concat.{flat_map-cons}
 use Rattle.std.specs.List.{flat_map, AllByRecursion}
-use Rattle.zb_format.specs.Encoded.{Adds, Holds, KeepsEncoded}
+use Rattle.zb_format.specs.Encoded.{Adds, HoldsFront, KeepsEncoded}
 use Rattle.zb_format.specs.declared.encoder.Encoder.{Encoder}
 use Rattle.zb_format.specs.declared.encoder.Encoder.TheVariants.{Bytes, Count}
 
@@ -76,7 +76,7 @@ Front (Bytes before) (Count after) = ⊥
 Front (Count before) after = Unit {0}
 
 pub kept_front : (a b : Encoder) → KeepsEncoded a b → Front a b
-unfolding Holds
+unfolding HoldsFront
 kept_front (Bytes a) (Bytes b) p = p.0 a.items (record { front_of = take-length a.items })
 kept_front (Bytes a) (Count b) p = absurd (p.0 a.items (record { front_of = take-length a.items }))
 kept_front (Count a) b p = tt

@@ -12,9 +12,9 @@ Adds (Bytes before) piece (Count after) = ⊥
 Adds (Count before) piece (Bytes after) = ⊥
 
 -- it holds bytes that begin with this front, which one that only counts doesn't
-unfoldable pub Holds : List ℕ → Encoder → Type 0
-Holds front (Bytes bytes) = fronts.Begins front bytes.items
-Holds front (Count count) = ⊥
+unfoldable pub HoldsFront : List ℕ → Encoder → Type 0
+HoldsFront front (Bytes bytes) = fronts.Begins front bytes.items
+HoldsFront front (Count count) = ⊥
 
 -- it only counts, which no want of memory stops
 unfoldable pub IsCounting : Encoder → Type 0
@@ -23,4 +23,4 @@ IsCounting (Count count) = Unit {0}
 
 -- whatever it held before it holds still, and it counts where it counted
 abbrev pub KeepsEncoded : Encoder → Encoder → Type 0
-KeepsEncoded before after = ((front : List ℕ) → Holds front before → Holds front after) × (IsCounting before → IsCounting after)
+KeepsEncoded before after = ((front : List ℕ) → HoldsFront front before → HoldsFront front after) × (IsCounting before → IsCounting after)

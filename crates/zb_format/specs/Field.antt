@@ -6,16 +6,16 @@ use Rattle.zb_base.specs.declared.value.Value.{Value}
 use Rattle.zb_base.specs.declared.value.Value.TheVariants as values
 
 -- a number, in four bytes
-unfoldable pub number : ℕ → List ℕ
-number n = to_be_bytes w32 n
+unfoldable pub number_bytes : ℕ → List ℕ
+number_bytes n = to_be_bytes w32 n
 
 -- a key, a moment or a count of milliseconds, in eight bytes
-unfoldable pub long : ℕ → List ℕ
-long n = to_be_bytes w64 n
+unfoldable pub long_bytes : ℕ → List ℕ
+long_bytes n = to_be_bytes w64 n
 
 -- a whole number with a sign, in eight bytes of two's complement
-unfoldable pub signed : ℤ → List ℕ
-signed z = to_be_bytes w64 (cast_unsigned w64 z)
+unfoldable pub signed_bytes : ℤ → List ℕ
+signed_bytes z = to_be_bytes w64 (cast_unsigned w64 z)
 
 -- the byte of a truth value
 abbrev pub truth_byte : Bool → ℕ
@@ -23,25 +23,25 @@ truth_byte false = 0
 truth_byte true = 1
 
 -- a truth value
-abbrev pub flag : Bool → List ℕ
-flag b = truth_byte b ∷ []
+abbrev pub flag_bytes : Bool → List ℕ
+flag_bytes b = truth_byte b ∷ []
 
 -- a text in UTF-8
-unfoldable pub text : List ℕ → List ℕ
-text bytes = number (length bytes) ++ bytes
+unfoldable pub text_bytes : List ℕ → List ℕ
+text_bytes bytes = number_bytes (length bytes) ++ bytes
 
 -- a list, each member in its own spelling
-unfoldable pub counted : {A : Type 0} → (A → List ℕ) → List A → List ℕ
-counted spell members = number (length members) ++ flat_map spell members
+unfoldable pub counted_bytes : {A : Type 0} → (A → List ℕ) → List A → List ℕ
+counted_bytes spell members = number_bytes (length members) ++ flat_map spell members
 
 -- the value of a variable
-unfoldable pub value : Value → List ℕ
-value (values.Int z) = 0 ∷ signed z
-value (values.Bool b) = 1 ∷ flag b
-value (values.Text t) = 2 ∷ text t
-value (values.List zs) = 3 ∷ counted signed zs
+unfoldable pub value_bytes : Value → List ℕ
+value_bytes (values.Int z) = 0 ∷ signed_bytes z
+value_bytes (values.Bool b) = 1 ∷ flag_bytes b
+value_bytes (values.Text t) = 2 ∷ text_bytes t
+value_bytes (values.List zs) = 3 ∷ counted_bytes signed_bytes zs
 
 -- what may be absent
-abbrev pub optional : {A : Type 0} → (A → List ℕ) → Option A → List ℕ
-optional spell None = 0 ∷ []
-optional spell (Some x) = 1 ∷ spell x
+abbrev pub optional_bytes : {A : Type 0} → (A → List ℕ) → Option A → List ℕ
+optional_bytes spell None = 0 ∷ []
+optional_bytes spell (Some x) = 1 ∷ spell x

@@ -9,12 +9,12 @@ use Rattle.std.proofs.lemmas.List.{take_at, drop_at, take-append-drop, length-ap
 use Rattle.std.proofs.lemmas.List.Concat.{flat_map-cons}
 use Rattle.std.proofs.lemmas.Nat.{be_bytes_4, be_bytes_8, from_be_bytes-to_be_bytes_4, from_be_bytes-to_be_bytes_8}
 use Rattle.std.proofs.lemmas.Int.{of_z-to_z, to_z-of_z, ints}
-use Rattle.zb_format.specs.Field.{number, long, signed, truth_byte, flag, text, counted, optional, value}
+use Rattle.zb_format.specs.Field.{number_bytes, long_bytes, signed_bytes, truth_byte, flag_bytes, text_bytes, counted_bytes, optional_bytes, value_bytes}
 use Rattle.zb_format.specs.Fits.{IsAny, IsNumber, IsLong, IsSigned, IsText, AreCounted, IsOptional, IsValue}
 use Rattle.zb_base.specs.declared.value.Value.{Value}
 use Rattle.zb_base.specs.declared.value.Value.TheVariants as values
 use Rattle.zb_format.specs.Law.{IsBytes, Takes, IsFormat}
-use Rattle.zb_format.specs.Reading.{◌>>=◌, Reader, passing, empty_at, tagged_at, arm, no_arm, front_at, byte_at, both_at, made_at, chosen_at, one_of, flag_at, many_at, counted_at, number_at, long_at, signed_at, text_at, optional_at, value_at}
+use Rattle.zb_format.specs.Reading.{◌>>=◌, Reader, passed, empty_at, tagged_at, arm, no_arm, front_at, byte_at, both_at, made_at, chosen_at, one_of, flag_at, many_at, counted_at, number_at, long_at, signed_at, text_at, optional_at, value_at}
 
 -- ---- bytes
 
@@ -87,14 +87,14 @@ fits_again from make fits a same h = subst fits (sym same) h
 pub front_takes : (n : ℕ) (bytes piece rest : List ℕ) → IsBytes bytes → front_at n bytes ≡ Some (piece, rest) → Takes bytes piece rest × (length piece ≡ n) × IsBytes piece
 front_takes n bytes piece rest h e =
     let g = guard_some (ltb (length bytes) n) (take n bytes, drop n bytes) (piece, rest) e in
-    let long : n ≤ length bytes = ltb-false _ _ g.0 in
+    let long_bytes : n ≤ length bytes = ltb-false _ _ g.0 in
     subst (λ z. Takes bytes z.0 z.1 × (length z.0 ≡ n) × IsBytes z.0) g.1
     (record { parts = sym (take-append-drop n bytes); rest_bytes = bytes-drop n bytes h }, omega (arith, length-take n bytes), bytes-take n bytes h)
 
 pub front_again : (n : ℕ) (piece rest : List ℕ) → length piece ≡ n → front_at n (piece ++ rest) ≡ Some (piece, rest)
 front_again n piece rest len =
-    let long : ltb (length (piece ++ rest)) n ≡ false = le-ltb _ _ (omega (arith, length-append piece rest, len)) in
-    rw (long, take_at piece rest n len, drop_at piece rest n len) refl
+    let long_bytes : ltb (length (piece ++ rest)) n ≡ false = le-ltb _ _ (omega (arith, length-append piece rest, len)) in
+    rw (long_bytes, take_at piece rest n len, drop_at piece rest n len) refl
 
 front_format : (n : ℕ) → IsFormat (λ x. x) (λ x. length x ≡ n) (front_at n)
 front_format n = record {
@@ -102,8 +102,8 @@ front_format n = record {
   again = λ x rest h. front_again n x rest h;
 }
 
-pub number_format : IsFormat number IsNumber number_at
-unfolding number number_at
+pub number_format : IsFormat number_bytes IsNumber number_at
+unfolding number_bytes number_at
 number_format = record {
   takes = λ bytes x rest h e.
       let a = bind_some (front_at 4 bytes) (λ y. Some (from_be_bytes w32 y.0, y.1)) (x, rest) e in
@@ -115,8 +115,8 @@ number_format = record {
   again = λ x rest h. rw (front_again 4 (to_be_bytes w32 x) rest refl, from_be_bytes-to_be_bytes_4 x h) refl;
 }
 
-pub long_format : IsFormat long IsLong long_at
-unfolding long long_at
+pub long_format : IsFormat long_bytes IsLong long_at
+unfolding long_bytes long_at
 long_format = record {
   takes = λ bytes x rest h e.
       let a = bind_some (front_at 8 bytes) (λ y. Some (from_be_bytes w64 y.0, y.1)) (x, rest) e in
@@ -152,11 +152,11 @@ byte_format byte all known = record {
   again = λ x rest h. rw (known x) refl;
 }
 
-pub flag_format : IsFormat flag IsAny flag_at
+pub flag_format : IsFormat flag_bytes IsAny flag_at
 flag_format = byte_format truth_byte (false ∷ true ∷ []) (elim [ false ↦ refl | true ↦ refl ])
 
-pub signed_format : IsFormat signed IsSigned signed_at
-unfolding signed long signed_at
+pub signed_format : IsFormat signed_bytes IsSigned signed_at
+unfolding signed_bytes long_bytes signed_at
 signed_format = made_format (cast_unsigned w64)
     (λ z h. (to_z-of_z w64 z h, unsigned_fits z h))
     (λ n h. (of_z-to_z w64 n h, signed_fits n h))
@@ -182,11 +182,11 @@ pair_is : {A : Type 0} (a b : A) (r : List ℕ) (y : A × List ℕ) → a ≡ b 
 pair_is a b r y same e = rw same (some_is (with_rest b r) y e)
 
 -- what passes a test, of a format's values
-pub passing_format : {A : Type 0} {f : A → List ℕ} {P : A → Type 0} {r : Reader A} (test : A → Bool) → IsFormat f P r → IsFormat f (λ x. P x × IsTrue (test x)) (chosen_at (passing test) r)
+pub passing_format : {A : Type 0} {f : A → List ℕ} {P : A → Type 0} {r : Reader A} (test : A → Bool) → IsFormat f P r → IsFormat f (λ x. P x × IsTrue (test x)) (chosen_at (passed test) r)
 passing_format {f = f} {P = P} {r = r} test one = record {
   takes = λ bytes x rest h e.
-      let a = bind_some (r bytes) (λ y. passing test y.0 >>= λ z. Some (z, y.1)) (x, rest) e in
-      let u = bind_some (passing test a.0.0) (λ z. Some (z, a.0.1)) (x, rest) a.2 in
+      let a = bind_some (r bytes) (λ y. passed test y.0 >>= λ z. Some (z, y.1)) (x, rest) e in
+      let u = bind_some (passed test a.0.0) (λ z. Some (z, a.0.1)) (x, rest) a.2 in
       let g = passed_is (test a.0.0) a.0.0 u.0 u.1 in
       let p = one.takes bytes a.0.0 a.0.1 h a.1 in
       let whole : Takes bytes (f a.0.0) a.0.1 × (P a.0.0 × IsTrue (test a.0.0)) = (p.0, (p.1, g.0)) in
@@ -198,17 +198,17 @@ passing_format {f = f} {P = P} {r = r} test one = record {
 
 -- ---- texts
 
-pub text_format : IsFormat text IsText text_at
-unfolding text text_at
+pub text_format : IsFormat text_bytes IsText text_at
+unfolding text_bytes text_at
 text_format = record {
   takes = λ bytes x rest h e.
-      let n = bind_some (number_at bytes) (λ n. chosen_at (passing is_utf8) (front_at n.0) n.1) (x, rest) e in
+      let n = bind_some (number_at bytes) (λ n. chosen_at (passed is_utf8) (front_at n.0) n.1) (x, rest) e in
       let p = number_format.takes bytes n.0.0 n.0.1 h n.1 in
       let q = (passing_format is_utf8 (front_format n.0.0)).takes n.0.1 x rest p.0.rest_bytes n.2 in
       let len : length x ≡ n.0.0 = q.1.0 in
-      (subst (λ (k : ℕ). Takes bytes (number k ++ x) rest) (sym len) (takes-then bytes (number n.0.0) n.0.1 x rest p.0 q.0), (omega (arith, len, p.1), q.1.1));
+      (subst (λ (k : ℕ). Takes bytes (number_bytes k ++ x) rest) (sym len) (takes-then bytes (number_bytes n.0.0) n.0.1 x rest p.0 q.0), (omega (arith, len, p.1), q.1.1));
   again = λ x rest h.
-      let first : number_at ((number (length x) ++ x) ++ rest) ≡ Some (length x, x ++ rest) = ap number_at (append_assoc (number (length x)) x rest) ∙ number_format.again (length x) (x ++ rest) h.0 in
+      let first : number_at ((number_bytes (length x) ++ x) ++ rest) ≡ Some (length x, x ++ rest) = ap number_at (append_assoc (number_bytes (length x)) x rest) ∙ number_format.again (length x) (x ++ rest) h.0 in
       let utf8 : is_utf8 x ≡ true = h.1 in
       rw (first, front_again (length x) x rest refl, utf8) refl;
 }
@@ -231,17 +231,17 @@ many_again f P r one (x ∷ xs) rest h =
     let regrouped : flat_map f (x ∷ xs) ++ rest ≡ f x ++ (flat_map f xs ++ rest) = ap (λ (y : List ℕ). y ++ rest) (flat_map-cons f x xs) ∙ append_assoc (f x) (flat_map f xs) rest in
     ap (many_at r (suc (length xs))) regrouped ∙ rw (one.again x (flat_map f xs ++ rest) h.0, many_again f P r one xs rest h.1) refl
 
-pub counted_format : {A : Type 0} {f : A → List ℕ} {P : A → Type 0} {r : Reader A} → IsFormat f P r → IsFormat (counted f) (AreCounted P) (counted_at r)
-unfolding counted counted_at
+pub counted_format : {A : Type 0} {f : A → List ℕ} {P : A → Type 0} {r : Reader A} → IsFormat f P r → IsFormat (counted_bytes f) (AreCounted P) (counted_at r)
+unfolding counted_bytes counted_at
 counted_format {f = f} {P = P} {r = r} one = record {
   takes = λ bytes x rest h e.
       let n = bind_some (number_at bytes) (λ n. many_at r n.0 n.1) (x, rest) e in
       let p = number_format.takes bytes n.0.0 n.0.1 h n.1 in
       let q = many_takes f P r one n.0.0 n.0.1 x rest p.0.rest_bytes n.2 in
-      let whole : Takes bytes (counted f x) rest = subst (λ (k : ℕ). Takes bytes (number k ++ flat_map f x) rest) (sym q.1) (takes-then bytes (number n.0.0) n.0.1 (flat_map f x) rest p.0 q.0) in
+      let whole : Takes bytes (counted_bytes f x) rest = subst (λ (k : ℕ). Takes bytes (number_bytes k ++ flat_map f x) rest) (sym q.1) (takes-then bytes (number_bytes n.0.0) n.0.1 (flat_map f x) rest p.0 q.0) in
       (whole, (omega (arith, q.1, p.1), q.2));
   again = λ x rest h.
-      let first : number_at ((number (length x) ++ flat_map f x) ++ rest) ≡ Some (length x, flat_map f x ++ rest) = ap number_at (append_assoc (number (length x)) (flat_map f x) rest) ∙ number_format.again (length x) (flat_map f x ++ rest) h.0 in
+      let first : number_at ((number_bytes (length x) ++ flat_map f x) ++ rest) ≡ Some (length x, flat_map f x ++ rest) = ap number_at (append_assoc (number_bytes (length x)) (flat_map f x) rest) ∙ number_format.again (length x) (flat_map f x ++ rest) h.0 in
       rw first (many_again f P r one x rest h.1);
 }
 
@@ -287,11 +287,11 @@ tagged_format {spelling = spelling} {fits = fits} {behind = behind} tagged again
 
 -- ---- what may be absent
 
-optional_again : {A : Type 0} (f : A → List ℕ) (P : A → Type 0) (r : Reader A) → IsFormat f P r → (x : Option A) (rest : List ℕ) → IsOptional P x → optional_at r (optional f x ++ rest) ≡ Some (x, rest)
+optional_again : {A : Type 0} (f : A → List ℕ) (P : A → Type 0) (r : Reader A) → IsFormat f P r → (x : Option A) (rest : List ℕ) → IsOptional P x → optional_at r (optional_bytes f x ++ rest) ≡ Some (x, rest)
 optional_again f P r one None rest h = refl
 optional_again f P r one (Some x) rest h = rw (one.again x rest h) refl
 
-pub optional_format : {A : Type 0} {f : A → List ℕ} {P : A → Type 0} {r : Reader A} → IsFormat f P r → IsFormat (optional f) (IsOptional P) (optional_at r)
+pub optional_format : {A : Type 0} {f : A → List ℕ} {P : A → Type 0} {r : Reader A} → IsFormat f P r → IsFormat (optional_bytes f) (IsOptional P) (optional_at r)
 optional_format {f = f} {P = P} {r = r} one = tagged_format
     (arm_tagged 0 (λ u. None) empty_format (λ u. refl) (λ u h. tt)
     (arm_tagged 1 Some one (λ x. refl) (λ x h. h)
@@ -300,15 +300,15 @@ optional_format {f = f} {P = P} {r = r} one = tagged_format
 
 -- ---- values of variables
 
-value_again : (x : Value) (rest : List ℕ) → IsValue x → value_at (value x ++ rest) ≡ Some (x, rest)
-unfolding value value_at
+value_again : (x : Value) (rest : List ℕ) → IsValue x → value_at (value_bytes x ++ rest) ≡ Some (x, rest)
+unfolding value_bytes value_at
 value_again (values.Int z) rest h = rw (signed_format.again z rest h) refl
 value_again (values.Bool b) rest h = rw (flag_format.again b rest tt) refl
 value_again (values.Text t) rest h = rw (text_format.again t rest h) refl
 value_again (values.List zs) rest h = rw ((counted_format signed_format).again zs rest h) refl
 
-pub value_format : IsFormat value IsValue value_at
-unfolding value value_at
+pub value_format : IsFormat value_bytes IsValue value_at
+unfolding value_bytes value_at
 value_format = tagged_format
     (arm_tagged 0 values.Int signed_format (λ a. refl) (λ a h. h)
     (arm_tagged 1 values.Bool flag_format (λ a. refl) (λ a h. h)

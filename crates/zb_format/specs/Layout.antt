@@ -21,27 +21,27 @@ pub record Layout (A : Type 0) : Type 1 where
 
 -- a number, in four bytes
 unfoldable pub number : Layout ℕ
-number = record { spelling = fields.number; fits = fit.IsNumber; reading = readings.number_at; law = laws.number_format }
+number = record { spelling = fields.number_bytes; fits = fit.IsNumber; reading = readings.number_at; law = laws.number_format }
 
 -- a key, a moment or a count of milliseconds, in eight bytes
 unfoldable pub long : Layout ℕ
-long = record { spelling = fields.long; fits = fit.IsLong; reading = readings.long_at; law = laws.long_format }
+long = record { spelling = fields.long_bytes; fits = fit.IsLong; reading = readings.long_at; law = laws.long_format }
 
 -- a whole number with a sign, in eight bytes of two's complement
 unfoldable pub signed : Layout ℤ
-signed = record { spelling = fields.signed; fits = fit.IsSigned; reading = readings.signed_at; law = laws.signed_format }
+signed = record { spelling = fields.signed_bytes; fits = fit.IsSigned; reading = readings.signed_at; law = laws.signed_format }
 
 -- a truth value, in one byte
 unfoldable pub flag : Layout Bool
-flag = record { spelling = fields.flag; fits = fit.IsAny; reading = readings.flag_at; law = laws.flag_format }
+flag = record { spelling = fields.flag_bytes; fits = fit.IsAny; reading = readings.flag_at; law = laws.flag_format }
 
 -- a text in UTF-8, behind its length
 unfoldable pub text : Layout (List ℕ)
-text = record { spelling = fields.text; fits = fit.IsText; reading = readings.text_at; law = laws.text_format }
+text = record { spelling = fields.text_bytes; fits = fit.IsText; reading = readings.text_at; law = laws.text_format }
 
 -- the value of a variable
 unfoldable pub value : Layout Value
-value = record { spelling = fields.value; fits = fit.IsValue; reading = readings.value_at; law = laws.value_format }
+value = record { spelling = fields.value_bytes; fits = fit.IsValue; reading = readings.value_at; law = laws.value_format }
 
 -- nothing, in no bytes
 abbrev pub empty : Layout (Unit {0})
@@ -79,17 +79,17 @@ abbrev pub passing : {A : Type 0} → (A → Bool) → Layout A → Layout A
 passing test each = record {
   spelling = each.spelling;
   fits = λ x. each.fits x × IsTrue (test x);
-  reading = readings.chosen_at (readings.passing test) each.reading;
+  reading = readings.chosen_at (readings.passed test) each.reading;
   law = laws.passing_format test each.law;
 }
 
 -- a list behind its length
 abbrev pub counted : {A : Type 0} → Layout A → Layout (List A)
-counted each = record { spelling = fields.counted each.spelling; fits = fit.AreCounted each.fits; reading = readings.counted_at each.reading; law = laws.counted_format each.law }
+counted each = record { spelling = fields.counted_bytes each.spelling; fits = fit.AreCounted each.fits; reading = readings.counted_at each.reading; law = laws.counted_format each.law }
 
 -- what may be absent
 abbrev pub optional : {A : Type 0} → Layout A → Layout (Option A)
-optional each = record { spelling = fields.optional each.spelling; fits = fit.IsOptional each.fits; reading = readings.optional_at each.reading; law = laws.optional_format each.law }
+optional each = record { spelling = fields.optional_bytes each.spelling; fits = fit.IsOptional each.fits; reading = readings.optional_at each.reading; law = laws.optional_format each.law }
 
 -- a variable
 unfoldable pub variable : Layout Variable

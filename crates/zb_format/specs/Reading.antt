@@ -58,8 +58,8 @@ chosen_at choose read bytes = do
   Some (y, x.1)
 
 -- what passes a test
-abbrev pub passing : {A : Type 0} → (A → Bool) → A → Option A
-passing test x = if test x then Some x else None
+abbrev pub passed : {A : Type 0} → (A → Bool) → A → Option A
+passed test x = if test x then Some x else None
 
 -- nothing is read
 abbrev pub empty_at : Reader (Unit {0})
@@ -118,7 +118,7 @@ signed_at = made_at (cast_signed w64) long_at
 unfoldable pub text_at : Reader (List ℕ)
 text_at bytes = do
   n ← number_at bytes
-  chosen_at (passing is_utf8) (front_at n.0) n.1
+  chosen_at (passed is_utf8) (front_at n.0) n.1
 
 -- what may be absent
 abbrev pub optional_at : {A : Type 0} → Reader A → Reader (Option A)

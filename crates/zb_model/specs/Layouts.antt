@@ -1,6 +1,6 @@
 -- The layouts of rejections, outcomes and batches.
 use Rattle.std.proofs.Common.{ℕ, List, [], ◌∷◌, refl}
-use Rattle.zb_format.specs.Kinds.{Kinds, Told, AreReadBack, no_kind, kind, told, of_kinds}
+use Rattle.zb_format.specs.Kinds.{Kinds, ToldValue, AreReadBack, no_kind, one_kind, told_of_kind, of_kinds}
 use Rattle.zb_format.specs.KindsLaws.{again}
 use Rattle.zb_format.specs.Layout.{Layout, both, made, counted, by_byte, long, text}
 use Rattle.zb_model.specs.CommandLaws.{command_spelled, command_back}
@@ -45,12 +45,12 @@ event = of_kinds events_from_1 event_told event_spelled event_back
 
 -- what becomes of a command: its rejection, or its events
 abbrev pub outcome_kinds : Kinds Outcome
-outcome_kinds = kind 0 outcomes.Rejected rejection (kind 1 outcomes.Accepted (counted event) no_kind)
+outcome_kinds = one_kind 0 outcomes.Rejected rejection (one_kind 1 outcomes.Accepted (counted event) no_kind)
 
 -- each outcome as it is told
-abbrev pub outcome_told : Outcome → Told
-outcome_told (outcomes.Rejected r) = told 0 rejection r
-outcome_told (outcomes.Accepted es) = told 1 (counted event) es
+abbrev pub outcome_told : Outcome → ToldValue
+outcome_told (outcomes.Rejected r) = told_of_kind 0 rejection r
+outcome_told (outcomes.Accepted es) = told_of_kind 1 (counted event) es
 
 -- each is read back
 pub outcome_back : AreReadBack outcome_kinds outcome_told
@@ -67,8 +67,8 @@ fields = made (λ b. (b.moment, (b.begin, (b.command, b.outcome)))) (λ p. recor
 
 -- the format of batches that there is
 abbrev pub formats : Kinds Batch
-formats = kind 1 (λ b. b) fields no_kind
+formats = one_kind 1 (λ b. b) fields no_kind
 
 -- a batch: the byte 1 for this format, its moment, its begin, its command and its outcome
 unfoldable pub batch : Layout Batch
-batch = of_kinds formats (λ b. told 1 fields b) (λ b. refl, (λ b h. h, tt)) (λ b rest h. again formats 1 (λ b. b) fields b rest (λ bytes. refl) h)
+batch = of_kinds formats (λ b. told_of_kind 1 fields b) (λ b. refl, (λ b h. h, tt)) (λ b rest h. again formats 1 (λ b. b) fields b rest (λ bytes. refl) h)

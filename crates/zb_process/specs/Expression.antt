@@ -3,7 +3,7 @@ use Rattle.std.specs.Prelude.{ℕ, zero, suc, ◌+◌, ◌<◌, ◌^◌, None, L
 use Rattle.zb_process.specs.declared.operator.Operator.{Operator}
 use Rattle.zb_process.specs.declared.operator.Operator.TheVariants as operators
 use Rattle.zb_process.specs.Tree.{Tree, Trees, Int, Truth, Text, Name, Members, Not, Minus, Binary, none, more, trees_of, nesting}
-use Rattle.zb_format.specs.Field.{number, signed, flag, text}
+use Rattle.zb_format.specs.Field.{number_bytes, signed_bytes, flag_bytes, text_bytes}
 use Rattle.zb_format.specs.Fits.{IsSigned, IsText}
 use Rattle.zb_format.specs.Reading.{◌>>=◌, Reader, both_at, made_at, one_of, tagged_at, arm, counted_at, signed_at, flag_at, text_at}
 
@@ -29,11 +29,11 @@ members (more t ts) = members ts + 1
 abbrev mutual
   -- an expression
   pub tree : Tree → List ℕ
-  tree (Int z) = 0 ∷ signed z
-  tree (Truth b) = 1 ∷ flag b
-  tree (Text t) = 2 ∷ text t
-  tree (Name t) = 3 ∷ text t
-  tree (Members ts) = 4 ∷ (number (members ts) ++ trees ts)
+  tree (Int z) = 0 ∷ signed_bytes z
+  tree (Truth b) = 1 ∷ flag_bytes b
+  tree (Text t) = 2 ∷ text_bytes t
+  tree (Name t) = 3 ∷ text_bytes t
+  tree (Members ts) = 4 ∷ (number_bytes (members ts) ++ trees ts)
   tree (Not t) = 5 ∷ tree t
   tree (Minus t) = 6 ∷ tree t
   tree (Binary o a b) = operator o ∷ (tree a ++ tree b)

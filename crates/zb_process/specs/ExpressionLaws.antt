@@ -5,7 +5,7 @@ use Rattle.std.proofs.lemmas.List.Concat.{flat_map-cons}
 use Rattle.zb_process.specs.declared.operator.Operator.{Operator}
 use Rattle.zb_process.specs.declared.operator.Operator.TheVariants as operators
 use Rattle.zb_process.specs.Tree.{Tree, Trees, Int, Truth, Text, Name, Members, Not, Minus, Binary, none, more, trees_of, nesting_over}
-use Rattle.zb_format.specs.Field.{counted}
+use Rattle.zb_format.specs.Field.{counted_bytes}
 use Rattle.zb_format.specs.Fits.{IsSigned, IsText, AreCounted}
 use Rattle.zb_format.specs.Law.{Takes, IsFormat}
 use Rattle.zb_format.specs.Reading.{Reader, both_at, made_at, one_of}
@@ -34,8 +34,8 @@ pub trees_spelled : (ts : List Tree) → trees (trees_of ts) ≡ flat_map tree t
 trees_spelled [] = refl
 trees_spelled (t ∷ ts) = ap (λ (y : List ℕ). tree t ++ y) (trees_spelled ts) ∙ sym (flat_map-cons tree t ts)
 
-pub list_spelled : (ts : List Tree) → tree (Members (trees_of ts)) ≡ 4 ∷ counted tree ts
-unfolding counted
+pub list_spelled : (ts : List Tree) → tree (Members (trees_of ts)) ≡ 4 ∷ counted_bytes tree ts
+unfolding counted_bytes
 list_spelled ts = rw (members_of ts, trees_spelled ts) refl
 
 pub trees_fit : (ts : List Tree) → AllByRecursion IsTree ts → AreTrees (trees_of ts)
@@ -114,7 +114,7 @@ operator_tagged P part one = record {
 
 members_again : (P : Tree → Type 0) (part : Reader Tree) → IsFormat tree P part → (ts : List Tree) (rest : List ℕ) → AreCounted P ts → tree_with part (tree (Members (trees_of ts)) ++ rest) ≡ Some (Members (trees_of ts), rest)
 members_again P part one ts rest h =
-    let read : tree_with part ((4 ∷ counted tree ts) ++ rest) ≡ Some (Members (trees_of ts), rest) = rw ((counted_format one).again ts rest h) refl in
+    let read : tree_with part ((4 ∷ counted_bytes tree ts) ++ rest) ≡ Some (Members (trees_of ts), rest) = rw ((counted_format one).again ts rest h) refl in
     ap (λ (spelled : List ℕ). tree_with part (spelled ++ rest)) (list_spelled ts) ∙ read
 
 made_again : (P : Tree → Type 0) (part : Reader Tree) → IsFormat tree P part → (x : Tree) (rest : List ℕ) → IsMade P x → tree_with part (tree x ++ rest) ≡ Some (x, rest)

@@ -5,15 +5,15 @@ use Rattle.zb_model.specs.declared.record.Command.{Command}
 use Rattle.zb_model.specs.declared.record.Command.TheVariants as commands
 use Rattle.zb_model.specs.declared.record.Event.{Event}
 use Rattle.zb_table.specs.Earliest.{earliest}
-use Rattle.zb_rules.specs.Messages.{buffered, is_due}
+use Rattle.zb_rules.specs.Messages.{buffered, is_past_deadline}
 
 -- the deadline of a message, and its key
-abbrev pub place_in_time : MessagePublished → ℕ × ℕ
-place_in_time m = (m.deadline, m.key)
+abbrev pub message_in_time : MessagePublished → ℕ × ℕ
+message_in_time m = (m.deadline, m.key)
 
 -- of the buffered messages that are due now, the one that none of the others comes before
 abbrev pub due_message : ℕ → List Event → Option MessagePublished
-due_message now es = earliest place_in_time (filter (is_due now) (buffered es))
+due_message now es = earliest message_in_time (filter (is_past_deadline now) (buffered es))
 
 -- the command that is due first, if one is due now
 abbrev pub due_command : ℕ → List Event → Option Command

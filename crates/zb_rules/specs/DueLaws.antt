@@ -7,56 +7,56 @@ use Rattle.zb_exchange_records.specs.declared.message.MessagePublished.{MessageP
 use Rattle.zb_model.specs.declared.record.Command.{Command}
 use Rattle.zb_model.specs.declared.record.Command.TheVariants as commands
 use Rattle.zb_model.specs.declared.record.Event.{Event}
-use Rattle.zb_rules.specs.Messages.{buffered, is_buffered, is_due}
+use Rattle.zb_rules.specs.Messages.{buffered, is_buffered, is_past_deadline}
 use Rattle.zb_rules.specs.Expire.{is_due_at}
 use Rattle.zb_rules.specs.Reason.{reason_for}
 use Rattle.zb_rules.specs.Own.{IsSupported}
-use Rattle.zb_rules.specs.Due.{place_in_time, due_message, due_command, IsFirstDue}
-use Rattle.zb_table.specs.Earliest.{comes_before}
+use Rattle.zb_rules.specs.Due.{message_in_time, due_message, due_command, IsFirstDue}
+use Rattle.zb_table.specs.Earliest.{is_earlier}
 use Rattle.zb_table.specs.EarliestLaws.{not_before, any_of, any_kept, earliest_found, earliest_none}
 
 -- the message that is due first
 module _ (now : ℕ) (es : List Event) where
-  due_kept : (m : MessagePublished) → Contains (filter (is_due now) (buffered es)) m → Contains (buffered es) m × (is_due now m ≡ true)
+  due_kept : (m : MessagePublished) → Contains (filter (is_past_deadline now) (buffered es)) m → Contains (buffered es) m × (is_past_deadline now m ≡ true)
   due_kept m has = (
-    All-contains (Contains (buffered es)) (filter (is_due now) (buffered es)) m (All-filter (is_due now) (Contains (buffered es)) (buffered es) (All-contains_itself (buffered es))) has,
-    All-contains (λ m. is_due now m ≡ true) (filter (is_due now) (buffered es)) m (filter_passes (is_due now) (buffered es)) has,
+    All-contains (Contains (buffered es)) (filter (is_past_deadline now) (buffered es)) m (All-filter (is_past_deadline now) (Contains (buffered es)) (buffered es) (All-contains_itself (buffered es))) has,
+    All-contains (λ m. is_past_deadline now m ≡ true) (filter (is_past_deadline now) (buffered es)) m (filter_passes (is_past_deadline now) (buffered es)) has,
   )
 
   -- no other one comes before it
-  none_before : (m other : MessagePublished) → list_any (λ x. comes_before (place_in_time x) (place_in_time m)) (filter (is_due now) (buffered es)) ≡ false
-      → Contains (buffered es) other → other.deadline ≤ now → (t : Bool) → comes_before (place_in_time other) (place_in_time m) ≡ t → comes_before (place_in_time other) (place_in_time m) ≡ false
+  none_before : (m other : MessagePublished) → list_any (λ x. is_earlier (message_in_time x) (message_in_time m)) (filter (is_past_deadline now) (buffered es)) ≡ false
+      → Contains (buffered es) other → other.deadline ≤ now → (t : Bool) → is_earlier (message_in_time other) (message_in_time m) ≡ t → is_earlier (message_in_time other) (message_in_time m) ≡ false
   none_before m other none has due false before = before
   none_before m other none has due true before =
-      let Beats : MessagePublished → Bool = λ x. comes_before (place_in_time x) (place_in_time m) in
-      let is : is_due now other ≡ true = grind (arith, nat_tests) in
-      let any = any_of (λ x. is_due now x && Beats x) (buffered es) other has (rw (is, before) refl) in
-      absurd (let kept = any_kept Beats (is_due now) (buffered es) in cc)
+      let Beats : MessagePublished → Bool = λ x. is_earlier (message_in_time x) (message_in_time m) in
+      let is : is_past_deadline now other ≡ true = grind (arith, nat_tests) in
+      let any = any_of (λ x. is_past_deadline now x && Beats x) (buffered es) other has (rw (is, before) refl) in
+      absurd (let kept = any_kept Beats (is_past_deadline now) (buffered es) in cc)
 
   -- the message that is due is due first
   pub due_is_first : (m : MessagePublished) → due_message now es ≡ Some m → IsFirstDue now es m
   due_is_first m is =
-      let found = earliest_found place_in_time (filter (is_due now) (buffered es)) m is in
+      let found = earliest_found message_in_time (filter (is_past_deadline now) (buffered es)) m is in
       let kept = due_kept m found.0 in
       record {
         waits = kept.0;
         due = grind (arith, nat_tests, kept.1);
-        first = λ other has due. not_before (place_in_time other) (place_in_time m) (none_before m other found.1 has due (comes_before (place_in_time other) (place_in_time m)) refl);
+        first = λ other has due. not_before (message_in_time other) (message_in_time m) (none_before m other found.1 has due (is_earlier (message_in_time other) (message_in_time m)) refl);
       }
 
   -- where none is kept as due, each deadline lies ahead
-  none_kept : (ms : List MessagePublished) → filter (is_due now) ms ≡ [] → All (λ m. now < m.deadline) ms
+  none_kept : (ms : List MessagePublished) → filter (is_past_deadline now) ms ≡ [] → All (λ m. now < m.deadline) ms
   none_kept [] none = All-nil (λ m. now < m.deadline)
-  none_kept (m ∷ ms) none = by_test (none_kept ms) (is_due now m) refl none
+  none_kept (m ∷ ms) none = by_test (none_kept ms) (is_past_deadline now m) refl none
     where
-      by_test : (filter (is_due now) ms ≡ [] → All (λ m. now < m.deadline) ms) → (t : Bool) → is_due now m ≡ t → (if t then m ∷ filter (is_due now) ms else filter (is_due now) ms) ≡ []
+      by_test : (filter (is_past_deadline now) ms ≡ [] → All (λ m. now < m.deadline) ms) → (t : Bool) → is_past_deadline now m ≡ t → (if t then m ∷ filter (is_past_deadline now) ms else filter (is_past_deadline now) ms) ≡ []
           → All (λ m. now < m.deadline) (m ∷ ms)
       by_test behind true due none = absurd (cc)
       by_test behind false late none = All-cons (λ m. now < m.deadline) m ms (grind (arith, nat_tests)) (behind none)
 
   -- where no message is due, each deadline lies ahead
   pub none_is_due : due_message now es ≡ None → All (λ m. now < m.deadline) (buffered es)
-  none_is_due none = none_kept (buffered es) (earliest_none place_in_time (filter (is_due now) (buffered es)) none)
+  none_is_due none = none_kept (buffered es) (earliest_none message_in_time (filter (is_past_deadline now) (buffered es)) none)
 
   -- the command that is due first, and its message
   by_message : (found : Option MessagePublished) (command : Command) → due_message now es ≡ found → option_map (λ m. commands.MessageExpire m.key) found ≡ Some command
@@ -84,7 +84,7 @@ module _ (now : ℕ) (es : List Event) where
       let same : (m.key == m.key) ≡ true = grind (arith, nat_tests) in
       let come : nat_le m.deadline moment ≡ true = grind (arith, nat_tests, r.2.due) in
       let there : is_buffered m.key es ≡ true = any_of (λ x. x.key == m.key) (buffered es) m r.2.waits same in
-      let due : is_due_at moment m.key es ≡ true = any_of (λ x. (x.key == m.key) && is_due moment x) (buffered es) m r.2.waits (rw (same, come) refl) in
+      let due : is_due_at moment m.key es ≡ true = any_of (λ x. (x.key == m.key) && is_past_deadline moment x) (buffered es) m r.2.waits (rw (same, come) refl) in
       rw (r.1, there, due) refl
 
   -- a command that is due is one that is run so far

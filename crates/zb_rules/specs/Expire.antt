@@ -6,7 +6,7 @@ use Rattle.zb_model.specs.declared.record.Event.{Event}
 use Rattle.zb_model.specs.declared.record.Event.TheVariants as events
 use Rattle.zb_model.specs.declared.record.Rejection.{Rejection}
 use Rattle.zb_model.specs.declared.record.RejectionKind.TheVariants as kinds
-use Rattle.zb_rules.specs.Messages.{buffered, is_buffered, is_due}
+use Rattle.zb_rules.specs.Messages.{buffered, is_buffered, is_past_deadline}
 
 -- what is told where no message with this key is buffered
 abbrev pub no_message : ℕ → List ℕ
@@ -18,7 +18,7 @@ not_due key = codes "message " ++ (decimal key ++ codes " isn't due")
 
 -- the message with this key is buffered, and at the moment it is due
 abbrev pub is_due_at : ℕ → ℕ → List Event → Bool
-is_due_at moment key before = list_any (λ m. (m.key == key) && is_due moment m) (buffered before)
+is_due_at moment key before = list_any (λ m. (m.key == key) && is_past_deadline moment m) (buffered before)
 
 -- the rejection of an expiry, if there is a reason for one
 abbrev pub reason_to_expire : List Event → ℕ → ℕ → Option Rejection

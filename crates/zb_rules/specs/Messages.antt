@@ -40,9 +40,9 @@ abbrev pub message_at : ℕ → List Event → Option MessagePublished
 message_at key events = first (λ m. m.key == key) (buffered events)
 
 -- the deadline of a message has come
-abbrev pub is_due : ℕ → MessagePublished → Bool
-is_due now m = nat_le m.deadline now
+abbrev pub is_past_deadline : ℕ → MessagePublished → Bool
+is_past_deadline now m = nat_le m.deadline now
 
 -- the messages but the one with this key
-abbrev pub without : ℕ → List MessagePublished → List MessagePublished
-without key messages = filter (λ m. not (m.key == key)) messages
+abbrev pub without_message : ℕ → List MessagePublished → List MessagePublished
+without_message key messages = filter (λ m. not (m.key == key)) messages

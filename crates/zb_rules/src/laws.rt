@@ -4,7 +4,7 @@ ghost use Rattle.zb_model.specs.declared.record.Command.{Command};
 ghost use Rattle.zb_model.specs.declared.record.Command.TheVariants as commands;
 ghost use Rattle.zb_model.specs.declared.record.Event.{Event};
 ghost use Rattle.zb_model.specs.declared.record.Event.TheVariants as events;
-ghost use Rattle.zb_rules.specs.Messages.{buffered, without};
+ghost use Rattle.zb_rules.specs.Messages.{buffered, without_message};
 ghost use Rattle.zb_rules.specs.Reason.{reason_for};
 ghost use Rattle.zb_rules.specs.Own.{IsSupported};
 ghost use Rattle.zb_rules.specs.Due.{due_command, IsFirstDue};
@@ -21,7 +21,7 @@ ghost use Rattle.zb_rules.specs.Forced.{forced_at, next_forced, NoneForced, None
 /// What an event more makes of the buffered messages.
 pub fn buffered_grows()
     ensures published { (es : List Event) (m : MessagePublished) → buffered (es ++ events.MessagePublished m ∷ []) ≡ buffered es ++ m ∷ [] }
-    ensures expired { (es : List Event) (key : ℕ) → buffered (es ++ events.MessageExpired key ∷ []) ≡ without key (buffered es) }
+    ensures expired { (es : List Event) (key : ℕ) → buffered (es ++ events.MessageExpired key ∷ []) ≡ without_message key (buffered es) }
 {}
 
 /// A forced move is legal, where the cells stand in the order of their keys.

@@ -12,7 +12,7 @@ use Rattle.zb_rules.specs.View.{counter_at, keys_in, greatest_among, greatest_co
 use Rattle.zb_table.specs.Rows.{Ascend, are_below, row_at, with_row}
 use Rattle.zb_table.proofs.Growing.{with_last, below_higher, below_more, below_without, has_row, passes_at}
 use Rattle.zb_rules.specs.Edits.{first}
-use Rattle.zb_rules.specs.Messages.{buffered, is_due, without}
+use Rattle.zb_rules.specs.Messages.{buffered, is_past_deadline, without_message}
 use Rattle.zb_rules.specs.MessageLaws.{buffered_published, buffered_expired}
 use Rattle.zb_rules.specs.GrowthLaws.{definitions_more, begun_more, board_of_more, buffered_kept}
 use Rattle.zb_rules.specs.Definitions.{definition_told}
@@ -23,7 +23,7 @@ use Rattle.zb_rules.specs.StepLaws.{greatest_counter_more}
 use Rattle.zb_rules.proofs.CounterLemmas.{counter_at-key_of}
 use Rattle.zb_state.specs.declared.change.Change.{Change}
 use Rattle.zb_state.specs.declared.change.Change.TheVariants as changes
-use Rattle.zb_state.specs.Change.{change_told, definition_in, instance_in, with_change, HasNextKey, Draws}
+use Rattle.zb_state.specs.Change.{change_told, definition_of_change, instance_of_change, with_change, HasNextKey, Draws}
 use Rattle.zb_state.specs.State.{IsStateOf, IsSameBeside}
 use Rattle.zb_state.specs.declared.state.State.{State}
 
@@ -39,14 +39,14 @@ messages_more es (events.MessageExpired key) = buffered_expired es key
 messages_more es e = buffered_kept es e refl refl
 
 -- the definition and the instance that an event makes
-definition_made : (e : Event) → definition_told e ≡ definition_in (change_told e)
+definition_made : (e : Event) → definition_told e ≡ definition_of_change (change_told e)
 definition_made (events.ProcessCreated e) = refl
 definition_made (events.ProcessInstanceCreationCreated i) = refl
 definition_made (events.MessagePublished m) = refl
 definition_made (events.MessageExpired key) = refl
 definition_made e = refl
 
-instance_made : (e : Event) → instance_told e ≡ instance_in (change_told e)
+instance_made : (e : Event) → instance_told e ≡ instance_of_change (change_told e)
 instance_made (events.ProcessCreated e) = refl
 instance_made (events.ProcessInstanceCreationCreated i) = refl
 instance_made (events.MessagePublished m) = refl
@@ -77,8 +77,8 @@ module _ (p n counter n' : ℕ) (messages : List MessagePublished) (m : MessageP
   below_added after (Err fault) ok err = rw err (below_kept p n n' messages (omega (arith, raised)) below)
 
 -- without a message
-pub below_expired : (p n n' k : ℕ) (messages : List MessagePublished) → n ≤ n' → IsTrue (are_below key (key_of p (n + 1)) messages) → IsTrue (are_below key (key_of p (n' + 1)) (without k messages))
-below_expired p n n' k messages le below = below_kept p n n' (without k messages) le (below_without key k (key_of p (n + 1)) messages below)
+pub below_expired : (p n n' k : ℕ) (messages : List MessagePublished) → n ≤ n' → IsTrue (are_below key (key_of p (n + 1)) messages) → IsTrue (are_below key (key_of p (n' + 1)) (without_message k messages))
+below_expired p n n' k messages le below = below_kept p n n' (without_message k messages) le (below_without key k (key_of p (n + 1)) messages below)
 
 -- the message with a key
 pub row_is_first : (k : ℕ) (messages : List MessagePublished) → row_at key k messages ≡ first (λ m. m.key == k) messages
@@ -92,13 +92,13 @@ has_deadline (Some m) = refl
 pub has_by_deadline : (k : ℕ) (messages : List MessagePublished) → is_some (option_map (λ m. m.deadline) (row_at key k messages)) ≡ list_any (λ m. m.key == k) messages
 has_by_deadline k messages = has_deadline (row_at key k messages) ∙ has_row key k messages
 
-deadline_passed : (moment : ℕ) (found : Option MessagePublished) → option_map_or (λ deadline. nat_le deadline moment) (option_map (λ m. m.deadline) found) false ≡ option_map_or (is_due moment) found false
+deadline_passed : (moment : ℕ) (found : Option MessagePublished) → option_map_or (λ deadline. nat_le deadline moment) (option_map (λ m. m.deadline) found) false ≡ option_map_or (is_past_deadline moment) found false
 deadline_passed moment None = refl
 deadline_passed moment (Some m) = refl
 
 pub due_by_deadline : (moment k : ℕ) (messages : List MessagePublished) → Ascend key 0 messages
-    → option_map_or (λ deadline. nat_le deadline moment) (option_map (λ m. m.deadline) (row_at key k messages)) false ≡ list_any (λ m. (m.key == k) && is_due moment m) messages
-due_by_deadline moment k messages up = deadline_passed moment (row_at key k messages) ∙ passes_at key (is_due moment) k 0 messages up
+    → option_map_or (λ deadline. nat_le deadline moment) (option_map (λ m. m.deadline) (row_at key k messages)) false ≡ list_any (λ m. (m.key == k) && is_past_deadline moment m) messages
+due_by_deadline moment k messages up = deadline_passed moment (row_at key k messages) ∙ passes_at key (is_past_deadline moment) k 0 messages up
 
 -- a message that an event publishes draws the counter behind the last one
 pub draws : (p n : ℕ) (e : Event) → HasNextKey p n e → Draws p n (greatest_among p (keys_in e)) (change_told e)
@@ -116,8 +116,8 @@ pub record IsNoted (n : ℕ) (change : Change) (old new : State) : Type 0 where
   pub place : new.place ≡ old.place
   pub counter : new.counter ≡ max old.counter n
   pub messages : new.messages ≡ with_change change old.messages
-  pub definitions : new.definitions.items ≡ old.definitions.items ++ definition_in change
-  pub begun : new.begun ≡ instance_in change
+  pub definitions : new.definitions.items ≡ old.definitions.items ++ definition_of_change change
+  pub begun : new.begun ≡ instance_of_change change
   pub game : new.game ≡ old.game
 
 -- the state where each part grows

@@ -6,7 +6,7 @@ use Rattle.zb_instance_records.specs.declared.instance.ProcessInstanceCreationCr
 use Rattle.zb_model.specs.declared.record.Event.{Event}
 use Rattle.zb_model.specs.declared.record.Event.TheVariants as events
 use Rattle.zb_rules.specs.declared.definition.Definition.{Definition}
-use Rattle.zb_rules.specs.Messages.{without}
+use Rattle.zb_rules.specs.Messages.{without_message}
 use Rattle.zb_state.specs.declared.change.Change.{Change}
 use Rattle.zb_state.specs.declared.change.Change.TheVariants as changes
 
@@ -19,19 +19,19 @@ change_told (events.MessageExpired key) = changes.Expired key
 change_told _ = changes.Nothing
 
 -- the definition that is made
-abbrev pub definition_in : Change → List Definition
-definition_in (changes.Defined d) = d ∷ []
-definition_in _ = []
+abbrev pub definition_of_change : Change → List Definition
+definition_of_change (changes.Defined d) = d ∷ []
+definition_of_change _ = []
 
 -- the instance that is made
-abbrev pub instance_in : Change → Option ProcessInstanceCreationCreated
-instance_in (changes.Begun i) = Some i
-instance_in _ = None
+abbrev pub instance_of_change : Change → Option ProcessInstanceCreationCreated
+instance_of_change (changes.Begun i) = Some i
+instance_of_change _ = None
 
 -- what a change makes of the messages
 abbrev pub with_change : Change → List MessagePublished → List MessagePublished
 with_change (changes.Published m) messages = messages ++ m ∷ []
-with_change (changes.Expired key) messages = without key messages
+with_change (changes.Expired key) messages = without_message key messages
 with_change _ messages = messages
 
 -- the key is the next one behind a counter of partition p, and there is one

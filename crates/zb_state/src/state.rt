@@ -14,7 +14,7 @@ ghost use Rattle.zb_rules.specs.Faults.{is_well_formed};
 ghost use Rattle.zb_rules.specs.Settling.{turn};
 ghost use Rattle.zb_rules.specs.Shown.{shown, after_shown, board_of};
 ghost use Rattle.zb_table.specs.Rows.{are_below};
-ghost use Rattle.zb_state.specs.Change.{with_change, definition_in, instance_in, IsNext, HasNextKey, Draws};
+ghost use Rattle.zb_state.specs.Change.{with_change, definition_of_change, instance_of_change, IsNext, HasNextKey, Draws};
 
 use crate::buffered::{self, Buffered};
 use crate::change::{Change, copied_change, moved_change};
@@ -295,8 +295,8 @@ impl State {
         ensures place { partition_of self.new ≡ partition_of self.old }
         ensures counter { OnOk result (self.new.counter ≡ max self.old.counter counter) }
         ensures messages { OnOk result (self.new.messages ≡ with_change change self.old.messages) }
-        ensures definitions { OnOk result (self.new.definitions.items ≡ self.old.definitions.items ++ definition_in change) }
-        ensures begun { OnOk result (self.new.begun ≡ instance_in change) }
+        ensures definitions { OnOk result (self.new.definitions.items ≡ self.old.definitions.items ++ definition_of_change change) }
+        ensures begun { OnOk result (self.new.begun ≡ instance_of_change change) }
         ensures game { self.new.game ≡ self.old.game }
     {
         self.counter = self.counter.max(counter);

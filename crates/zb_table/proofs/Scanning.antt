@@ -6,7 +6,7 @@ use Rattle.std.proofs.lemmas.List.Elements.{All-nil, All-cons, All-weaker, All-f
 use Rattle.std.proofs.lemmas.Bool.Decides.{nat_tests}
 use Rattle.zb_table.specs.declared.row.Place.{Place}
 use Rattle.zb_table.specs.Rows.{Ascend}
-use Rattle.zb_table.specs.Earliest.{comes_before, earliest, place_in_time, is_due, first_due}
+use Rattle.zb_table.specs.Earliest.{is_earlier, earliest, place_in_time, is_due, first_due}
 use Rattle.zb_table.specs.EarliestLaws.{earlier_of, earliest_found, earliest_more}
 use Rattle.zb_table.specs.Places.{held, rows_in, IsUnder, AreOrdered}
 use Rattle.zb_table.specs.Due.{earlier_place, with_held}
@@ -34,7 +34,7 @@ module _ {A : Type 0} (key : A → ℕ) (moment : A → Option ℕ) where
     by_found (Some y) is =
         let r = earliest_found (place_in_time key moment) (filter (is_due key moment now) rest) y is in
         let above : key x + 1 ≤ key y = All-contains (λ r. key x + 1 ≤ key r) (filter (is_due key moment now) rest) y (All-filter (is_due key moment now) (λ r. key x + 1 ≤ key r) rest greater) r.0 in
-        let same : comes_before (place_in_time key moment y) (place_in_time key moment x) ≡ nat_lt (place_in_time key moment y).0 (place_in_time key moment x).0 = grind (arith, nat_tests) in
+        let same : is_earlier (place_in_time key moment y) (place_in_time key moment x) ≡ nat_lt (place_in_time key moment y).0 (place_in_time key moment x).0 = grind (arith, nat_tests) in
         rw same (by_test (nat_lt (place_in_time key moment y).0 (place_in_time key moment x).0) y)
 
     in_front : (t : Bool) → is_due key moment now x ≡ t → option_map (place_in_time key moment) (earliest (place_in_time key moment) (if t then x ∷ filter (is_due key moment now) rest else filter (is_due key moment now) rest))

@@ -2,15 +2,15 @@
 use Rattle.std.specs.Prelude.{ℕ, ◌==◌, nat_lt, nat_le, List, filter, Bool, false, not, ◌&&◌, ◌||◌, Option}
 use Rattle.std.specs.Option.{option_map_or}
 use Rattle.std.specs.List.{list_any}
-use Rattle.zb_table.specs.Rows.{first}
+use Rattle.zb_table.specs.Rows.{first_passing}
 
 -- when something is due, and its key: it comes before another by the moment, and at the same moment by the key
-abbrev pub comes_before : (ℕ × ℕ) → (ℕ × ℕ) → Bool
-comes_before a b = nat_lt a.0 b.0 || ((a.0 == b.0) && nat_lt a.1 b.1)
+abbrev pub is_earlier : (ℕ × ℕ) → (ℕ × ℕ) → Bool
+is_earlier a b = nat_lt a.0 b.0 || ((a.0 == b.0) && nat_lt a.1 b.1)
 
 -- the first member that none comes before
 abbrev pub earliest : {A : Type 0} → (A → (ℕ × ℕ)) → List A → Option A
-earliest place xs = first (λ x. not (list_any (λ other. comes_before (place other) (place x)) xs)) xs
+earliest place xs = first_passing (λ x. not (list_any (λ other. is_earlier (place other) (place x)) xs)) xs
 
 module _ {A : Type 0} (key : A → ℕ) (moment : A → Option ℕ) where
   -- the moment of a row, and its key

@@ -4,20 +4,20 @@ use Rattle.std.specs.List.{list_any}
 use Rattle.std.proofs.lemmas.Bool.Decides.{nat_tests}
 use Rattle.std.proofs.lemmas.List.Elements.{Contains-append_right}
 use Rattle.std.proofs.lemmas.List.Recursion.{or_at}
-use Rattle.zb_table.specs.Rows.{first}
-use Rattle.zb_table.specs.Earliest.{comes_before, earliest}
+use Rattle.zb_table.specs.Rows.{first_passing}
+use Rattle.zb_table.specs.Earliest.{is_earlier, earliest}
 
 -- the order by moment, then key
-before_itself : (a : ℕ × ℕ) → comes_before a a ≡ false
+before_itself : (a : ℕ × ℕ) → is_earlier a a ≡ false
 before_itself a = grind (arith, nat_tests)
 
-one_way : (a b : ℕ × ℕ) → comes_before a b ≡ true → comes_before b a ≡ false
+one_way : (a b : ℕ × ℕ) → is_earlier a b ≡ true → is_earlier b a ≡ false
 one_way a b is = grind (arith, nat_tests)
 
-chain : (a b c : ℕ × ℕ) → comes_before a b ≡ false → comes_before b c ≡ false → comes_before a c ≡ false
-chain a b c first next = grind (arith, nat_tests)
+chain : (a b c : ℕ × ℕ) → is_earlier a b ≡ false → is_earlier b c ≡ false → is_earlier a c ≡ false
+chain a b c first_passing next = grind (arith, nat_tests)
 
-pub not_before : (a b : ℕ × ℕ) → comes_before a b ≡ false → (b.0 ≤ a.0) × (b.0 ≡ a.0 → b.1 ≤ a.1)
+pub not_before : (a b : ℕ × ℕ) → is_earlier a b ≡ false → (b.0 ≤ a.0) × (b.0 ≡ a.0 → b.1 ≤ a.1)
 not_before a b is = (grind (arith, nat_tests), λ same. grind (arith, nat_tests))
 
 module _ {A : Type 0} where
@@ -36,11 +36,11 @@ module _ {A : Type 0} where
       by_test false rest = rest
 
   -- the first member that passes is one of them, and it passes
-  first_found : (passes : A → Bool) (xs : List A) (x : A) → first passes xs ≡ Some x → Contains xs x × (passes x ≡ true)
+  first_found : (passes : A → Bool) (xs : List A) (x : A) → first_passing passes xs ≡ Some x → Contains xs x × (passes x ≡ true)
   first_found passes [] x is = absurd (cc)
   first_found passes (y ∷ xs) x is = by_test (first_found passes xs x) (passes y) refl is
     where
-      by_test : (first passes xs ≡ Some x → Contains xs x × (passes x ≡ true)) → (t : Bool) → passes y ≡ t → (if t then Some y else first passes xs) ≡ Some x
+      by_test : (first_passing passes xs ≡ Some x → Contains xs x × (passes x ≡ true)) → (t : Bool) → passes y ≡ t → (if t then Some y else first_passing passes xs) ≡ Some x
           → Contains (y ∷ xs) x × (passes x ≡ true)
       by_test behind true here is =
           let same : y ≡ x = cc in
@@ -48,15 +48,15 @@ module _ {A : Type 0} where
       by_test behind false here is = let r = behind is in (Contains-append_right (y ∷ []) xs x r.0, r.1)
 
   -- the first that passes a test is the first that passes a narrower one, if it does
-  first_narrower : (wide narrow : A → Bool) (xs : List A) (x : A) → ((y : A) → narrow y ≡ true → wide y ≡ true) → narrow x ≡ true → first wide xs ≡ Some x → first narrow xs ≡ Some x
+  first_narrower : (wide narrow : A → Bool) (xs : List A) (x : A) → ((y : A) → narrow y ≡ true → wide y ≡ true) → narrow x ≡ true → first_passing wide xs ≡ Some x → first_passing narrow xs ≡ Some x
   first_narrower wide narrow [] x widens is at = absurd (cc)
   first_narrower wide narrow (y ∷ xs) x widens is at = by_test (first_narrower wide narrow xs x widens is) (wide y) refl at
     where
-      passed_over : (t : Bool) → narrow y ≡ t → wide y ≡ false → first narrow xs ≡ Some x → (if t then Some y else first narrow xs) ≡ Some x
+      passed_over : (t : Bool) → narrow y ≡ t → wide y ≡ false → first_passing narrow xs ≡ Some x → (if t then Some y else first_passing narrow xs) ≡ Some x
       passed_over true passes fails later = absurd (let w = widens y passes in cc)
       passed_over false passes fails later = later
 
-      by_test : (first wide xs ≡ Some x → first narrow xs ≡ Some x) → (t : Bool) → wide y ≡ t → (if t then Some y else first wide xs) ≡ Some x → first narrow (y ∷ xs) ≡ Some x
+      by_test : (first_passing wide xs ≡ Some x → first_passing narrow xs ≡ Some x) → (t : Bool) → wide y ≡ t → (if t then Some y else first_passing wide xs) ≡ Some x → first_passing narrow (y ∷ xs) ≡ Some x
       by_test behind true here at =
           let same : y ≡ x = cc in
           let passes : narrow y ≡ true = ap narrow same ∙ is in
@@ -67,13 +67,13 @@ module _ {A : Type 0} where
 module _ {A : Type 0} (place : A → (ℕ × ℕ)) where
   -- one of these comes before x
   abbrev is_beaten : List A → A → Bool
-  is_beaten xs x = list_any (λ other. comes_before (place other) (place x)) xs
+  is_beaten xs x = list_any (λ other. is_earlier (place other) (place x)) xs
 
   -- none comes before what doesn't come after one that none comes before
-  unbeaten_chain : (xs : List A) (y x : A) → is_beaten xs y ≡ false → comes_before (place y) (place x) ≡ false → is_beaten xs x ≡ false
+  unbeaten_chain : (xs : List A) (y x : A) → is_beaten xs y ≡ false → is_earlier (place y) (place x) ≡ false → is_beaten xs x ≡ false
   unbeaten_chain [] y x none is = refl
   unbeaten_chain (z ∷ xs) y x none is =
-      let here : comes_before (place z) (place y) ≡ false = grind arith in
+      let here : is_earlier (place z) (place y) ≡ false = grind arith in
       let later : is_beaten xs y ≡ false = grind arith in
       rw (chain (place z) (place y) (place x) here is) (unbeaten_chain xs y x later is)
 
@@ -86,19 +86,19 @@ module _ {A : Type 0} (place : A → (ℕ × ℕ)) where
   -- of one and the earliest of those behind it the earlier one
   abbrev pub earlier_of : A → Option A → Option A
   earlier_of x None = Some x
-  earlier_of x (Some y) = if comes_before (place y) (place x) then Some y else Some x
+  earlier_of x (Some y) = if is_earlier (place y) (place x) then Some y else Some x
 
   only_one : (x : A) → earliest place (x ∷ []) ≡ Some x
   only_one x = rw (before_itself (place x)) refl
 
   one_more : (x : A) (xs : List A) (y : A) → earliest place xs ≡ Some y → earliest place (x ∷ xs) ≡ earlier_of x (Some y)
-  one_more x xs y is = by_test (comes_before (place y) (place x)) refl
+  one_more x xs y is = by_test (is_earlier (place y) (place x)) refl
     where
-      by_test : (t : Bool) → comes_before (place y) (place x) ≡ t → earliest place (x ∷ xs) ≡ (if t then Some y else Some x)
+      by_test : (t : Bool) → is_earlier (place y) (place x) ≡ t → earliest place (x ∷ xs) ≡ (if t then Some y else Some x)
       by_test true before =
           let found = earliest_found xs y is in
-          let beaten : is_beaten xs x ≡ true = any_of (λ other. comes_before (place other) (place x)) xs y found.0 before in
-          let after : comes_before (place x) (place y) ≡ false = one_way (place y) (place x) before in
+          let beaten : is_beaten xs x ≡ true = any_of (λ other. is_earlier (place other) (place x)) xs y found.0 before in
+          let after : is_earlier (place x) (place y) ≡ false = one_way (place y) (place x) before in
           let later = first_narrower (λ z. not (is_beaten xs z)) (λ z. not (is_beaten (x ∷ xs) z)) xs y (λ z none. grind arith) (rw (after, found.1) refl) is in
           rw (before_itself (place x), beaten) later
       by_test false before =
@@ -114,7 +114,7 @@ module _ {A : Type 0} (place : A → (ℕ × ℕ)) where
   earliest_some x [] = (x, only_one x)
   earliest_some x (z ∷ xs) =
       let r = earliest_some z xs in
-      let s = if_some x r.0 (comes_before (place r.0) (place x)) in
+      let s = if_some x r.0 (is_earlier (place r.0) (place x)) in
       (s.0, one_more x (z ∷ xs) r.0 r.1 ∙ s.1)
 
   -- where none is, there are none

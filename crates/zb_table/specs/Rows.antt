@@ -2,9 +2,9 @@
 use Rattle.std.specs.Prelude.{ℕ, ◌+◌, ◌≤◌, ◌==◌, nat_lt, List, [], ◌∷◌, filter, Bool, true, ◌&&◌, not, if◌then◌else◌, Option, Some, None}
 
 -- the first member that passes
-abbrev pub first : {A : Type 0} → (A → Bool) → List A → Option A
-first passes [] = None
-first passes (x ∷ xs) = if passes x then Some x else first passes xs
+abbrev pub first_passing : {A : Type 0} → (A → Bool) → List A → Option A
+first_passing passes [] = None
+first_passing passes (x ∷ xs) = if passes x then Some x else first_passing passes xs
 
 module _ {A : Type 0} (key : A → ℕ) where
   -- the keys ascend, from `low` on
@@ -19,7 +19,7 @@ module _ {A : Type 0} (key : A → ℕ) where
 
   -- the row with a key
   abbrev pub row_at : ℕ → List A → Option A
-  row_at k rows = first (λ r. key r == k) rows
+  row_at k rows = first_passing (λ r. key r == k) rows
 
   -- the rows but the one with a key
   abbrev pub without : ℕ → List A → List A

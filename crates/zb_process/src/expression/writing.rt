@@ -73,10 +73,10 @@ fn write_binary(
 #[cycle(write)]
 #[tactic(auto, using(crate::proofs::PieceLemmas::pieces, crate::proofs::MemberLemmas::members), unfolding(zb_format::specs::Field::counted))]
 fn write_members(members: &[Expr], encoder: &mut Encoder) -> Result<(), AllocError>
-    ensures added { OnOk result (Adds encoder.old (4 ∷ fields.counted expressions.tree members.now) encoder.new) }
+    ensures added { OnOk result (Adds encoder.old (4 ∷ fields.counted_bytes expressions.tree members.now) encoder.new) }
     ensures kept { KeepsEncoded encoder.old encoder.new }
     ensures counts { IsCounting encoder.old → IsOk result }
-    ensures fits { OnOk result (length (fields.counted expressions.tree members.now) < 2 ^ 32 → AreCounted expressions.IsTree members.now) }
+    ensures fits { OnOk result (length (fields.counted_bytes expressions.tree members.now) < 2 ^ 32 → AreCounted expressions.IsTree members.now) }
 {
     encoder.add(&[4])?;
     write_count(members.len(), encoder)?;

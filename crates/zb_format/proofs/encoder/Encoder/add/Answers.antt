@@ -1,5 +1,5 @@
 use Rattle.std.proofs.Common.{arith}
-use Rattle.zb_format.specs.Encoded.{Adds, Holds, IsCounting}
+use Rattle.zb_format.specs.Encoded.{Adds, HoldsFront, IsCounting}
 use Rattle.zb_format.proofs.encoder.Encoder.add.Goals as goal
 
 pub returns-in-Bytes-clause-added : goal.returns-in-Bytes-clause-added
@@ -7,7 +7,7 @@ unfolding Adds
 returns-in-Bytes-clause-added c = rw c.in-Bytes.is c.append.ensures.ok
 
 pub returns-in-Bytes-clause-kept : goal.returns-in-Bytes-clause-kept
-unfolding Holds IsCounting
+unfolding HoldsFront IsCounting
 returns-in-Bytes-clause-kept c = rw c.in-Bytes.is (c.append.ensures.kept, λ h. h)
 
 pub returns-in-Bytes-clause-counts : goal.returns-in-Bytes-clause-counts
@@ -19,5 +19,5 @@ unfolding Adds
 returns-in-Count-clause-added c = rw c.in-Count.is (omega arith)
 
 pub returns-in-Count-clause-kept : goal.returns-in-Count-clause-kept
-unfolding Holds IsCounting
+unfolding HoldsFront IsCounting
 returns-in-Count-clause-kept c = rw c.in-Count.is (λ front h. absurd h, λ h. h)

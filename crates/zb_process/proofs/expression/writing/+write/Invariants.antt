@@ -2,7 +2,7 @@ use Rattle.std.proofs.Common.{◌+◌, ◌*◌, ◌∷◌, length, max, take}
 use Rattle.zb_process.specs.Tree.{nesting, nesting_over, trees_of}
 use Rattle.zb_process.specs.ExprView.{tree_of}
 use Rattle.zb_process.specs.Expression.{tree, IsTree}
-use Rattle.zb_format.specs.Field.{number}
+use Rattle.zb_format.specs.Field.{number_bytes}
 use Rattle.zb_format.proofs.Adding.{Written}
 use Rattle.zb_process.proofs.expression.writing.+write.Given as goal
 
@@ -23,4 +23,4 @@ decreases-write_members a = 4 * nesting_over (trees_of a.members.now)
 
 -- the byte of lists, the length and the members so far have been added
 abbrev pub invariant-write_members-loop-member : goal.invariant-write_members-loop-member
-invariant-write_members-loop-member l = Written tree IsTree l.fn.encoder (4 ∷ number (length l.members)) (take l.member-index l.members) l.encoder
+invariant-write_members-loop-member l = Written tree IsTree l.fn.encoder (4 ∷ number_bytes (length l.members)) (take l.member-index l.members) l.encoder
