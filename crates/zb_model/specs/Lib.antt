@@ -1,7 +1,10 @@
+pub mod Batches
 pub mod CommandLaws
 pub mod Commands
 pub mod EventLaws
 pub mod Events
 pub mod Layouts
+pub mod OutcomeLaws
+pub mod Outcomes
 pub mod Record
 pub mod RecordFits

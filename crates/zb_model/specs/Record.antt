@@ -1,6 +1,6 @@
 -- The bytes of a batch.
 use Rattle.std.specs.Prelude.{ℕ, List}
-use Rattle.zb_model.specs.Layouts.{batch}
+use Rattle.zb_model.specs.Batches.{batch}
 use Rattle.zb_model.specs.declared.record.Batch.{Batch}
 
 -- the bytes of a batch, its one spelling

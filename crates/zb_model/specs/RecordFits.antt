@@ -1,5 +1,5 @@
 -- The batches that have a spelling.
-use Rattle.zb_model.specs.Layouts.{batch}
+use Rattle.zb_model.specs.Batches.{batch}
 use Rattle.zb_model.specs.declared.record.Batch.{Batch}
 
 -- a batch whose numbers, texts and lists fit their bytes

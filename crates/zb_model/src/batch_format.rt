@@ -1,15 +1,16 @@
 // The format of batches.
 ghost use Rattle.std.specs.Prelude.{◌≡◌};
 ghost use Rattle.zb_format.specs.Reading.{Reads, one_of};
+ghost use Rattle.zb_model.specs.Batches as batches;
 ghost use Rattle.zb_model.specs.Layouts as layouts;
 
 use crate::{Batch, Outcome, Rejection, RejectionKind};
 use std::alloc::{AllocError, Global};
 use zb_format::{Cursor, Encoder, Fields, Format, ReadFault, pairs, write_tagged};
 
-#[tactic(auto, using(crate::proofs::PieceLemmas::pieces), unfolding(crate::specs::Layouts::batch, crate::specs::Layouts::fields))]
+#[tactic(auto, using(crate::proofs::PieceLemmas::pieces), unfolding(crate::specs::Batches::batch, crate::specs::Batches::fields))]
 impl Format for Batch {
-    ghost layout = { layouts.batch };
+    ghost layout = { batches.batch };
 
     fn write(&self, encoder: &mut Encoder) -> Result<(), AllocError> {
         encoder.add(&[1])?;
@@ -25,9 +26,9 @@ impl Format for Batch {
 }
 
 // Reads what stands behind the byte of the format.
-#[tactic(auto, unfolding(crate::specs::Layouts::fields))]
+#[tactic(auto, unfolding(crate::specs::Batches::fields))]
 fn read_fields(alloc: Global, cursor: &mut Cursor<'_>) -> Result<Batch, ReadFault>
-    ensures { Reads (layouts.fields.reading cursor.old) result cursor.new }
+    ensures { Reads (batches.fields.reading cursor.old) result cursor.new }
 {
     let pairs!(moment, begin, command, outcome) = Format::read(alloc, cursor)?;
     Ok(Batch {
@@ -38,9 +39,9 @@ fn read_fields(alloc: Global, cursor: &mut Cursor<'_>) -> Result<Batch, ReadFaul
     })
 }
 
-#[tactic(auto, unfolding(crate::specs::Layouts::outcome))]
+#[tactic(auto, unfolding(crate::specs::Batches::outcome))]
 impl Format for Outcome {
-    ghost layout = { layouts.outcome };
+    ghost layout = { batches.outcome };
 
     fn write(&self, encoder: &mut Encoder) -> Result<(), AllocError> {
         match self {
