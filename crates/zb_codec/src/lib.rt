@@ -55,6 +55,3 @@ fn where_ended(batch: Batch, ended: bool) -> Option<Batch>
 pub fn no_spelling_begins_another()
     ensures { (a b : Batch) (more : List ℕ) → IsBatch a → IsBatch b → bytes_of b ≡ bytes_of a ++ more → (a ≡ b) × (more ≡ []) }
 {}
-
-#[cfg(test)]
-mod tests;

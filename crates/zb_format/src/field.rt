@@ -8,7 +8,7 @@ use zb_base::{Key, Moment, Text};
 impl Format for u32 {
     ghost layout = { layouts.number };
 
-    #[tactic(auto, using(crate::proofs::SizeLemmas::pieces), unfolding(crate::specs::Layout::number, crate::specs::Field::number))]
+    #[tactic(auto, using(crate::proofs::SizeLemmas::pieces), unfolding(crate::specs::Layout::number, crate::specs::Field::number_bytes))]
     fn write(&self, encoder: &mut Encoder) -> Result<(), AllocError> {
         encoder.add(&self.to_be_bytes())
     }
@@ -23,7 +23,7 @@ impl Format for u32 {
 impl Format for u64 {
     ghost layout = { layouts.long };
 
-    #[tactic(auto, using(crate::proofs::SizeLemmas::pieces), unfolding(crate::specs::Layout::long, crate::specs::Field::long))]
+    #[tactic(auto, using(crate::proofs::SizeLemmas::pieces), unfolding(crate::specs::Layout::long, crate::specs::Field::long_bytes))]
     fn write(&self, encoder: &mut Encoder) -> Result<(), AllocError> {
         encoder.add(&self.to_be_bytes())
     }
@@ -40,7 +40,7 @@ impl Format for u64 {
 impl Format for i64 {
     ghost layout = { layouts.signed };
 
-    #[tactic(auto, using(crate::proofs::SizeLemmas::pieces), unfolding(crate::specs::Layout::signed, crate::specs::Field::signed))]
+    #[tactic(auto, using(crate::proofs::SizeLemmas::pieces), unfolding(crate::specs::Layout::signed, crate::specs::Field::signed_bytes))]
     fn write(&self, encoder: &mut Encoder) -> Result<(), AllocError> {
         encoder.add(&self.cast_unsigned().to_be_bytes())
     }
@@ -95,7 +95,7 @@ impl Format for Moment {
 impl Format for Text {
     ghost layout = { layouts.text };
 
-    #[tactic(auto, using(crate::proofs::Adding::pieces, crate::proofs::SizeLemmas::pieces, crate::proofs::TextLemmas::is_text), unfolding(crate::specs::Layout::text, crate::specs::Field::text, crate::specs::Field::number))]
+    #[tactic(auto, using(crate::proofs::Adding::pieces, crate::proofs::SizeLemmas::pieces, crate::proofs::TextLemmas::is_text), unfolding(crate::specs::Layout::text, crate::specs::Field::text_bytes, crate::specs::Field::number_bytes))]
     fn write(&self, encoder: &mut Encoder) -> Result<(), AllocError> {
         let spelled = self.as_str().as_bytes();
         write_count(spelled.len(), encoder)?;

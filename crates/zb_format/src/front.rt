@@ -16,7 +16,7 @@ pub fn append(piece: &[u8], bytes: &mut Vec<u8>) -> Result<(), AllocError>
 }
 
 /// Adds the low four bytes of a length, which are all of one below 2^32.
-#[tactic(auto, using(crate::proofs::PieceLemmas::low_bytes), unfolding(crate::specs::Field::number))]
+#[tactic(auto, using(crate::proofs::PieceLemmas::low_bytes), unfolding(crate::specs::Field::number_bytes))]
 pub fn write_count(length: usize, encoder: &mut Encoder) -> Result<(), AllocError>
     ensures added { OnOk result (Adds encoder.old (fields.number_bytes length) encoder.new) }
     ensures kept { KeepsEncoded encoder.old encoder.new }

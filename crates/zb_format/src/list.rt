@@ -24,7 +24,7 @@ impl<T: Format> Format for List<T> {
 }
 
 /// Adds a list of these items.
-#[tactic(auto, using(crate::proofs::Adding::pieces, crate::proofs::SizeLemmas::pieces), unfolding(crate::specs::Field::counted))]
+#[tactic(auto, using(crate::proofs::Adding::pieces, crate::proofs::SizeLemmas::pieces), unfolding(crate::specs::Field::counted_bytes))]
 pub fn write_all<T: Format>(items: &[T], encoder: &mut Encoder) -> Result<(), AllocError>
     ensures added { OnOk result (Adds encoder.old ((layouts.counted T.layout).spelling items.now) encoder.new) }
     ensures kept { KeepsEncoded encoder.old encoder.new }

@@ -9,7 +9,7 @@ use zb_base::{List, Pair, Text, Value, Variable, Vars};
 impl Format for Value {
     ghost layout = { layouts.value };
 
-    #[tactic(auto, unfolding(crate::specs::Layout::value, crate::specs::Field::value, crate::specs::Layout::signed, crate::specs::Layout::flag, crate::specs::Layout::text))]
+    #[tactic(auto, unfolding(crate::specs::Layout::value, crate::specs::Field::value_bytes, crate::specs::Layout::signed, crate::specs::Layout::flag, crate::specs::Layout::text))]
     fn write(&self, encoder: &mut Encoder) -> Result<(), AllocError> {
         match self {
             Value::Int(number) => write_tagged(0, number, encoder),

@@ -1,6 +1,11 @@
-//! Tests of what no clause says of values, models, lines and replies: each public call with ample memory.
+//! Tests of what no clause says of values, expressions, models, batches, lines and replies: each public call with
+//! ample memory.
 #![tactic(auto)]
 
+#[cfg(test)]
+mod batches;
+#[cfg(test)]
+mod expressions;
 #[cfg(test)]
 mod lines;
 #[cfg(test)]

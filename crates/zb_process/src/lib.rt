@@ -11,6 +11,3 @@ mod operator;
 pub use expr::{Expr, ExprNode};
 pub use model::{Flow, Mapping, Model, Multi, Node, NodeKind};
 pub use operator::Operator;
-
-#[cfg(test)]
-mod tests;

@@ -71,7 +71,7 @@ fn write_binary(
 }
 
 #[cycle(write)]
-#[tactic(auto, using(crate::proofs::PieceLemmas::pieces, crate::proofs::MemberLemmas::members), unfolding(zb_format::specs::Field::counted))]
+#[tactic(auto, using(crate::proofs::PieceLemmas::pieces, crate::proofs::MemberLemmas::members), unfolding(zb_format::specs::Field::counted_bytes))]
 fn write_members(members: &[Expr], encoder: &mut Encoder) -> Result<(), AllocError>
     ensures added { OnOk result (Adds encoder.old (4 ∷ fields.counted_bytes expressions.tree members.now) encoder.new) }
     ensures kept { KeepsEncoded encoder.old encoder.new }

@@ -1,7 +1,8 @@
-use super::*;
+// Expressions, and how deep they may be.
 use std::alloc::AllocError;
 use std::test::Fail;
 use zb_base::{Text, TryCopy};
+use zb_process::{Expr, ExprNode};
 
 fn text(rt: &HostRuntime, text: &str) -> Result<Text, AllocError> {
     Text::of(rt.alloc(), text)

@@ -1,6 +1,7 @@
-use super::*;
+// A batch in bytes, and back.
 use std::test::Fail;
-use zb_model::{Command, Key, Moment, Outcome, Rejection, RejectionKind, Text};
+use zb_codec::{read, size, write};
+use zb_model::{Batch, Command, Key, Moment, Outcome, Rejection, RejectionKind, Text};
 
 // The time-out of job 5 at moment 0, rejected.
 fn rejected(rt: &HostRuntime) -> Result<Batch, Fail> {
