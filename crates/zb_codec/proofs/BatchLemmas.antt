@@ -8,7 +8,7 @@ use Rattle.zb_format.specs.Law.{IsBytes}
 use Rattle.zb_model.specs.declared.record.Batch.{Batch}
 use Rattle.zb_model.specs.Record.{bytes_of}
 use Rattle.zb_model.specs.RecordFits.{IsBatch}
-use Rattle.zb_model.specs.Layouts.{batch}
+use Rattle.zb_model.specs.Batches.{batch}
 
 -- a batch's bytes are read to their end
 pub read_whole : (one : Batch) (bytes : List ℕ) → IsBatch one → bytes ≡ bytes_of one → batch.reading bytes ≡ Some (one, [])

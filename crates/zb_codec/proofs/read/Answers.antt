@@ -1,5 +1,5 @@
 use Rattle.std.proofs.Common.{◌≡◌, Some, arith}
-use Rattle.zb_model.specs.Layouts.{batch}
+use Rattle.zb_model.specs.Batches.{batch}
 use Rattle.zb_codec.proofs.BatchLemmas.{found_where}
 use Rattle.zb_codec.proofs.read.Goals as goal
 
