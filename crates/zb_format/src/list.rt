@@ -9,6 +9,9 @@ use crate::{Cursor, Encoder, Format, ReadFault};
 use std::alloc::{AllocError, Global};
 use zb_base::List;
 
+// Room is made for at most so many items at once; more are made room for as they come.
+const MOST_AT_ONCE: usize = 1024;
+
 impl<T: Format> Format for List<T> {
     ghost layout = { layouts.counted T.layout };
 
@@ -54,11 +57,8 @@ fn read_many<T: Format>(
     Ok(items)
 }
 
-// For how many items room is made at once: for all of them where so many bytes are left, since each has at least one.
+// For how many items room is made at once: for no more than there are bytes left, since each has at least one, and
+// for no more than a batch has events.
 fn room(count: u32, left: usize) -> usize {
-    if count as usize <= left {
-        count as usize
-    } else {
-        0
-    }
+    (count as usize).min(left).min(MOST_AT_ONCE)
 }
