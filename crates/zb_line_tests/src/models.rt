@@ -3,7 +3,7 @@ use serde_json::Value as Json;
 use std::process::Abort;
 use std::test::Fail;
 use zb_process::{Flow, Node, NodeKind};
-use zb_reader::{ReadFault, read_model};
+use zb_reader::{LayoutFault, read_model};
 
 #[test]
 fn reads_a_model(rt: HostRuntime) -> Result<(), Fail> {
@@ -54,7 +54,7 @@ fn expect_flow(rt: &impl Abort, flow: &Flow) {
 fn names_a_place(rt: HostRuntime) -> Result<(), Fail> {
     let value = Json::from_str(rt.alloc(), r#"{"process":"p","nodes":[{"id":"s"}]}"#)?;
     match read_model(rt.alloc(), &value) {
-        Err(ReadFault::Place { path }) => assert_eq!(rt; path.as_str(), "/nodes/0/kind"),
+        Err(LayoutFault::Place { path }) => assert_eq!(rt; path.as_str(), "/nodes/0/kind"),
         _ => panic!(&rt; "no place"),
     }
     Ok(())
