@@ -2,8 +2,8 @@
 use Rattle.std.proofs.Common.{◌≡◌, ℕ, ◌+◌, ◌<◌, List, length, drop, get_or, Some, None, sym, ap, ◌∙◌}
 use Rattle.std.proofs.lemmas.List.{drop_more}
 use Rattle.zb_process.specs.declared.model.Model.{Model}
-use Rattle.zb_rules.specs.declared.fault.Fault.{Fault}
-use Rattle.zb_rules.specs.Faults.{first_fault_among, offender, or_found}
+use Rattle.zb_faults.specs.declared.fault.Fault.{Fault}
+use Rattle.zb_faults.specs.Faults.{first_fault_among, offender, or_found}
 
 module _ (m : Model) (faults : List Fault) (i : ℕ) (d : Fault) (within : i < length faults) where
   step : first_fault_among (drop i faults) m ≡ or_found (get_or faults i d) (offender (get_or faults i d) m) (first_fault_among (drop (i + 1) faults) m)

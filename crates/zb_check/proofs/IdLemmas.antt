@@ -3,7 +3,7 @@ use Rattle.std.proofs.Common.{◌≡◌, ℕ, ◌+◌, ◌<◌, List, [], ◌∷
 use Rattle.std.specs.Option.{option_or}
 use Rattle.std.proofs.lemmas.List.Folds.{find-append, list_any-append}
 use Rattle.std.proofs.lemmas.List.{append-nil, drop_more, map-append, take_more}
-use Rattle.zb_rules.specs.Faults.{has_id, repeated}
+use Rattle.zb_faults.specs.Faults.{has_id, repeated}
 
 -- the ids of two lists
 pub repeated-append : (used xs ys : List (List ℕ)) → repeated used (xs ++ ys) ≡ option_or (repeated used xs) (repeated (used ++ xs) ys)

@@ -1,6 +1,6 @@
 -- What checking a model promises.
 use Rattle.std.specs.Prelude.{◌≡◌, ℕ, List, Option, Some, None, Result, Ok, Err, ⊤}
-use Rattle.zb_rules.specs.declared.fault.Fault.{Fault}
+use Rattle.zb_faults.specs.declared.fault.Fault.{Fault}
 use Rattle.zb_check.specs.declared.checking.ModelFault.{ModelFault}
 use Rattle.zb_check.specs.declared.checking.ModelFault.TheVariants as faults
 

@@ -1,13 +1,13 @@
 ghost use Rattle.std.specs.Prelude.{◌≡◌};
 ghost use Rattle.std.specs.Option.{option_copied};
-ghost use Rattle.zb_rules.specs.Faults.{first_fault, offender};
+ghost use Rattle.zb_faults.specs.Faults.{first_fault, offender};
 ghost use Rattle.zb_check.specs.Checking.{Checks};
 ghost use Rattle.zb_check.specs.declared.checking.ModelFault.TheVariants as faults;
 
 use crate::faults::{bad_start, dangling, double_id, empty_id, flow_end, no_incoming, too_large};
 use std::alloc::{AllocError, Global};
 use zb_model::{Model, Text, TryCopy};
-use zb_rules::Fault;
+use zb_faults::Fault;
 
 /// Why a model is refused.
 #[derive(Drop)]

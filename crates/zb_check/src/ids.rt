@@ -3,7 +3,7 @@ ghost use Rattle.std.specs.Prelude.{◌≡◌, ℕ, List, [], ◌∷◌, ◌++�
 ghost use Rattle.std.specs.List.{find};
 ghost use Rattle.std.specs.Option.{option_copied};
 ghost use Rattle.std.specs.Str.{bytes_eq};
-ghost use Rattle.zb_rules.specs.Faults.{has_id, repeated};
+ghost use Rattle.zb_faults.specs.Faults.{has_id, repeated};
 
 use zb_model::{Flow, Node, Text};
 

@@ -1,17 +1,17 @@
 -- What moves make of a board, from what was changed on it.
 use Rattle.std.proofs.Common.{◌≡◌, ℕ, ◌==◌, List, [], ◌∷◌, ◌++◌, length, filter, not, true, false, Option, Some, None, is_some, IsTrue, Result, Ok, Err, OnOk, refl, ap, sym, ◌∙◌, subst}
-use Rattle.zb_rules.specs.Edits.{edited, removed}
-use Rattle.zb_rules.specs.declared.board.Cell.{Cell}
-use Rattle.zb_rules.specs.declared.board.Token.{Token}
-use Rattle.zb_rules.specs.declared.board.Deployed.{Deployed}
-use Rattle.zb_rules.specs.declared.board.Assigned.{Assigned}
-use Rattle.zb_rules.specs.declared.board.Move.{Move}
-use Rattle.zb_rules.specs.declared.board.Phase.TheVariants as phases
-use Rattle.zb_rules.specs.Board.{Board, cell_at, in_phase}
-use Rattle.zb_rules.specs.MoveOpen.{first_tokens, play_open}
-use Rattle.zb_rules.specs.MoveLeave.{leaving}
-use Rattle.zb_rules.specs.Game.{can, played}
-use Rattle.zb_rules.specs.GameLaws.{legal_is_played}
+use Rattle.zb_tokens.specs.Edits.{edited, removed}
+use Rattle.zb_tokens.specs.declared.board.Cell.{Cell}
+use Rattle.zb_tokens.specs.declared.board.Token.{Token}
+use Rattle.zb_tokens.specs.declared.board.Deployed.{Deployed}
+use Rattle.zb_tokens.specs.declared.board.Assigned.{Assigned}
+use Rattle.zb_tokens.specs.declared.board.Move.{Move}
+use Rattle.zb_tokens.specs.declared.board.Phase.TheVariants as phases
+use Rattle.zb_tokens.specs.Board.{Board, cell_at, in_phase}
+use Rattle.zb_tokens.specs.MoveOpen.{first_tokens, play_open}
+use Rattle.zb_tokens.specs.MoveLeave.{leaving}
+use Rattle.zb_tokens.specs.Game.{can, played}
+use Rattle.zb_tokens.specs.GameLaws.{legal_is_played}
 use Rattle.zb_game.proofs.FlowLemmas.{suc_not}
 
 -- what follows where a call succeeded

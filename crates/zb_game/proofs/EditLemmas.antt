@@ -3,7 +3,7 @@ use Rattle.std.proofs.Common.{◌≡◌, ℕ, suc, ◌+◌, ◌≤◌, ◌<◌, 
 use Rattle.std.specs.List.{position, position_or_len}
 use Rattle.std.proofs.lemmas.Grind.{common_steps}
 use Rattle.std.proofs.lemmas.Option.{slice_get_read}
-use Rattle.zb_rules.specs.Edits.{edited, removed}
+use Rattle.zb_tokens.specs.Edits.{edited, removed}
 
 module _ {A : Type 0} (passes : A → Bool) where
   -- the place of a position

@@ -4,11 +4,11 @@ use Rattle.std.specs.List.{find}
 use Rattle.std.specs.Str.{bytes_eq}
 use Rattle.zb_process.specs.declared.model.Model.{Model}
 use Rattle.zb_process.specs.declared.model.Flow.{Flow}
-use Rattle.zb_rules.specs.Edits.{first}
-use Rattle.zb_rules.specs.declared.board.Enter.{Enter}
-use Rattle.zb_rules.specs.declared.board.Spot.{Spot}
-use Rattle.zb_rules.specs.declared.board.Spot.TheVariants as spots
-use Rattle.zb_rules.specs.Forced.{entry_at}
+use Rattle.zb_tokens.specs.Edits.{first}
+use Rattle.zb_tokens.specs.declared.board.Enter.{Enter}
+use Rattle.zb_tokens.specs.declared.board.Spot.{Spot}
+use Rattle.zb_tokens.specs.declared.board.Spot.TheVariants as spots
+use Rattle.zb_tokens.specs.Forced.{entry_at}
 use Rattle.zb_game.proofs.FirstLemmas.{found_first}
 
 -- the entry by a flow that was found

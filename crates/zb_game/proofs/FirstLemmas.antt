@@ -1,7 +1,7 @@
 -- The first member that passes a test, in std's words.
 use Rattle.std.proofs.Common.{◌≡◌, List, [], ◌∷◌, Bool, true, false, cond, ◌||◌, Some, is_some, refl, ap}
 use Rattle.std.specs.List.{find, list_any}
-use Rattle.zb_rules.specs.Edits.{first}
+use Rattle.zb_tokens.specs.Edits.{first}
 
 -- it is what `find` finds
 pub found_first : {A : Type 0} (passes : A → Bool) (xs : List A) → find passes xs ≡ first passes xs

@@ -2,7 +2,7 @@
 use Rattle.std.proofs.Common.{◌≡◌, ℕ, suc, ◌==◌, false, List, [], ◌∷◌, length, map, filter, refl, sym, arith}
 use Rattle.std.proofs.lemmas.Bool.Decides.{nat_tests}
 use Rattle.std.specs.Str.{bytes_eq}
-use Rattle.zb_rules.specs.MoveLeave.{ids_eq}
+use Rattle.zb_tokens.specs.MoveLeave.{ids_eq}
 use Rattle.zb_process.specs.declared.model.Flow.{Flow}
 
 -- the ids of those of the flows that go out of a node

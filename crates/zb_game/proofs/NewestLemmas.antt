@@ -3,9 +3,9 @@ use Rattle.std.proofs.Common.{◌≡◌, ℕ, ◌+◌, ◌-◌, ◌<◌, ◌≤�
 use Rattle.std.specs.Option.{option_copied}
 use Rattle.std.proofs.lemmas.List.{at_drop_more}
 use Rattle.std.proofs.lemmas.Bool.Decides.{nat_tests}
-use Rattle.zb_rules.specs.declared.board.Cell.{Cell}
-use Rattle.zb_rules.specs.declared.board.Move.{Move}
-use Rattle.zb_rules.specs.Forced.{newer_answer, newest}
+use Rattle.zb_tokens.specs.declared.board.Cell.{Cell}
+use Rattle.zb_tokens.specs.declared.board.Move.{Move}
+use Rattle.zb_tokens.specs.Forced.{newer_answer, newest}
 use Rattle.zb_game.specs.Newest.{keyed_answer, is_newer}
 
 greater : (a b : ℕ) → nat_lt b a ≡ true → nat_le a b ≡ false

@@ -1,10 +1,10 @@
 -- One step up from a cell, with the cells that are left as fuel.
 use Rattle.std.proofs.Common.{◌≡◌, ℕ, ◌+◌, ◌<◌, List, [], ◌∷◌, length, drop, true, false, Some, None, refl, ◌∙◌}
 use Rattle.std.proofs.lemmas.List.{at_drop_more}
-use Rattle.zb_rules.specs.declared.board.Cell.{Cell}
-use Rattle.zb_rules.specs.declared.board.Phase.TheVariants as phases
-use Rattle.zb_rules.specs.Board.{Board, cell_at, is_phase}
-use Rattle.zb_rules.specs.Doom.{is_called_off}
+use Rattle.zb_tokens.specs.declared.board.Cell.{Cell}
+use Rattle.zb_tokens.specs.declared.board.Phase.TheVariants as phases
+use Rattle.zb_tokens.specs.Board.{Board, cell_at, is_phase}
+use Rattle.zb_tokens.specs.Doom.{is_called_off}
 
 module _ (b : Board) (key : ℕ) where
   -- where there is no such cell

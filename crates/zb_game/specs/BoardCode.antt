@@ -1,11 +1,11 @@
 -- How proofs tell boards apart.
 use Rattle.std.specs.Prelude.{List, refl}
 use Rattle.std.specs.Coded.{Coded, code_by, coded×, coded_list}
-use Rattle.zb_rules.specs.declared.board.Assigned.{Assigned}
-use Rattle.zb_rules.specs.declared.board.Cell.{Cell}
-use Rattle.zb_rules.specs.declared.board.Token.{Token}
-use Rattle.zb_rules.specs.declared.board.Deployed.{Deployed}
-use Rattle.zb_rules.specs.Board.{Board}
+use Rattle.zb_tokens.specs.declared.board.Assigned.{Assigned}
+use Rattle.zb_tokens.specs.declared.board.Cell.{Cell}
+use Rattle.zb_tokens.specs.declared.board.Token.{Token}
+use Rattle.zb_tokens.specs.declared.board.Deployed.{Deployed}
+use Rattle.zb_tokens.specs.Board.{Board}
 
 -- a board is stored as its four lists
 abbrev pub board_code : Coded Deployed → Coded Cell → Coded Token → Coded Assigned → Coded Board

@@ -1,7 +1,7 @@
 -- The newest cell that is forced to a move.
 use Rattle.std.specs.Prelude.{ℕ, nat_lt, Bool, true, Option, Some, None, option_map, option_and_then}
-use Rattle.zb_rules.specs.declared.board.Cell.{Cell}
-use Rattle.zb_rules.specs.declared.board.Move.{Move}
+use Rattle.zb_tokens.specs.declared.board.Cell.{Cell}
+use Rattle.zb_tokens.specs.declared.board.Move.{Move}
 
 -- the answer of a cell, with its key
 abbrev pub keyed_answer : (Cell → Option Move) → Option Cell → Option (ℕ × Move)

@@ -1,15 +1,15 @@
 // What moves change on a board.
 ghost use Rattle.std.specs.Prelude.{◌≡◌, ◌==◌, ◌++◌, ◌∷◌, [], Some, None, OnOk, IfOk, IsErrOf, filter, not};
 ghost use Rattle.std.specs.Option.{option_map_or};
-ghost use Rattle.zb_rules.specs.Board.{in_phase};
-ghost use Rattle.zb_rules.specs.Edits.{edited, removed};
-ghost use Rattle.zb_rules.specs.MoveEnter.{enters};
+ghost use Rattle.zb_tokens.specs.Board.{in_phase};
+ghost use Rattle.zb_tokens.specs.Edits.{edited, removed};
+ghost use Rattle.zb_tokens.specs.MoveEnter.{enters};
 
 use crate::GameFault;
 use crate::places::{place_of_cell, place_of_token};
 use std::alloc::{AllocError, Global};
 use zb_model::{Key, List, Text, TryCopy};
-use zb_rules::{Assigned, Cell, Enter, Phase, Token};
+use zb_tokens::{Assigned, Cell, Enter, Phase, Token};
 
 /// Puts the first cell with this key in another phase, owing these flows. It goes through all before it.
 pub fn put_in_phase(

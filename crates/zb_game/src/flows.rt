@@ -1,7 +1,7 @@
 // The flows of a model.
 ghost use Rattle.std.specs.Prelude.{◌≡◌, IfOk};
-ghost use Rattle.zb_rules.specs.Board.{flows_out, leads_to};
-ghost use Rattle.zb_rules.specs.MoveLeave.{ids_eq};
+ghost use Rattle.zb_tokens.specs.Board.{flows_out, leads_to};
+ghost use Rattle.zb_tokens.specs.MoveLeave.{ids_eq};
 
 use crate::lookups::flow_among;
 use std::alloc::{AllocError, Global};

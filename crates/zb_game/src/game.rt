@@ -1,8 +1,8 @@
 ghost use Rattle.std.specs.Prelude.{◌≡◌, Some, None, IsTrue, IsFalse, OnOk, IsErrOf, option_map};
 ghost use Rattle.std.specs.Option.{option_copied};
 ghost use Rattle.zb_rules.specs.Applies.{is_process_of};
-ghost use Rattle.zb_rules.specs.Board.{cell_at, model_under};
-ghost use Rattle.zb_rules.specs.Game.{empty_board, can, played};
+ghost use Rattle.zb_tokens.specs.Board.{cell_at, model_under};
+ghost use Rattle.zb_tokens.specs.Game.{empty_board, can, played};
 ghost use Rattle.zb_game.specs.declared.game.GameFault.TheVariants as faults;
 
 mod assign;
@@ -21,7 +21,7 @@ use crate::lookups::{cell_among, deployed_among};
 use std::alloc::{AllocError, AllocFailed, Global};
 use std::marker::Model;
 use zb_model::{Key, Model as ProcessModel, TryCopy};
-use zb_rules::{Assigned, Cell, Deployed, Move, Token};
+use zb_tokens::{Assigned, Cell, Deployed, Move, Token};
 
 /// Why a move was not made.
 #[derive(Clone, Copy, Debug, PartialEq, Eq)]
@@ -57,11 +57,11 @@ pub struct Game {
 }
 
 impl Model for Game {
-    ghost use Rattle.zb_rules.specs.Board.{Board};
-    ghost use Rattle.zb_rules.specs.contracts.board.Deployed as deployed;
-    ghost use Rattle.zb_rules.specs.contracts.board.Cell as cell;
-    ghost use Rattle.zb_rules.specs.contracts.board.Token as token;
-    ghost use Rattle.zb_rules.specs.contracts.board.Assigned as assigned;
+    ghost use Rattle.zb_tokens.specs.Board.{Board};
+    ghost use Rattle.zb_tokens.specs.contracts.board.Deployed as deployed;
+    ghost use Rattle.zb_tokens.specs.contracts.board.Cell as cell;
+    ghost use Rattle.zb_tokens.specs.contracts.board.Token as token;
+    ghost use Rattle.zb_tokens.specs.contracts.board.Assigned as assigned;
     ghost use Rattle.zb_game.specs.BoardCode.{board_code};
 
     ghost Value = { Board };

@@ -3,11 +3,11 @@ ghost use Rattle.std.specs.Prelude.{◌≡◌, ◌==◌, ◌&&◌, []};
 ghost use Rattle.std.specs.Option.{option_copied};
 ghost use Rattle.std.specs.Str.{bytes_eq};
 ghost use Rattle.std.specs.List.{find, list_any};
-ghost use Rattle.zb_rules.specs.Board.{is_spot, is_start, spot_of};
-ghost use Rattle.zb_rules.specs.MoveEnter.{enters};
+ghost use Rattle.zb_tokens.specs.Board.{is_spot, is_start, spot_of};
+ghost use Rattle.zb_tokens.specs.MoveEnter.{enters};
 
 use zb_model::{Flow, Key, Node, NodeKind};
-use zb_rules::{Assigned, Cell, Deployed, Enter, Spot, Token};
+use zb_tokens::{Assigned, Cell, Deployed, Enter, Spot, Token};
 
 /// The first cell with this key. It goes through all before it.
 pub fn cell_among(key: Key, cells: &[Cell]) -> Option<&Cell>

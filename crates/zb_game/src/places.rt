@@ -1,10 +1,10 @@
 // Where things are on a board.
 ghost use Rattle.std.specs.Prelude.{◌≡◌, ◌==◌, position};
-ghost use Rattle.zb_rules.specs.MoveEnter.{enters};
+ghost use Rattle.zb_tokens.specs.MoveEnter.{enters};
 
 use crate::lookups::enters;
 use zb_model::Key;
-use zb_rules::{Cell, Enter, Token};
+use zb_tokens::{Cell, Enter, Token};
 
 /// Where the first cell with this key is. It goes through all before it.
 pub fn place_of_cell(key: Key, cells: &[Cell]) -> Option<usize>

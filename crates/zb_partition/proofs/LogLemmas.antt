@@ -7,7 +7,7 @@ use Rattle.zb_model.specs.declared.record.Event.{Event}
 use Rattle.zb_model.specs.declared.record.Batch.{Batch}
 use Rattle.zb_model.specs.Record.{bytes_of}
 use Rattle.zb_model.specs.RecordFits.{IsBatch}
-use Rattle.zb_rules.specs.View.{events_of, events_in}
+use Rattle.zb_views.specs.View.{events_of, events_in}
 use Rattle.zb_rules.specs.Applies.{all_apply}
 use Rattle.zb_rules.specs.StepLaws.{all_apply_on}
 use Rattle.zb_store.specs.Stands.{next_gate, IsFrame, Leads, Stands}

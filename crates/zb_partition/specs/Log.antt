@@ -5,7 +5,7 @@ use Rattle.zb_model.specs.declared.record.Batch.{Batch}
 use Rattle.zb_model.specs.Record.{bytes_of}
 use Rattle.zb_model.specs.RecordFits.{IsBatch}
 use Rattle.zb_store.specs.Stands.{Leads, IsFrame, RunsPast}
-use Rattle.zb_rules.specs.View.{events_of, events_in}
+use Rattle.zb_views.specs.View.{events_of, events_in}
 use Rattle.zb_rules.specs.Applies.{all_apply}
 
 -- the bodies of the frames that a log of these batches has

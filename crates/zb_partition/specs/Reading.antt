@@ -5,7 +5,7 @@ use Rattle.zb_model.specs.declared.record.Batch.{Batch}
 use Rattle.zb_store.specs.Log.{extent}
 use Rattle.zb_store.specs.Scan.{count_of_scan, gate_of_scan, is_over, HasFound}
 use Rattle.zb_store.specs.declared.scan.Scan.{Scan}
-use Rattle.zb_rules.specs.View.{events_of, moment_of_last}
+use Rattle.zb_views.specs.View.{events_of, moment_of_last}
 use Rattle.zb_state.specs.State as states
 use Rattle.zb_state.specs.State.{IsStateOf}
 use Rattle.zb_partition.specs.Log.{bodies_of, AreBatches, IsApplied}

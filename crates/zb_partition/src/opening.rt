@@ -5,7 +5,7 @@ ghost use Rattle.zb_model.specs.Record.{bytes_of};
 ghost use Rattle.zb_model.specs.RecordFits.{IsBatch};
 ghost use Rattle.zb_store.specs.Calls.{OnlyReads};
 ghost use Rattle.zb_store.specs.Scan.{disk_of_scan, limit_of_scan, gate_of_scan, is_over, is_closed};
-ghost use Rattle.zb_rules.specs.View.{events_of, events_in};
+ghost use Rattle.zb_views.specs.View.{events_of, events_in};
 ghost use Rattle.zb_rules.specs.Applies.{all_apply};
 ghost use Rattle.zb_partition.specs.Log.{IsBadBody, IsBadAt};
 ghost use Rattle.zb_partition.specs.Reading.{IsKnown, IsAtStart, IsRead, IsReadOn};

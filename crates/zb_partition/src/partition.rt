@@ -9,7 +9,7 @@ ghost use Rattle.zb_store.specs.Stands.{Stands};
 ghost use Rattle.zb_store.specs.GateLog as gates;
 ghost use Rattle.zb_store.specs.Scan.{disk_of_scan, limit_of_scan};
 ghost use Rattle.zb_store.specs.Log.{framed, extent};
-ghost use Rattle.zb_rules.specs.View.{moment_of_last, events_of};
+ghost use Rattle.zb_views.specs.View.{moment_of_last, events_of};
 ghost use Rattle.zb_rules.specs.Due.{due_command};
 ghost use Rattle.zb_rules.specs.Own.{IsSupported};
 ghost use Rattle.zb_state.specs.State as states;

@@ -3,7 +3,7 @@ ghost use Rattle.std.specs.Prelude.{◌≡◌, ◌<◌, ◌^◌, ◌++◌, List,
 ghost use Rattle.zb_model.specs.declared.record.Event.{Event};
 ghost use Rattle.zb_model.specs.Record.{bytes_of};
 ghost use Rattle.zb_store.specs.Log.{framed};
-ghost use Rattle.zb_rules.specs.View.{events_in};
+ghost use Rattle.zb_views.specs.View.{events_in};
 ghost use Rattle.zb_rules.specs.Applies.{all_apply};
 ghost use Rattle.zb_state.specs.State.{partition_of, IsStateOf};
 

@@ -1,2 +1,1 @@
-pub mod CounterLemmas
 pub mod Worked

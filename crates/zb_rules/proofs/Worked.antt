@@ -16,8 +16,8 @@ use Rattle.zb_rules.specs.Applies.{applies}
 use Rattle.zb_rules.specs.Create.{created, reason_to_create}
 use Rattle.zb_rules.specs.Expire.{no_message, not_due, reason_to_expire}
 use Rattle.zb_rules.specs.Due.{due_command}
-use Rattle.zb_rules.specs.Faults.{first_fault, fault_text}
-use Rattle.zb_rules.specs.declared.fault.Fault.TheVariants as faults
+use Rattle.zb_faults.specs.Faults.{first_fault, fault_text}
+use Rattle.zb_faults.specs.declared.fault.Fault.TheVariants as faults
 
 abbrev node : List ℕ → NodeKind → Node
 node id kind = record { id = id; kind = kind; parent = []; attached = []; cancel = false; otherwise = []; name = []; expr = None; retries = 0; handler = false; multi = None; inputs = []; outputs = [] }

@@ -8,15 +8,16 @@ use Rattle.zb_instance_records.specs.declared.instance.Role.{Role}
 use Rattle.zb_instance_records.specs.declared.instance.Role.TheVariants as roles
 use Rattle.zb_model.specs.declared.record.Event.{Event}
 use Rattle.zb_model.specs.declared.record.Event.TheVariants as events
-use Rattle.zb_rules.specs.Messages.{is_buffered}
-use Rattle.zb_rules.specs.View.{greatest_counter, next_key}
-use Rattle.zb_rules.specs.declared.board.Move.{Move}
-use Rattle.zb_rules.specs.Board.{Board, cell_at, model_under}
-use Rattle.zb_rules.specs.Game.{can}
+use Rattle.zb_views.specs.Messages.{is_buffered}
+use Rattle.zb_views.specs.View.{greatest_counter, next_key}
+use Rattle.zb_tokens.specs.declared.board.Move.{Move}
+use Rattle.zb_tokens.specs.Board.{Board, cell_at, model_under}
+use Rattle.zb_tokens.specs.Edits.{is_none_of}
+use Rattle.zb_tokens.specs.Game.{fits}
 use Rattle.zb_rules.specs.Shown.{shown, board_of}
-use Rattle.zb_rules.specs.Create.{begun}
-use Rattle.zb_rules.specs.Definitions.{definitions}
-use Rattle.zb_rules.specs.Faults.{is_well_formed}
+use Rattle.zb_views.specs.Begin.{begun}
+use Rattle.zb_views.specs.Definitions.{definitions}
+use Rattle.zb_faults.specs.Faults.{is_well_formed}
 
 -- the key is the next one that partition p draws, and there is one
 abbrev pub is_fresh : ℕ → List Event → ℕ → Bool
@@ -56,11 +57,6 @@ begins_cell p before e = is_fresh p before e.key && holds_of_game (is_definition
 abbrev pub begins_well : ℕ → List Event → ElementActivating → Bool
 begins_well p before e = is_plain e.role && bytes_eq e.started [] && (if e.scope == 0 then begins_instance before e else begins_cell p before e)
 
--- there are none of these
-abbrev pub is_none_of : {A : Type 0} → List A → Bool
-is_none_of [] = true
-is_none_of (x ∷ xs) = false
-
 -- what holds of an event that applies, beside the move that it shows; one that no command makes so far doesn't apply
 abbrev pub holds_own : ℕ → List Event → Event → Bool
 holds_own p before (events.ProcessCreated e) = is_well_formed e.model
@@ -76,14 +72,14 @@ holds_own p before (events.MessagePublished m) = is_fresh p before m.key
 holds_own p before (events.MessageExpired key) = is_buffered key before
 holds_own p before _ = false
 
--- a move may be made, if there is one
-abbrev pub is_possible : Option Move → Board → Bool
-is_possible None b = true
-is_possible (Some move) b = can b move
+-- a move fits the board, if there is one
+abbrev pub may_fit : Option Move → Board → Bool
+may_fit None b = true
+may_fit (Some move) b = fits b move
 
--- the event applies to those before it, at partition p: its own condition holds, and the move that it shows is legal
+-- the event applies to those before it, at partition p: its own condition holds, and the move that it shows fits the board
 abbrev pub applies : ℕ → List Event → Event → Bool
-applies p before e = holds_own p before e && holds_of_game (is_possible (shown e)) before
+applies p before e = holds_own p before e && holds_of_game (may_fit (shown before e)) before
 
 -- each of the events applies to the ones before and those of the list in front of it
 abbrev pub all_apply : ℕ → List Event → List Event → Bool

@@ -3,15 +3,14 @@ use Rattle.std.specs.Prelude.{ℕ, List, [], ◌∷◌, ◌++◌, map, codes, Op
 use Rattle.std.specs.Fmt.{decimal}
 use Rattle.zb_base.specs.declared.vars.Variable.{Variable}
 use Rattle.zb_instance_records.specs.declared.instance.ProcessInstanceCreationCreate.{ProcessInstanceCreationCreate}
-use Rattle.zb_instance_records.specs.declared.instance.ProcessInstanceCreationCreated.{ProcessInstanceCreationCreated}
 use Rattle.zb_instance_records.specs.declared.instance.Role.TheVariants as roles
 use Rattle.zb_model.specs.declared.record.Event.{Event}
 use Rattle.zb_model.specs.declared.record.Event.TheVariants as events
 use Rattle.zb_model.specs.declared.record.Rejection.{Rejection}
 use Rattle.zb_model.specs.declared.record.RejectionKind.TheVariants as kinds
-use Rattle.zb_rules.specs.declared.definition.Definition.{Definition}
-use Rattle.zb_rules.specs.View.{next_key}
-use Rattle.zb_rules.specs.Definitions.{definition_for}
+use Rattle.zb_views.specs.declared.definition.Definition.{Definition}
+use Rattle.zb_views.specs.View.{next_key}
+use Rattle.zb_views.specs.Definitions.{definition_for}
 
 -- what is told where there is no such process
 abbrev pub no_process : List ℕ → List ℕ
@@ -30,17 +29,6 @@ reason_by (Some latest) (Some asked) c = None
 -- the rejection of a create, if there is a reason for one
 abbrev pub reason_to_create : List Event → ProcessInstanceCreationCreate → Option Rejection
 reason_to_create before c = reason_by (definition_for c.process 0 before) (definition_for c.process c.version before) c
-
--- the instance that an event makes
-abbrev pub instance_told : Event → Option ProcessInstanceCreationCreated
-instance_told (events.ProcessInstanceCreationCreated e) = Some e
-instance_told _ = None
-
--- the instance that the last event makes
-abbrev pub begun : List Event → Option ProcessInstanceCreationCreated
-begun [] = None
-begun (e ∷ []) = instance_told e
-begun (e ∷ next ∷ es) = begun (next ∷ es)
 
 -- a variable of the instance
 abbrev pub variable_event : ℕ → Variable → Event

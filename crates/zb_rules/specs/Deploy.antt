@@ -5,9 +5,10 @@ use Rattle.zb_model.specs.declared.record.Event.{Event}
 use Rattle.zb_model.specs.declared.record.Event.TheVariants as events
 use Rattle.zb_model.specs.declared.record.Rejection.{Rejection}
 use Rattle.zb_model.specs.declared.record.RejectionKind.TheVariants as kinds
-use Rattle.zb_rules.specs.View.{next_key}
-use Rattle.zb_rules.specs.Definitions.{definitions, greatest_version}
-use Rattle.zb_rules.specs.Faults.{first_fault, fault_text}
+use Rattle.zb_views.specs.View.{next_key}
+use Rattle.zb_views.specs.Definitions.{definitions, greatest_version}
+use Rattle.zb_faults.specs.Faults.{first_fault, fault_text}
+use Rattle.zb_rules.specs.Making.{Making, and_then}
 
 -- why it is rejected: the model has a fault
 abbrev pub reason_to_deploy : Model → Option Rejection
@@ -18,11 +19,13 @@ abbrev pub version_behind : ℕ → ℕ
 version_behind version = min (version + 1) (2 ^ 32 - 1)
 
 -- the definition has a fresh key and the next version of its process
-abbrev pub definition_of : ℕ → List Event → Model → Event
-definition_of p before m = events.ProcessCreated (record { key = next_key p before; version = version_behind (greatest_version m.process (definitions before)); model = m })
+abbrev pub definition_of : ℕ → Model → Making
+definition_of p m before = events.ProcessCreated (record { key = next_key p before; version = version_behind (greatest_version m.process (definitions before)); model = m }) ∷ []
 
--- and the deployment has a key of its own (Zeebe, the records)
-abbrev pub deployed : ℕ → List Event → Model → List Event
-deployed p before m =
-    let first = definition_of p before m in
-    first ∷ events.DeploymentCreated (record { key = next_key p (before ++ first ∷ []); definition = next_key p before }) ∷ []
+-- the deployment of a definition has a key of its own (Zeebe, the records)
+abbrev pub deployment_of : ℕ → ℕ → Making
+deployment_of p definition before = events.DeploymentCreated (record { key = next_key p before; definition = definition }) ∷ []
+
+-- the definition, and then its deployment
+abbrev pub deployed : ℕ → Model → Making
+deployed p m before = and_then (definition_of p m) (deployment_of p (next_key p before)) before

@@ -5,7 +5,7 @@ use Rattle.zb_model.specs.declared.record.Command.{Command}
 use Rattle.zb_model.specs.declared.record.Command.TheVariants as commands
 use Rattle.zb_model.specs.declared.record.Event.{Event}
 use Rattle.zb_table.specs.Earliest.{earliest}
-use Rattle.zb_rules.specs.Messages.{buffered, is_past_deadline}
+use Rattle.zb_views.specs.Messages.{buffered, is_past_deadline}
 
 -- the deadline of a message, and its key
 abbrev pub message_in_time : MessagePublished → ℕ × ℕ

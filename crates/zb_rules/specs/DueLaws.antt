@@ -7,7 +7,7 @@ use Rattle.zb_exchange_records.specs.declared.message.MessagePublished.{MessageP
 use Rattle.zb_model.specs.declared.record.Command.{Command}
 use Rattle.zb_model.specs.declared.record.Command.TheVariants as commands
 use Rattle.zb_model.specs.declared.record.Event.{Event}
-use Rattle.zb_rules.specs.Messages.{buffered, is_buffered, is_past_deadline}
+use Rattle.zb_views.specs.Messages.{buffered, is_buffered, is_past_deadline}
 use Rattle.zb_rules.specs.Expire.{is_due_at}
 use Rattle.zb_rules.specs.Reason.{reason_for}
 use Rattle.zb_rules.specs.Own.{IsSupported}

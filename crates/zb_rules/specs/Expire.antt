@@ -6,7 +6,7 @@ use Rattle.zb_model.specs.declared.record.Event.{Event}
 use Rattle.zb_model.specs.declared.record.Event.TheVariants as events
 use Rattle.zb_model.specs.declared.record.Rejection.{Rejection}
 use Rattle.zb_model.specs.declared.record.RejectionKind.TheVariants as kinds
-use Rattle.zb_rules.specs.Messages.{buffered, is_buffered, is_past_deadline}
+use Rattle.zb_views.specs.Messages.{buffered, is_buffered, is_past_deadline}
 
 -- what is told where no message with this key is buffered
 abbrev pub no_message : ℕ → List ℕ

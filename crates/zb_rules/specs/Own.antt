@@ -3,7 +3,7 @@ use Rattle.std.specs.Prelude.{ℕ, List, Option, Some, None}
 use Rattle.zb_model.specs.declared.record.Command.{Command}
 use Rattle.zb_model.specs.declared.record.Command.TheVariants as commands
 use Rattle.zb_model.specs.declared.record.Event.{Event}
-use Rattle.zb_rules.specs.View.{next_key}
+use Rattle.zb_views.specs.View.{next_key}
 use Rattle.zb_rules.specs.Publish.{published_under}
 use Rattle.zb_rules.specs.Deploy.{deployed}
 use Rattle.zb_rules.specs.Create.{created}
@@ -17,10 +17,10 @@ IsSupported (commands.MessagePublish c) = Unit {0}
 IsSupported (commands.MessageExpire key) = Unit {0}
 IsSupported _ = ⊥
 
--- the events that a command makes of those before it, at a moment of partition p; None of a command that isn't run
-abbrev pub own_events : ℕ → List Event → ℕ → Command → Option (List Event)
-own_events p before moment (commands.DeploymentCreate m) = Some (deployed p before m)
-own_events p before moment (commands.ProcessInstanceCreationCreate c) = created p before c
-own_events p before moment (commands.MessagePublish c) = Some (published_under (next_key p before) moment c)
-own_events p before moment (commands.MessageExpire key) = Some (expired key)
-own_events p before moment _ = None
+-- the events that a command makes of those before it, at a moment of partition p of n; None of a command that isn't run
+abbrev pub own_events : (p n : ℕ) → List Event → ℕ → Command → Option (List Event)
+own_events p n before moment (commands.DeploymentCreate m) = Some (deployed p m before)
+own_events p n before moment (commands.ProcessInstanceCreationCreate c) = created p before c
+own_events p n before moment (commands.MessagePublish c) = Some (published_under (next_key p before) moment c)
+own_events p n before moment (commands.MessageExpire key) = Some (expired key)
+own_events p n before moment _ = None

@@ -9,7 +9,7 @@ use Rattle.zb_model.specs.declared.record.Event.{Event}
 use Rattle.zb_model.specs.declared.record.Event.TheVariants as events
 use Rattle.zb_model.specs.declared.record.Rejection.{Rejection}
 use Rattle.zb_model.specs.declared.record.RejectionKind.TheVariants as kinds
-use Rattle.zb_rules.specs.Messages.{buffered}
+use Rattle.zb_views.specs.Messages.{buffered}
 
 -- the message has the name, the correlation key and the id that are to be published
 abbrev pub is_same : MessagePublish → MessagePublished → Bool

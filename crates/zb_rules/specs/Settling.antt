@@ -1,31 +1,57 @@
--- How a step goes on behind its command's own events: forced moves, one by one, until none is left or the batch is full (own).
-use Rattle.std.specs.Prelude.{◌≡◌, ◌⊎◌, ◌<◌, ◌≤◌, ◌+◌, ℕ, List, [], ◌∷◌, ◌++◌, length, Option, Some, None, option_map, option_and_then}
+-- How a step goes on behind its command's own events: forced moves, one by one, until nobody is forced or the batch is full (own).
+use Rattle.std.specs.Prelude.{◌≡◌, ◌⊎◌, ◌<◌, ◌≤◌, ◌+◌, ℕ, List, [], ◌∷◌, ◌++◌, length, Option, Some, option_map, option_and_then}
 use Rattle.zb_model.specs.declared.record.Event.{Event}
-use Rattle.zb_rules.specs.View.{next_key}
-use Rattle.zb_rules.specs.Forced.{next_forced}
+use Rattle.zb_views.specs.View.{next_key}
+use Rattle.zb_tokens.specs.Board.{Board}
+use Rattle.zb_tokens.specs.declared.board.Move.{Move}
+use Rattle.zb_tokens.specs.declared.board.Mover.{Mover}
+use Rattle.zb_tokens.specs.Forced.{next_mover, move_of, IsQuiet}
+use Rattle.zb_rules.specs.Making.{Making, just, and_then}
 use Rattle.zb_rules.specs.Shown.{board_of, event_of}
 
 -- a batch is full with so many events
 unfoldable pub full : ℕ
 full = 1024
 
--- the next forced move behind these events of partition p, as events; None where the game is quiet
-unfoldable pub turn : ℕ → List Event → Option (List Event)
-turn p es = option_and_then (λ b. option_and_then (λ move. option_map (λ e. e ∷ []) (event_of b move)) (next_forced b (next_key p es))) (board_of es)
+-- the events in front of that of a move; so far there are none
+abbrev pub in_front : (n moment : ℕ) → Board → Move → Making
+in_front n moment b move before = []
 
--- these turns, one after the other, in a batch that has n events before them
-abbrev pub AreTurns : ℕ → List Event → ℕ → List (List Event) → Type 0
-AreTurns p es n [] = Unit {0}
-AreTurns p es n (made ∷ turns) = (n < full) × (turn p es ≡ Some made) × AreTurns p (es ++ made) (n + length made) turns
+-- the events behind an event; so far there are none
+abbrev pub behind : (p n moment : ℕ) → Event → Making
+behind p n moment e before = []
+
+-- a move in events: those in front, its own, those behind
+abbrev pub in_events : (p n moment : ℕ) → Board → Move → Event → Making
+in_events p n moment b move e = and_then (in_front n moment b move) (and_then (just e) (behind p n moment e))
+
+-- what a mover does on the board of some events, in events
+abbrev pub turn_of : (p n moment : ℕ) → List Event → Board → Mover → Option (List Event)
+turn_of p n moment es b mover = option_and_then (λ move. option_map (λ e. in_events p n moment b move e es) (event_of b move)) (move_of b moment (next_key p es) mover)
+
+-- what is forced next behind these events of partition p of n, at a moment; None where nobody is
+unfoldable pub turn : (p n moment : ℕ) → List Event → Option (List Event)
+turn p n moment es = option_and_then (λ b. option_and_then (turn_of p n moment es b) (next_mover b)) (board_of es)
+
+-- these turns, one after the other, in a batch that has count events before them
+abbrev pub AreTurns : (p n moment : ℕ) → List Event → ℕ → List (List Event) → Type 0
+AreTurns p n moment es count [] = Unit {0}
+AreTurns p n moment es count (made ∷ turns) = (count < full) × (turn p n moment es ≡ Some made) × AreTurns p n moment (es ++ made) (count + length made) turns
 
 -- the events of turns, one after the other
 abbrev pub joined : List (List Event) → List Event
 joined [] = []
 joined (made ∷ turns) = made ++ joined turns
 
--- the rest of a step behind its own events: turns until the game is quiet or the batch is full
-pub record IsRest (p : ℕ) (before own rest : List Event) : Type 0 where
+-- the game of these events is quiet
+pub record HasQuietGame (es : List Event) : Type 0 where
+  pub board : Board
+  pub is : board_of es ≡ Some board
+  pub quiet : IsQuiet board
+
+-- the rest of a step of partition p of n at a moment, behind its own events: turns until the game is quiet or the batch is full
+pub record IsRest (p n moment : ℕ) (before own rest : List Event) : Type 0 where
   pub turns : List (List Event)
   pub is : rest ≡ joined turns
-  pub each : AreTurns p (before ++ own) (length own) turns
-  pub ended : (turn p (before ++ (own ++ rest)) ≡ None) ⊎ (full ≤ length own + length rest)
+  pub each : AreTurns p n moment (before ++ own) (length own) turns
+  pub ended : HasQuietGame (before ++ (own ++ rest)) ⊎ (full ≤ length own + length rest)

@@ -1,38 +1,38 @@
 -- Which moves events show, and the game of a log.
-use Rattle.std.specs.Prelude.{◌==◌, List, [], ◌∷◌, if◌then◌else◌, Option, Some, None, option_map, option_and_then}
+use Rattle.std.specs.Prelude.{◌==◌, List, [], ◌∷◌, ◌++◌, if◌then◌else◌, Option, Some, None, option_map, option_and_then}
 use Rattle.zb_instance_records.specs.declared.instance.Role.TheVariants as roles
 use Rattle.zb_model.specs.declared.record.Event.{Event}
 use Rattle.zb_model.specs.declared.record.Event.TheVariants as events
-use Rattle.zb_rules.specs.declared.board.Move.{Move}
-use Rattle.zb_rules.specs.declared.board.Move.TheVariants as moves
-use Rattle.zb_rules.specs.Board.{Board, cell_at}
-use Rattle.zb_rules.specs.Game.{empty_board, played}
+use Rattle.zb_tokens.specs.declared.board.Move.{Move}
+use Rattle.zb_tokens.specs.declared.board.Move.TheVariants as moves
+use Rattle.zb_tokens.specs.Board.{Board, cell_at}
+use Rattle.zb_tokens.specs.Game.{empty_board, played}
 
--- the move that an event shows; others show none
-abbrev pub shown : Event → Option Move
-shown (events.ProcessCreated e) = Some (moves.Stand (record { key = e.key; model = e.model }))
-shown (events.ElementActivating e) = if e.scope == 0 then Some (moves.Start (record { key = e.key; definition = e.definition }))
+-- the move that an event shows behind those before it; others show none
+abbrev pub shown : List Event → Event → Option Move
+shown before (events.ProcessCreated e) = Some (moves.Stand (record { key = e.key; model = e.model }))
+shown before (events.ElementActivating e) = if e.scope == 0 then Some (moves.Start (record { key = e.key; definition = e.definition }))
     else Some (moves.Enter (record { key = e.key; scope = e.scope; node = e.node; via = e.via }))
-shown (events.ElementActivated e) = Some (moves.Open e.key)
-shown (events.ElementCompleting key) = Some (moves.Finish key)
-shown (events.ElementCompleted e) = Some (moves.Leave (record { key = e.key; owed = e.owed }))
-shown (events.SequenceFlowTaken e) = Some (moves.Take (record { key = e.key; flow = e.flow }))
-shown (events.VariableCreated e) = Some (moves.Assign (record { scope = e.scope; name = e.name; value = e.value }))
-shown _ = None
+shown before (events.ElementActivated e) = Some (moves.Open e.key)
+shown before (events.ElementCompleting key) = Some (moves.Finish key)
+shown before (events.ElementCompleted e) = Some (moves.Leave (record { key = e.key; owed = e.owed }))
+shown before (events.SequenceFlowTaken e) = Some (moves.Take (record { key = e.key; flow = e.flow }))
+shown before (events.VariableCreated e) = Some (moves.Assign (record { scope = e.scope; name = e.name; value = e.value }))
+shown before _ = None
 
 -- the board after the move that an event shows, if it shows one
 abbrev pub after_shown : Board → Option Move → Option Board
 after_shown b None = Some b
 after_shown b (Some move) = played b move
 
--- the board after these events, from this one
-abbrev pub board_from : Board → List Event → Option Board
-board_from b [] = Some b
-board_from b (e ∷ es) = option_and_then (λ after. board_from after es) (after_shown b (shown e))
+-- the board after some events, from the board of those before them
+abbrev pub board_from : List Event → Board → List Event → Option Board
+board_from before b [] = Some b
+board_from before b (e ∷ es) = option_and_then (λ after. board_from (before ++ e ∷ []) after es) (after_shown b (shown before e))
 
 -- the game of a log: the board after its events
 abbrev pub board_of : List Event → Option Board
-board_of es = board_from empty_board es
+board_of es = board_from [] empty_board es
 
 -- the event that shows a forced move
 abbrev pub event_of : Board → Move → Option Event

@@ -4,19 +4,19 @@ ghost use Rattle.zb_model.specs.declared.record.Command.{Command};
 ghost use Rattle.zb_model.specs.declared.record.Command.TheVariants as commands;
 ghost use Rattle.zb_model.specs.declared.record.Event.{Event};
 ghost use Rattle.zb_model.specs.declared.record.Event.TheVariants as events;
-ghost use Rattle.zb_rules.specs.Messages.{buffered, without_message};
+ghost use Rattle.zb_views.specs.Messages.{buffered, without_message};
 ghost use Rattle.zb_rules.specs.Reason.{reason_for};
 ghost use Rattle.zb_rules.specs.Own.{IsSupported};
 ghost use Rattle.zb_rules.specs.Due.{due_command, IsFirstDue};
-ghost use Rattle.zb_rules.specs.declared.board.Cell.{Cell};
-ghost use Rattle.zb_rules.specs.declared.board.Move.{Move};
-ghost use Rattle.zb_rules.specs.declared.board.Spot.TheVariants as spots;
-ghost use Rattle.zb_rules.specs.declared.board.Take.{Take};
-ghost use Rattle.zb_rules.specs.Board.{Board, cell_at, CellsAscend};
-ghost use Rattle.zb_rules.specs.Game.{can, played};
-ghost use Rattle.zb_rules.specs.MoveTake.{play_take};
-ghost use Rattle.zb_rules.specs.Doom.{is_doomed};
-ghost use Rattle.zb_rules.specs.Forced.{forced_at, next_forced, NoneForced, NoneEnters, IsQuiet};
+ghost use Rattle.zb_tokens.specs.declared.board.Cell.{Cell};
+ghost use Rattle.zb_tokens.specs.declared.board.Move.{Move};
+ghost use Rattle.zb_tokens.specs.declared.board.Spot.TheVariants as spots;
+ghost use Rattle.zb_tokens.specs.declared.board.Take.{Take};
+ghost use Rattle.zb_tokens.specs.Board.{Board, cell_at, CellsAscend};
+ghost use Rattle.zb_tokens.specs.Game.{can, played};
+ghost use Rattle.zb_tokens.specs.MoveTake.{play_take};
+ghost use Rattle.zb_tokens.specs.Doom.{is_doomed};
+ghost use Rattle.zb_tokens.specs.Forced.{forced_at, next_forced, NoneForced, NoneEnters, IsQuiet};
 
 /// What an event more makes of the buffered messages.
 pub fn buffered_grows()

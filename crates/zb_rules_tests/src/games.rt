@@ -3,7 +3,7 @@ use std::alloc::Global;
 use std::test::Fail;
 use zb_game::{Game, GameFault};
 use zb_model::{Key, NodeKind, TryCopy};
-use zb_rules::{Deployed, Move, Start};
+use zb_tokens::{Deployed, Move, Start};
 
 // Puts the process `p` with this last node on a board under key 1, and starts an instance of it under key 2.
 fn start(alloc: Global, game: &mut Game, last: NodeKind) -> Result<(), GameFault> {

@@ -9,15 +9,15 @@ use Rattle.zb_model.specs.declared.record.Command.{Command}
 use Rattle.zb_model.specs.declared.record.Command.TheVariants as commands
 use Rattle.zb_model.specs.declared.record.Outcome.TheVariants as outcomes
 use Rattle.zb_model.specs.declared.record.Rejection.{Rejection}
-use Rattle.zb_rules.specs.View.{events_of, moment_of_last, next_key}
+use Rattle.zb_views.specs.View.{events_of, moment_of_last, next_key}
 use Rattle.zb_rules.specs.Reason.{reason_for}
 use Rattle.zb_rules.specs.Own.{IsSupported, own_events}
 use Rattle.zb_rules.specs.Due.{due_command}
 use Rattle.zb_rules.specs.Publish.{message_under, published_under}
 use Rattle.zb_rules.specs.Deploy.{version_behind, deployed}
 use Rattle.zb_rules.specs.Create.{instance_under}
-use Rattle.zb_rules.specs.Definitions.{definitions, greatest_version, definition_for}
-use Rattle.zb_rules.specs.declared.definition.Definition.{Definition}
+use Rattle.zb_views.specs.Definitions.{definitions, greatest_version, definition_for}
+use Rattle.zb_views.specs.declared.definition.Definition.{Definition}
 use Rattle.zb_rules.specs.Step.{IsOutcomeOf, IsStep}
 use Rattle.zb_rules.specs.StepLaws.{each_on_none, each_on_more}
 use Rattle.zb_wire.specs.Asked.{command_of}

@@ -10,7 +10,7 @@ use Rattle.zb_model.specs.declared.record.Batch.{Batch}
 use Rattle.zb_model.specs.declared.record.Command.{Command}
 use Rattle.zb_model.specs.declared.stop.Stop.{Stop}
 use Rattle.zb_model.specs.declared.stop.Stop.TheVariants as stops
-use Rattle.zb_rules.specs.View.{moment_of_last}
+use Rattle.zb_views.specs.View.{moment_of_last}
 use Rattle.zb_rules.specs.Step.{IsStep}
 use Rattle.zb_rules.specs.StepLaws.{are_steps_more}
 use Rattle.zb_store.specs.CallLaws.{leaves_none, leaves_then, leaves_weaker}

@@ -8,7 +8,7 @@ use Rattle.zb_outside.specs.declared.trouble.Trouble.TheVariants as troubles
 use Rattle.zb_model.specs.declared.record.Batch.{Batch}
 use Rattle.zb_model.specs.declared.stop.Stop.{Stop}
 use Rattle.zb_model.specs.declared.stop.Stop.TheVariants as stops
-use Rattle.zb_rules.specs.View.{moment_of_last}
+use Rattle.zb_views.specs.View.{moment_of_last}
 use Rattle.zb_store.specs.Calls.{LeavesOnly}
 use Rattle.zb_partition.specs.Stopping.{IsLeft, IsHurt}
 use Rattle.zb_lines.specs.Taken.{TakesBytes}

@@ -4,7 +4,7 @@ use Rattle.zb_disk.specs.Disk.{DiskView}
 use Rattle.zb_model.specs.declared.record.Batch.{Batch}
 use Rattle.zb_model.specs.declared.record.Command.{Command}
 use Rattle.zb_model.specs.declared.stop.Stop.{Stop}
-use Rattle.zb_rules.specs.View.{events_of, moment_of_last}
+use Rattle.zb_views.specs.View.{events_of, moment_of_last}
 use Rattle.zb_rules.specs.Due.{due_command}
 use Rattle.zb_wire.specs.declared.request.Request.TheVariants as requests
 use Rattle.zb_serve.specs.Ledger.{IsGrown, IsHeldUp, IsTicked, IsCut}

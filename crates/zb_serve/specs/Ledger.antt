@@ -9,7 +9,7 @@ use Rattle.zb_model.specs.declared.stop.Stop.{Stop}
 use Rattle.zb_store.specs.Calls.{LeavesOnly}
 use Rattle.zb_store.specs.Log.{extent}
 use Rattle.zb_store.specs.Stands.{Stands}
-use Rattle.zb_rules.specs.View.{moment_of_last}
+use Rattle.zb_views.specs.View.{moment_of_last}
 use Rattle.zb_rules.specs.Step.{AreStepsOn}
 use Rattle.zb_wire.specs.declared.request.Request.{Request}
 use Rattle.zb_wire.specs.declared.request.Request.TheVariants as requests

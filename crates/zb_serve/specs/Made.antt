@@ -2,7 +2,7 @@
 use Rattle.std.specs.Prelude.{◌≡◌, nat_lt, max, if◌then◌else◌, ℕ, List, [], ◌∷◌, ◌++◌, length, Option, Some, None}
 use Rattle.zb_model.specs.declared.record.Batch.{Batch}
 use Rattle.zb_model.specs.declared.record.Command.{Command}
-use Rattle.zb_rules.specs.View.{events_of, moment_of_last}
+use Rattle.zb_views.specs.View.{events_of, moment_of_last}
 use Rattle.zb_rules.specs.Step.{EachOn}
 use Rattle.zb_rules.specs.Due.{due_command}
 use Rattle.zb_wire.specs.declared.request.Request.{Request}

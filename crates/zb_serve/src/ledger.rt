@@ -1,6 +1,6 @@
 ghost use Rattle.std.specs.Prelude.{◌≡◌, ◌≤◌, ◌++◌, ◌∷◌, ℕ, List, [], max, IfErr, IfOk, OnOk, IsErrOf, IsTrue};
 ghost use Rattle.zb_model.specs.declared.record.Batch.{Batch};
-ghost use Rattle.zb_rules.specs.View.{moment_of_last};
+ghost use Rattle.zb_views.specs.View.{moment_of_last};
 ghost use Rattle.zb_rules.specs.Step.{IsStep};
 ghost use Rattle.zb_rules.specs.Own.{IsSupported};
 ghost use Rattle.zb_partition.specs.Partition.{disk_of, slots_of, in_writing};

@@ -8,19 +8,19 @@ use Rattle.zb_base.specs.Key.{key_of}
 use Rattle.zb_exchange_records.specs.declared.message.MessagePublished.{MessagePublished}
 use Rattle.zb_model.specs.declared.record.Event.{Event}
 use Rattle.zb_model.specs.declared.record.Event.TheVariants as events
-use Rattle.zb_rules.specs.View.{counter_at, keys_in, greatest_among, greatest_counter}
+use Rattle.zb_views.specs.View.{counter_at, keys_in, greatest_among, greatest_counter}
 use Rattle.zb_table.specs.Rows.{Ascend, are_below, row_at, with_row}
 use Rattle.zb_table.proofs.Growing.{with_last, below_higher, below_more, below_without, has_row, passes_at}
-use Rattle.zb_rules.specs.Edits.{first}
-use Rattle.zb_rules.specs.Messages.{buffered, is_past_deadline, without_message}
-use Rattle.zb_rules.specs.MessageLaws.{buffered_published, buffered_expired}
+use Rattle.zb_tokens.specs.Edits.{first}
+use Rattle.zb_views.specs.Messages.{buffered, is_past_deadline, without_message}
+use Rattle.zb_views.specs.MessageLaws.{buffered_published, buffered_expired}
 use Rattle.zb_rules.specs.GrowthLaws.{definitions_more, begun_more, board_of_more, buffered_kept}
-use Rattle.zb_rules.specs.Definitions.{definition_told}
+use Rattle.zb_views.specs.Definitions.{definition_told}
 use Rattle.zb_rules.specs.Create.{instance_told}
-use Rattle.zb_rules.specs.Board.{Board}
+use Rattle.zb_tokens.specs.Board.{Board}
 use Rattle.zb_rules.specs.Shown.{shown, after_shown}
 use Rattle.zb_rules.specs.StepLaws.{greatest_counter_more}
-use Rattle.zb_rules.proofs.CounterLemmas.{counter_at-key_of}
+use Rattle.zb_views.specs.CounterLaws.{counter_at-key_of}
 use Rattle.zb_state.specs.declared.change.Change.{Change}
 use Rattle.zb_state.specs.declared.change.Change.TheVariants as changes
 use Rattle.zb_state.specs.Change.{change_told, definition_of_change, instance_of_change, with_change, HasNextKey, Draws}

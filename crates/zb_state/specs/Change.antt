@@ -5,8 +5,8 @@ use Rattle.zb_exchange_records.specs.declared.message.MessagePublished.{MessageP
 use Rattle.zb_instance_records.specs.declared.instance.ProcessInstanceCreationCreated.{ProcessInstanceCreationCreated}
 use Rattle.zb_model.specs.declared.record.Event.{Event}
 use Rattle.zb_model.specs.declared.record.Event.TheVariants as events
-use Rattle.zb_rules.specs.declared.definition.Definition.{Definition}
-use Rattle.zb_rules.specs.Messages.{without_message}
+use Rattle.zb_views.specs.declared.definition.Definition.{Definition}
+use Rattle.zb_views.specs.Messages.{without_message}
 use Rattle.zb_state.specs.declared.change.Change.{Change}
 use Rattle.zb_state.specs.declared.change.Change.TheVariants as changes
 

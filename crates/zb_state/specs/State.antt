@@ -2,9 +2,9 @@
 use Rattle.std.specs.Prelude.{◌≡◌, ℕ, List, Some}
 use Rattle.zb_model.specs.declared.record.Event.{Event}
 use Rattle.zb_state.specs.declared.state.State.{State}
-use Rattle.zb_rules.specs.View.{greatest_counter}
-use Rattle.zb_rules.specs.Messages.{buffered}
-use Rattle.zb_rules.specs.Definitions.{definitions}
+use Rattle.zb_views.specs.View.{greatest_counter}
+use Rattle.zb_views.specs.Messages.{buffered}
+use Rattle.zb_views.specs.Definitions.{definitions}
 use Rattle.zb_rules.specs.Create.{begun}
 use Rattle.zb_rules.specs.Shown.{board_of}
 

@@ -7,7 +7,7 @@ use std::alloc::{AllocError, Global};
 use zb_model::{
     Event, Key, MessagePublished, ProcessCreated, ProcessInstanceCreationCreated, TryCopy,
 };
-use zb_rules::Definition;
+use zb_views::Definition;
 
 /// What an event changes beside the game and the counter.
 #[derive(Drop)]

@@ -3,10 +3,10 @@ ghost use Rattle.std.specs.Prelude.{◌≡◌, ◌==◌, ◌&&◌, max, option_m
 ghost use Rattle.std.specs.Option.{option_map_or};
 ghost use Rattle.std.specs.List.{list_any};
 ghost use Rattle.std.specs.Str.{bytes_eq};
-ghost use Rattle.zb_rules.specs.Definitions.{greatest_version, version_of};
+ghost use Rattle.zb_views.specs.Definitions.{greatest_version, version_of};
 
 use zb_model::Key;
-use zb_rules::Definition;
+use zb_views::Definition;
 
 /// Whether a definition has this key. It goes through all of them.
 pub fn has_key(key: Key, definitions: &[Definition]) -> bool

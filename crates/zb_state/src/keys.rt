@@ -1,6 +1,6 @@
 // The keys that events name.
 ghost use Rattle.std.specs.Prelude.{◌≡◌, ◌<◌, ◌^◌};
-ghost use Rattle.zb_rules.specs.View.{counter_at, greatest_among, keys_in};
+ghost use Rattle.zb_views.specs.View.{counter_at, greatest_among, keys_in};
 
 use zb_model::{Event, Key, PartitionId};
 

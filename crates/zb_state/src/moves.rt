@@ -2,9 +2,9 @@
 ghost use Rattle.std.specs.Prelude.{◌≡◌, IsTrue, IsFalse, IsErrOf, IfOk, OnOk, Some};
 ghost use Rattle.zb_model.specs.declared.record.Event.TheVariants as events;
 ghost use Rattle.zb_rules.specs.Applies.{is_possible};
-ghost use Rattle.zb_rules.specs.Game.{can, played};
+ghost use Rattle.zb_tokens.specs.Game.{can, played};
 ghost use Rattle.zb_rules.specs.Shown.{shown, after_shown, event_of};
-ghost use Rattle.zb_rules.specs.declared.board.Move.TheVariants as moves;
+ghost use Rattle.zb_tokens.specs.declared.board.Move.TheVariants as moves;
 
 use std::alloc::{AllocError, Global};
 use zb_game::{Game, GameFault};
@@ -12,7 +12,7 @@ use zb_model::{
     ElementActivated, ElementActivating, ElementCompleted, Event, Key, List, ProcessCreated, Role,
     SequenceFlowTaken, TableFault, Text, TryCopy, VariableCreated,
 };
-use zb_rules::{Assigned, Deployed, Enter, Leave, Move, Start, Take};
+use zb_tokens::{Assigned, Deployed, Enter, Leave, Move, Start, Take};
 
 /// Makes the move that the event shows, if it shows one. At `NotApplicable`, exactly where it isn't legal,
 /// nothing has changed; after `Memory` the game is only dropped. It costs a copy of the event's texts, its

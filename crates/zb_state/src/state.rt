@@ -3,14 +3,14 @@ ghost use Rattle.std.specs.List.{list_any};
 ghost use Rattle.std.specs.Option.{option_map_or};
 ghost use Rattle.zb_base.specs.Key.{key_of};
 ghost use Rattle.zb_model.specs.declared.record.Event.{Event};
-ghost use Rattle.zb_rules.specs.View.{next_key};
-ghost use Rattle.zb_rules.specs.Messages.{buffered, is_buffered, message_at};
+ghost use Rattle.zb_views.specs.View.{next_key};
+ghost use Rattle.zb_views.specs.Messages.{buffered, is_buffered, message_at};
 ghost use Rattle.zb_rules.specs.Publish.{is_same};
 ghost use Rattle.zb_rules.specs.Expire.{is_due_at};
 ghost use Rattle.zb_rules.specs.Due.{due_message};
 ghost use Rattle.zb_rules.specs.Applies.{applies, holds_own, is_fresh, has_definition, begins_well, begins_instance, begins_cell, is_definition_of};
-ghost use Rattle.zb_rules.specs.Definitions.{definitions, definition_for, greatest_version};
-ghost use Rattle.zb_rules.specs.Faults.{is_well_formed};
+ghost use Rattle.zb_views.specs.Definitions.{definitions, definition_for, greatest_version};
+ghost use Rattle.zb_faults.specs.Faults.{is_well_formed};
 ghost use Rattle.zb_rules.specs.Settling.{turn};
 ghost use Rattle.zb_rules.specs.Shown.{shown, after_shown, board_of};
 ghost use Rattle.zb_table.specs.Rows.{are_below};
@@ -28,7 +28,7 @@ use zb_model::{
     ElementActivating, Event, Key, MessagePublish, Model as ProcessModel, Moment, PartitionId,
     ProcessInstanceCreationCreated, Role, TableFault, TryCopy,
 };
-use zb_rules::Definition;
+use zb_views::Definition;
 use zb_table::Table;
 
 /// What the events of a partition's log come to. Its clauses hold for all lists of events of which it is

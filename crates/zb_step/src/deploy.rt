@@ -2,7 +2,7 @@
 ghost use Rattle.std.specs.Prelude.{◌≡◌, List, [], IfOk, OnOk, string_bytes};
 ghost use Rattle.zb_model.specs.declared.record.Event.{Event};
 ghost use Rattle.zb_rules.specs.Deploy.{reason_to_deploy, version_behind, deployed};
-ghost use Rattle.zb_rules.specs.Faults.{fault_text};
+ghost use Rattle.zb_faults.specs.Faults.{fault_text};
 ghost use Rattle.zb_state.specs.State.{partition_of, IsStateOf};
 ghost use Rattle.zb_step.specs.Made.{AreMadeEvents};
 
@@ -13,7 +13,7 @@ use zb_check::{ModelFault, check};
 use zb_model::{
     DeploymentCreated, Event, Model, ProcessCreated, Rejection, RejectionKind, TryCopy,
 };
-use zb_rules::Fault;
+use zb_faults::Fault;
 use zb_state::{Out, State};
 
 /// Why a model isn't deployed: its first fault.

@@ -1,11 +1,11 @@
 ghost use Rattle.std.specs.Prelude.{◌≡◌, Some, None, OnOk, IsErrOf};
-ghost use Rattle.zb_rules.specs.MoveAssign.{can_assign, play_assign};
+ghost use Rattle.zb_tokens.specs.MoveAssign.{can_assign, play_assign};
 
 use crate::lookups::has_variable;
 use crate::{Game, GameFault};
 use std::alloc::Global;
 use zb_model::TryCopy;
-use zb_rules::Assigned;
+use zb_tokens::Assigned;
 
 impl Game {
     // Whether a cell may get a variable.

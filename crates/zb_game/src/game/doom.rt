@@ -1,9 +1,9 @@
 ghost use Rattle.std.specs.Prelude.{◌≡◌};
-ghost use Rattle.zb_rules.specs.Doom.{is_called_off, is_doomed};
+ghost use Rattle.zb_tokens.specs.Doom.{is_called_off, is_doomed};
 
 use crate::Game;
 use zb_model::Key;
-use zb_rules::{Cell, Phase};
+use zb_tokens::{Cell, Phase};
 
 impl Game {
     // Whether a cell or one above it is terminating.

@@ -1,5 +1,5 @@
 ghost use Rattle.std.specs.Prelude.{◌≡◌, Some, None, OnOk, IsErrOf};
-ghost use Rattle.zb_rules.specs.MoveEnter.{arrives, can_enter, comes_by, play_enter};
+ghost use Rattle.zb_tokens.specs.MoveEnter.{arrives, can_enter, comes_by, play_enter};
 
 use crate::edits::take_token;
 use crate::flows::leads_to;
@@ -7,7 +7,7 @@ use crate::lookups::{has_entering, node_among};
 use crate::{Game, GameFault};
 use std::alloc::Global;
 use zb_model::{Key, List, Model, Role, TryCopy};
-use zb_rules::{Cell, Enter, Phase};
+use zb_tokens::{Cell, Enter, Phase};
 
 impl Game {
     // Whether a token may enter a node.

@@ -1,14 +1,14 @@
 ghost use Rattle.std.specs.Prelude.{◌≡◌, Some, None, false, OnOk, IsErrOf};
 ghost use Rattle.std.specs.Option.{option_map_or};
-ghost use Rattle.zb_rules.specs.Board.{is_empty, node_with};
-ghost use Rattle.zb_rules.specs.MoveFinish.{can_finish, node_goes_on, is_done, play_finish, waits_for_nothing};
+ghost use Rattle.zb_tokens.specs.Board.{is_empty, node_with};
+ghost use Rattle.zb_tokens.specs.MoveFinish.{can_finish, node_goes_on, is_done, play_finish, waits_for_nothing};
 
 use crate::edits::put_in_phase;
 use crate::lookups::{has_cell_in, has_token_in, node_among};
 use crate::{Game, GameFault};
 use std::alloc::Global;
 use zb_model::{Key, List, Model, NodeKind};
-use zb_rules::{Cell, Phase};
+use zb_tokens::{Cell, Phase};
 
 impl Game {
     // Whether a cell may begin to complete.

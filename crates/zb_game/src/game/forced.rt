@@ -1,13 +1,13 @@
 ghost use Rattle.std.specs.Prelude.{◌≡◌, IsTrue, IfOk, IfSome, is_some, option_map};
 ghost use Rattle.std.specs.Option.{option_copied};
-ghost use Rattle.zb_rules.specs.Forced.{entry_at, entry_of, first_entry, forced_at, forced_in, if_can, newest, next_forced, take_first};
+ghost use Rattle.zb_tokens.specs.Forced.{entry_at, entry_of, first_entry, forced_at, forced_in, if_can, newest, next_forced, take_first};
 ghost use Rattle.zb_game.specs.Newest.{keyed_answer, is_newer};
 
 use crate::Game;
 use crate::lookups::flow_among;
 use std::alloc::{AllocError, Global};
 use zb_model::{Key, Model, Text, TryCopy};
-use zb_rules::{Cell, Enter, Leave, Move, Phase, Spot, Take, Token};
+use zb_tokens::{Cell, Enter, Leave, Move, Phase, Spot, Take, Token};
 
 impl Game {
     /// The next forced move, where a cell that begins gets this key; `None` where the game is quiet. It goes through

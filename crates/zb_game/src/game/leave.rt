@@ -1,12 +1,12 @@
 ghost use Rattle.std.specs.Prelude.{◌≡◌, Some, None, IfOk, OnOk, IsErrOf};
-ghost use Rattle.zb_rules.specs.MoveLeave.{can_leave, ids_eq, leaving, owed_by, play_leave};
+ghost use Rattle.zb_tokens.specs.MoveLeave.{can_leave, ids_eq, leaving, owed_by, play_leave};
 
 use crate::edits::{copy_of, forget_variables, put_in_phase, take_away};
 use crate::flows::{are_flows_out, flows_out};
 use crate::{Game, GameFault};
 use std::alloc::{AllocError, Global};
 use zb_model::{Key, List, Text};
-use zb_rules::{Cell, Leave, Phase};
+use zb_tokens::{Cell, Leave, Phase};
 
 impl Game {
     // Whether a cell has completed, and owes these flows.

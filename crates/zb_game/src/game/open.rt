@@ -1,13 +1,13 @@
 ghost use Rattle.std.specs.Prelude.{◌≡◌, ◌∷◌, [], Some, None, IfOk, OnOk, IsErrOf};
 ghost use Rattle.std.specs.Option.{option_map_or};
-ghost use Rattle.zb_rules.specs.MoveOpen.{can_open, first_tokens, play_open};
+ghost use Rattle.zb_tokens.specs.MoveOpen.{can_open, first_tokens, play_open};
 
 use crate::edits::{add_token, put_in_phase};
 use crate::lookups::start_among;
 use crate::{Game, GameFault};
 use std::alloc::{AllocError, Global};
 use zb_model::{Key, List, TryCopy};
-use zb_rules::{Cell, Phase, Spot, Token};
+use zb_tokens::{Cell, Phase, Spot, Token};
 
 impl Game {
     // Whether a cell may become active.

@@ -1,10 +1,10 @@
 ghost use Rattle.std.specs.Prelude.{◌≡◌, Some, None, OnOk, IsErrOf};
-ghost use Rattle.zb_rules.specs.MoveStand.{can_stand, play_stand};
+ghost use Rattle.zb_tokens.specs.MoveStand.{can_stand, play_stand};
 
 use crate::{Game, GameFault};
 use std::alloc::Global;
 use zb_model::TryCopy;
-use zb_rules::Deployed;
+use zb_tokens::Deployed;
 
 impl Game {
     // Whether a model may stand under a key.

@@ -1,10 +1,10 @@
 ghost use Rattle.std.specs.Prelude.{◌≡◌, Some, None, OnOk, IsErrOf};
-ghost use Rattle.zb_rules.specs.MoveStart.{can_start, play_start};
+ghost use Rattle.zb_tokens.specs.MoveStart.{can_start, play_start};
 
 use crate::{Game, GameFault};
 use std::alloc::Global;
 use zb_model::{Key, List, Role, TryCopy};
-use zb_rules::{Cell, Phase, Start};
+use zb_tokens::{Cell, Phase, Start};
 
 impl Game {
     // Whether a process may be instantiated.

@@ -1,11 +1,11 @@
 ghost use Rattle.std.specs.Prelude.{◌≡◌, Some, None, IfOk, OnOk, IsErrOf};
-ghost use Rattle.zb_rules.specs.MoveTake.{can_take, is_first, play_take, rest_of};
+ghost use Rattle.zb_tokens.specs.MoveTake.{can_take, is_first, play_take, rest_of};
 
 use crate::edits::copy_of;
 use crate::{Game, GameFault};
 use std::alloc::{AllocError, Global};
 use zb_model::{List, Text, TryCopy};
-use zb_rules::{Phase, Spot, Take, Token};
+use zb_tokens::{Phase, Spot, Take, Token};
 
 impl Game {
     // Whether a cell leaves, and owes this flow first.

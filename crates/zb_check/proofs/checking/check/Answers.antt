@@ -1,5 +1,5 @@
 use Rattle.std.proofs.Common.{sym, ◌∙◌}
-use Rattle.zb_rules.specs.Faults.{all_faults}
+use Rattle.zb_faults.specs.Faults.{all_faults}
 use Rattle.zb_check.proofs.FaultLemmas.{first_of_here, first_of_later}
 use Rattle.zb_check.proofs.checking.check.Goals as goal
 

@@ -1,5 +1,5 @@
 use Rattle.std.proofs.Common.{◌≡◌, drop}
-use Rattle.zb_rules.specs.Faults.{all_faults, first_fault, first_fault_among}
+use Rattle.zb_faults.specs.Faults.{all_faults, first_fault, first_fault_among}
 use Rattle.zb_check.proofs.checking.check.Given as goal
 
 -- the model has none of the faults so far

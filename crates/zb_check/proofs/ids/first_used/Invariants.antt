@@ -1,5 +1,5 @@
 use Rattle.std.proofs.Common.{◌≡◌, ◌∷◌, ◌++◌, map, take, drop}
-use Rattle.zb_rules.specs.Faults.{repeated}
+use Rattle.zb_faults.specs.Faults.{repeated}
 use Rattle.zb_check.proofs.ids.first_used.Given as goal
 
 -- none of the ids so far was used

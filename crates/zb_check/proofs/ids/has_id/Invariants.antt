@@ -1,5 +1,5 @@
 use Rattle.std.proofs.Common.{◌≡◌, map, drop}
-use Rattle.zb_rules.specs.Faults.{has_id}
+use Rattle.zb_faults.specs.Faults.{has_id}
 use Rattle.zb_check.proofs.ids.has_id.Given as goal
 
 -- none so far has the id

@@ -1,6 +1,6 @@
 use Rattle.std.proofs.Common.{◌==◌, not, rules}
 use Rattle.std.proofs.lemmas.Fn.{filter_same}
-use Rattle.zb_rules.specs.declared.board.Assigned.{Assigned}
+use Rattle.zb_tokens.specs.declared.board.Assigned.{Assigned}
 use Rattle.zb_game.proofs.edits.forget_variables.Goals as goal
 
 pub returns : goal.returns

@@ -1,6 +1,6 @@
 use Rattle.std.proofs.Common.{◌==◌}
-use Rattle.zb_rules.specs.declared.board.Cell.{Cell}
-use Rattle.zb_rules.specs.Board.{in_phase}
+use Rattle.zb_tokens.specs.declared.board.Cell.{Cell}
+use Rattle.zb_tokens.specs.Board.{in_phase}
 use Rattle.zb_game.proofs.EditLemmas.{edited_at, edited_none, placed}
 use Rattle.zb_game.proofs.edits.put_in_phase.Goals as goal
 

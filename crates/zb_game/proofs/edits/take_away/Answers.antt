@@ -1,5 +1,5 @@
 use Rattle.std.proofs.Common.{◌==◌, Some, ap, ◌∙◌, sym}
-use Rattle.zb_rules.specs.declared.board.Cell.{Cell}
+use Rattle.zb_tokens.specs.declared.board.Cell.{Cell}
 use Rattle.zb_game.proofs.EditLemmas.{removed_at, removed_none, placed}
 use Rattle.zb_game.proofs.edits.take_away.Goals as goal
 

@@ -1,5 +1,5 @@
 use Rattle.std.proofs.Common.{Some, ap, ◌∙◌, sym}
-use Rattle.zb_rules.specs.MoveEnter.{enters}
+use Rattle.zb_tokens.specs.MoveEnter.{enters}
 use Rattle.zb_game.proofs.EditLemmas.{removed_at, removed_none, placed}
 use Rattle.zb_game.proofs.edits.take_token.Goals as goal
 

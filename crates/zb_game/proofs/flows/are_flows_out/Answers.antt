@@ -1,7 +1,7 @@
 use Rattle.std.proofs.Common.{List, sym, ap, ◌∙◌, arith}
 use Rattle.std.proofs.lemmas.List.{drop_all}
 use Rattle.zb_process.specs.declared.model.Flow.{Flow}
-use Rattle.zb_rules.specs.MoveLeave.{ids_eq}
+use Rattle.zb_tokens.specs.MoveLeave.{ids_eq}
 use Rattle.zb_game.proofs.FlowLemmas.{ids_out, ids_eq-none}
 use Rattle.zb_game.proofs.flows.are_flows_out.Goals as goal
 

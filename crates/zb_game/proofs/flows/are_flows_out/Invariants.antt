@@ -1,5 +1,5 @@
 use Rattle.std.proofs.Common.{◌≡◌, drop}
-use Rattle.zb_rules.specs.MoveLeave.{ids_eq}
+use Rattle.zb_tokens.specs.MoveLeave.{ids_eq}
 use Rattle.zb_game.proofs.FlowLemmas.{ids_out}
 use Rattle.zb_game.proofs.flows.are_flows_out.Given as goal
 

@@ -1,5 +1,5 @@
 use Rattle.std.proofs.Common.{refl}
-use Rattle.zb_rules.specs.View.{events_of}
+use Rattle.zb_views.specs.View.{events_of}
 use Rattle.zb_partition.proofs.ReadingLemmas.{known_more}
 use Rattle.zb_partition.proofs.opening.take_batch.Goals as goal
 

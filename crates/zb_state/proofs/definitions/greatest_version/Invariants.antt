@@ -1,5 +1,5 @@
 use Rattle.std.proofs.Common.{◌≡◌, drop}
-use Rattle.zb_rules.specs.Definitions.{greatest_version}
+use Rattle.zb_views.specs.Definitions.{greatest_version}
 use Rattle.zb_state.proofs.definitions.greatest_version.Given as goal
 
 abbrev pub invariant-loop-place : goal.invariant-loop-place

@@ -1,6 +1,6 @@
 use Rattle.std.proofs.Common.{◌≡◌, drop}
 use Rattle.std.specs.Prelude.{option_map}
-use Rattle.zb_rules.specs.Definitions.{version_of}
+use Rattle.zb_views.specs.Definitions.{version_of}
 use Rattle.zb_state.proofs.definitions.key_of_version.Given as goal
 
 abbrev pub invariant-loop-place : goal.invariant-loop-place

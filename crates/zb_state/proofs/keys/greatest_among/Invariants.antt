@@ -1,5 +1,5 @@
 use Rattle.std.proofs.Common.{◌≡◌, ◌<◌, ◌^◌, drop}
-use Rattle.zb_rules.specs.View.{greatest_among}
+use Rattle.zb_views.specs.View.{greatest_among}
 use Rattle.zb_state.proofs.keys.greatest_among.Given as goal
 
 abbrev pub invariant-loop-index : goal.invariant-loop-index

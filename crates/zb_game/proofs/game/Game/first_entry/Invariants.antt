@@ -1,5 +1,5 @@
 use Rattle.std.proofs.Common.{◌≡◌, drop}
-use Rattle.zb_rules.specs.Forced.{first_entry}
+use Rattle.zb_tokens.specs.Forced.{first_entry}
 use Rattle.zb_game.proofs.game.Game.first_entry.Given as goal
 
 -- no token so far can enter

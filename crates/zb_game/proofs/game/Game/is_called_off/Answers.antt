@@ -1,6 +1,6 @@
 use Rattle.std.proofs.Common.{◌≡◌, true, false, sym, ◌∙◌, rules}
-use Rattle.zb_rules.specs.declared.board.Phase.TheVariants as phases
-use Rattle.zb_rules.specs.Board.{is_phase}
+use Rattle.zb_tokens.specs.declared.board.Phase.TheVariants as phases
+use Rattle.zb_tokens.specs.Board.{is_phase}
 use Rattle.zb_game.proofs.ScopeLemmas.{called_off-at, called_off-above, called_off-none}
 use Rattle.zb_game.proofs.game.Game.is_called_off.Goals as goal
 

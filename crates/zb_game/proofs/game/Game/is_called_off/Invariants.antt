@@ -1,5 +1,5 @@
 use Rattle.std.proofs.Common.{◌≡◌, drop}
-use Rattle.zb_rules.specs.Doom.{is_called_off}
+use Rattle.zb_tokens.specs.Doom.{is_called_off}
 use Rattle.zb_game.proofs.game.Game.is_called_off.Given as goal
 
 -- what is asked of the cells above

@@ -1,7 +1,7 @@
 use Rattle.std.proofs.Common.{◌≡◌, ◌-◌, ◌<◌, ◌≤◌, length, get_or, true, false, IsTrue, is_some, ap, ◌∙◌, arith, rules}
 use Rattle.std.specs.Option.{option_copied}
-use Rattle.zb_rules.specs.Board.{Board}
-use Rattle.zb_rules.specs.Forced.{forced_at}
+use Rattle.zb_tokens.specs.Board.{Board}
+use Rattle.zb_tokens.specs.Forced.{forced_at}
 use Rattle.zb_game.specs.Newest.{is_newer}
 use Rattle.zb_game.proofs.NewestLemmas.{newest-found, newest-older, newest-unforced}
 use Rattle.zb_game.proofs.game.Game.newest.Goals as goal

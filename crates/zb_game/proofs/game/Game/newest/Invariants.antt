@@ -1,6 +1,6 @@
 use Rattle.std.proofs.Common.{◌≡◌, drop, is_some, IsTrue, IfSome}
 use Rattle.std.specs.Option.{option_copied}
-use Rattle.zb_rules.specs.Forced.{forced_at, newest}
+use Rattle.zb_tokens.specs.Forced.{forced_at, newest}
 use Rattle.zb_game.specs.Newest.{keyed_answer}
 use Rattle.zb_game.proofs.game.Game.newest.Given as goal
 

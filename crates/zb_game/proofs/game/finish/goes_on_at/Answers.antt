@@ -4,8 +4,8 @@ use Rattle.std.specs.Option.{option_map_or}
 use Rattle.std.specs.Str.{bytes_eq}
 use Rattle.zb_process.specs.declared.model.Model.{Model}
 use Rattle.zb_process.specs.declared.model.Node.{Node}
-use Rattle.zb_rules.specs.Board.{node_with}
-use Rattle.zb_rules.specs.MoveFinish.{waits_for_nothing}
+use Rattle.zb_tokens.specs.Board.{node_with}
+use Rattle.zb_tokens.specs.MoveFinish.{waits_for_nothing}
 use Rattle.zb_game.proofs.FirstLemmas.{found_first}
 use Rattle.zb_game.proofs.game.finish.goes_on_at.Goals as goal
 

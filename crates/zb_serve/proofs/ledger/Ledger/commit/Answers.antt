@@ -1,6 +1,6 @@
 use Rattle.std.proofs.Common.{◌≤◌, ◌++◌, ◌∷◌, max, ℕ, List, [], Err, refl, sym, ap, ◌∙◌, subst, append_assoc, arith}
 use Rattle.zb_model.specs.declared.record.Batch.{Batch}
-use Rattle.zb_rules.specs.View.{moment_of_last}
+use Rattle.zb_views.specs.View.{moment_of_last}
 use Rattle.zb_rules.specs.Step.{IsStep}
 use Rattle.zb_store.specs.Log.{extent}
 use Rattle.zb_store.specs.CallLaws.{leaves_weaker}

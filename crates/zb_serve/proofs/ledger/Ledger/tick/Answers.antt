@@ -1,5 +1,5 @@
 use Rattle.std.proofs.Common.{◌≡◌, ◌<◌, ◌++◌, ℕ, refl, sym, ◌∙◌, arith}
-use Rattle.zb_rules.specs.View.{events_of}
+use Rattle.zb_views.specs.View.{events_of}
 use Rattle.zb_rules.specs.DueLaws.{due_command_is_run}
 use Rattle.zb_serve.specs.Made.{most_due}
 use Rattle.zb_serve.proofs.LogLemmas.{grown_none}

@@ -1,0 +1,39 @@
+ghost use Rattle.std.specs.Prelude.{◌≡◌};
+
+/// What may be wrong with a model, in the order in which it is looked for.
+#[derive(Clone, Copy, Debug, PartialEq, Eq)]
+pub enum Fault {
+    /// The process, a node or a flow has no id.
+    EmptyId,
+    /// An id was used before.
+    DoubleId,
+    /// An end of a flow is no node.
+    Dangling,
+    /// A process hasn't exactly one start event.
+    Start,
+    /// A flow leads into a start event or out of an end event.
+    FlowEnd,
+    /// No flow leads to a node that is no start event.
+    NoIncoming,
+    /// There are too many nodes or flows.
+    Limit,
+}
+
+impl Fault {
+    ghost use Rattle.zb_faults.specs.Faults.{name_of};
+
+    /// Its name.
+    pub fn name(self) -> &'static str
+        ensures { result.now ≡ name_of self }
+    {
+        match self {
+            Fault::EmptyId => "EMPTY_ID",
+            Fault::DoubleId => "DOUBLE_ID",
+            Fault::Dangling => "DANGLING",
+            Fault::Start => "START",
+            Fault::FlowEnd => "FLOW_END",
+            Fault::NoIncoming => "NO_INCOMING",
+            Fault::Limit => "LIMIT",
+        }
+    }
+}

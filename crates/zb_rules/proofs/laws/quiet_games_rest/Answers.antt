@@ -1,5 +1,0 @@
-use Rattle.zb_rules.specs.ForcedLaws.{quiet_rests}
-use Rattle.zb_rules.proofs.laws.quiet_games_rest.Goals as goal
-
-pub returns : goal.returns
-returns c = quiet_rests

@@ -1,5 +1,0 @@
-use Rattle.zb_rules.specs.GameLaws.{take_makes_one}
-use Rattle.zb_rules.proofs.laws.taken_flows_make_one_token.Goals as goal
-
-pub returns : goal.returns
-returns c = take_makes_one

@@ -1,0 +1,103 @@
+-- What stands on a board (BPMN 2.0.2, 13.1: tokens).
+use Rattle.std.specs.Prelude.{ℕ, ◌==◌, List, [], ◌∷◌, map, filter, Bool, true, false, ◌&&◌, not, Option, option_map, ◌+◌, ◌≤◌}
+use Rattle.std.specs.Option.{option_map_or}
+use Rattle.std.specs.List.{find, list_any}
+use Rattle.std.specs.Str.{bytes_eq}
+use Rattle.zb_process.specs.declared.model.Model.{Model}
+use Rattle.zb_process.specs.declared.model.Node.{Node}
+use Rattle.zb_instance_records.specs.declared.instance.Role.TheVariants as roles
+use Rattle.zb_faults.specs.Faults.{is_start}
+use Rattle.zb_tokens.specs.declared.board.Cell.{Cell}
+use Rattle.zb_tokens.specs.declared.board.Token.{Token}
+use Rattle.zb_tokens.specs.declared.board.Spot.{Spot}
+use Rattle.zb_tokens.specs.declared.board.Spot.TheVariants as spots
+use Rattle.zb_tokens.specs.declared.board.Deployed.{Deployed}
+use Rattle.zb_tokens.specs.declared.board.Mark.TheVariants as marks
+use Rattle.zb_tokens.specs.declared.board.Phase.{Phase}
+use Rattle.zb_tokens.specs.declared.board.Phase.TheVariants as phases
+
+-- a game of tokens: the models, the cells in the order of their keys, the tokens in the order in which they were made
+pub record Board : Type 0 where
+  pub models : List Deployed
+  pub cells : List Cell
+  pub tokens : List Token
+
+-- the cell with a key
+abbrev pub cell_at : Board → ℕ → Option Cell
+cell_at b key = find (λ c. c.key == key) b.cells
+
+-- the model of a definition
+abbrev pub model_under : Board → ℕ → Option Model
+model_under b key = option_map (λ d. d.model) (find (λ d. d.key == key) b.models)
+
+-- the node with an id
+abbrev pub node_with : Model → List ℕ → Option Node
+node_with m id = find (λ n. bytes_eq n.id id) m.nodes
+
+-- the ids of the flows out of a node, in the order of the model (BPMN 2.0.2, 8.4.13)
+abbrev pub flows_out : Model → List ℕ → List (List ℕ)
+flows_out m id = map (λ f. f.id) (filter (λ f. bytes_eq f.from id) m.flows)
+
+-- the flow with an id leads to a node
+abbrev pub leads_to : Model → List ℕ → List ℕ → Bool
+leads_to m flow id = option_map_or (λ f. bytes_eq f.to id) (find (λ f. bytes_eq f.id flow) m.flows) false
+
+-- the start event of a scope with this id, empty at the top (BPMN 2.0.2, 10.5.2)
+abbrev pub start_in : Model → List ℕ → Option Node
+start_in m scope = find (λ n. is_start n.kind && bytes_eq n.parent scope) m.nodes
+
+-- the cell has this phase
+abbrev pub is_phase : Phase → Phase → Bool
+is_phase phases.Activating phases.Activating = true
+is_phase phases.Active phases.Active = true
+is_phase phases.Completing phases.Completing = true
+is_phase phases.Leaving phases.Leaving = true
+is_phase phases.Terminating phases.Terminating = true
+is_phase a b = false
+
+-- a root: a cell in no other
+abbrev pub is_root : Cell → Bool
+is_root c = c.scope == 0
+
+-- nothing runs in a cell, and no token is in it
+abbrev pub is_empty : Board → ℕ → Bool
+is_empty b key = not (list_any (λ c. c.scope == key) b.cells) && not (list_any (λ t. t.scope == key) b.tokens)
+
+-- the spot of a token that comes by a flow, or stands before a node where there is none
+abbrev pub spot_of : List ℕ → List ℕ → Spot
+spot_of [] node = spots.BeforeNode node
+spot_of (byte ∷ flow) node = spots.OnFlow (byte ∷ flow)
+
+-- two spots are the same
+abbrev pub is_spot : Spot → Spot → Bool
+is_spot (spots.OnFlow a) (spots.OnFlow b) = bytes_eq a b
+is_spot (spots.BeforeNode a) (spots.BeforeNode b) = bytes_eq a b
+is_spot a b = false
+
+-- a cell that begins under a key, in a scope, at a node of a definition; a token before the node entered it, or none did
+abbrev pub new_cell : (key scope definition : ℕ) → List ℕ → Bool → Cell
+new_cell key scope definition node before = record {
+  key = key;
+  scope = scope;
+  definition = definition;
+  node = node;
+  role = roles.Plain;
+  phase = phases.Activating;
+  mark = marks.Unset;
+  before = before;
+  items = [];
+  taken = 0;
+  owed = [];
+  finished = [];
+  ending = false;
+  variables = [];
+}
+
+-- the cell in another phase, owing these flows
+abbrev pub in_phase : Phase → List (List ℕ) → Cell → Cell
+in_phase phase owed c = record c { phase = phase; owed = owed }
+
+-- the keys of the cells ascend, from `low` on
+abbrev pub CellsAscend : ℕ → List Cell → Type 0
+CellsAscend low [] = Unit {0}
+CellsAscend low (c ∷ cells) = (low ≤ c.key) × CellsAscend (c.key + 1) cells

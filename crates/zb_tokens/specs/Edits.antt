@@ -1,0 +1,17 @@
+-- Editing a list at its first member that passes a test.
+use Rattle.std.specs.Prelude.{List, [], ◌∷◌, Bool, true, false, if◌then◌else◌, Option, Some, None, option_map}
+
+-- with that member edited; None where none passes
+abbrev pub edited : {A : Type 0} → (A → Bool) → (A → A) → List A → Option (List A)
+edited passes edit [] = None
+edited passes edit (x ∷ xs) = if passes x then Some (edit x ∷ xs) else option_map (λ ys. x ∷ ys) (edited passes edit xs)
+
+-- without that member; None where none passes
+abbrev pub removed : {A : Type 0} → (A → Bool) → List A → Option (List A)
+removed passes [] = None
+removed passes (x ∷ xs) = if passes x then Some xs else option_map (λ ys. x ∷ ys) (removed passes xs)
+
+-- there are none of these
+abbrev pub is_none_of : {A : Type 0} → List A → Bool
+is_none_of [] = true
+is_none_of (x ∷ xs) = false

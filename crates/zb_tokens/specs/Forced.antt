@@ -1,0 +1,82 @@
+-- Who is forced to move (BPMN 2.0.2, 13: a token moves on by itself where nothing is waited for), in which order (own), and to what.
+use Rattle.std.specs.Prelude.{ℕ, max, List, [], ◌∷◌, map, filter, slice_get, position, Bool, true, false, ◌&&◌, not, Option, Some, None, option_map, option_and_then, ◌≡◌}
+use Rattle.std.specs.Option.{option_map_or, option_or}
+use Rattle.std.specs.List.{find}
+use Rattle.std.specs.Str.{bytes_eq}
+use Rattle.zb_process.specs.declared.model.Model.{Model}
+use Rattle.zb_tokens.specs.declared.board.Cell.{Cell}
+use Rattle.zb_tokens.specs.declared.board.Token.{Token}
+use Rattle.zb_tokens.specs.declared.board.Spot.{Spot}
+use Rattle.zb_tokens.specs.declared.board.Spot.TheVariants as spots
+use Rattle.zb_tokens.specs.declared.board.Move.{Move}
+use Rattle.zb_tokens.specs.declared.board.Move.TheVariants as moves
+use Rattle.zb_tokens.specs.declared.board.Mover.{Mover}
+use Rattle.zb_tokens.specs.declared.board.Mover.TheVariants as movers
+use Rattle.zb_tokens.specs.declared.board.Phase.{Phase}
+use Rattle.zb_tokens.specs.declared.board.Phase.TheVariants as phases
+use Rattle.zb_tokens.specs.Edits.{is_none_of}
+use Rattle.zb_tokens.specs.Board.{Board, cell_at, model_under}
+use Rattle.zb_tokens.specs.Doom.{is_doomed}
+use Rattle.zb_tokens.specs.MoveEnter.{may_enter}
+use Rattle.zb_tokens.specs.MoveFinish.{is_done}
+use Rattle.zb_tokens.specs.MoveLeave.{owed_by}
+
+-- in a phase a cell goes on by itself (BPMN 2.0.2, 13)
+abbrev pub goes_on_in : Board → Cell → Phase → Bool
+goes_on_in b c phases.Activating = true
+goes_on_in b c phases.Active = is_done b c
+goes_on_in b c phases.Completing = true
+goes_on_in b c phases.Leaving = not (is_none_of c.owed)
+goes_on_in b c phases.Terminating = false
+
+-- a cell is forced to a move: it goes on by itself, and nothing calls it off (BPMN 2.0.2, 13)
+abbrev pub is_forced : Board → Cell → Bool
+is_forced b c = goes_on_in b c c.phase && not (is_doomed b c)
+
+-- the node that a token at a spot would enter, and the flow by which
+abbrev pub entry_at : Model → Spot → Option (List ℕ × List ℕ)
+entry_at m (spots.BeforeNode node) = Some (node, [])
+entry_at m (spots.OnFlow flow) = option_map (λ f. (f.to, flow)) (find (λ f. bytes_eq f.id flow) m.flows)
+
+-- the way that a token has, in the model of its scope's cell
+abbrev pub way_of : Board → Token → Option (List ℕ × List ℕ)
+way_of b t = option_and_then (λ c. option_and_then (λ m. entry_at m t.spot) (model_under b c.definition)) (cell_at b t.scope)
+
+-- a token can enter the node that it has come to (BPMN 2.0.2, 13.3.2)
+abbrev pub can_enter : Board → Token → Bool
+can_enter b t = option_map_or (λ way. may_enter b t.scope way.0 way.1) (way_of b t) false
+
+-- the greatest of some numbers
+abbrev pub greatest : List ℕ → Option ℕ
+greatest [] = None
+greatest (n ∷ ns) = Some (option_map_or (max n) (greatest ns) n)
+
+-- who moves next: the forced cell with the greatest key, or else the first token that can enter (own)
+abbrev pub next_mover : Board → Option Mover
+next_mover b = option_or (option_map movers.Cell (greatest (map (λ c. c.key) (filter (is_forced b) b.cells)))) (option_map movers.Token (position (can_enter b) b.tokens))
+
+-- nobody is forced to move
+abbrev pub IsQuiet : Board → Type 0
+IsQuiet b = next_mover b ≡ None
+
+-- the first flow that is owed is taken
+abbrev pub take_first : ℕ → List (List ℕ) → Option Move
+take_first key [] = None
+take_first key (flow ∷ owed) = Some (moves.Take (record { key = key; flow = flow }))
+
+-- what a cell does by itself in a phase (BPMN 2.0.2, 13)
+abbrev pub move_in : Board → Cell → Phase → Option Move
+move_in b c phases.Activating = Some (moves.Open c.key)
+move_in b c phases.Active = Some (moves.Finish c.key)
+move_in b c phases.Completing = Some (moves.Leave (record { key = c.key; owed = owed_by b c }))
+move_in b c phases.Leaving = take_first c.key c.owed
+move_in b c phases.Terminating = None
+
+-- how a token enters the node that it has come to, where the new cell gets this key (BPMN 2.0.2, 13.3.2)
+abbrev pub entry_of : Board → ℕ → Token → Option Move
+entry_of b key t = option_map (λ way. moves.Enter (record { key = key; scope = t.scope; node = way.0; via = way.1 })) (way_of b t)
+
+-- the move of a mover on a board at a moment, where a new cell gets this key (BPMN 2.0.2, 13)
+abbrev pub move_of : Board → ℕ → ℕ → Mover → Option Move
+move_of b moment key (movers.Cell cell) = option_and_then (λ c. move_in b c c.phase) (cell_at b cell)
+move_of b moment key (movers.Token place) = option_and_then (entry_of b key) (slice_get b.tokens place)

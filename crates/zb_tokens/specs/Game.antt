@@ -1,0 +1,50 @@
+-- The game of tokens: which moves are legal, and what they lead to (BPMN 2.0.2, 13). Each move's own rule stands in a module of its name.
+use Rattle.std.specs.Prelude.{◌≡◌, ℕ, [], Bool, true, IsTrue, Option, Some}
+use Rattle.zb_tokens.specs.Board.{Board}
+use Rattle.zb_tokens.specs.declared.board.Move.{Move}
+use Rattle.zb_tokens.specs.declared.board.Move.TheVariants as moves
+use Rattle.zb_tokens.specs.MoveStand.{fits_stand, play_stand}
+use Rattle.zb_tokens.specs.MoveStart.{fits_start, play_start}
+use Rattle.zb_tokens.specs.MoveEnter.{fits_enter, play_enter}
+use Rattle.zb_tokens.specs.MoveOpen.{fits_open, play_open}
+use Rattle.zb_tokens.specs.MoveFinish.{fits_finish, play_finish}
+use Rattle.zb_tokens.specs.MoveLeave.{fits_leave, agrees_leave, play_leave}
+use Rattle.zb_tokens.specs.MoveTake.{fits_take, play_take}
+use Rattle.zb_tokens.specs.MoveAssign.{fits_assign, play_assign}
+
+-- nothing on the board
+abbrev pub empty_board : Board
+empty_board = record { models = []; cells = []; tokens = [] }
+
+-- a move fits the board: all that its rule asks but for what it evaluates (BPMN 2.0.2, 13)
+abbrev pub fits : Board → Move → Bool
+fits b (moves.Stand d) = fits_stand b d
+fits b (moves.Start s) = fits_start b s
+fits b (moves.Enter e) = fits_enter b e
+fits b (moves.Open key) = fits_open b key
+fits b (moves.Finish key) = fits_finish b key
+fits b (moves.Leave l) = fits_leave b l
+fits b (moves.Take t) = fits_take b t
+fits b (moves.Assign a) = fits_assign b a
+
+-- a move agrees with what it evaluates on a board at a moment (BPMN 2.0.2, 13)
+abbrev pub agrees : Board → ℕ → Move → Bool
+agrees b moment (moves.Leave l) = agrees_leave b l
+agrees b moment move = true
+
+-- the board after a move; None where it names a cell, a token or a model that isn't there (BPMN 2.0.2, 13)
+abbrev pub played : Board → Move → Option Board
+played b (moves.Stand d) = play_stand b d
+played b (moves.Start s) = play_start b s
+played b (moves.Enter e) = play_enter b e
+played b (moves.Open key) = play_open b key
+played b (moves.Finish key) = play_finish b key
+played b (moves.Leave l) = play_leave b l
+played b (moves.Take t) = play_take b t
+played b (moves.Assign a) = play_assign b a
+
+-- a move is legal and leads from one board to another, where what it evaluates is asked of a board from before, at a moment (BPMN 2.0.2, 13)
+pub record IsLegal (evaluated : Board) (moment : ℕ) (board : Board) (move : Move) (after : Board) : Type 0 where
+  pub fit : IsTrue (fits board move)
+  pub agreed : IsTrue (agrees evaluated moment move)
+  pub leads : played board move ≡ Some after

@@ -1,0 +1,15 @@
+pub mod Edits
+pub mod Board
+pub mod Doom
+pub mod MoveStand
+pub mod MoveStart
+pub mod MoveEnter
+pub mod MoveOpen
+pub mod MoveFinish
+pub mod MoveLeave
+pub mod MoveTake
+pub mod MoveAssign
+pub mod Game
+pub mod Forced
+pub mod GameLaws
+pub mod ForcedLaws

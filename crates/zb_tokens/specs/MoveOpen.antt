@@ -1,0 +1,27 @@
+-- A cell becomes active (BPMN 2.0.2, 13.3.2), and a scope gets a token before its start event.
+use Rattle.std.specs.Prelude.{ℕ, ◌==◌, List, [], ◌∷◌, ◌++◌, Bool, false, if◌then◌else◌, Option, Some, option_map, option_and_then}
+use Rattle.std.specs.Option.{option_map_or}
+use Rattle.zb_process.specs.declared.model.Model.{Model}
+use Rattle.zb_tokens.specs.Edits.{edited}
+use Rattle.zb_tokens.specs.declared.board.Cell.{Cell}
+use Rattle.zb_tokens.specs.declared.board.Token.{Token}
+use Rattle.zb_tokens.specs.declared.board.Spot.TheVariants as spots
+use Rattle.zb_tokens.specs.declared.board.Phase.TheVariants as phases
+use Rattle.zb_tokens.specs.Board.{Board, cell_at, model_under, start_in, is_phase, is_root, in_phase}
+
+-- the token before the start event of a process
+abbrev pub start_token : ℕ → Model → List Token
+start_token scope m = option_map_or (λ n. record { scope = scope; spot = spots.BeforeNode n.id } ∷ []) (start_in m []) []
+
+-- the tokens that a cell gets; None of a root whose model isn't there
+abbrev pub first_tokens : Board → Cell → Option (List Token)
+first_tokens b c = if is_root c then option_map (start_token c.key) (model_under b c.definition) else Some []
+
+-- when: it is activating (BPMN 2.0.2, 13.3.2)
+abbrev pub fits_open : Board → ℕ → Bool
+fits_open b key = option_map_or (λ c. is_phase c.phase phases.Activating) (cell_at b key) false
+
+-- effect: it is active (BPMN 2.0.2, 13.3.2; a process: 13.2)
+abbrev pub play_open : Board → ℕ → Option Board
+play_open b key = option_and_then (λ c. option_and_then (λ tokens. option_map (λ cells. record b { cells = cells; tokens = b.tokens ++ tokens })
+    (edited (λ x. x.key == key) (in_phase phases.Active []) b.cells)) (first_tokens b c)) (cell_at b key)

@@ -1,0 +1,139 @@
+use zb_base::{Key, List, Text, Value, Vars};
+use zb_instance_records::Role;
+use zb_process::Model;
+
+/// Where a cell is in its life.
+#[derive(Clone, Copy, Debug, PartialEq, Eq)]
+pub enum Phase {
+    Activating,
+    Active,
+    Completing,
+    /// It has completed, and has flows still to take.
+    Leaving,
+    Terminating,
+}
+
+/// What a cell that waits was told.
+#[derive(Drop)]
+pub enum Mark {
+    /// Nothing so far.
+    Unset,
+    /// What it waited for has come.
+    Done,
+    /// What it waited for has come at this node behind it.
+    Chosen(Text),
+    /// An error with this code was thrown.
+    Thrown(Text),
+}
+
+/// A node that runs, or a process.
+#[derive(Drop)]
+pub struct Cell {
+    pub key: Key,
+    /// The cell around it. 0 at a root.
+    pub scope: Key,
+    pub definition: Key,
+    /// The id of its node; that of the process at a root.
+    pub node: Text,
+    pub role: Role,
+    pub phase: Phase,
+    pub mark: Mark,
+    /// Whether a token before its node entered it, and none on a flow.
+    pub before: bool,
+    /// The items of a body, which its inner cells take one by one.
+    pub items: List<i64>,
+    /// How many of its items were taken.
+    pub taken: u32,
+    /// The flows that it has still to take, while it leaves.
+    pub owed: List<Text>,
+    /// The activities with a handler that have completed in it, in order.
+    pub finished: List<Text>,
+    /// Whether a terminate end event ends it.
+    pub ending: bool,
+    pub variables: Vars,
+}
+
+/// Where a token is.
+#[derive(Drop)]
+pub enum Spot {
+    OnFlow(Text),
+    BeforeNode(Text),
+}
+
+/// A token.
+#[derive(Drop)]
+pub struct Token {
+    /// The cell in which it is.
+    pub scope: Key,
+    pub spot: Spot,
+}
+
+/// A model under the key of its definition.
+#[derive(Drop)]
+pub struct Deployed {
+    pub key: Key,
+    pub model: Model,
+}
+
+/// A variable of a cell, and its value.
+#[derive(Drop)]
+pub struct Assigned {
+    /// The cell that has the variable.
+    pub scope: Key,
+    pub name: Text,
+    pub value: Value,
+}
+
+/// A move of the game.
+#[derive(Drop)]
+pub enum Move {
+    /// A model stands under a key.
+    Stand(Deployed),
+    Start(Start),
+    Enter(Enter),
+    Open(Key),
+    Finish(Key),
+    Leave(Leave),
+    Take(Take),
+    /// A new variable has a value.
+    Assign(Assigned),
+}
+
+/// A process is instantiated under a key.
+#[derive(Drop)]
+pub struct Start {
+    pub key: Key,
+    pub definition: Key,
+}
+
+/// A token enters a node. The flow that it comes by is empty where it stands before the node.
+#[derive(Drop)]
+pub struct Enter {
+    pub key: Key,
+    pub scope: Key,
+    pub node: Text,
+    pub via: Text,
+}
+
+/// A cell has completed, and owes these flows.
+#[derive(Drop)]
+pub struct Leave {
+    pub key: Key,
+    pub owed: List<Text>,
+}
+
+/// A cell takes the first flow that it owes.
+#[derive(Drop)]
+pub struct Take {
+    pub key: Key,
+    pub flow: Text,
+}
+
+/// Who makes a forced move.
+#[derive(Clone, Copy, Debug, PartialEq, Eq)]
+pub enum Mover {
+    /// The cell with this key.
+    Cell(Key),
+    /// The token at this place among all tokens.
+    Token(usize),
+}

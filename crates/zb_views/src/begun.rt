@@ -1,0 +1,8 @@
+use zb_model::Key;
+
+/// An instance that has begun, of which only the root is missing.
+#[derive(Clone, Copy, Debug, PartialEq, Eq)]
+pub struct Begun {
+    pub key: Key,
+    pub definition: Key,
+}

@@ -1,0 +1,10 @@
+//! Views of a partition's log: what its events say of keys, definitions, instances and messages.
+#![tactic(auto)]
+
+mod begun;
+mod definition;
+mod laws;
+
+pub use begun::Begun;
+pub use definition::Definition;
+pub use laws::buffered_grows;
