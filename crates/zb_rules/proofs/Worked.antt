@@ -45,7 +45,7 @@ completed key owed = events.ElementCompleted (record { key = key; owed = owed })
 -- the turns that follow, at most as many as the fuel has members
 abbrev turns : List Bool → List Event → List Event
 turns [] es = []
-turns (more ∷ fuel) es = elim (turn 1 es) [
+turns (more ∷ fuel) es = elim (turn 1 1 0 es) [
   | None ↦ []
   | Some made ↦ made ++ turns fuel (es ++ made)
 ]
@@ -53,7 +53,7 @@ turns (more ∷ fuel) es = elim (turn 1 es) [
 abbrev before : List Event
 before = events.ProcessCreated (record { key = 2251799813685249; version = 1; model = process }) ∷ events.DeploymentCreated (record { key = 2251799813685250; definition = 2251799813685249 }) ∷ events.ProcessInstanceCreationCreated (record { key = 2251799813685251; definition = 2251799813685249 }) ∷ activating 2251799813685251 0 (codes "p") [] ∷ []
 
-root_opens : turn 1 before ≡ Some (activated 2251799813685251 ∷ [])
+root_opens : turn 1 1 0 before ≡ Some (activated 2251799813685251 ∷ [])
 unfolding turn
 root_opens = refl
 
@@ -78,12 +78,12 @@ at_task =
     ∷ activated 2251799813685250 ∷ activating 2251799813685251 2251799813685250 (codes "s") [] ∷ activated 2251799813685251 ∷ events.ElementCompleting 2251799813685251 ∷ completed 2251799813685251 (codes "f" ∷ [])
     ∷ events.SequenceFlowTaken (record { key = 2251799813685251; flow = codes "f" }) ∷ activating 2251799813685252 2251799813685250 (codes "e") (codes "f") ∷ activated 2251799813685252 ∷ []
 
-task_waits : turn 1 at_task ≡ None
+task_waits : turn 1 1 0 at_task ≡ None
 unfolding turn
 task_waits = refl
 
 -- deploying it, and making an instance of it
-deploy : deployed 1 [] process ≡ events.ProcessCreated (record { key = 2251799813685249; version = 1; model = process }) ∷ events.DeploymentCreated (record { key = 2251799813685250; definition = 2251799813685249 }) ∷ []
+deploy : deployed 1 process [] ≡ events.ProcessCreated (record { key = 2251799813685249; version = 1; model = process }) ∷ events.DeploymentCreated (record { key = 2251799813685250; definition = 2251799813685249 }) ∷ []
 deploy = refl
 
 abbrev deployed_events : List Event
