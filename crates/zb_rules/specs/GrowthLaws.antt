@@ -5,22 +5,19 @@ use Rattle.zb_tokens.specs.Board.{Board}
 use Rattle.zb_tokens.specs.Game.{empty_board}
 use Rattle.zb_rules.specs.Shown.{shown, after_shown, board_from, board_of}
 
-after_step : (o : Option Board) (made : Board → Option Board) (next : Option Board → Option Board) → next None ≡ None → ((b : Board) → made b ≡ next (Some b)) → option_and_then made o ≡ next o
-after_step None made next none each = sym none
-after_step (Some b) made next none each = each b
-
 last_step : (o : Option Board) → option_and_then (λ b. Some b) o ≡ o
 last_step None = refl
 last_step (Some b) = refl
 
+more_behind : (before es : List Event) (x e : Event) (o : Option Board)
+    → ((after : Board) → board_from (before ++ x ∷ []) after (es ++ e ∷ []) ≡ option_and_then (λ c. after_shown c (shown ((before ++ x ∷ []) ++ es) e)) (board_from (before ++ x ∷ []) after es))
+    → option_and_then (λ after. board_from (before ++ x ∷ []) after (es ++ e ∷ [])) o ≡ option_and_then (λ c. after_shown c (shown (before ++ x ∷ es) e)) (option_and_then (λ after. board_from (before ++ x ∷ []) after es) o)
+more_behind before es x e None each = refl
+more_behind before es x e (Some after) each = subst (λ (l : List Event). board_from (before ++ x ∷ []) after (es ++ e ∷ []) ≡ option_and_then (λ c. after_shown c (shown l e)) (board_from (before ++ x ∷ []) after es)) (append_assoc before (x ∷ []) es) (each after)
+
 board_from_more : (before es : List Event) (e : Event) (b : Board) → board_from before b (es ++ e ∷ []) ≡ option_and_then (λ c. after_shown c (shown (before ++ es) e)) (board_from before b es)
 board_from_more before [] e b = rw (append-nil before) (last_step (after_shown b (shown before e)))
-board_from_more before (x ∷ es) e b = on (after_shown b (shown before x))
-  where
-    on : (o : Option Board) → option_and_then (λ after. board_from (before ++ x ∷ []) after (es ++ e ∷ [])) o
-        ≡ option_and_then (λ c. after_shown c (shown (before ++ x ∷ es) e)) (option_and_then (λ after. board_from (before ++ x ∷ []) after es) o)
-    on None = refl
-    on (Some after) = rw (sym (append_assoc before (x ∷ []) es)) (board_from_more (before ++ x ∷ []) es e after)
+board_from_more before (x ∷ es) e b = more_behind before es x e (after_shown b (shown before x)) (λ after. board_from_more (before ++ x ∷ []) es e after)
 
 -- the board behind one event more is the board before it after the move that the event shows
 pub board_of_more : (es : List Event) (e : Event) → board_of (es ++ e ∷ []) ≡ option_and_then (λ b. after_shown b (shown es e)) (board_of es)
