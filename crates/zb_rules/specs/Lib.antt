@@ -11,6 +11,7 @@ pub mod Applies
 pub mod Legal
 pub mod Settling
 pub mod Step
+pub mod Sound
 pub mod StepLaws
 pub mod GrowthLaws
 pub mod DueLaws
