@@ -15,3 +15,5 @@ pub mod Sound
 pub mod StepLaws
 pub mod GrowthLaws
 pub mod DueLaws
+pub mod CellsLaws
+pub mod SoundLaws
