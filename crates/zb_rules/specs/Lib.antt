@@ -17,3 +17,4 @@ pub mod GrowthLaws
 pub mod DueLaws
 pub mod CellsLaws
 pub mod SoundLaws
+pub mod ProgressLaws

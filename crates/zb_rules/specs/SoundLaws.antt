@@ -42,7 +42,7 @@ made_by : (b : Board) (move : Option Move) → IsTrue (may_fit move b) → IsTru
 made_by b None fit = refl
 made_by b (Some move) fit = fitting_is_played b move fit
 
-some_of : {A : Type 0} (o : Option A) → IsTrue (is_some o) → (a : A) × (o ≡ Some a)
+pub some_of : {A : Type 0} (o : Option A) → IsTrue (is_some o) → (a : A) × (o ≡ Some a)
 some_of None there = absurd (cc)
 some_of (Some a) there = (a, refl)
 

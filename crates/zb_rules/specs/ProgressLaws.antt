@@ -1,0 +1,181 @@
+-- Who is forced has an event that applies; where nobody is, the game is quiet.
+use Rattle.std.proofs.Common.{◌≡◌, ℕ, ◌+◌, ◌^◌, ◌<◌, ◌≤◌, ◌==◌, nat_lt, List, [], ◌∷◌, ◌++◌, Bool, true, false, ◌&&◌, if◌then◌else◌, IsTrue, is_some, Option, Some, None, option_map, option_and_then, slice_get, ◌↔◌, refl, sym, ap, ◌∙◌, subst, arith}
+use Rattle.std.specs.List.{find, list_any}
+use Rattle.std.specs.Option.{option_map_or, IfSome}
+use Rattle.std.proofs.lemmas.Bool.Decides.{nat_tests}
+use Rattle.zb_instance_records.specs.declared.instance.Role.TheVariants as roles
+use Rattle.zb_model.specs.declared.record.Event.{Event}
+use Rattle.zb_model.specs.declared.record.Event.TheVariants as events
+use Rattle.zb_views.specs.View.{greatest_counter, next_key}
+use Rattle.zb_tokens.specs.declared.board.Cell.{Cell}
+use Rattle.zb_tokens.specs.declared.board.Token.{Token}
+use Rattle.zb_tokens.specs.declared.board.Enter.{Enter}
+use Rattle.zb_tokens.specs.declared.board.Move.{Move}
+use Rattle.zb_tokens.specs.declared.board.Move.TheVariants as moves
+use Rattle.zb_tokens.specs.declared.board.Mover.{Mover}
+use Rattle.zb_tokens.specs.declared.board.Mover.TheVariants as movers
+use Rattle.zb_tokens.specs.declared.board.Phase.{Phase}
+use Rattle.zb_tokens.specs.declared.board.Phase.TheVariants as phases
+use Rattle.zb_tokens.specs.Board.{Board, CellsAscend, cell_at}
+use Rattle.zb_tokens.specs.MoveEnter.{comes_to}
+use Rattle.zb_tokens.specs.Game.{fits, agrees, played}
+use Rattle.zb_tokens.specs.GameLaws.{both_left, both_right, holds_some, fitting_is_played}
+use Rattle.zb_tokens.specs.Forced.{next_mover, move_in, take_first, entry_of, move_of, way_of}
+use Rattle.zb_tokens.specs.ForcedLaws.{movers_move, movers_fit, movers_agree}
+use Rattle.zb_rules.specs.Shown.{shown, after_shown, board_of, event_of}
+use Rattle.zb_rules.specs.Applies.{is_fresh, holds_own, holds_of_game, may_fit, applies, all_apply, is_definition_of}
+use Rattle.zb_rules.specs.Settling.{turn_of, turn, HasQuietGame}
+use Rattle.zb_rules.specs.Legal.{IsMadeLegally}
+use Rattle.zb_rules.specs.Sound.{HasKeys, IsForcedEvent}
+use Rattle.zb_rules.specs.GrowthLaws.{board_of_more}
+use Rattle.zb_rules.specs.SoundLaws.{some_of, board_is_there, cells_ascend, game_holds, game_holds_from, applied_board, board_behind, IsApplied}
+
+-- the moves that a mover makes, where a new cell gets this key
+abbrev IsMade : ℕ → Move → Type 0
+IsMade key (moves.Stand d) = ⊥
+IsMade key (moves.Start s) = ⊥
+IsMade key (moves.Assign a) = ⊥
+IsMade key (moves.Enter e) = e.key ≡ key
+IsMade key _ = Unit {0}
+
+some_made : (key : ℕ) (a b : Move) → IsMade key a → Some a ≡ Some b → IsMade key b
+some_made key a b made is = subst (IsMade key) (let same : a ≡ b = cc in same) made
+
+first_made : (key cell : ℕ) (owed : List (List ℕ)) (move : Move) → take_first cell owed ≡ Some move → IsMade key move
+first_made key cell [] move is = absurd (cc)
+first_made key cell (flow ∷ owed) move is = some_made key (moves.Take (record { key = cell; flow = flow })) move tt is
+
+phase_made : (b : Board) (key : ℕ) (c : Cell) (phase : Phase) (move : Move) → move_in b c phase ≡ Some move → IsMade key move
+phase_made b key c phases.Activating move is = some_made key (moves.Open c.key) move tt is
+phase_made b key c phases.Active move is = some_made key (moves.Finish c.key) move tt is
+phase_made b key c phases.Completing move is = some_made key _ move tt is
+phase_made b key c phases.Leaving move is = first_made key c.key c.owed move is
+phase_made b key c phases.Terminating move is = absurd (cc)
+
+cell_made : (b : Board) (key : ℕ) (found : Option Cell) (move : Move) → option_and_then (λ (c : Cell). move_in b c c.phase) found ≡ Some move → IsMade key move
+cell_made b key None move is = absurd (cc)
+cell_made b key (Some c) move is = phase_made b key c c.phase move is
+
+way_made : (key : ℕ) (t : Token) (way : Option (List ℕ × List ℕ)) (move : Move)
+    → option_map (λ (w : List ℕ × List ℕ). moves.Enter (record { key = key; scope = t.scope; node = w.0; via = w.1 })) way ≡ Some move → IsMade key move
+way_made key t None move is = absurd (cc)
+way_made key t (Some way) move is = some_made key (moves.Enter (record { key = key; scope = t.scope; node = way.0; via = way.1 })) move refl is
+
+token_made : (b : Board) (key : ℕ) (found : Option Token) (move : Move) → option_and_then (entry_of b key) found ≡ Some move → IsMade key move
+token_made b key None move is = absurd (cc)
+token_made b key (Some t) move is = way_made key t (way_of b t) move is
+
+mover_made : (b : Board) (moment key : ℕ) (mover : Mover) (move : Move) → move_of b moment key mover ≡ Some move → IsMade key move
+mover_made b moment key (movers.Cell cell) move is = cell_made b key (cell_at b cell) move is
+mover_made b moment key (movers.Token place) move is = token_made b key (slice_get b.tokens place) move is
+
+-- a cell that is found has a key of its own
+found_by : (low key : ℕ) (cells : List Cell) (x c : Cell) (t : Bool) → low ≤ x.key → (x.key == key) ≡ t → (find (λ y. y.key == key) cells ≡ Some c → x.key + 1 ≤ key)
+    → (if t then Some x else find (λ y. y.key == key) cells) ≡ Some c → low ≤ key
+found_by low key cells x c true above same later is = grind (arith, nat_tests)
+found_by low key cells x c false above other later is = omega (arith, later is)
+
+found_key : (low key : ℕ) (cells : List Cell) (c : Cell) → CellsAscend low cells → find (λ x. x.key == key) cells ≡ Some c → low ≤ key
+found_key low key [] c up is = absurd (cc)
+found_key low key (x ∷ cells) c up is = found_by low key cells x c (x.key == key) up.0 refl (found_key (x.key + 1) key cells c up.1) is
+
+from_none : (cells : List Cell) → CellsAscend 1 cells → CellsAscend 0 cells
+from_none [] up = tt
+from_none (c ∷ cells) up = (omega arith, up.1)
+
+-- an event that shows a move that fits applies, where its own condition holds
+applied_from : (p : ℕ) (es : List Event) (b : Board) (e : Event) (move : Move) → board_of es ≡ Some b → IsTrue (holds_own p es e) → shown es e ≡ Some move → IsTrue (fits b move) → IsTrue (applies p es e)
+applied_from p es b e move is own shows fit =
+    let there : IsTrue (holds_of_game (may_fit (shown es e)) es) = game_holds_from (may_fit (shown es e)) es b is (subst (λ (o : Option Move). IsTrue (may_fit o b)) (sym shows) fit) in
+    rw (own, there) refl
+
+module _ (p moment : ℕ) (es : List Event) (b : Board) (mover : Mover) (is : board_of es ≡ Some b) where
+  event_by : (move : Move) (e : Event) → move_of b moment (next_key p es) mover ≡ Some move → IsTrue (fits b move) → IsTrue (agrees b moment move)
+      → event_of b move ≡ Some e → IsTrue (holds_own p es e) → shown es e ≡ Some move → IsForcedEvent p moment es b mover
+  event_by move e made fit agreed told own shows = record {
+    move = move;
+    event = e;
+    is_move = made;
+    is_event = told;
+    applied = applied_from p es b e move is own shows fit;
+    shows = shows;
+    agreed = agreed;
+  }
+
+  enters_in : (e : Enter) (c : Cell) → cell_at b e.scope ≡ Some c → CellsAscend 1 b.cells → HasKeys p es 1 → e.key ≡ next_key p es → move_of b moment (next_key p es) mover ≡ Some (moves.Enter e) → IsTrue (fits b (moves.Enter e)) → IsForcedEvent p moment es b mover
+  enters_in e c found up keys its made fit =
+      let above = found_key 1 e.scope b.cells c up found in
+      let inner : (e.scope == 0) ≡ false = grind (arith, nat_tests, above) in
+      let fresh : IsTrue (is_fresh p es e.key) = grind (arith, nat_tests) in
+      let same : (c.definition == c.definition) ≡ true = grind (arith, nat_tests) in
+      let of_scope : IsTrue (holds_of_game (is_definition_of e.scope c.definition) es) = game_holds_from (is_definition_of e.scope c.definition) es b is (rw (found, same) refl) in
+      event_by (moves.Enter e) (events.ElementActivating (record { key = e.key; scope = e.scope; definition = c.definition; node = e.node; role = roles.Plain; via = e.via; started = [] }))
+      made fit refl (rw found refl) (rw (inner, fresh, of_scope) refl) (rw inner refl)
+
+  enters : (e : Enter) → CellsAscend 1 b.cells → HasKeys p es 1 → e.key ≡ next_key p es → move_of b moment (next_key p es) mover ≡ Some (moves.Enter e) → IsTrue (fits b (moves.Enter e)) → IsForcedEvent p moment es b mover
+  enters e up keys its made fit =
+      let found = some_of (cell_at b e.scope) (holds_some _ (cell_at b e.scope) (both_right (list_any (comes_to e.scope e.node e.via) b.tokens) _ fit)) in
+      enters_in e found.0 found.1 up keys its made fit
+
+  forced_by : (move : Move) → CellsAscend 1 b.cells → HasKeys p es 1 → IsMade (next_key p es) move → move_of b moment (next_key p es) mover ≡ Some move → IsTrue (fits b move) → IsTrue (agrees b moment move) → IsForcedEvent p moment es b mover
+  forced_by (moves.Stand d) up keys from made fit agreed = absurd from
+  forced_by (moves.Start s) up keys from made fit agreed = absurd from
+  forced_by (moves.Enter e) up keys from made fit agreed = enters e up keys from made fit
+  forced_by (moves.Open key) up keys from made fit agreed = event_by (moves.Open key) (events.ElementActivated (record { key = key; items = [] })) made fit agreed refl refl refl
+  forced_by (moves.Finish key) up keys from made fit agreed = event_by (moves.Finish key) (events.ElementCompleting key) made fit agreed refl refl refl
+  forced_by (moves.Leave l) up keys from made fit agreed = event_by (moves.Leave l) (events.ElementCompleted (record { key = l.key; owed = l.owed })) made fit agreed refl refl refl
+  forced_by (moves.Take t) up keys from made fit agreed = event_by (moves.Take t) (events.SequenceFlowTaken (record { key = t.key; flow = t.flow })) made fit agreed refl refl refl
+  forced_by (moves.Assign a) up keys from made fit agreed = absurd from
+
+-- who is forced has an event, which applies and shows a move that agrees with what it evaluates
+pub forced_event : (p moment : ℕ) (es : List Event) (b : Board) (mover : Mover) → IsTrue (all_apply p [] es) → HasKeys p es 1 → board_of es ≡ Some b → next_mover b ≡ Some mover → IsForcedEvent p moment es b mover
+forced_event p moment es b mover apply keys is next =
+    let up1 = cells_ascend p es b apply is in
+    let up = from_none b.cells up1 in
+    let found = some_of (move_of b moment (next_key p es) mover) (movers_move b moment (next_key p es) mover up next) in
+    forced_by p moment es b mover is found.0 up1 keys (mover_made b moment (next_key p es) mover found.0 found.1) found.1
+    (movers_fit b moment (next_key p es) mover found.0 up next found.1) (movers_agree b moment (next_key p es) mover found.0 up next found.1)
+
+-- an event that applies, and whose move agrees, makes it legally
+made_by : (p moment : ℕ) (es : List Event) (e : Event) (b : Board) (move : Option Move) → shown es e ≡ move → board_of es ≡ Some b → IsTrue (applies p es e)
+    → ((m : Move) → shown es e ≡ Some m → IsTrue (agrees b moment m)) → IfSome move (IsMadeLegally moment es e)
+made_by p moment es e b None shows is h each = tt
+made_by p moment es e b (Some move) shows is h each =
+    let r = applied_board p es b e is h in
+    let fit : IsTrue (fits b move) = subst (λ (o : Option Move). IsTrue (may_fit o b)) shows r.1.fit in
+    let led : played b move ≡ Some r.0 = subst (λ (o : Option Move). after_shown b o ≡ Some r.0) shows r.1.leads in
+    record {
+      board = b;
+      after = r.0;
+      is_before = is;
+      is_after = board_behind p es b e r.0 r.1;
+      legal = record { fit = fit; agreed = each move shows; leads = led };
+    }
+
+pub made_legally : (p moment : ℕ) (es : List Event) (e : Event) → IsTrue (applies p es e)
+    → ((b : Board) (move : Move) → board_of es ≡ Some b → shown es e ≡ Some move → IsTrue (agrees b moment move)) → IfSome (shown es e) (IsMadeLegally moment es e)
+made_legally p moment es e h each =
+    let found = some_of (board_of es) (holds_some _ (board_of es) (both_right (holds_own p es e) _ h)) in
+    made_by p moment es e found.0 (shown es e) refl found.1 h (λ m. each found.0 m found.1)
+
+-- the turn of a mover is there exactly where somebody is forced
+turn_there : (p n moment : ℕ) (es : List Event) (b : Board) (mover : Mover) → board_of es ≡ Some b → next_mover b ≡ Some mover → IsForcedEvent p moment es b mover → turn p n moment es ≡ None → ⊥
+unfolding turn
+turn_there p n moment es b mover is next forced none =
+    let its : turn_of p n moment es b mover ≡ None = rw (is, next) at none in
+    let made : turn_of p n moment es b mover ≡ Some (forced.event ∷ []) = rw (forced.is_move, forced.is_event) refl in
+    cc
+
+quiet_by : (p n moment : ℕ) (es : List Event) (b : Board) (next : Option Mover) → board_of es ≡ Some b → next_mover b ≡ next
+    → ((mover : Mover) → next_mover b ≡ Some mover → IsForcedEvent p moment es b mover) → turn p n moment es ≡ None → HasQuietGame es
+quiet_by p n moment es b None is nobody forced none = record { board = b; is = is; quiet = nobody }
+quiet_by p n moment es b (Some mover) is next forced none = absurd (turn_there p n moment es b mover is next (forced mover next) none)
+
+no_turn : (p n moment : ℕ) (es : List Event) → HasQuietGame es → turn p n moment es ≡ None
+unfolding turn
+no_turn p n moment es q = rw (q.is, q.quiet) refl
+
+pub no_turn_is_quiet : (p n moment : ℕ) (es : List Event) → IsTrue (all_apply p [] es) → HasKeys p es 1 → turn p n moment es ≡ None ↔ HasQuietGame es
+no_turn_is_quiet p n moment es apply keys =
+    let found = some_of (board_of es) (board_is_there p es apply) in
+    (quiet_by p n moment es found.0 (next_mover found.0) found.1 refl (λ mover. forced_event p moment es found.0 mover apply keys found.1), no_turn p n moment es)
