@@ -89,11 +89,11 @@ key_made _ = None
 
 -- the cells of a board that is made of others
 module _ {A B : Type 0} where
-  chained_holds : (Q : B → Type 0) (f : A → Option B) (o : Option A) (y : B) → ((x : A) → o ≡ Some x → (z : B) → f x ≡ Some z → Q z) → option_and_then f o ≡ Some y → Q y
+  pub chained_holds : (Q : B → Type 0) (f : A → Option B) (o : Option A) (y : B) → ((x : A) → o ≡ Some x → (z : B) → f x ≡ Some z → Q z) → option_and_then f o ≡ Some y → Q y
   chained_holds Q f None y each made = absurd (cc)
   chained_holds Q f (Some x) y each made = each x refl y made
 
-  mapped_holds : (Q : B → Type 0) (f : A → B) (o : Option A) (y : B) → ((x : A) → o ≡ Some x → Q (f x)) → option_map f o ≡ Some y → Q y
+  pub mapped_holds : (Q : B → Type 0) (f : A → B) (o : Option A) (y : B) → ((x : A) → o ≡ Some x → Q (f x)) → option_map f o ≡ Some y → Q y
   mapped_holds Q f None y each made = absurd (cc)
   mapped_holds Q f (Some x) y each made = let same : f x ≡ y = cc in subst Q same (each x refl)
 

@@ -1,9 +1,17 @@
 -- Who is forced has an event that applies; where nobody is, the game is quiet.
-use Rattle.std.proofs.Common.{◌≡◌, ℕ, ◌+◌, ◌^◌, ◌<◌, ◌≤◌, ◌==◌, nat_lt, List, [], ◌∷◌, ◌++◌, Bool, true, false, ◌&&◌, if◌then◌else◌, IsTrue, is_some, Option, Some, None, option_map, option_and_then, slice_get, ◌↔◌, refl, sym, ap, ◌∙◌, subst, arith}
+use Rattle.std.proofs.Common.{◌≡◌, ℕ, ◌+◌, ◌^◌, ◌<◌, ◌≤◌, ◌==◌, nat_lt, List, [], ◌∷◌, ◌++◌, map, Bool, true, false, ◌&&◌, if◌then◌else◌, IsTrue, is_some, Option, Some, None, option_map, option_and_then, slice_get, ◌↔◌, refl, sym, ap, ◌∙◌, subst, arith}
 use Rattle.std.specs.List.{find, list_any}
 use Rattle.std.specs.Option.{option_map_or, IfSome}
 use Rattle.std.proofs.lemmas.Bool.Decides.{nat_tests}
 use Rattle.zb_instance_records.specs.declared.instance.Role.TheVariants as roles
+use Rattle.zb_base.specs.declared.vars.Variable.{Variable}
+use Rattle.zb_process.specs.declared.model.Model.{Model}
+use Rattle.zb_instance_records.specs.declared.instance.ProcessInstanceCreationCreate.{ProcessInstanceCreationCreate}
+use Rattle.zb_exchange_records.specs.declared.message.MessagePublish.{MessagePublish}
+use Rattle.zb_model.specs.declared.record.Command.{Command}
+use Rattle.zb_model.specs.declared.record.Command.TheVariants as commands
+use Rattle.zb_views.specs.declared.definition.Definition.{Definition}
+use Rattle.zb_views.specs.Definitions.{definition_for}
 use Rattle.zb_model.specs.declared.record.Event.{Event}
 use Rattle.zb_model.specs.declared.record.Event.TheVariants as events
 use Rattle.zb_views.specs.View.{greatest_counter, next_key}
@@ -19,13 +27,20 @@ use Rattle.zb_tokens.specs.declared.board.Phase.TheVariants as phases
 use Rattle.zb_tokens.specs.Board.{Board, CellsAscend, cell_at}
 use Rattle.zb_tokens.specs.MoveEnter.{comes_to}
 use Rattle.zb_tokens.specs.Game.{fits, agrees, played}
-use Rattle.zb_tokens.specs.GameLaws.{both_left, both_right, holds_some, fitting_is_played}
+use Rattle.zb_tokens.specs.GameLaws.{both_left, both_right, holds_some, mapped_some, fitting_is_played}
 use Rattle.zb_tokens.specs.Forced.{next_mover, move_in, take_first, entry_of, move_of, way_of}
 use Rattle.zb_tokens.specs.ForcedLaws.{movers_move, movers_fit, movers_agree}
 use Rattle.zb_rules.specs.Shown.{shown, after_shown, board_of, event_of}
 use Rattle.zb_rules.specs.Applies.{is_fresh, holds_own, holds_of_game, may_fit, applies, all_apply, is_definition_of}
 use Rattle.zb_rules.specs.Settling.{turn_of, turn, HasQuietGame}
-use Rattle.zb_rules.specs.Legal.{IsMadeLegally}
+use Rattle.zb_rules.specs.Legal.{IsMadeLegally, AllLegal}
+use Rattle.zb_rules.specs.Reason.{reason_for}
+use Rattle.zb_rules.specs.Own.{IsSupported, own_events}
+use Rattle.zb_rules.specs.Deploy.{deployed}
+use Rattle.zb_rules.specs.Create.{reason_by, variable_event, instance_under}
+use Rattle.zb_rules.specs.Publish.{published_under}
+use Rattle.zb_rules.specs.Expire.{expired}
+use Rattle.zb_rules.specs.CellsLaws.{mapped_holds}
 use Rattle.zb_rules.specs.Sound.{HasKeys, IsForcedEvent}
 use Rattle.zb_rules.specs.GrowthLaws.{board_of_more}
 use Rattle.zb_rules.specs.SoundLaws.{some_of, board_is_there, cells_ascend, game_holds, game_holds_from, applied_board, board_behind, IsApplied}
@@ -179,3 +194,73 @@ pub no_turn_is_quiet : (p n moment : ℕ) (es : List Event) → IsTrue (all_appl
 no_turn_is_quiet p n moment es apply keys =
     let found = some_of (board_of es) (board_is_there p es apply) in
     (quiet_by p n moment es found.0 (next_mover found.0) found.1 refl (λ mover. forced_event p moment es found.0 mover apply keys found.1), no_turn p n moment es)
+
+-- a command without a reason against it has own events
+asked_there : (latest asked : Option Definition) (c : ProcessInstanceCreationCreate) → reason_by latest asked c ≡ None → IsTrue (is_some asked)
+asked_there None asked c none = absurd (cc)
+asked_there (Some latest) None c none = absurd (cc)
+asked_there (Some latest) (Some asked) c none = refl
+
+pub own_there : (p n : ℕ) (es : List Event) (moment : ℕ) (command : Command) → IsSupported command → reason_for es moment command ≡ None → IsTrue (is_some (own_events p n es moment command))
+own_there p n es moment (commands.DeploymentCreate m) supported none = refl
+own_there p n es moment (commands.ProcessInstanceCreationCreate c) supported none =
+    mapped_some _ (definition_for c.process c.version es) (asked_there (definition_for c.process 0 es) (definition_for c.process c.version es) c none)
+own_there p n es moment (commands.MessagePublish c) supported none = refl
+own_there p n es moment (commands.MessageExpire key) supported none = refl
+own_there p n es moment _ supported none = absurd supported
+
+-- the moves that these events show evaluate nothing
+abbrev NeverEvaluate : List Event → Type 0
+NeverEvaluate [] = Unit {0}
+NeverEvaluate (e ∷ es) = ((before : List Event) (b : Board) (moment : ℕ) (move : Move) → shown before e ≡ Some move → IsTrue (agrees b moment move)) × NeverEvaluate es
+
+shows_none : (b : Board) (moment : ℕ) (move : Move) → None ≡ Some move → IsTrue (agrees b moment move)
+shows_none b moment move is = absurd (cc)
+
+shows_some : (b : Board) (moment : ℕ) (a move : Move) → IsTrue (agrees b moment a) → Some a ≡ Some move → IsTrue (agrees b moment move)
+shows_some b moment a move agreed is = subst (λ (m : Move). IsTrue (agrees b moment m)) (let same : a ≡ move = cc in same) agreed
+
+variables_never : (root : ℕ) (vs : List Variable) → NeverEvaluate (map (variable_event root) vs)
+variables_never root [] = tt
+variables_never root (v ∷ vs) = (λ before b moment move is. shows_some b moment (moves.Assign (record { scope = root; name = v.name; value = v.value })) move refl is, variables_never root vs)
+
+instance_never : (key definition : ℕ) (c : ProcessInstanceCreationCreate) → NeverEvaluate (instance_under key definition c)
+instance_never key definition c = (
+  λ before b moment move is. shows_none b moment move is,
+  (λ before b moment move is. shows_some b moment (moves.Start (record { key = key; definition = definition })) move refl is, variables_never key c.variables),
+)
+
+deployed_never : (p : ℕ) (m : Model) (before : List Event) → NeverEvaluate (deployed p m before)
+deployed_never p m es = (
+  λ before b moment move is. shows_some b moment (moves.Stand (record { key = next_key p es; model = m })) move refl is,
+  (λ before b moment move is. shows_none b moment move is, tt),
+)
+
+expiry_never : (t : Bool) (key : ℕ) → NeverEvaluate (if t then events.MessageExpired key ∷ [] else [])
+expiry_never true key = (λ before b moment move is. shows_none b moment move is, tt)
+expiry_never false key = tt
+
+published_never : (key moment : ℕ) (c : MessagePublish) → NeverEvaluate (published_under key moment c)
+published_never key moment c = (λ before b moment move is. shows_none b moment move is, expiry_never (c.time_to_live == 0) key)
+
+some_never : (made own : List Event) → NeverEvaluate made → Some made ≡ Some own → NeverEvaluate own
+some_never made own never is = subst NeverEvaluate (let same : made ≡ own = cc in same) never
+
+own_never : (p n : ℕ) (es : List Event) (moment : ℕ) (command : Command) (own : List Event) → own_events p n es moment command ≡ Some own → NeverEvaluate own
+own_never p n es moment (commands.DeploymentCreate m) own is = some_never (deployed p m es) own (deployed_never p m es) is
+own_never p n es moment (commands.ProcessInstanceCreationCreate c) own is =
+    mapped_holds NeverEvaluate (λ d. instance_under (next_key p es) d.key c) (definition_for c.process c.version es) own (λ d found. instance_never (next_key p es) d.key c) is
+own_never p n es moment (commands.MessagePublish c) own is = some_never (published_under (next_key p es) moment c) own (published_never (next_key p es) moment c) is
+own_never p n es moment (commands.MessageExpire key) own is = some_never (expired key) own (λ before b moment move is. shows_none b moment move is, tt) is
+own_never p n es moment _ own is = absurd (cc)
+
+legal_by : (p moment : ℕ) (es own : List Event) → NeverEvaluate own → IsTrue (all_apply p es own) → AllLegal moment es own
+legal_by p moment es [] never apply = tt
+legal_by p moment es (e ∷ own) never apply = (
+  made_legally p moment es e (both_left (applies p es e) _ apply) (λ b move is shows. never.0 es b moment move shows),
+  legal_by p moment (es ++ e ∷ []) own never.1 (both_right (applies p es e) _ apply),
+)
+
+-- each of the moves that own events show is legal
+pub own_legal : (p n : ℕ) (es : List Event) (moment : ℕ) (command : Command) (own : List Event) → IsTrue (all_apply p es own) → own_events p n es moment command ≡ Some own → AllLegal moment es own
+own_legal p n es moment command own apply is = legal_by p moment es own (own_never p n es moment command own is) apply
