@@ -18,3 +18,4 @@ pub mod DueLaws
 pub mod CellsLaws
 pub mod SoundLaws
 pub mod ProgressLaws
+pub mod ModelsLaws

@@ -94,7 +94,7 @@ fresh_below p before e key fresh named =
     let its : counter_at p key ≡ greatest_counter p before + 1 = subst (λ (k : ℕ). counter_at p k ≡ greatest_counter p before + 1) (sym f.1) counted in
     omega (arith, f.1, its, greatest_counter_more p before (e ∷ []))
 
-first_named : (p key : ℕ) (keys : List ℕ) → counter_at p key ≤ greatest_among p (key ∷ keys)
+pub first_named : (p key : ℕ) (keys : List ℕ) → counter_at p key ≤ greatest_among p (key ∷ keys)
 first_named p key keys = omega arith
 
 -- the keys of the cells of a board of a log ascend, and lie below the next key; those before an instance that begins, below its key
