@@ -19,3 +19,4 @@ pub mod CellsLaws
 pub mod SoundLaws
 pub mod ProgressLaws
 pub mod ModelsLaws
+pub mod OwnLaws

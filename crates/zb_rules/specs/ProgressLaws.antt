@@ -43,7 +43,7 @@ use Rattle.zb_rules.specs.Expire.{expired}
 use Rattle.zb_rules.specs.CellsLaws.{mapped_holds}
 use Rattle.zb_rules.specs.Sound.{HasKeys, IsForcedEvent}
 use Rattle.zb_rules.specs.GrowthLaws.{board_of_more}
-use Rattle.zb_rules.specs.SoundLaws.{some_of, board_is_there, cells_ascend, game_holds, game_holds_from, applied_board, board_behind, IsApplied}
+use Rattle.zb_rules.specs.SoundLaws.{applied_from, some_of, board_is_there, cells_ascend, game_holds, game_holds_from, applied_board, board_behind, IsApplied}
 
 -- the moves that a mover makes, where a new cell gets this key
 abbrev IsMade : ℕ → Move → Type 0
@@ -97,12 +97,6 @@ found_key low key (x ∷ cells) c up is = found_by low key cells x c (x.key == k
 from_none : (cells : List Cell) → CellsAscend 1 cells → CellsAscend 0 cells
 from_none [] up = tt
 from_none (c ∷ cells) up = (omega arith, up.1)
-
--- an event that shows a move that fits applies, where its own condition holds
-applied_from : (p : ℕ) (es : List Event) (b : Board) (e : Event) (move : Move) → board_of es ≡ Some b → IsTrue (holds_own p es e) → shown es e ≡ Some move → IsTrue (fits b move) → IsTrue (applies p es e)
-applied_from p es b e move is own shows fit =
-    let there : IsTrue (holds_of_game (may_fit (shown es e)) es) = game_holds_from (may_fit (shown es e)) es b is (subst (λ (o : Option Move). IsTrue (may_fit o b)) (sym shows) fit) in
-    rw (own, there) refl
 
 module _ (p moment : ℕ) (es : List Event) (b : Board) (mover : Mover) (is : board_of es ≡ Some b) where
   event_by : (move : Move) (e : Event) → move_of b moment (next_key p es) mover ≡ Some move → IsTrue (fits b move) → IsTrue (agrees b moment move)

@@ -37,6 +37,12 @@ game_holds holds es b is h = subst (λ (o : Option Board). IsTrue (option_map_or
 pub game_holds_from : (holds : Board → Bool) (es : List Event) (b : Board) → board_of es ≡ Some b → IsTrue (holds b) → IsTrue (holds_of_game holds es)
 game_holds_from holds es b is h = subst (λ (o : Option Board). IsTrue (option_map_or holds o false)) (sym is) h
 
+-- an event that shows a move that fits applies, where its own condition holds
+pub applied_from : (p : ℕ) (es : List Event) (b : Board) (e : Event) (move : Move) → board_of es ≡ Some b → IsTrue (holds_own p es e) → shown es e ≡ Some move → IsTrue (fits b move) → IsTrue (applies p es e)
+applied_from p es b e move is own shows fit =
+    let there : IsTrue (holds_of_game (may_fit (shown es e)) es) = game_holds_from (may_fit (shown es e)) es b is (subst (λ (o : Option Move). IsTrue (may_fit o b)) (sym shows) fit) in
+    rw (own, there) refl
+
 -- a move that fits is made
 made_by : (b : Board) (move : Option Move) → IsTrue (may_fit move b) → IsTrue (is_some (after_shown b move))
 made_by b None fit = refl
