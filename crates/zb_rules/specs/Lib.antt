@@ -20,3 +20,4 @@ pub mod SoundLaws
 pub mod ProgressLaws
 pub mod ModelsLaws
 pub mod OwnLaws
+pub mod CreateLaws

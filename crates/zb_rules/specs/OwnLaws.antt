@@ -40,17 +40,17 @@ or_true true = refl
 or_true false = refl
 
 -- a partition that has a key left draws a fresh one
-fresh_from : (p : ℕ) (es : List Event) → HasKeys p es 1 → IsTrue (is_fresh p es (next_key p es))
+pub fresh_from : (p : ℕ) (es : List Event) → HasKeys p es 1 → IsTrue (is_fresh p es (next_key p es))
 fresh_from p es keys = grind (arith, nat_tests)
 
 -- an event that shows no move applies, where its own condition holds and there is a board
-silent_applies : (p : ℕ) (es : List Event) (b : Board) (e : Event) → board_of es ≡ Some b → IsTrue (holds_own p es e) → shown es e ≡ None → IsTrue (applies p es e)
+pub silent_applies : (p : ℕ) (es : List Event) (b : Board) (e : Event) → board_of es ≡ Some b → IsTrue (holds_own p es e) → shown es e ≡ None → IsTrue (applies p es e)
 silent_applies p es b e is own shows =
     let there : IsTrue (holds_of_game (may_fit (shown es e)) es) = game_holds_from (may_fit (shown es e)) es b is (subst (λ o. IsTrue (may_fit o b)) (sym shows) refl) in
     rw (own, there) refl
 
 -- the board behind an event by the move that it shows
-board_after : (es : List Event) (b after : Board) (e : Event) → board_of es ≡ Some b → after_shown b (shown es e) ≡ Some after → board_of (es ++ e ∷ []) ≡ Some after
+pub board_after : (es : List Event) (b after : Board) (e : Event) → board_of es ≡ Some b → after_shown b (shown es e) ≡ Some after → board_of (es ++ e ∷ []) ≡ Some after
 board_after es b after e is led = board_of_more es e ∙ (ap (option_and_then (λ (x : Board). after_shown x (shown es e))) is ∙ led)
 
 -- the next key counts one more than all before
@@ -85,7 +85,7 @@ formed_by m None good none = rw good refl
 formed_by m (Some f) good none = absurd (cc)
 
 module _ (p : ℕ) (es : List Event) (b : Board) (is : board_of es ≡ Some b) (knows : Knows p es b) where
-  deploy_applies : (m : Model) → HasKeys p es 2 → reason_to_deploy m ≡ None → IsTrue (all_apply p es (deployed p m es))
+  pub deploy_applies : (m : Model) → HasKeys p es 2 → reason_to_deploy m ≡ None → IsTrue (all_apply p es (deployed p m es))
   deploy_applies m keys none =
       let key = next_key p es in
       let e = events.ProcessCreated (record { key = key; version = version_behind (greatest_version m.process (definitions es)); model = m }) in
@@ -112,7 +112,7 @@ module _ (p : ℕ) (es : List Event) (b : Board) (is : board_of es ≡ Some b) (
       silent_applies p (es ++ events.MessagePublished m ∷ []) b (events.MessageExpired m.key) (board_after es b b (events.MessagePublished m) is refl) waits refl in
       rw second refl
 
-  publish_applies : (moment : ℕ) (c : MessagePublish) → HasKeys p es 2 → IsTrue (all_apply p es (published_under (next_key p es) moment c))
+  pub publish_applies : (moment : ℕ) (c : MessagePublish) → HasKeys p es 2 → IsTrue (all_apply p es (published_under (next_key p es) moment c))
   publish_applies moment c keys =
       let one : HasKeys p es 1 = omega arith in
       let m = message_under (next_key p es) moment c in
@@ -124,7 +124,7 @@ module _ (p : ℕ) (es : List Event) (b : Board) (is : board_of es ≡ Some b) (
   expiry_by key true due a z none = refl
   expiry_by key false due a z none = absurd (cc)
 
-  expire_applies : (key moment : ℕ) → reason_to_expire es moment key ≡ None → IsTrue (all_apply p es (expired key))
+  pub expire_applies : (key moment : ℕ) → reason_to_expire es moment key ≡ None → IsTrue (all_apply p es (expired key))
   expire_applies key moment none =
       let waits = expiry_by key (is_buffered key es) (is_due_at moment key es) _ _ none in
       let first : IsTrue (applies p es (events.MessageExpired key)) = silent_applies p es b (events.MessageExpired key) is waits refl in
