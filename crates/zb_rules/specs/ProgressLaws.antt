@@ -41,9 +41,12 @@ use Rattle.zb_rules.specs.Create.{reason_by, variable_event, instance_under}
 use Rattle.zb_rules.specs.Publish.{published_under}
 use Rattle.zb_rules.specs.Expire.{expired}
 use Rattle.zb_rules.specs.CellsLaws.{mapped_holds}
-use Rattle.zb_rules.specs.Sound.{HasKeys, IsForcedEvent}
+use Rattle.zb_rules.specs.ModelsLaws.{Knows, board_knows}
+use Rattle.zb_rules.specs.OwnLaws.{deploy_applies, publish_applies, expire_applies}
+use Rattle.zb_rules.specs.CreateLaws.{create_applies}
+use Rattle.zb_rules.specs.Sound.{HasKeys, HasOrderedNames, IsForcedEvent}
 use Rattle.zb_rules.specs.GrowthLaws.{board_of_more}
-use Rattle.zb_rules.specs.SoundLaws.{applied_from, some_of, board_is_there, cells_ascend, game_holds, game_holds_from, applied_board, board_behind, IsApplied}
+use Rattle.zb_rules.specs.SoundLaws.{Stands, applied_from, board_stands, some_of, board_is_there, cells_ascend, game_holds, game_holds_from, applied_board, board_behind, IsApplied}
 
 -- the moves that a mover makes, where a new cell gets this key
 abbrev IsMade : ℕ → Move → Type 0
@@ -258,3 +261,21 @@ legal_by p moment es (e ∷ own) never apply = (
 -- each of the moves that own events show is legal
 pub own_legal : (p n : ℕ) (es : List Event) (moment : ℕ) (command : Command) (own : List Event) → IsTrue (all_apply p es own) → own_events p n es moment command ≡ Some own → AllLegal moment es own
 own_legal p n es moment command own apply is = legal_by p moment es own (own_never p n es moment command own is) apply
+
+-- the own events of a command without a reason apply
+own_apply_by : (p n : ℕ) (es : List Event) (b : Board) (moment : ℕ) (command : Command) (own : List Event) → board_of es ≡ Some b → Stands p es b → Knows p es b → HasKeys p es 2 → HasOrderedNames command
+    → IsSupported command → reason_for es moment command ≡ None → own_events p n es moment command ≡ Some own → IsTrue (all_apply p es own)
+own_apply_by p n es b moment (commands.DeploymentCreate m) own is stands knows keys ordered supported none made =
+    subst (λ (x : List Event). IsTrue (all_apply p es x)) (let same : deployed p m es ≡ own = cc in same) (deploy_applies p es b is knows m keys none)
+own_apply_by p n es b moment (commands.ProcessInstanceCreationCreate c) own is stands knows keys ordered supported none made = create_applies p es b is stands knows c own (omega (arith, keys)) ordered made
+own_apply_by p n es b moment (commands.MessagePublish c) own is stands knows keys ordered supported none made =
+    subst (λ (x : List Event). IsTrue (all_apply p es x)) (let same : published_under (next_key p es) moment c ≡ own = cc in same) (publish_applies p es b is knows moment c keys)
+own_apply_by p n es b moment (commands.MessageExpire key) own is stands knows keys ordered supported none made =
+    subst (λ (x : List Event). IsTrue (all_apply p es x)) (let same : expired key ≡ own = cc in same) (expire_applies p es b is knows key moment none)
+own_apply_by p n es b moment _ own is stands knows keys ordered supported none made = absurd supported
+
+pub own_apply : (p n : ℕ) (es : List Event) (moment : ℕ) (command : Command) (own : List Event) → IsTrue (all_apply p [] es) → HasKeys p es 2 → HasOrderedNames command
+    → IsSupported command → reason_for es moment command ≡ None → own_events p n es moment command ≡ Some own → IsTrue (all_apply p es own)
+own_apply p n es moment command own apply keys ordered supported none made =
+    let found = some_of (board_of es) (board_is_there p es apply) in
+    own_apply_by p n es found.0 moment command own found.1 (board_stands p es found.0 apply found.1) (board_knows p es found.0 apply found.1) keys ordered supported none made
