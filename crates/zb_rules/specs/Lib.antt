@@ -21,3 +21,4 @@ pub mod ProgressLaws
 pub mod ModelsLaws
 pub mod OwnLaws
 pub mod CreateLaws
+pub mod PlayedLaws
