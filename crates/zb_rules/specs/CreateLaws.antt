@@ -36,7 +36,8 @@ use Rattle.zb_rules.specs.Applies.{has_definition, holds_own, holds_of_game, app
 use Rattle.zb_rules.specs.Sound.{HasKeys}
 use Rattle.zb_rules.specs.Create.{variable_event, instance_under, created}
 use Rattle.zb_rules.specs.CellsLaws.{Between, mapped_holds}
-use Rattle.zb_rules.specs.SoundLaws.{some_of, game_holds_from, applied_from, applied_board, board_behind, Stands}
+use Rattle.zb_rules.specs.AppliedLaws.{some_of, game_holds_from, applied_from, applied_board, board_behind}
+use Rattle.zb_rules.specs.KeysLaws.{Stands}
 use Rattle.zb_rules.specs.ModelsLaws.{Knows}
 use Rattle.zb_rules.specs.OwnLaws.{fresh_from, silent_applies, board_after}
 

@@ -30,7 +30,8 @@ use Rattle.zb_tokens.specs.ForcedLaws.{same_bytes}
 use Rattle.zb_rules.specs.Shown.{shown, after_shown, board_of}
 use Rattle.zb_rules.specs.Applies.{all_apply, is_process_of}
 use Rattle.zb_rules.specs.CellsLaws.{mapped_holds, chained_holds}
-use Rattle.zb_rules.specs.SoundLaws.{IsApplied, holds_of_all, first_named}
+use Rattle.zb_rules.specs.AppliedLaws.{IsApplied, holds_of_all}
+use Rattle.zb_rules.specs.KeysLaws.{first_named}
 
 -- the model that a move puts on the board
 abbrev models_made : Move → List Deployed
