@@ -20,6 +20,7 @@ pub mod AppliedLaws
 pub mod KeysLaws
 pub mod ModelsLaws
 pub mod PlayedLaws
+pub mod ScopesLaws
 pub mod SoundLaws
 pub mod OwnLaws
 pub mod CreateLaws
