@@ -73,7 +73,7 @@ module _ (p : ℕ) (before : List Event) (b after : Board) (a : ElementActivatin
       between_played 1 (next_key p before) b s.between after (moves.Enter (record { key = a.key; scope = a.scope; node = a.node; via = a.via })) (next_key p (before ++ events.ElementActivating a ∷ []))
       (next_key_more p before (events.ElementActivating a)) (omega (arith, f.1), below) made
 
-begins_by : (p : ℕ) (before : List Event) (a : ElementActivating) → IsTrue (begins_well p before a) → IsTrue (if a.scope == 0 then begins_instance before a else begins_cell p before a)
+pub begins_by : (p : ℕ) (before : List Event) (a : ElementActivating) → IsTrue (begins_well p before a) → IsTrue (if a.scope == 0 then begins_instance before a else begins_cell p before a)
 begins_by p before a h = both_right (is_plain a.role && bytes_eq a.started []) _ h
 
 keys_between : (p : ℕ) (before : List Event) (b : Board) (e : Event) (after : Board) → IsApplied p before b e after → Stands p before b → Between 1 (next_key p (before ++ e ∷ [])) after.cells
@@ -90,13 +90,13 @@ keys_begin p before b (events.ProcessInstanceCreationCreated c) after h s i is =
     (subst (λ (x : Board). Between 1 i.key x.cells) same (subst (λ (k : ℕ). Between 1 k b.cells) (sym f.1 ∙ its) s.between), omega (arith, below, its))
 keys_begin p before b e after h s i is = absurd (cc)
 
-stands_on : (p : ℕ) (before : List Event) (b : Board) (e : Event) (after : Board) → IsApplied p before b e after → Stands p before b → Stands p (before ++ e ∷ []) after
+pub stands_on : (p : ℕ) (before : List Event) (b : Board) (e : Event) (after : Board) → IsApplied p before b e after → Stands p before b → Stands p (before ++ e ∷ []) after
 stands_on p before b e after h s = record {
   between = keys_between p before b e after h s;
   begins = λ i is. keys_begin p before b e after h s i (sym (begun_more before e) ∙ is);
 }
 
-stands_first : (p : ℕ) → Stands p [] empty_board
+pub stands_first : (p : ℕ) → Stands p [] empty_board
 stands_first p = record {
   between = omega arith;
   begins = λ i is. absurd (cc);

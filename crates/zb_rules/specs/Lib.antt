@@ -21,6 +21,7 @@ pub mod KeysLaws
 pub mod ModelsLaws
 pub mod PlayedLaws
 pub mod ScopesLaws
+pub mod PlacedLaws
 pub mod SoundLaws
 pub mod OwnLaws
 pub mod CreateLaws
