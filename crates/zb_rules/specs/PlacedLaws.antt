@@ -80,7 +80,7 @@ model_kept b after (moves.Leave l) still all = λ flow owed is c found has. has
 model_kept b after (moves.Take t) still all = λ flow owed c found has. has
 model_kept b after (moves.Assign a) still all = λ c found has. has
 
-models_on : (b after : Board) (move : Option Move) → after_shown b move ≡ Some after → All (HasModel b) b.cells → All (HasModel after) after.cells
+pub models_on : (b after : Board) (move : Option Move) → after_shown b move ≡ Some after → All (HasModel b) b.cells → All (HasModel after) after.cells
 models_on b after None made all = subst (λ (x : Board). All (HasModel x) x.cells) (let same : b ≡ after = cc in same) all
 models_on b after (Some move) made all =
     let still = models_still b after (Some move) made in
@@ -113,7 +113,7 @@ owes_kept b (moves.Leave l) fit = owes_leave b l fit
 owes_kept b (moves.Take t) fit = owes_take b t fit
 owes_kept b (moves.Assign a) fit = λ c found has. has
 
-owes_on : (b after : Board) (move : Option Move) → IsTrue (may_fit move b) → after_shown b move ≡ Some after → All Owes b.cells → All Owes after.cells
+pub owes_on : (b after : Board) (move : Option Move) → IsTrue (may_fit move b) → after_shown b move ≡ Some after → All Owes b.cells → All Owes after.cells
 owes_on b after None fit made all = subst (λ (x : Board). All Owes x.cells) (let same : b ≡ after = cc in same) all
 owes_on b after (Some move) fit made all = cells_played b Owes all after move (owes_kept b move fit) made
 
@@ -179,7 +179,7 @@ placed_still b after (moves.Take t) fit made placed = all_still b after (scopes_
 placed_still b after (moves.Assign a) fit made placed = all_still b after (scopes_played b after (moves.Assign a) fit tt made) placed
 
 -- a cell that enters has a key behind all
-abbrev IsNewIn : Board → Move → Type 0
+abbrev pub IsNewIn : Board → Move → Type 0
 IsNewIn b (moves.Enter e) = Between 1 e.key b.cells
 IsNewIn b _ = Unit {0}
 
@@ -251,7 +251,7 @@ token_kept b after (moves.Open key) fit made owes scopes = opens_kept b after ke
 token_kept b after (moves.Take t) fit made owes scopes = take_kept b after t fit owes scopes
 token_kept b after _ fit made owes scopes = tt
 
-placed_on : (b after : Board) (move : Option Move) → IsTrue (may_fit move b) → IfSome move (IsNewIn b) → after_shown b move ≡ Some after → All Owes b.cells → Placed b → Placed after
+pub placed_on : (b after : Board) (move : Option Move) → IsTrue (may_fit move b) → IfSome move (IsNewIn b) → after_shown b move ≡ Some after → All Owes b.cells → Placed b → Placed after
 placed_on b after None fit new made owes placed = subst Placed (let same : b ≡ after = cc in same) placed
 placed_on b after (Some move) fit new made owes placed =
     let still = placed_still b after move fit made placed in
