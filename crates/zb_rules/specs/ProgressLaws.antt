@@ -172,27 +172,44 @@ made_legally p moment es e h each =
     let found = some_of (board_of es) (holds_some _ (board_of es) (both_right (holds_own p es e) _ h)) in
     made_by p moment es e found.0 (shown es e) refl found.1 h (λ m. each found.0 m found.1)
 
--- the turn of a mover is there exactly where somebody is forced
-turn_there : (p n moment : ℕ) (es : List Event) (b : Board) (mover : Mover) → board_of es ≡ Some b → next_mover b ≡ Some mover → IsForcedEvent p moment es b mover → turn p n moment es ≡ None → ⊥
-unfolding turn
-turn_there p n moment es b mover is next forced none =
-    let its : turn_of p n moment es b mover ≡ None = rw (is, next) at none in
-    let made : turn_of p n moment es b mover ≡ Some (forced.event ∷ []) = rw (forced.is_move, forced.is_event) refl in
-    cc
+-- the turn of who is forced is there
+event_there : (b : Board) (key : ℕ) (move : Move) → IsMade key move → IsTrue (fits b move) → IsTrue (is_some (event_of b move))
+event_there b key (moves.Stand d) made fit = absurd made
+event_there b key (moves.Start s) made fit = absurd made
+event_there b key (moves.Enter e) made fit = mapped_some _ (cell_at b e.scope) (holds_some _ (cell_at b e.scope) (both_right (list_any (comes_to e.scope e.node e.via) b.tokens) _ fit))
+event_there b key (moves.Open cell) made fit = refl
+event_there b key (moves.Finish cell) made fit = refl
+event_there b key (moves.Leave l) made fit = refl
+event_there b key (moves.Take t) made fit = refl
+event_there b key (moves.Assign a) made fit = absurd made
 
-quiet_by : (p n moment : ℕ) (es : List Event) (b : Board) (next : Option Mover) → board_of es ≡ Some b → next_mover b ≡ next
-    → ((mover : Mover) → next_mover b ≡ Some mover → IsForcedEvent p moment es b mover) → turn p n moment es ≡ None → HasQuietGame es
-quiet_by p n moment es b None is nobody forced none = record { board = b; is = is; quiet = nobody }
-quiet_by p n moment es b (Some mover) is next forced none = absurd (turn_there p n moment es b mover is next (forced mover next) none)
+turn_made : (p n moment : ℕ) (es : List Event) (b : Board) (mover : Mover) (move : Move) (e : Event) → move_of b moment (next_key p es) mover ≡ Some move → event_of b move ≡ Some e → turn_of p n moment es b mover ≡ Some (e ∷ [])
+turn_made p n moment es b mover move e made told = rw (made, told) refl
+
+turn_there : (p n moment : ℕ) (es : List Event) (b : Board) (mover : Mover) → CellsAscend 0 b.cells → next_mover b ≡ Some mover → IsTrue (is_some (turn_of p n moment es b mover))
+turn_there p n moment es b mover up next =
+    let found = some_of (move_of b moment (next_key p es) mover) (movers_move b moment (next_key p es) mover up next) in
+    let event = some_of (event_of b found.0) (event_there b (next_key p es) found.0 (mover_made b moment (next_key p es) mover found.0 found.1) (movers_fit b moment (next_key p es) mover found.0 up next found.1)) in
+    let made : turn_of p n moment es b mover ≡ Some (event.0 ∷ []) = turn_made p n moment es b mover found.0 event.0 found.1 event.1 in
+    rw made refl
+
+quiet_by : (p n moment : ℕ) (es : List Event) (b : Board) (next : Option Mover) → board_of es ≡ Some b → next_mover b ≡ next → CellsAscend 0 b.cells → turn p n moment es ≡ None → HasQuietGame es
+unfolding turn
+quiet_by p n moment es b None is nobody up none = record { board = b; is = is; quiet = nobody }
+quiet_by p n moment es b (Some mover) is next up none =
+    let its : turn_of p n moment es b mover ≡ None = rw (is, next) at none in
+    let there = turn_there p n moment es b mover up next in
+    absurd (let missing : IsTrue (is_some {T = List Event} None) = rw its at there in cc)
 
 no_turn : (p n moment : ℕ) (es : List Event) → HasQuietGame es → turn p n moment es ≡ None
 unfolding turn
 no_turn p n moment es q = rw (q.is, q.quiet) refl
 
-pub no_turn_is_quiet : (p n moment : ℕ) (es : List Event) → IsTrue (all_apply p [] es) → HasKeys p es 1 → turn p n moment es ≡ None ↔ HasQuietGame es
-no_turn_is_quiet p n moment es apply keys =
+-- the turn of a mover is there exactly where somebody is forced
+pub no_turn_is_quiet : (p n moment : ℕ) (es : List Event) → IsTrue (all_apply p [] es) → turn p n moment es ≡ None ↔ HasQuietGame es
+no_turn_is_quiet p n moment es apply =
     let found = some_of (board_of es) (board_is_there p es apply) in
-    (quiet_by p n moment es found.0 (next_mover found.0) found.1 refl (λ mover. forced_event p moment es found.0 mover apply keys found.1), no_turn p n moment es)
+    (quiet_by p n moment es found.0 (next_mover found.0) found.1 refl (from_none found.0.cells (cells_ascend p es found.0 apply found.1)), no_turn p n moment es)
 
 -- a command without a reason against it has own events
 asked_there : (latest asked : Option Definition) (c : ProcessInstanceCreationCreate) → reason_by latest asked c ≡ None → IsTrue (is_some asked)

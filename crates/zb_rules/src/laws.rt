@@ -47,9 +47,9 @@ pub fn forced_events_apply()
         → board_of es ≡ Some board → next_mover board ≡ Some mover → IsForcedEvent p moment es board mover }
 {}
 
-/// Behind a log whose events apply, and where a key is left, there is no turn exactly where the game is quiet.
+/// Behind a log whose events apply there is no turn exactly where the game is quiet.
 pub fn no_turn_is_quiet()
-    ensures { (p n moment : ℕ) (es : List Event) → IsTrue (all_apply p [] es) → HasKeys p es 1
+    ensures { (p n moment : ℕ) (es : List Event) → IsTrue (all_apply p [] es)
         → (turn p n moment es ≡ None) ↔ HasQuietGame es }
 {}
 
