@@ -1,7 +1,7 @@
 -- Who is forced has an event that applies; where nobody is, the game is quiet.
-use Rattle.std.proofs.Common.{◌≡◌, ℕ, ◌+◌, ◌^◌, ◌<◌, ◌≤◌, ◌==◌, nat_lt, List, [], ◌∷◌, ◌++◌, map, Bool, true, false, ◌&&◌, if◌then◌else◌, IsTrue, is_some, Option, Some, None, option_map, option_and_then, slice_get, ◌↔◌, refl, sym, ap, ◌∙◌, subst, arith}
+use Rattle.std.proofs.Common.{◌≡◌, ℕ, ◌+◌, ◌≤◌, ◌==◌, List, [], ◌∷◌, ◌++◌, map, Bool, true, false, if◌then◌else◌, IsTrue, is_some, Option, Some, None, option_map, option_and_then, slice_get, ◌↔◌, refl, subst, arith}
 use Rattle.std.specs.List.{find, list_any}
-use Rattle.std.specs.Option.{option_map_or, IfSome}
+use Rattle.std.specs.Option.{IfSome}
 use Rattle.std.proofs.lemmas.Bool.Decides.{nat_tests}
 use Rattle.zb_instance_records.specs.declared.instance.Role.TheVariants as roles
 use Rattle.zb_base.specs.declared.vars.Variable.{Variable}
@@ -14,7 +14,7 @@ use Rattle.zb_views.specs.declared.definition.Definition.{Definition}
 use Rattle.zb_views.specs.Definitions.{definition_for}
 use Rattle.zb_model.specs.declared.record.Event.{Event}
 use Rattle.zb_model.specs.declared.record.Event.TheVariants as events
-use Rattle.zb_views.specs.View.{greatest_counter, next_key}
+use Rattle.zb_views.specs.View.{next_key}
 use Rattle.zb_tokens.specs.declared.board.Cell.{Cell}
 use Rattle.zb_tokens.specs.declared.board.Token.{Token}
 use Rattle.zb_tokens.specs.declared.board.Enter.{Enter}
@@ -27,7 +27,7 @@ use Rattle.zb_tokens.specs.declared.board.Phase.TheVariants as phases
 use Rattle.zb_tokens.specs.Board.{Board, CellsAscend, cell_at}
 use Rattle.zb_tokens.specs.MoveEnter.{comes_to}
 use Rattle.zb_tokens.specs.Game.{fits, agrees, played}
-use Rattle.zb_tokens.specs.GameLaws.{both_left, both_right, holds_some, mapped_some, fitting_is_played}
+use Rattle.zb_tokens.specs.GameLaws.{both_left, both_right, holds_some, mapped_some}
 use Rattle.zb_tokens.specs.Forced.{next_mover, move_in, take_first, entry_of, move_of, way_of}
 use Rattle.zb_tokens.specs.ForcedLaws.{movers_move, movers_fit, movers_agree}
 use Rattle.zb_rules.specs.Shown.{shown, after_shown, board_of, event_of}
@@ -45,9 +45,8 @@ use Rattle.zb_rules.specs.ModelsLaws.{Knows, board_knows}
 use Rattle.zb_rules.specs.OwnLaws.{deploy_applies, publish_applies, expire_applies}
 use Rattle.zb_rules.specs.CreateLaws.{create_applies}
 use Rattle.zb_rules.specs.Sound.{HasKeys, HasOrderedNames, IsForcedEvent}
-use Rattle.zb_rules.specs.GrowthLaws.{board_of_more}
-use Rattle.zb_rules.specs.AppliedLaws.{applied_from, some_of, game_holds, game_holds_from, applied_board, board_behind, IsApplied}
-use Rattle.zb_rules.specs.KeysLaws.{Stands, board_stands}
+use Rattle.zb_rules.specs.AppliedLaws.{applied_from, some_of, game_holds_from, applied_board, board_behind}
+use Rattle.zb_rules.specs.KeysLaws.{HasOrderedCells, board_stands}
 use Rattle.zb_rules.specs.SoundLaws.{board_is_there, cells_ascend}
 
 -- the moves that a mover makes, where a new cell gets this key
@@ -166,6 +165,7 @@ made_by p moment es e b (Some move) shows is h each =
       legal = record { fit = fit; agreed = each move shows; leads = led };
     }
 
+-- the event makes its move legally
 pub made_legally : (p moment : ℕ) (es : List Event) (e : Event) → IsTrue (applies p es e)
     → ((b : Board) (move : Move) → board_of es ≡ Some b → shown es e ≡ Some move → IsTrue (agrees b moment move)) → IfSome (shown es e) (IsMadeLegally moment es e)
 made_legally p moment es e h each =
@@ -217,6 +217,7 @@ asked_there None asked c none = absurd (cc)
 asked_there (Some latest) None c none = absurd (cc)
 asked_there (Some latest) (Some asked) c none = refl
 
+-- so they are there
 pub own_there : (p n : ℕ) (es : List Event) (moment : ℕ) (command : Command) → IsSupported command → reason_for es moment command ≡ None → IsTrue (is_some (own_events p n es moment command))
 own_there p n es moment (commands.DeploymentCreate m) supported none = refl
 own_there p n es moment (commands.ProcessInstanceCreationCreate c) supported none =
@@ -282,7 +283,7 @@ pub own_legal : (p n : ℕ) (es : List Event) (moment : ℕ) (command : Command)
 own_legal p n es moment command own apply is = legal_by p moment es own (own_never p n es moment command own is) apply
 
 -- the own events of a command without a reason apply
-own_apply_by : (p n : ℕ) (es : List Event) (b : Board) (moment : ℕ) (command : Command) (own : List Event) → board_of es ≡ Some b → Stands p es b → Knows p es b → HasKeys p es 2 → HasOrderedNames command
+own_apply_by : (p n : ℕ) (es : List Event) (b : Board) (moment : ℕ) (command : Command) (own : List Event) → board_of es ≡ Some b → HasOrderedCells p es b → Knows p es b → HasKeys p es 2 → HasOrderedNames command
     → IsSupported command → reason_for es moment command ≡ None → own_events p n es moment command ≡ Some own → IsTrue (all_apply p es own)
 own_apply_by p n es b moment (commands.DeploymentCreate m) own is stands knows keys ordered supported none made =
     subst (λ (x : List Event). IsTrue (all_apply p es x)) (let same : deployed p m es ≡ own = cc in same) (deploy_applies p es b is knows m keys none)
@@ -293,6 +294,7 @@ own_apply_by p n es b moment (commands.MessageExpire key) own is stands knows ke
     subst (λ (x : List Event). IsTrue (all_apply p es x)) (let same : expired key ≡ own = cc in same) (expire_applies p es b is knows key moment none)
 own_apply_by p n es b moment _ own is stands knows keys ordered supported none made = absurd supported
 
+-- behind any log whose events apply
 pub own_apply : (p n : ℕ) (es : List Event) (moment : ℕ) (command : Command) (own : List Event) → IsTrue (all_apply p [] es) → HasKeys p es 2 → HasOrderedNames command
     → IsSupported command → reason_for es moment command ≡ None → own_events p n es moment command ≡ Some own → IsTrue (all_apply p es own)
 own_apply p n es moment command own apply keys ordered supported none made =

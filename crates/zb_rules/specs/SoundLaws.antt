@@ -1,5 +1,5 @@
 -- What holds of the board of every log whose events apply.
-use Rattle.std.proofs.Common.{◌≡◌, ◌⊎◌, ℕ, ◌<◌, ◌==◌, List, [], ◌∷◌, ◌++◌, Bool, true, false, if◌then◌else◌, IsTrue, IsFalse, is_some, Option, Some, All, refl, inl, inr, ⊎_elim, sym, subst}
+use Rattle.std.proofs.Common.{◌≡◌, ◌⊎◌, ℕ, ◌<◌, ◌==◌, List, [], ◌∷◌, ◌++◌, Bool, true, false, if◌then◌else◌, IsTrue, IsFalse, is_some, Some, All, refl, inl, inr, ⊎_elim, sym, subst}
 use Rattle.std.specs.Option.{IfSome}
 use Rattle.std.proofs.lemmas.List.Elements.{All-nil, All-weaker}
 use Rattle.zb_instance_records.specs.declared.instance.ElementActivating.{ElementActivating}
@@ -18,8 +18,8 @@ use Rattle.zb_rules.specs.Shown.{shown, board_of}
 use Rattle.zb_rules.specs.Applies.{is_fresh, begins_instance, begins_cell, all_apply}
 use Rattle.zb_rules.specs.Sound.{IsSound}
 use Rattle.zb_rules.specs.CellsLaws.{Between, ascend_between}
-use Rattle.zb_rules.specs.AppliedLaws.{IsApplied, holds_on, holds_of_all}
-use Rattle.zb_rules.specs.KeysLaws.{Stands, board_stands, stands_on, stands_first, begins_by, fresh_is}
+use Rattle.zb_rules.specs.AppliedLaws.{Advances, holds_on, holds_of_all}
+use Rattle.zb_rules.specs.KeysLaws.{HasOrderedCells, board_stands, stands_on, stands_first, begins_by, fresh_is}
 use Rattle.zb_rules.specs.ScopesLaws.{holds_others, is_scope}
 use Rattle.zb_rules.specs.PlacedLaws.{HasModel, Owes, InScope, IsIn, Placed, IsNewIn, models_on, owes_on, placed_on}
 
@@ -34,25 +34,25 @@ pub cells_ascend : (p : ℕ) (es : List Event) (b : Board) → IsTrue (all_apply
 cells_ascend p es b apply is = ascend_between 1 (next_key p es) b.cells (board_stands p es b apply is).between
 
 -- where a cell enters, its key is behind all
-new_by : (p : ℕ) (before : List Event) (b : Board) (a : ElementActivating) (t : Bool) → Stands p before b → IsTrue (if t then begins_instance before a else begins_cell p before a)
+new_by : (p : ℕ) (before : List Event) (b : Board) (a : ElementActivating) (t : Bool) → HasOrderedCells p before b → IsTrue (if t then begins_instance before a else begins_cell p before a)
     → IfSome (if t then Some (moves.Start (record { key = a.key; definition = a.definition })) else Some (moves.Enter (record { key = a.key; scope = a.scope; node = a.node; via = a.via }))) (IsNewIn b)
 new_by p before b a true stands begins = tt
 new_by p before b a false stands begins =
     let f = fresh_is p before a.key (both_left (is_fresh p before a.key) _ begins) in
     subst (λ (k : ℕ). Between 1 k b.cells) (sym f.1) stands.between
 
-shown_new : (p : ℕ) (before : List Event) (b : Board) (e : Event) (after : Board) → IsApplied p before b e after → Stands p before b → IfSome (shown before e) (IsNewIn b)
+shown_new : (p : ℕ) (before : List Event) (b : Board) (e : Event) (after : Board) → Advances p before b e after → HasOrderedCells p before b → IfSome (shown before e) (IsNewIn b)
 shown_new p before b (events.ElementActivating a) after h stands = new_by p before b a (a.scope == 0) stands (begins_by p before a h.own)
 shown_new p before b e after h stands = tt
 
 -- what each event keeps of the board
 record Keeps (p : ℕ) (es : List Event) (b : Board) : Type 0 where
-  stands : Stands p es b
+  stands : HasOrderedCells p es b
   models : All (HasModel b) b.cells
   owes : All Owes b.cells
   placed : Placed b
 
-keeps_on : (p : ℕ) (before : List Event) (b : Board) (e : Event) (after : Board) → IsApplied p before b e after → Keeps p before b → Keeps p (before ++ e ∷ []) after
+keeps_on : (p : ℕ) (before : List Event) (b : Board) (e : Event) (after : Board) → Advances p before b e after → Keeps p before b → Keeps p (before ++ e ∷ []) after
 keeps_on p before b e after h k = record {
   stands = stands_on p before b e after h k.stands;
   models = models_on b after (shown before e) h.leads k.models;
