@@ -18,12 +18,13 @@ use Rattle.zb_tokens.specs.Edits.{is_none_of}
 use Rattle.zb_tokens.specs.Board.{Board, cell_at, model_under}
 use Rattle.zb_tokens.specs.Doom.{is_doomed}
 use Rattle.zb_tokens.specs.MoveEnter.{may_enter}
+use Rattle.zb_tokens.specs.MoveOpen.{opens}
 use Rattle.zb_tokens.specs.MoveFinish.{is_done}
 use Rattle.zb_tokens.specs.MoveLeave.{owed_by}
 
 -- in a phase a cell goes on by itself (BPMN 2.0.2, 13)
 abbrev pub goes_on_in : Board → Cell → Phase → Bool
-goes_on_in b c phases.Activating = true
+goes_on_in b c phases.Activating = opens b c
 goes_on_in b c phases.Active = is_done b c
 goes_on_in b c phases.Completing = true
 goes_on_in b c phases.Leaving = not (is_none_of c.owed)

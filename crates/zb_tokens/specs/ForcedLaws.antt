@@ -1,148 +1,228 @@
 -- Laws of forced moves, in the subject's own words.
-use Rattle.std.proofs.Common.{◌≡◌, ◌⊎◌, ℕ, ◌+◌, ◌≤◌, ◌==◌, nat_le, List, [], ◌∷◌, Bool, true, false, if◌then◌else◌, IsTrue, Option, Some, None, refl, inl, inr, ⊎_elim, ap, subst, arith}
+use Rattle.std.proofs.Common.{◌≡◌, ◌⊎◌, ℕ, ◌+◌, ◌<◌, ◌≤◌, ◌==◌, max, length, get_or, List, [], ◌∷◌, map, filter, slice_get, position, All, Bool, true, false, ◌&&◌, not, cond, if◌then◌else◌, IsTrue, IsFalse, Option, Some, None, is_some, option_map, option_and_then, refl, inl, inr, ⊎_elim, ap, sym, ◌∙◌, subst, arith}
+use Rattle.std.specs.Option.{option_map_or, option_or}
+use Rattle.std.specs.List.{find, position_or_len}
 use Rattle.std.specs.Str.{bytes_eq}
 use Rattle.std.proofs.lemmas.Bool.Decides.{nat_tests}
+use Rattle.std.proofs.lemmas.Grind.{common_steps}
+use Rattle.std.proofs.lemmas.List.Elements.{All-nil, All-cons}
+use Rattle.std.proofs.lemmas.List.Quantifiers.{position-Some}
+use Rattle.std.proofs.lemmas.List.Sums.{fails_before_first}
+use Rattle.std.proofs.lemmas.Option.{slice_get-get_or}
 use Rattle.std.proofs.lemmas.Slice.Eq.{bytes_eq-Decides}
-use Rattle.zb_tokens.specs.Edits.{first}
 use Rattle.zb_tokens.specs.declared.board.Cell.{Cell}
 use Rattle.zb_tokens.specs.declared.board.Token.{Token}
 use Rattle.zb_tokens.specs.declared.board.Enter.{Enter}
 use Rattle.zb_tokens.specs.declared.board.Move.{Move}
 use Rattle.zb_tokens.specs.declared.board.Move.TheVariants as moves
+use Rattle.zb_tokens.specs.declared.board.Mover.{Mover}
+use Rattle.zb_tokens.specs.declared.board.Mover.TheVariants as movers
 use Rattle.zb_tokens.specs.declared.board.Phase.{Phase}
 use Rattle.zb_tokens.specs.declared.board.Phase.TheVariants as phases
+use Rattle.zb_tokens.specs.Edits.{is_none_of}
 use Rattle.zb_tokens.specs.Board.{Board, cell_at, CellsAscend}
 use Rattle.zb_tokens.specs.Doom.{is_doomed}
-use Rattle.zb_tokens.specs.MoveEnter.{can_enter}
-use Rattle.zb_tokens.specs.MoveFinish.{can_finish}
-use Rattle.zb_tokens.specs.MoveLeave.{owed_by, ids_eq}
-use Rattle.zb_tokens.specs.Game.{can}
-use Rattle.zb_tokens.specs.Forced.{forced_in, forced_at, take_first, newer_answer, newest, entry_by, entry_of, way_of, or_later, first_entry, move_of, next_forced, NoneForced, NoneEnters, IsQuiet}
+use Rattle.zb_tokens.specs.MoveEnter.{may_enter}
+use Rattle.zb_tokens.specs.MoveLeave.{owed_by, ids_eq, are_among}
+use Rattle.zb_tokens.specs.Game.{fits, agrees}
+use Rattle.zb_tokens.specs.GameLaws.{mapped_some, both_left}
+use Rattle.zb_tokens.specs.Forced.{goes_on_in, is_forced, way_of, can_enter, greatest, next_mover, IsQuiet, take_first, move_in, entry_of, move_of}
 
-same_bytes : (xs : List ℕ) → bytes_eq xs xs ≡ true
+pub same_bytes : (xs : List ℕ) → bytes_eq xs xs ≡ true
 same_bytes xs = (bytes_eq-Decides xs xs).1 refl
 
-ids_same : (ids : List (List ℕ)) → ids_eq ids ids ≡ true
+pub ids_same : (ids : List (List ℕ)) → ids_eq ids ids ≡ true
 ids_same [] = refl
 ids_same (id ∷ ids) = rw (same_bytes id, ids_same ids) refl
 
--- whose answer it is
-by_test : (t : Bool) (k key : ℕ) (own move : Move) (found : ℕ × Move) → (if t then Some found else Some (k, own)) ≡ Some (key, move) → (own ≡ move) ⊎ (Some found ≡ Some (key, move))
-by_test true k key own move found is = inr is
-by_test false k key own move found is = inl (let e : (k, own) ≡ (key, move) = cc in ap (λ (p : ℕ × Move). p.1) e)
+pub among_themselves : (ids : List (List ℕ)) → are_among ids ids ≡ true
+among_themselves [] = refl
+among_themselves (id ∷ ids) = rw (same_bytes id, among_themselves ids) refl
 
-later_has : (k key : ℕ) (own : Option Move) (rest : Option (ℕ × Move)) (move : Move) → newer_answer k own rest ≡ Some (key, move) → (own ≡ Some move) ⊎ (rest ≡ Some (key, move))
-later_has k key None rest move is = inr is
-later_has k key (Some own) None move is = inl (ap (λ (m : Move). Some m) (let e : (k, own) ≡ (key, move) = cc in ap (λ (p : ℕ × Move). p.1) e))
-later_has k key (Some own) (Some found) move is = ⊎_elim (λ same. inl (ap (λ (m : Move). Some m) same)) (λ later. inr later) (by_test (nat_le k found.0) k key own move found is)
+-- a cell with this key that passes is the one that is found with it, and its key is not below `low`
+abbrev pub IsFound : (Cell → Bool) → ℕ → List Cell → ℕ → Type 0
+IsFound passes low cells key = (c : Cell) × (low ≤ c.key) × (c.key ≡ key) × (find (λ x. x.key == key) cells ≡ Some c) × (passes c ≡ true)
 
--- the cell whose answer it is, which is the first with its key
-newest_has : (f : Cell → Option Move) (low : ℕ) (cells : List Cell) (key : ℕ) (move : Move) → CellsAscend low cells → newest f cells ≡ Some (key, move)
-    → (c : Cell) × (low ≤ c.key) × (first (λ x. x.key == c.key) cells ≡ Some c) × (f c ≡ Some move)
-newest_has f low [] key move up is = absurd (cc)
-newest_has f low (c ∷ cells) key move up is = ⊎_elim
-    (λ own. (c, up.0, (let same : (c.key == c.key) ≡ true = grind (arith, nat_tests) in rw same refl), own))
-    (λ later.
-    let r = newest_has f (c.key + 1) cells key move up.1 later in
-    let other : (c.key == r.0.key) ≡ false = grind (arith, nat_tests, r.1) in
-    (r.0, omega (arith, up.0, r.1), rw other r.2, r.3))
-    (later_has c.key key (f c) (newest f cells) move is)
+module _ (passes : Cell → Bool) where
+  found_later : (low : ℕ) (c : Cell) (cells : List Cell) (key : ℕ) → low ≤ c.key → IsFound passes (c.key + 1) cells key → IsFound passes low (c ∷ cells) key
+  found_later low c cells key above r =
+      let above_it = r.1 in
+      let its_key = r.2 in
+      let other : (c.key == key) ≡ false = grind (arith, nat_tests, above_it, its_key) in
+      (r.0, omega (arith, above_it), r.2, rw other r.3, r.4)
 
--- by the phase of the cell
+  found_here : (low : ℕ) (c : Cell) (cells : List Cell) (key : ℕ) → low ≤ c.key → c.key ≡ key → passes c ≡ true → IsFound passes low (c ∷ cells) key
+  found_here low c cells key above is it =
+      let same : (c.key == key) ≡ true = grind (arith, nat_tests, is) in
+      (c, above, is, rw same refl, it)
+
+  found_by : (low : ℕ) (c : Cell) (cells : List Cell) (key : ℕ) (best : Option ℕ) → low ≤ c.key → passes c ≡ true → ((k : ℕ) → best ≡ Some k → IsFound passes (c.key + 1) cells k)
+      → Some (option_map_or (max c.key) best c.key) ≡ Some key → IsFound passes low (c ∷ cells) key
+  found_by low c cells key None above it later is = found_here low c cells key above (cc) it
+  found_by low c cells key (Some k) above it later is =
+      let r = later k refl in
+      let above_it = r.1 in
+      let its_key = r.2 in
+      let greater : max c.key k ≡ key = cc in
+      let same : k ≡ key = omega (arith, above_it, its_key, greater) in
+      found_later low c cells key above (subst (λ (n : ℕ). IsFound passes (c.key + 1) cells n) same r)
+
+  found_from : (low : ℕ) (c : Cell) (cells : List Cell) (key : ℕ) (t : Bool) → low ≤ c.key → passes c ≡ t → ((k : ℕ) → greatest (map (λ x. x.key) (filter passes cells)) ≡ Some k → IsFound passes (c.key + 1) cells k)
+      → greatest (map (λ x. x.key) (cond t (c ∷ filter passes cells) (filter passes cells))) ≡ Some key → IsFound passes low (c ∷ cells) key
+  found_from low c cells key true above it later is = found_by low c cells key (greatest (map (λ x. x.key) (filter passes cells))) above it later is
+  found_from low c cells key false above it later is = found_later low c cells key above (later key is)
+
+  -- the greatest key of those that pass is that of a cell that is found with it, where the cells stand in the order of their keys
+  pub greatest_found : (low : ℕ) (cells : List Cell) (key : ℕ) → CellsAscend low cells → greatest (map (λ x. x.key) (filter passes cells)) ≡ Some key → IsFound passes low cells key
+  greatest_found low [] key up is = absurd (cc)
+  greatest_found low (c ∷ cells) key up is = found_from low c cells key (passes c) up.0 refl (λ k. greatest_found (c.key + 1) cells k up.1) is
+
+module _ {A : Type 0} (passes : A → Bool) where
+  -- the first that passes is at its place
+  pub position_found : (xs : List A) (i : ℕ) → position passes xs ≡ Some i → (x : A) × (slice_get xs i ≡ Some x) × (passes x ≡ true)
+  position_found [] i is = absurd (cc)
+  position_found (y ∷ ys) i is =
+      let r = position-Some passes (y ∷ ys) i y is in
+      (get_or (y ∷ ys) i y, slice_get-get_or (y ∷ ys) i y r.0, r.1)
+
+  -- where none is the first, none passes
+  pub position_none : (xs : List A) → position passes xs ≡ None → All (λ x. IsFalse (passes x)) xs
+  position_none xs is =
+      let past : length xs ≤ position_or_len passes xs = grind (arith, common_steps) in
+      λ k d within. fails_before_first passes xs k d (omega arith)
+
+-- what is known of a mover: the cell with its key is forced, and the token at its place can enter
+abbrev pub IsMover : Board → Mover → Type 0
+IsMover b (movers.Cell key) = (c : Cell) × (cell_at b key ≡ Some c) × (c.key ≡ key) × (is_forced b c ≡ true)
+IsMover b (movers.Token place) = (t : Token) × (slice_get b.tokens place ≡ Some t) × (can_enter b t ≡ true)
+
+mover_by : (cells tokens : Option ℕ) (mover : Mover) → option_or (option_map movers.Cell cells) (option_map movers.Token tokens) ≡ Some mover
+    → ((key : ℕ) × (cells ≡ Some key) × (movers.Cell key ≡ mover)) ⊎ ((place : ℕ) × (tokens ≡ Some place) × (movers.Token place ≡ mover))
+mover_by (Some key) tokens mover is = inl (key, refl, cc)
+mover_by None (Some place) mover is = inr (place, refl, cc)
+mover_by None None mover is = absurd (cc)
+
+-- who moves next is there, and is forced (own)
+pub mover_known : (b : Board) (mover : Mover) → CellsAscend 0 b.cells → next_mover b ≡ Some mover → IsMover b mover
+mover_known b mover up is = ⊎_elim
+    (λ by_cell.
+    let r = greatest_found (is_forced b) 0 b.cells by_cell.0 up by_cell.1 in
+    subst (IsMover b) by_cell.2 (r.0, r.3, r.2, r.4))
+    (λ by_token. subst (IsMover b) by_token.2 (position_found (can_enter b) b.tokens by_token.0 by_token.1))
+    (mover_by (greatest (map (λ c. c.key) (filter (is_forced b) b.cells))) (position (can_enter b) b.tokens) mover is)
+
+-- a cell that goes on has a move
+first_some : (key : ℕ) (owed : List (List ℕ)) → not (is_none_of owed) ≡ true → IsTrue (is_some (take_first key owed))
+first_some key [] some = absurd (cc)
+first_some key (flow ∷ owed) some = refl
+
+pub cell_has_move : (b : Board) (c : Cell) (phase : Phase) → goes_on_in b c phase ≡ true → IsTrue (is_some (move_in b c phase))
+cell_has_move b c phases.Activating goes = refl
+cell_has_move b c phases.Active goes = refl
+cell_has_move b c phases.Completing goes = refl
+cell_has_move b c phases.Leaving goes = first_some c.key c.owed goes
+cell_has_move b c phases.Terminating goes = absurd (cc)
+
+-- a token that can enter has a move
+way_some : {W : Type 0} (enters : W → Bool) (way : Option W) → option_map_or enters way false ≡ true → IsTrue (is_some way)
+way_some enters None is = absurd (cc)
+way_some enters (Some way) is = refl
+
+-- who is forced has a move
+pub mover_has_move : (b : Board) (moment key : ℕ) (mover : Mover) → IsMover b mover → IsTrue (is_some (move_of b moment key mover))
+mover_has_move b moment key (movers.Cell cell) known = rw known.1 (cell_has_move b known.0 known.0.phase (both_left (goes_on_in b known.0 known.0.phase) (not (is_doomed b known.0)) known.3))
+mover_has_move b moment key (movers.Token place) known = rw known.1 (mapped_some _ (way_of b known.0) (way_some _ (way_of b known.0) known.2))
+
+pub movers_move : (b : Board) (moment key : ℕ) (mover : Mover) → CellsAscend 0 b.cells → next_mover b ≡ Some mover → IsTrue (is_some (move_of b moment key mover))
+movers_move b moment key mover up is = mover_has_move b moment key mover (mover_known b mover up is)
+
+-- a move fits the board and agrees with what it evaluates
+abbrev pub Suits : Board → ℕ → Move → Type 0
+Suits b moment move = IsTrue (fits b move) × IsTrue (agrees b moment move)
+
 some_move : (a b : Move) → Some a ≡ Some b → a ≡ b
 some_move a b e = cc
 
-phase_legal : (b : Board) (c : Cell) (phase : Phase) (move : Move) → c.phase ≡ phase → cell_at b c.key ≡ Some c → forced_in b c phase ≡ Some move → IsTrue (can b move)
-phase_legal b c phases.Activating move at found is =
-    subst (λ (m : Move). IsTrue (can b m)) (some_move (moves.Open c.key) move is) (rw (found, at) refl)
-phase_legal b c phases.Active move at found is = by_finish (can_finish b c.key) refl is
+-- by the phase of the cell
+pub cell_suits : (b : Board) (moment : ℕ) (c : Cell) (phase : Phase) (move : Move) → c.phase ≡ phase → cell_at b c.key ≡ Some c → goes_on_in b c phase ≡ true → move_in b c phase ≡ Some move → Suits b moment move
+cell_suits b moment c phases.Activating move at found goes is =
+    subst (Suits b moment) (some_move (moves.Open c.key) move is) (rw (found, at, goes) refl, refl)
+cell_suits b moment c phases.Active move at found goes is =
+    subst (Suits b moment) (some_move (moves.Finish c.key) move is) (rw (found, at, goes) refl, refl)
+cell_suits b moment c phases.Completing move at found goes is =
+    subst (Suits b moment) (some_move (moves.Leave (record { key = c.key; owed = owed_by b c })) move is)
+    (rw (found, at, among_themselves (owed_by b c)) refl, rw (found, ids_same (owed_by b c)) refl)
+cell_suits b moment c phases.Leaving move at found goes is = by_owed c.owed refl is
   where
-    by_finish : (t : Bool) → can_finish b c.key ≡ t → (if t then Some (moves.Finish c.key) else None) ≡ Some move → IsTrue (can b move)
-    by_finish true can_it is = subst (λ (m : Move). IsTrue (can b m)) (some_move (moves.Finish c.key) move is) can_it
-    by_finish false can_it is = absurd (cc)
-phase_legal b c phases.Completing move at found is =
-    subst (λ (m : Move). IsTrue (can b m)) (some_move (moves.Leave (record { key = c.key; owed = owed_by b c })) move is) (rw (found, at, ids_same (owed_by b c)) refl)
-phase_legal b c phases.Leaving move at found is = by_owed c.owed refl is
-  where
-    by_owed : (owed : List (List ℕ)) → c.owed ≡ owed → take_first c.key owed ≡ Some move → IsTrue (can b move)
+    by_owed : (owed : List (List ℕ)) → c.owed ≡ owed → take_first c.key owed ≡ Some move → Suits b moment move
     by_owed [] owes is = absurd (cc)
     by_owed (flow ∷ owed) owes is =
-        subst (λ (m : Move). IsTrue (can b m)) (some_move (moves.Take (record { key = c.key; flow = flow })) move is) (rw (found, at, owes, same_bytes flow) refl)
-phase_legal b c phases.Terminating move at found is = absurd (cc)
+        subst (Suits b moment) (some_move (moves.Take (record { key = c.key; flow = flow })) move is) (rw (found, at, owes, same_bytes flow) refl, refl)
+cell_suits b moment c phases.Terminating move at found goes is = absurd (cc)
 
--- a doomed cell is forced to no move (BPMN 2.0.2, 13.3.2)
-pub doomed_rests : (b : Board) (c : Cell) → IsTrue (is_doomed b c) → forced_at b c ≡ None
-doomed_rests b c is = rw is refl
+entry_suits : (b : Board) (moment key : ℕ) (t : Token) (way : Option (List ℕ × List ℕ)) (move : Move) → option_map_or (λ (w : List ℕ × List ℕ). may_enter b t.scope w.0 w.1) way false ≡ true
+    → option_map (λ (w : List ℕ × List ℕ). moves.Enter (record { key = key; scope = t.scope; node = w.0; via = w.1 })) way ≡ Some move → Suits b moment move
+entry_suits b moment key t None move enters is = absurd (cc)
+entry_suits b moment key t (Some way) move enters is =
+    subst (Suits b moment) (some_move (moves.Enter (record { key = key; scope = t.scope; node = way.0; via = way.1 })) move is) (enters, refl)
 
-undoomed : (b : Board) (c : Cell) (t : Bool) (move : Move) → (if t then None else forced_in b c c.phase) ≡ Some move → forced_in b c c.phase ≡ Some move
-undoomed b c true move is = absurd (cc)
-undoomed b c false move is = is
+-- the move of who is forced fits and agrees
+pub mover_suits : (b : Board) (moment key : ℕ) (mover : Mover) (move : Move) → IsMover b mover → move_of b moment key mover ≡ Some move → Suits b moment move
+mover_suits b moment key (movers.Cell cell) move known is =
+    let c = known.0 in
+    let found : cell_at b c.key ≡ Some c = subst (λ (k : ℕ). cell_at b k ≡ Some c) (sym known.2) known.1 in
+    let its_move : move_in b c c.phase ≡ Some move = sym (ap (option_and_then (λ (x : Cell). move_in b x x.phase)) known.1) ∙ is in
+    cell_suits b moment c c.phase move refl found (both_left (goes_on_in b c c.phase) (not (is_doomed b c)) known.3) its_move
+mover_suits b moment key (movers.Token place) move known is =
+    let t = known.0 in
+    let its_move : entry_of b key t ≡ Some move = sym (ap (option_and_then (entry_of b key)) known.1) ∙ is in
+    entry_suits b moment key t (way_of b t) move known.2 its_move
 
--- the move that a cell is forced to is legal
-pub forced_of_cells_legal : (b : Board) (key : ℕ) (move : Move) → CellsAscend 0 b.cells → newest (forced_at b) b.cells ≡ Some (key, move) → IsTrue (can b move)
-forced_of_cells_legal b key move up is =
-    let r = newest_has (forced_at b) 0 b.cells key move up is in
-    phase_legal b r.0 r.0.phase move refl r.2 (undoomed b r.0 (is_doomed b r.0) move r.3)
+-- a forced move fits the board (BPMN 2.0.2, 13)
+pub movers_fit : (b : Board) (moment key : ℕ) (mover : Mover) (move : Move) → CellsAscend 0 b.cells → next_mover b ≡ Some mover → move_of b moment key mover ≡ Some move → IsTrue (fits b move)
+movers_fit b moment key mover move up next is = (mover_suits b moment key mover move (mover_known b mover up next) is).0
 
--- an entry that can be made is legal
-if_can_legal : (b : Board) (e : Enter) (t : Bool) (move : Move) → can_enter b e ≡ t → (if t then Some (moves.Enter e) else None) ≡ Some move → IsTrue (can b move)
-if_can_legal b e true move can_it is = subst (λ (m : Move). IsTrue (can b m)) (some_move (moves.Enter e) move is) can_it
-if_can_legal b e false move can_it is = absurd (cc)
+-- and agrees with what it evaluates (BPMN 2.0.2, 13)
+pub movers_agree : (b : Board) (moment key : ℕ) (mover : Mover) (move : Move) → CellsAscend 0 b.cells → next_mover b ≡ Some mover → move_of b moment key mover ≡ Some move → IsTrue (agrees b moment move)
+movers_agree b moment key mover move up next is = (mover_suits b moment key mover move (mover_known b mover up next) is).1
 
-entry_legal : (b : Board) (key : ℕ) (t : Token) (way : Option (List ℕ × List ℕ)) (move : Move) → entry_by b key t way ≡ Some move → IsTrue (can b move)
-entry_legal b key t None move is = absurd (cc)
-entry_legal b key t (Some way) move is =
-    let e : Enter = record { key = key; scope = t.scope; node = way.0; via = way.1 } in
-    if_can_legal b e (can_enter b e) move refl is
+both_false : (a b : Bool) → b ≡ false → (a && b) ≡ false
+both_false true b is = is
+both_false false b is = refl
 
-or_later_legal : (b : Board) (own later : Option Move) (move : Move) → (own ≡ Some move → IsTrue (can b move)) → (later ≡ Some move → IsTrue (can b move)) → or_later own later ≡ Some move → IsTrue (can b move)
-or_later_legal b None later move by_own by_later is = by_later is
-or_later_legal b (Some m) later move by_own by_later is = by_own is
+-- a doomed cell is not forced (BPMN 2.0.2, 13.3.2)
+pub doomed_rests : (b : Board) (c : Cell) → IsTrue (is_doomed b c) → IsFalse (is_forced b c)
+doomed_rests b c is = both_false (goes_on_in b c c.phase) (not (is_doomed b c)) (ap not is)
 
-entries_legal : (b : Board) (key : ℕ) (tokens : List Token) (move : Move) → first_entry b key tokens ≡ Some move → IsTrue (can b move)
-entries_legal b key [] move is = absurd (cc)
-entries_legal b key (t ∷ tokens) move is =
-    or_later_legal b (entry_of b key t) (first_entry b key tokens) move (entry_legal b key t (way_of b t) move) (entries_legal b key tokens move) is
+none_greatest : (ns : List ℕ) → greatest ns ≡ None → ns ≡ []
+none_greatest [] is = refl
+none_greatest (n ∷ ns) is = absurd (cc)
 
-cells_legal : (b : Board) (found : Option (ℕ × Move)) (move : Move) → newest (forced_at b) b.cells ≡ found → CellsAscend 0 b.cells → move_of found ≡ Some move → IsTrue (can b move)
-cells_legal b None move found_is up is = absurd (cc)
-cells_legal b (Some found) move found_is up is =
-    subst (λ (m : Move). IsTrue (can b m)) (some_move found.1 move is) (forced_of_cells_legal b found.0 found.1 up found_is)
+no_keys : (cells : List Cell) → map (λ (c : Cell). c.key) cells ≡ [] → cells ≡ []
+no_keys [] is = refl
+no_keys (c ∷ cells) is = absurd (cc)
 
--- a forced move is legal (BPMN 2.0.2, 13)
-pub forced_legal : (b : Board) (key : ℕ) (move : Move) → CellsAscend 0 b.cells → next_forced b key ≡ Some move → IsTrue (can b move)
-forced_legal b key move up is =
-    or_later_legal b (move_of (newest (forced_at b) b.cells)) (first_entry b key b.tokens) move
-    (cells_legal b (newest (forced_at b) b.cells) move refl up)
-    (entries_legal b key b.tokens move) is
+module _ (passes : Cell → Bool) where
+  none_by : (t : Bool) (c : Cell) (cells : List Cell) → passes c ≡ t → (filter passes cells ≡ [] → All (λ (x : Cell). IsFalse (passes x)) cells) → cond t (c ∷ filter passes cells) (filter passes cells) ≡ [] → All (λ (x : Cell). IsFalse (passes x)) (c ∷ cells)
+  none_by true c cells it later is = absurd (cc)
+  none_by false c cells it later is = All-cons (λ (x : Cell). IsFalse (passes x)) c cells it (later is)
 
-by_own : (key : ℕ) (own : Option Move) (rest : Option (ℕ × Move)) → newer_answer key own rest ≡ None → (own ≡ None) × (rest ≡ None)
-by_own key None rest is = (refl, is)
-by_own key (Some move) None is = absurd (cc)
-by_own key (Some move) (Some found) is = absurd (by_test (nat_le key found.0) is)
-  where
-    by_test : (t : Bool) → (if t then Some found else Some (key, move)) ≡ None → ⊥
-    by_test true is = cc
-    by_test false is = cc
+  none_filtered : (cells : List Cell) → filter passes cells ≡ [] → All (λ (x : Cell). IsFalse (passes x)) cells
+  none_filtered [] is = All-nil (λ (x : Cell). IsFalse (passes x))
+  none_filtered (c ∷ cells) is = none_by (passes c) c cells refl (none_filtered cells) is
 
-no_cell : (b : Board) (cells : List Cell) → newest (forced_at b) cells ≡ None → NoneForced b cells
-no_cell b [] is = tt
-no_cell b (c ∷ cells) is = let r = by_own c.key (forced_at b c) (newest (forced_at b) cells) is in (r.0, no_cell b cells r.1)
+none_moves : (cells tokens : Option ℕ) → option_or (option_map movers.Cell cells) (option_map movers.Token tokens) ≡ None → (cells ≡ None) × (tokens ≡ None)
+none_moves None None is = (refl, refl)
+none_moves None (Some place) is = absurd (cc)
+none_moves (Some key) tokens is = absurd (cc)
 
-no_later : (own later : Option Move) → or_later own later ≡ None → (own ≡ None) × (later ≡ None)
-no_later None later is = (refl, is)
-no_later (Some move) later is = absurd (cc)
+both_rest : (b : Board) → IsQuiet b → (greatest (map (λ c. c.key) (filter (is_forced b) b.cells)) ≡ None) × (position (can_enter b) b.tokens ≡ None)
+both_rest b is = none_moves (greatest (map (λ c. c.key) (filter (is_forced b) b.cells))) (position (can_enter b) b.tokens) is
 
-no_entry : (b : Board) (key : ℕ) (tokens : List Token) → first_entry b key tokens ≡ None → NoneEnters b key tokens
-no_entry b key [] is = tt
-no_entry b key (t ∷ tokens) is = let r = no_later (entry_of b key t) (first_entry b key tokens) is in (r.0, no_entry b key tokens r.1)
+-- in a quiet game no cell is forced (BPMN 2.0.2, 13)
+pub quiet_cells : (b : Board) → IsQuiet b → All (λ (c : Cell). IsFalse (is_forced b c)) b.cells
+quiet_cells b is = none_filtered (is_forced b) b.cells (no_keys (filter (is_forced b) b.cells) (none_greatest (map (λ c. c.key) (filter (is_forced b) b.cells)) (both_rest b is).0))
 
-no_move : (found : Option (ℕ × Move)) → move_of found ≡ None → found ≡ None
-no_move None is = refl
-no_move (Some found) is = absurd (cc)
-
--- in a quiet game no cell is forced to a move, and no token can enter (BPMN 2.0.2, 13)
-pub quiet_rests : (b : Board) (key : ℕ) → IsQuiet b key → NoneForced b b.cells × NoneEnters b key b.tokens
-quiet_rests b key is =
-    let r = no_later (move_of (newest (forced_at b) b.cells)) (first_entry b key b.tokens) is in
-    (no_cell b b.cells (no_move (newest (forced_at b) b.cells) r.0), no_entry b key b.tokens r.1)
+-- and no token can enter (BPMN 2.0.2, 13)
+pub quiet_tokens : (b : Board) → IsQuiet b → All (λ (t : Token). IsFalse (can_enter b t)) b.tokens
+quiet_tokens b is = position_none (can_enter b) b.tokens (both_rest b is).1

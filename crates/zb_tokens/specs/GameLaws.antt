@@ -1,7 +1,8 @@
 -- Laws of the game, in the subject's own words.
-use Rattle.std.proofs.Common.{◌≡◌, ℕ, ◌==◌, List, [], ◌∷◌, ◌++◌, option_map, option_and_then, is_some, Bool, true, false, ◌&&◌, if◌then◌else◌, IsTrue, Option, Some, None, refl, sym, ap, ◌∙◌}
+use Rattle.std.proofs.Common.{◌≡◌, ℕ, ◌==◌, List, [], ◌∷◌, ◌++◌, option_map, option_and_then, is_some, Bool, true, false, ◌&&◌, ◌||◌, if◌then◌else◌, IsTrue, Option, Some, None, refl, sym, ap, ◌∙◌}
 use Rattle.std.specs.Option.{option_map_or}
-use Rattle.zb_tokens.specs.Edits.{first, edited, removed}
+use Rattle.std.specs.List.{find, list_any}
+use Rattle.zb_tokens.specs.Edits.{edited, removed}
 use Rattle.zb_tokens.specs.declared.board.Cell.{Cell}
 use Rattle.zb_tokens.specs.declared.board.Token.{Token}
 use Rattle.zb_tokens.specs.declared.board.Spot.TheVariants as spots
@@ -9,87 +10,113 @@ use Rattle.zb_tokens.specs.declared.board.Phase.TheVariants as phases
 use Rattle.zb_tokens.specs.declared.board.Move.{Move}
 use Rattle.zb_tokens.specs.declared.board.Move.TheVariants as moves
 use Rattle.zb_tokens.specs.declared.board.Take.{Take}
-use Rattle.zb_tokens.specs.Board.{Board, cell_at, model_under, in_phase, with_cells, without_cell}
-use Rattle.zb_tokens.specs.MoveEnter.{enters}
+use Rattle.zb_tokens.specs.Board.{Board, cell_at, model_under, is_phase, is_root, in_phase}
+use Rattle.zb_tokens.specs.MoveEnter.{comes_to}
+use Rattle.zb_tokens.specs.MoveOpen.{start_token, first_tokens, opens}
 use Rattle.zb_tokens.specs.MoveLeave.{leaving}
 use Rattle.zb_tokens.specs.MoveTake.{rest_of, with_token, play_take}
-use Rattle.zb_tokens.specs.Game.{can, played}
+use Rattle.zb_tokens.specs.MoveAssign.{with_variable}
+use Rattle.zb_tokens.specs.Game.{fits, played}
 
--- a token of each place where the cell was left
 module _ {A B : Type 0} where
-  mapped_some : (g : A → B) (o : Option A) → IsTrue (is_some o) → IsTrue (is_some (option_map g o))
+  pub mapped_some : (g : A → B) (o : Option A) → IsTrue (is_some o) → IsTrue (is_some (option_map g o))
   mapped_some g None some = absurd (cc)
   mapped_some g (Some a) some = refl
 
-module _ {A : Type 0} (passes : A → Bool) where
-  -- where a member passes, the list without it is there, and so is the list where it is edited
-  removed_test : (t : Bool) (x : A) (xs : List A) → (IsTrue (is_some (first passes xs)) → IsTrue (is_some (removed passes xs)))
-      → IsTrue (is_some (if t then Some x else first passes xs)) → IsTrue (is_some (if t then Some xs else option_map (λ ys. x ∷ ys) (removed passes xs)))
-  removed_test true x xs later some = refl
-  removed_test false x xs later some = mapped_some (λ ys. x ∷ ys) (removed passes xs) (later some)
-
-  removed_some : (xs : List A) → IsTrue (is_some (first passes xs)) → IsTrue (is_some (removed passes xs))
-  removed_some [] some = absurd (cc)
-  removed_some (x ∷ xs) some = removed_test (passes x) x xs (removed_some xs) some
-
-  edited_test : (edit : A → A) (t : Bool) (x : A) (xs : List A) → (IsTrue (is_some (first passes xs)) → IsTrue (is_some (edited passes edit xs)))
-      → IsTrue (is_some (if t then Some x else first passes xs)) → IsTrue (is_some (if t then Some (edit x ∷ xs) else option_map (λ ys. x ∷ ys) (edited passes edit xs)))
-  edited_test edit true x xs later some = refl
-  edited_test edit false x xs later some = mapped_some (λ ys. x ∷ ys) (edited passes edit xs) (later some)
-
-  edited_some : (edit : A → A) (xs : List A) → IsTrue (is_some (first passes xs)) → IsTrue (is_some (edited passes edit xs))
-  edited_some edit [] some = absurd (cc)
-  edited_some edit (x ∷ xs) some = edited_test edit (passes x) x xs (edited_some edit xs) some
-
--- what is said of a thing that may not be there holds only where it is
-holds_some : {A : Type 0} (holds : A → Bool) (o : Option A) → IsTrue (option_map_or holds o false) → IsTrue (is_some o)
-holds_some holds None is = absurd (cc)
-holds_some holds (Some a) is = refl
-
-both_left : (a b : Bool) → IsTrue (a && b) → IsTrue a
-both_left true b is = refl
-both_left false b is = absurd (cc)
-
-both_right : (a b : Bool) → IsTrue (a && b) → IsTrue b
-both_right true b is = is
-both_right false b is = absurd (cc)
-
--- a cell that is there can leave
-leaving_some : (owed : List (List ℕ)) (key : ℕ) (b : Board) → IsTrue (is_some (cell_at b key)) → IsTrue (is_some (leaving owed key b))
-leaving_some [] key b some = mapped_some (without_cell b key) (removed (λ c. c.key == key) b.cells) (removed_some (λ c. c.key == key) b.cells some)
-leaving_some (flow ∷ owed) key b some =
-    mapped_some (with_cells b) (edited (λ c. c.key == key) (in_phase phases.Leaving (flow ∷ owed)) b.cells) (edited_some (λ c. c.key == key) (in_phase phases.Leaving (flow ∷ owed)) b.cells some)
-
-module _ {A B : Type 0} where
-  chained_some : (f : A → Option B) (o : Option A) → IsTrue (is_some o) → ((a : A) → IsTrue (is_some (f a))) → IsTrue (is_some (option_and_then f o))
+  pub chained_some : (f : A → Option B) (o : Option A) → IsTrue (is_some o) → ((a : A) → IsTrue (is_some (f a))) → IsTrue (is_some (option_and_then f o))
   chained_some f None some each = absurd (cc)
   chained_some f (Some a) some each = each a
 
--- a legal move can be played
-pub legal_is_played : (b : Board) (move : Move) → IsTrue (can b move) → IsTrue (is_some (played b move))
-legal_is_played b (moves.Stand d) is = refl
-legal_is_played b (moves.Start s) is = mapped_some _ (model_under b s.definition) is
-legal_is_played b (moves.Enter e) is =
-    let there = holds_some _ (cell_at b e.scope) (both_right (is_some (first (enters e) b.tokens)) _ is) in
-    chained_some _ (cell_at b e.scope) there (λ c. mapped_some _ (removed (enters e) b.tokens) (removed_some (enters e) b.tokens (both_left (is_some (first (enters e) b.tokens)) _ is)))
-legal_is_played b (moves.Open key) is =
-    let there = holds_some _ (cell_at b key) is in
-    chained_some _ (cell_at b key) there (λ c. mapped_some _ (edited (λ x. x.key == key) (in_phase phases.Active []) b.cells) (edited_some (λ x. x.key == key) (in_phase phases.Active []) b.cells there))
-legal_is_played b (moves.Finish key) is =
-    mapped_some (with_cells b) (edited (λ c. c.key == key) (in_phase phases.Completing []) b.cells) (edited_some (λ c. c.key == key) (in_phase phases.Completing []) b.cells (holds_some _ (cell_at b key) is))
-legal_is_played b (moves.Leave l) is = leaving_some l.owed l.key b (holds_some _ (cell_at b l.key) is)
-legal_is_played b (moves.Take t) is =
+module _ {A : Type 0} (passes : A → Bool) where
+  -- where a member passes, the list without it is there, and so is the list where it is edited
+  removed_test : (t : Bool) (x : A) (xs : List A) → (IsTrue (list_any passes xs) → IsTrue (is_some (removed passes xs)))
+      → IsTrue (t || list_any passes xs) → IsTrue (is_some (if t then Some xs else option_map (λ ys. x ∷ ys) (removed passes xs)))
+  removed_test true x xs later some = refl
+  removed_test false x xs later some = mapped_some (λ ys. x ∷ ys) (removed passes xs) (later some)
+
+  pub removed_some : (xs : List A) → IsTrue (list_any passes xs) → IsTrue (is_some (removed passes xs))
+  removed_some [] some = absurd (cc)
+  removed_some (x ∷ xs) some = removed_test (passes x) x xs (removed_some xs) some
+
+  edited_test : (edit : A → A) (t : Bool) (x : A) (xs : List A) → (IsTrue (list_any passes xs) → IsTrue (is_some (edited passes edit xs)))
+      → IsTrue (t || list_any passes xs) → IsTrue (is_some (if t then Some (edit x ∷ xs) else option_map (λ ys. x ∷ ys) (edited passes edit xs)))
+  edited_test edit true x xs later some = refl
+  edited_test edit false x xs later some = mapped_some (λ ys. x ∷ ys) (edited passes edit xs) (later some)
+
+  pub edited_some : (edit : A → A) (xs : List A) → IsTrue (list_any passes xs) → IsTrue (is_some (edited passes edit xs))
+  edited_some edit [] some = absurd (cc)
+  edited_some edit (x ∷ xs) some = edited_test edit (passes x) x xs (edited_some edit xs) some
+
+  found_test : (t : Bool) (x : A) (xs : List A) → (IsTrue (is_some (find passes xs)) → IsTrue (list_any passes xs)) → IsTrue (is_some (if t then Some x else find passes xs)) → IsTrue (t || list_any passes xs)
+  found_test true x xs later some = refl
+  found_test false x xs later some = later some
+
+  -- one that is found is there
+  pub any_found : (xs : List A) → IsTrue (is_some (find passes xs)) → IsTrue (list_any passes xs)
+  any_found [] some = absurd (cc)
+  any_found (x ∷ xs) some = found_test (passes x) x xs (any_found xs) some
+
+-- what is said of a thing that may not be there holds only where it is
+pub holds_some : {A : Type 0} (holds : A → Bool) (o : Option A) → IsTrue (option_map_or holds o false) → IsTrue (is_some o)
+holds_some holds None is = absurd (cc)
+holds_some holds (Some a) is = refl
+
+pub both_left : (a b : Bool) → IsTrue (a && b) → IsTrue a
+both_left true b is = refl
+both_left false b is = absurd (cc)
+
+pub both_right : (a b : Bool) → IsTrue (a && b) → IsTrue b
+both_right true b is = is
+both_right false b is = absurd (cc)
+
+-- a cell that is there can be edited
+cells_edited : (edit : Cell → Cell) (key : ℕ) (b : Board) → IsTrue (is_some (cell_at b key)) → IsTrue (is_some (edited (λ c. c.key == key) edit b.cells))
+cells_edited edit key b there = edited_some (λ c. c.key == key) edit b.cells (any_found (λ c. c.key == key) b.cells there)
+
+-- a cell that is there can leave
+pub leaving_some : (owed : List (List ℕ)) (key : ℕ) (b : Board) → IsTrue (is_some (cell_at b key)) → IsTrue (is_some (leaving owed key b))
+leaving_some [] key b there = mapped_some _ (removed (λ c. c.key == key) b.cells) (removed_some (λ c. c.key == key) b.cells (any_found (λ c. c.key == key) b.cells there))
+leaving_some (flow ∷ owed) key b there = mapped_some _ (edited (λ c. c.key == key) (in_phase phases.Leaving (flow ∷ owed)) b.cells) (cells_edited (in_phase phases.Leaving (flow ∷ owed)) key b there)
+
+-- a cell whose model is there gets its tokens
+tokens_by : (root : Bool) (b : Board) (c : Cell) → IsTrue (if root then is_some (model_under b c.definition) else true) → IsTrue (is_some (if root then option_map (start_token c.key) (model_under b c.definition) else Some []))
+tokens_by true b c there = mapped_some (start_token c.key) (model_under b c.definition) there
+tokens_by false b c there = refl
+
+tokens_some : (b : Board) (c : Cell) → IsTrue (opens b c) → IsTrue (is_some (first_tokens b c))
+tokens_some b c there = tokens_by (is_root c) b c there
+
+opened_by : (b : Board) (found : Option Cell) (cells : Option (List Cell)) → IsTrue (is_some cells) → IsTrue (option_map_or (λ c. is_phase c.phase phases.Activating && opens b c) found false)
+    → IsTrue (is_some (option_and_then (λ c. option_and_then (λ tokens. option_map (λ cs. record b { cells = cs; tokens = b.tokens ++ tokens }) cells) (first_tokens b c)) found))
+opened_by b None cells some is = absurd (cc)
+opened_by b (Some c) cells some is = chained_some _ (first_tokens b c) (tokens_some b c (both_right (is_phase c.phase phases.Activating) (opens b c) is)) (λ tokens. mapped_some _ cells some)
+
+-- a move that fits can be played
+pub fitting_is_played : (b : Board) (move : Move) → IsTrue (fits b move) → IsTrue (is_some (played b move))
+fitting_is_played b (moves.Stand d) is = refl
+fitting_is_played b (moves.Start s) is = mapped_some _ (model_under b s.definition) is
+fitting_is_played b (moves.Enter e) is =
+    let there = holds_some _ (cell_at b e.scope) (both_right (list_any (comes_to e.scope e.node e.via) b.tokens) _ is) in
+    chained_some _ (cell_at b e.scope) there (λ c. mapped_some _ (removed (comes_to e.scope e.node e.via) b.tokens) (removed_some (comes_to e.scope e.node e.via) b.tokens (both_left (list_any (comes_to e.scope e.node e.via) b.tokens) _ is)))
+fitting_is_played b (moves.Open key) is =
+    opened_by b (cell_at b key) (edited (λ x. x.key == key) (in_phase phases.Active []) b.cells) (cells_edited (in_phase phases.Active []) key b (holds_some _ (cell_at b key) is)) is
+fitting_is_played b (moves.Finish key) is =
+    mapped_some _ (edited (λ c. c.key == key) (in_phase phases.Completing []) b.cells) (cells_edited (in_phase phases.Completing []) key b (holds_some _ (cell_at b key) is))
+fitting_is_played b (moves.Leave l) is = leaving_some l.owed l.key b (holds_some _ (cell_at b l.key) is)
+fitting_is_played b (moves.Take t) is =
     let there = holds_some _ (cell_at b t.key) is in
     chained_some _ (cell_at b t.key) there (λ c. mapped_some (with_token c.scope t.flow) (leaving (rest_of c.owed) t.key b) (leaving_some (rest_of c.owed) t.key b there))
-legal_is_played b (moves.Assign a) is = mapped_some _ (cell_at b a.scope) (both_left (is_some (cell_at b a.scope)) _ is)
+fitting_is_played b (moves.Assign a) is =
+    mapped_some _ (edited (λ c. c.key == a.scope) (with_variable a.name a.value) b.cells) (cells_edited (with_variable a.name a.value) a.scope b (holds_some _ (cell_at b a.scope) is))
 
-kept_by : (b after : Board) (key : ℕ) (cells : Option (List Cell)) (with : List Cell → Board) → ((cs : List Cell) → (with cs).tokens ≡ b.tokens) → option_map with cells ≡ Some after → after.tokens ≡ b.tokens
-kept_by b after key None with kept is = absurd (cc)
-kept_by b after key (Some cs) with kept is = ap (λ (x : Board). x.tokens) (sym (let e : with cs ≡ after = cc in e)) ∙ kept cs
+-- other cells alone are changed as a cell leaves
+cells_alone : (b after : Board) (cells : Option (List Cell)) → option_map (λ cs. record b { cells = cs }) cells ≡ Some after → after.tokens ≡ b.tokens
+cells_alone b after None is = absurd (cc)
+cells_alone b after (Some cs) is = ap (λ (x : Board). x.tokens) (sym (let e : record b { cells = cs } ≡ after = cc in e))
 
 leaving_keeps : (b after : Board) (owed : List (List ℕ)) (key : ℕ) → leaving owed key b ≡ Some after → after.tokens ≡ b.tokens
-leaving_keeps b after [] key is = kept_by b after key (removed (λ c. c.key == key) b.cells) (without_cell b key) (λ cs. refl) is
-leaving_keeps b after (flow ∷ owed) key is = kept_by b after key (edited (λ c. c.key == key) (in_phase phases.Leaving (flow ∷ owed)) b.cells) (with_cells b) (λ cs. refl) is
+leaving_keeps b after [] key is = cells_alone b after (removed (λ c. c.key == key) b.cells) is
+leaving_keeps b after (flow ∷ owed) key is = cells_alone b after (edited (λ c. c.key == key) (in_phase phases.Leaving (flow ∷ owed)) b.cells) is
 
 token_by : (b after : Board) (scope : ℕ) (flow : List ℕ) (left : Option Board) → ((l : Board) → left ≡ Some l → l.tokens ≡ b.tokens) → option_map (with_token scope flow) left ≡ Some after
     → after.tokens ≡ b.tokens ++ record { scope = scope; spot = spots.OnFlow flow } ∷ []

@@ -1,5 +1,5 @@
 -- A cell becomes active (BPMN 2.0.2, 13.3.2), and a scope gets a token before its start event.
-use Rattle.std.specs.Prelude.{ℕ, ◌==◌, List, [], ◌∷◌, ◌++◌, Bool, false, if◌then◌else◌, Option, Some, option_map, option_and_then}
+use Rattle.std.specs.Prelude.{ℕ, ◌==◌, List, [], ◌∷◌, ◌++◌, Bool, true, false, ◌&&◌, is_some, if◌then◌else◌, Option, Some, option_map, option_and_then}
 use Rattle.std.specs.Option.{option_map_or}
 use Rattle.zb_process.specs.declared.model.Model.{Model}
 use Rattle.zb_tokens.specs.Edits.{edited}
@@ -17,9 +17,13 @@ start_token scope m = option_map_or (λ n. record { scope = scope; spot = spots.
 abbrev pub first_tokens : Board → Cell → Option (List Token)
 first_tokens b c = if is_root c then option_map (start_token c.key) (model_under b c.definition) else Some []
 
--- when: it is activating (BPMN 2.0.2, 13.3.2)
+-- the model of a root is there, and tells which tokens it gets
+abbrev pub opens : Board → Cell → Bool
+opens b c = if is_root c then is_some (model_under b c.definition) else true
+
+-- when: it is activating, and the model of a root is there (BPMN 2.0.2, 13.3.2)
 abbrev pub fits_open : Board → ℕ → Bool
-fits_open b key = option_map_or (λ c. is_phase c.phase phases.Activating) (cell_at b key) false
+fits_open b key = option_map_or (λ c. is_phase c.phase phases.Activating && opens b c) (cell_at b key) false
 
 -- effect: it is active (BPMN 2.0.2, 13.3.2; a process: 13.2)
 abbrev pub play_open : Board → ℕ → Option Board

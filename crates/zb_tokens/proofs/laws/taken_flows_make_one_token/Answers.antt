@@ -1,5 +1,5 @@
 use Rattle.zb_tokens.specs.GameLaws.{take_makes_one}
-use Rattle.zb_rules.proofs.laws.taken_flows_make_one_token.Goals as goal
+use Rattle.zb_tokens.proofs.laws.taken_flows_make_one_token.Goals as goal
 
 pub returns : goal.returns
 returns c = take_makes_one
