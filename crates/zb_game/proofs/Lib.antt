@@ -1,7 +1,6 @@
 pub mod ScopeLemmas
 pub mod EditLemmas
 pub mod EntryLemmas
-pub mod FirstLemmas
 pub mod FlowLemmas
 pub mod BoardLemmas
 pub mod NewestLemmas

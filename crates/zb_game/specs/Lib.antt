@@ -1,2 +1,2 @@
 pub mod BoardCode
-pub mod Newest
+pub mod Searches

@@ -1,15 +1,46 @@
 // What moves change on a board.
-ghost use Rattle.std.specs.Prelude.{◌≡◌, ◌==◌, ◌++◌, ◌∷◌, [], Some, None, OnOk, IfOk, IsErrOf, filter, not};
+ghost use Rattle.std.specs.Prelude.{◌≡◌, ◌==◌, ◌++◌, ◌∷◌, [], Some, None, OnOk, IfOk, IsErrOf};
 ghost use Rattle.std.specs.Option.{option_map_or};
-ghost use Rattle.zb_tokens.specs.Board.{in_phase};
+ghost use Rattle.zb_tokens.specs.Board.{in_phase, new_cell};
 ghost use Rattle.zb_tokens.specs.Edits.{edited, removed};
-ghost use Rattle.zb_tokens.specs.MoveEnter.{enters};
+ghost use Rattle.zb_tokens.specs.MoveAssign.{with_variable};
+ghost use Rattle.zb_tokens.specs.MoveEnter.{comes_to};
 
 use crate::GameFault;
 use crate::places::{place_of_cell, place_of_token};
 use std::alloc::{AllocError, Global};
-use zb_model::{Key, List, Text, TryCopy};
-use zb_tokens::{Assigned, Cell, Enter, Phase, Token};
+use zb_base::{Key, List, Text, TryCopy, Value, Vars};
+use zb_instance_records::Role;
+use zb_tokens::{Cell, Enter, Mark, Phase, Token};
+
+/// A cell that begins. It takes no memory.
+pub fn new_cell(
+    alloc: Global,
+    key: Key,
+    scope: Key,
+    definition: Key,
+    node: Text,
+    before: bool,
+) -> Cell
+    ensures { result ≡ new_cell key scope definition node before }
+{
+    Cell {
+        key,
+        scope,
+        definition,
+        node,
+        role: Role::Plain,
+        phase: Phase::Activating,
+        mark: Mark::Unset,
+        before,
+        items: List::empty(alloc),
+        taken: 0,
+        owed: List::empty(alloc),
+        finished: List::empty(alloc),
+        ending: false,
+        variables: Vars::empty(alloc),
+    }
+}
 
 /// Puts the first cell with this key in another phase, owing these flows. It goes through all before it.
 pub fn put_in_phase(
@@ -33,6 +64,26 @@ pub fn put_in_phase(
     }
 }
 
+/// Gives the first cell with this key a variable. It goes through all before it, and through its variables.
+pub fn put_variable(
+    cells: &mut Vec<Cell>,
+    key: Key,
+    name: Text,
+    value: Value,
+) -> Result<(), GameFault>
+    ensures put { OnOk result (edited (λ c. c.key == key) (with_variable name value) cells.old.items ≡ Some cells.new.items) }
+    ensures none { IsErrOf result GameFault.Illegal → edited (λ c. c.key == key) (with_variable name value) cells.old.items ≡ None }
+    ensures kept { IsErrOf result GameFault.Illegal → cells.new.items ≡ cells.old.items }
+{
+    match place_of_cell(key, cells) {
+        Some(place) => {
+            cells[place].variables.put(name, value)?;
+            Ok(())
+        }
+        None => Err(GameFault::Illegal),
+    }
+}
+
 /// Takes away the first cell with this key. It goes through all of them.
 pub fn take_away(cells: &mut Vec<Cell>, key: Key) -> Result<(), GameFault>
     ensures gone { OnOk result (removed (λ c. c.key == key) cells.old.items ≡ Some cells.new.items) }
@@ -49,25 +100,18 @@ pub fn take_away(cells: &mut Vec<Cell>, key: Key) -> Result<(), GameFault>
 }
 
 /// Takes away the first token that enters. It goes through all of them.
-pub fn take_token(tokens: &mut Vec<Token>, entry: &Enter) -> Result<(), GameFault>
-    ensures gone { OnOk result (removed (enters entry.now) tokens.old.items ≡ Some tokens.new.items) }
-    ensures none { IsErrOf result GameFault.Illegal → removed (enters entry.now) tokens.old.items ≡ None }
+pub fn take_token(tokens: &mut Vec<Token>, e: &Enter) -> Result<(), GameFault>
+    ensures gone { OnOk result (removed (comes_to e.now.scope e.now.node e.now.via) tokens.old.items ≡ Some tokens.new.items) }
+    ensures none { IsErrOf result GameFault.Illegal → removed (comes_to e.now.scope e.now.node e.now.via) tokens.old.items ≡ None }
     ensures kept { IsErrOf result GameFault.Illegal → tokens.new.items ≡ tokens.old.items }
 {
-    match place_of_token(entry, tokens) {
+    match place_of_token(e, tokens) {
         Some(place) => {
             tokens.remove(place);
             Ok(())
         }
         None => Err(GameFault::Illegal),
     }
-}
-
-/// Takes away the variables of a cell. It goes through all of them.
-pub fn forget_variables(variables: &mut Vec<Assigned>, scope: Key)
-    ensures { variables.new.items ≡ filter (λ v. not (v.scope == scope)) variables.old.items }
-{
-    variables.retain(|variable| variable.scope != scope);
 }
 
 /// Adds a token at the end, if there is one.

@@ -1,18 +1,19 @@
 // The flows of a model.
 ghost use Rattle.std.specs.Prelude.{◌≡◌, IfOk};
 ghost use Rattle.zb_tokens.specs.Board.{flows_out, leads_to};
-ghost use Rattle.zb_tokens.specs.MoveLeave.{ids_eq};
+ghost use Rattle.zb_tokens.specs.MoveLeave.{are_among};
+ghost use Rattle.zb_game.specs.Searches.{left_after};
 
-use crate::lookups::flow_among;
+use crate::lookups::flow_in;
 use std::alloc::{AllocError, Global};
-use zb_model::{List, Model, Text, TryCopy};
+use zb_base::{List, Text, TryCopy};
+use zb_process::Model;
 
 /// Whether a flow leads to a node. It goes through the flows.
-#[tactic(auto, using(crate::proofs::FirstLemmas::found_first))]
 pub fn leads_to(model: &Model, flow: &str, node: &str) -> bool
     ensures { result ≡ leads_to model.now flow.now node.now }
 {
-    match flow_among(flow, model.flows.as_slice()) {
+    match flow_in(model, flow) {
         Some(found) => found.to.as_str() == node,
         None => false,
     }
@@ -31,21 +32,25 @@ pub fn flows_out(alloc: Global, model: &Model, node: &str) -> Result<List<Text>,
     Ok(ids)
 }
 
-/// Whether these are the ids of the flows out of a node, in the order of the model. It goes through the flows.
-pub fn are_flows_out(ids: &[Text], model: &Model, node: &str) -> bool
-    ensures { result ≡ ids_eq ids.now (flows_out model.now node.now) }
+/// Whether these are ids of flows out of a node, in the order of the model. It goes through the flows.
+pub fn are_among_flows(ids: &[Text], model: &Model, node: &str) -> bool
+    ensures { result ≡ are_among ids.now (flows_out model.now node.now) }
 {
     let mut rest = ids;
     for flow in model.flows.as_slice() {
         if flow.from.as_str() == node {
-            let Some((first, others)) = rest.split_first() else {
-                return false;
-            };
-            if first.as_str() != flow.id.as_str() {
-                return false;
-            }
-            rest = others;
+            rest = left_after(rest, flow.id.as_str());
         }
     }
     rest.is_empty()
+}
+
+// Which ids are still to be found once this one was met.
+fn left_after<'a>(ids: &'a [Text], id: &str) -> &'a [Text]
+    ensures { result.now ≡ left_after ids.now id.now }
+{
+    match ids {
+        [first, rest @ ..] => { if first.as_str() == id { rest } else { ids } }
+        [] => ids,
+    }
 }

@@ -1,8 +1,8 @@
-ghost use Rattle.std.specs.Prelude.{◌≡◌, Some, None, IsTrue, IsFalse, OnOk, IsErrOf, option_map};
-ghost use Rattle.std.specs.Option.{option_copied};
-ghost use Rattle.zb_rules.specs.Applies.{is_process_of};
+ghost use Rattle.std.specs.Prelude.{◌≡◌, Some, None, false, IsTrue, IsFalse, OnOk, IsErrOf, option_map};
+ghost use Rattle.std.specs.Option.{option_copied, option_map_or};
+ghost use Rattle.std.specs.Str.{bytes_eq};
 ghost use Rattle.zb_tokens.specs.Board.{cell_at, model_under};
-ghost use Rattle.zb_tokens.specs.Game.{empty_board, can, played};
+ghost use Rattle.zb_tokens.specs.Game.{empty_board, fits, played};
 ghost use Rattle.zb_game.specs.declared.game.GameFault.TheVariants as faults;
 
 mod assign;
@@ -11,6 +11,7 @@ mod enter;
 mod finish;
 mod forced;
 mod leave;
+mod moves;
 mod open;
 mod stand;
 mod start;
@@ -20,13 +21,14 @@ use crate::edits::copy_of;
 use crate::lookups::{cell_among, deployed_among};
 use std::alloc::{AllocError, AllocFailed, Global};
 use std::marker::Model;
-use zb_model::{Key, Model as ProcessModel, TryCopy};
-use zb_tokens::{Assigned, Cell, Deployed, Move, Token};
+use zb_base::{Key, TryCopy};
+use zb_process::Model as ProcessModel;
+use zb_tokens::{Cell, Deployed, Move, Token};
 
 /// Why a move was not made.
 #[derive(Clone, Copy, Debug, PartialEq, Eq)]
 pub enum GameFault {
-    /// It isn't legal, or its effect names a cell, a token or a model that isn't there.
+    /// It doesn't fit the board, or its effect names a cell, a token or a model that isn't there.
     Illegal,
     Memory,
 }
@@ -47,13 +49,12 @@ impl<T: Drop> From<AllocFailed<T>> for GameFault {
     }
 }
 
-/// A game of tokens: the models, the cells, the tokens and the variables on a board.
+/// A game of tokens: the models, the cells and the tokens on a board.
 #[derive(Drop)]
 pub struct Game {
     models: Vec<Deployed>,
     cells: Vec<Cell>,
     tokens: Vec<Token>,
-    variables: Vec<Assigned>,
 }
 
 impl Model for Game {
@@ -61,18 +62,16 @@ impl Model for Game {
     ghost use Rattle.zb_tokens.specs.contracts.board.Deployed as deployed;
     ghost use Rattle.zb_tokens.specs.contracts.board.Cell as cell;
     ghost use Rattle.zb_tokens.specs.contracts.board.Token as token;
-    ghost use Rattle.zb_tokens.specs.contracts.board.Assigned as assigned;
     ghost use Rattle.zb_game.specs.BoardCode.{board_code};
 
     ghost Value = { Board };
 
-    ghost coded = { board_code deployed.the_row.coded cell.the_row.coded token.the_row.coded assigned.the_row.coded };
+    ghost coded = { board_code deployed.the_row.coded cell.the_row.coded token.the_row.coded };
 
     ghost view = { λ g. record {
       models = g.models.items;
       cells = g.cells.items;
       tokens = g.tokens.items;
-      variables = g.variables.items;
     } };
 }
 
@@ -82,7 +81,6 @@ impl TryCopy for Game {
             models: copy_of(alloc, &self.models)?.into_vec(),
             cells: copy_of(alloc, &self.cells)?.into_vec(),
             tokens: copy_of(alloc, &self.tokens)?.into_vec(),
-            variables: copy_of(alloc, &self.variables)?.into_vec(),
         })
     }
 }
@@ -96,28 +94,27 @@ impl Game {
             models: Vec::new(alloc),
             cells: Vec::new(alloc),
             tokens: Vec::new(alloc),
-            variables: Vec::new(alloc),
         }
     }
 
-    /// Whether a move is legal. It goes through the lists that the move looks at; for an entry, through the cells
-    /// once for each cell above the token.
-    pub fn can(&self, m: &Move) -> bool
-        ensures { result ≡ can self.now m.now }
+    /// Whether a move fits the board. It goes through the lists that the move looks at; for an entry, through the
+    /// cells once for each cell above the token.
+    pub fn fits(&self, m: &Move) -> bool
+        ensures { result ≡ fits self.now m.now }
     {
         match m {
-            Move::Stand(d) => self.can_stand(d),
-            Move::Start(s) => self.can_start(s),
-            Move::Enter(e) => self.can_enter(e),
-            Move::Open(key) => self.can_open(*key),
-            Move::Finish(key) => self.can_finish(*key),
-            Move::Leave(l) => self.can_leave(l),
-            Move::Take(t) => self.can_take(t),
-            Move::Assign(a) => self.can_assign(a),
+            Move::Stand(d) => self.fits_stand(d),
+            Move::Start(s) => self.fits_start(s),
+            Move::Enter(e) => self.fits_enter(e),
+            Move::Open(key) => self.fits_open(*key),
+            Move::Finish(key) => self.fits_finish(*key),
+            Move::Leave(l) => self.fits_leave(l),
+            Move::Take(t) => self.fits_take(t),
+            Move::Assign(a) => self.fits_assign(a),
         }
     }
 
-    /// Plays a move, legal or not. `Illegal` says that its effect names a cell, a token or a model that isn't
+    /// Plays a move, whether it fits or not. `Illegal` says that its effect names a cell, a token or a model that isn't
     /// there, and nothing has changed; where all are there, only `Memory` is answered for a fault. After `Memory`
     /// the game is only dropped. It goes through the lists that the move looks at or changes.
     pub fn play(&mut self, alloc: Global, m: &Move) -> Result<(), GameFault>
@@ -137,15 +134,15 @@ impl Game {
         }
     }
 
-    /// Makes a legal move. At `Illegal`, exactly where it isn't legal, nothing has changed; after `Memory` the
-    /// game is only dropped. It goes through the lists that the move looks at or changes.
+    /// Makes a move that fits. At `Illegal`, exactly where it doesn't, nothing has changed; after `Memory` the game
+    /// is only dropped. It goes through the lists that the move looks at or changes.
     pub fn make(&mut self, alloc: Global, m: &Move) -> Result<(), GameFault>
-        ensures legal { OnOk result (IsTrue (can self.old m.now)) }
+        ensures fit { OnOk result (IsTrue (fits self.old m.now)) }
         ensures played { OnOk result (played self.old m.now ≡ Some self.new) }
-        ensures illegal { IsErrOf result GameFault.Illegal → IsFalse (can self.old m.now) }
+        ensures illegal { IsErrOf result GameFault.Illegal → IsFalse (fits self.old m.now) }
         ensures kept { IsErrOf result GameFault.Illegal → self.new ≡ self.old }
     {
-        if self.can(m) {
+        if self.fits(m) {
             self.play(alloc, m)
         } else {
             Err(GameFault::Illegal)
@@ -164,7 +161,7 @@ impl Game {
 
     /// Whether the process of a definition has this id. It goes through the models.
     pub fn is_process_of(&self, definition: Key, id: &str) -> bool
-        ensures { result ≡ is_process_of definition id.now self.now }
+        ensures { result ≡ option_map_or (λ m. bytes_eq m.process id.now) (model_under self.now definition) false }
     {
         match self.model(definition) {
             Some(model) => model.process.as_str() == id,
@@ -173,7 +170,6 @@ impl Game {
     }
 
     // The cell with a key.
-    #[tactic(auto, using(crate::proofs::FirstLemmas::found_first))]
     fn cell(&self, key: Key) -> Option<&Cell>
         ensures { option_copied result ≡ cell_at self.now key }
     {
@@ -181,7 +177,6 @@ impl Game {
     }
 
     // The model of a definition.
-    #[tactic(auto, using(crate::proofs::FirstLemmas::found_first))]
     fn model(&self, definition: Key) -> Option<&ProcessModel>
         ensures { option_copied result ≡ model_under self.now definition }
     {

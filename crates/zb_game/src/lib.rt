@@ -1,5 +1,5 @@
-//! The player of moves: a game of tokens, which moves are legal in it, what a move makes of it, and which one is
-//! forced.
+//! The player of moves: a game of tokens, which moves fit it, what a move makes of it, and who is
+//! forced to move.
 #![tactic(auto)]
 
 mod edits;

@@ -3,11 +3,13 @@ ghost use Rattle.std.specs.Prelude.{◌≡◌, ◌==◌, ◌&&◌, []};
 ghost use Rattle.std.specs.Option.{option_copied};
 ghost use Rattle.std.specs.Str.{bytes_eq};
 ghost use Rattle.std.specs.List.{find, list_any};
-ghost use Rattle.zb_tokens.specs.Board.{is_spot, is_start, spot_of};
-ghost use Rattle.zb_tokens.specs.MoveEnter.{enters};
+ghost use Rattle.zb_faults.specs.Faults.{is_start};
+ghost use Rattle.zb_tokens.specs.Board.{is_spot, node_with, spot_of, start_in};
+ghost use Rattle.zb_tokens.specs.MoveEnter.{comes_to};
 
-use zb_model::{Flow, Key, Node, NodeKind};
-use zb_tokens::{Assigned, Cell, Deployed, Enter, Spot, Token};
+use zb_base::Key;
+use zb_process::{Flow, Model, Node, NodeKind};
+use zb_tokens::{Cell, Deployed, Spot, Token};
 
 /// The first cell with this key. It goes through all before it.
 pub fn cell_among(key: Key, cells: &[Cell]) -> Option<&Cell>
@@ -23,25 +25,37 @@ pub fn deployed_among(definition: Key, models: &[Deployed]) -> Option<&Deployed>
     models.iter().find(|deployed| deployed.key == definition)
 }
 
-/// The first flow with this id. It goes through all before it.
-pub fn flow_among<'a>(id: &str, flows: &'a [Flow]) -> Option<&'a Flow>
-    ensures { option_copied result ≡ find (λ f. bytes_eq f.id id.now) flows.now }
+/// The flow of a model with this id. It goes through all before it.
+pub fn flow_in<'a>(model: &'a Model, id: &str) -> Option<&'a Flow>
+    ensures { option_copied result ≡ find (λ f. bytes_eq f.id id.now) model.now.flows }
 {
-    flows.iter().find(|flow| flow.id.as_str() == id)
+    model
+        .flows
+        .as_slice()
+        .iter()
+        .find(|flow| flow.id.as_str() == id)
 }
 
-/// The first start event at the top. It goes through all nodes before it.
-pub fn start_among(nodes: &[Node]) -> Option<&Node>
-    ensures { option_copied result ≡ find (λ n. is_start n.kind && bytes_eq n.parent []) nodes.now }
+/// The node of a model with this id. It goes through all before it.
+pub fn node_in<'a>(model: &'a Model, id: &str) -> Option<&'a Node>
+    ensures { option_copied result ≡ node_with model.now id.now }
 {
-    nodes.iter().find(|node| is_top_start(node))
+    model
+        .nodes
+        .as_slice()
+        .iter()
+        .find(|node| node.id.as_str() == id)
 }
 
-/// The first node with this id. It goes through all before it.
-pub fn node_among<'a>(id: &str, nodes: &'a [Node]) -> Option<&'a Node>
-    ensures { option_copied result ≡ find (λ n. bytes_eq n.id id.now) nodes.now }
+/// The start event of a process. It goes through all nodes before it.
+pub fn start_in(model: &Model) -> Option<&Node>
+    ensures { option_copied result ≡ start_in model.now [] }
 {
-    nodes.iter().find(|node| node.id.as_str() == id)
+    model
+        .nodes
+        .as_slice()
+        .iter()
+        .find(|node| is_top_start(node))
 }
 
 /// Whether a cell is in this one. It goes through the cells.
@@ -58,25 +72,18 @@ pub fn has_token_in(scope: Key, tokens: &[Token]) -> bool
     tokens.iter().any(|token| token.scope == scope)
 }
 
-/// Whether a token is one that enters. It goes through the tokens.
-pub fn has_entering(entry: &Enter, tokens: &[Token]) -> bool
-    ensures { result ≡ list_any (enters entry.now) tokens.now }
+/// Whether a token in a scope comes to a node by a flow, or stands before it. It goes through the tokens.
+pub fn has_coming(scope: Key, node: &str, via: &str, tokens: &[Token]) -> bool
+    ensures { result ≡ list_any (comes_to scope node.now via.now) tokens.now }
 {
-    tokens.iter().any(|token| enters(entry, token))
+    tokens.iter().any(|token| comes_to(scope, node, via, token))
 }
 
-/// Whether a cell has a variable with this name. It goes through the variables.
-pub fn has_variable(scope: Key, name: &str, variables: &[Assigned]) -> bool
-    ensures { result ≡ list_any (λ v. (v.scope == scope) && bytes_eq v.name name.now) variables.now }
+/// Whether the token is in this scope, and comes to the node by the flow or stands before it.
+pub fn comes_to(scope: Key, node: &str, via: &str, token: &Token) -> bool
+    ensures { result ≡ comes_to scope node.now via.now token.now }
 {
-    variables.iter().any(|variable| variable.scope == scope && variable.name.as_str() == name)
-}
-
-/// Whether the token is one that enters.
-pub fn enters(entry: &Enter, token: &Token) -> bool
-    ensures { result ≡ enters entry.now token.now }
-{
-    token.scope == entry.scope && is_at(&token.spot, entry.via.as_str(), entry.node.as_str())
+    token.scope == scope && is_at(&token.spot, via, node)
 }
 
 // Whether a token there comes by the flow, or stands before the node where there is none.

@@ -1,9 +1,9 @@
 // Where things are on a board.
 ghost use Rattle.std.specs.Prelude.{◌≡◌, ◌==◌, position};
-ghost use Rattle.zb_tokens.specs.MoveEnter.{enters};
+ghost use Rattle.zb_tokens.specs.MoveEnter.{comes_to};
 
-use crate::lookups::enters;
-use zb_model::Key;
+use crate::lookups::comes_to;
+use zb_base::Key;
 use zb_tokens::{Cell, Enter, Token};
 
 /// Where the first cell with this key is. It goes through all before it.
@@ -14,8 +14,8 @@ pub fn place_of_cell(key: Key, cells: &[Cell]) -> Option<usize>
 }
 
 /// Where the first token is that enters. It goes through all before it.
-pub fn place_of_token(entry: &Enter, tokens: &[Token]) -> Option<usize>
-    ensures { result ≡ position (enters entry.now) tokens.now }
+pub fn place_of_token(e: &Enter, tokens: &[Token]) -> Option<usize>
+    ensures { result ≡ position (comes_to e.now.scope e.now.node e.now.via) tokens.now }
 {
-    tokens.iter().position(|token| enters(entry, token))
+    tokens.iter().position(|token| comes_to(e.scope, e.node.as_str(), e.via.as_str(), token))
 }

@@ -1,12 +1,12 @@
 ghost use Rattle.std.specs.Prelude.{◌≡◌};
-ghost use Rattle.zb_tokens.specs.Doom.{is_called_off, is_doomed};
+ghost use Rattle.zb_tokens.specs.Doom.{calls_off, is_called_off, is_doomed};
 
 use crate::Game;
-use zb_model::Key;
+use zb_base::Key;
 use zb_tokens::{Cell, Phase};
 
 impl Game {
-    // Whether a cell or one above it is terminating.
+    // Whether a cell or one above it calls off what is in it.
     pub(super) fn is_called_off(&self, key: Key) -> bool
         ensures { result ≡ is_called_off self.now.cells self.now key }
     {
@@ -14,7 +14,7 @@ impl Game {
         for _step in 0..self.cells.len() {
             match self.cell(key) {
                 Some(cell) => {
-                    if cell.phase == Phase::Terminating {
+                    if calls_off(cell) {
                         return true;
                     }
                     key = cell.scope;
@@ -25,10 +25,17 @@ impl Game {
         false
     }
 
-    // Whether a cell above this one is terminating.
+    // Whether a cell above this one calls it off.
     pub(super) fn is_doomed(&self, cell: &Cell) -> bool
         ensures { result ≡ is_doomed self.now cell.now }
     {
         self.is_called_off(cell.scope)
     }
+}
+
+// Whether a cell is terminating, or a terminate end event ends it.
+fn calls_off(cell: &Cell) -> bool
+    ensures { result ≡ calls_off cell.now }
+{
+    cell.phase == Phase::Terminating || cell.ending
 }

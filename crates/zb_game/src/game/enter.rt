@@ -1,39 +1,50 @@
-ghost use Rattle.std.specs.Prelude.{◌≡◌, Some, None, OnOk, IsErrOf};
-ghost use Rattle.zb_tokens.specs.MoveEnter.{arrives, can_enter, comes_by, play_enter};
+ghost use Rattle.std.specs.Prelude.{◌≡◌, Some, None, OnOk, IsErrOf, false, not, ◌&&◌};
+ghost use Rattle.std.specs.Option.{option_map_or};
+ghost use Rattle.zb_tokens.specs.Board.{cell_at};
+ghost use Rattle.zb_tokens.specs.Doom.{is_called_off};
+ghost use Rattle.zb_tokens.specs.Edits.{is_none_of};
+ghost use Rattle.zb_tokens.specs.MoveEnter.{arrives, fits_enter, has_way, may_enter, play_enter};
 
-use crate::edits::take_token;
+use crate::edits::{new_cell, take_token};
 use crate::flows::leads_to;
-use crate::lookups::{has_entering, node_among};
+use crate::lookups::{has_coming, node_in};
 use crate::{Game, GameFault};
 use std::alloc::Global;
-use zb_model::{Key, List, Model, Role, TryCopy};
-use zb_tokens::{Cell, Enter, Phase};
+use zb_base::{Key, TryCopy};
+use zb_process::Model;
+use zb_tokens::Enter;
 
 impl Game {
     // Whether a token may enter a node.
-    #[tactic(auto, using(crate::proofs::FirstLemmas::any_first))]
-    pub(super) fn can_enter(&self, e: &Enter) -> bool
-        ensures { result ≡ can_enter self.now e.now }
+    pub(super) fn fits_enter(&self, e: &Enter) -> bool
+        ensures { result ≡ fits_enter self.now e.now }
     {
-        match self.definition_of(e.scope) {
-            Some(definition) => {
-                has_entering(e, &self.tokens)
-                    && self.comes_by(definition, e)
-                    && !self.is_called_off(e.scope)
-            }
+        self.may_enter(e.scope, e.node.as_str(), e.via.as_str())
+    }
+
+    // Whether in a scope a token may enter a node by a flow.
+    pub(super) fn may_enter(&self, scope: Key, node: &str, via: &str) -> bool
+        ensures { result ≡ may_enter self.now scope node.now via.now }
+    {
+        has_coming(scope, node, via, &self.tokens) && self.lets_in(scope, node, via)
+    }
+
+    // Whether nothing calls the scope off, and in its definition the flow leads to the node.
+    fn lets_in(&self, scope: Key, node: &str, via: &str) -> bool
+        ensures { result ≡ option_map_or (λ c. not (is_called_off self.now.cells self.now scope) && has_way self.now c.definition node.now via.now) (cell_at self.now scope) false }
+    {
+        match self.cell(scope) {
+            Some(cell) => !self.is_called_off(scope) && self.has_way(cell.definition, node, via),
             None => false,
         }
     }
 
-    // Whether the node is there, and the token comes to it.
-    #[tactic(auto, using(crate::proofs::FirstLemmas::found_first))]
-    fn comes_by(&self, definition: Key, e: &Enter) -> bool
-        ensures { result ≡ comes_by self.now definition e.now }
+    // Whether in a definition the node is there, and the flow leads to it.
+    fn has_way(&self, definition: Key, node: &str, via: &str) -> bool
+        ensures { result ≡ has_way self.now definition node.now via.now }
     {
         match self.model(definition) {
-            Some(model) => {
-                node_among(e.node.as_str(), model.nodes.as_slice()).is_some() && arrives(model, e)
-            }
+            Some(model) => { node_in(model, node).is_some() && arrives(model, node, via) }
             None => false,
         }
     }
@@ -49,22 +60,23 @@ impl Game {
         };
         take_token(&mut self.tokens, e)?;
         let node = e.node.copy(alloc)?;
-        self.cells.push(Cell {
-            key: e.key,
-            scope: e.scope,
-            definition,
-            node,
-            role: Role::Plain,
-            phase: Phase::Activating,
-            owed: List::empty(alloc),
-        })?;
+        let cell = new_cell(alloc, e.key, e.scope, definition, node, comes_by_none(e));
+        self.cells.push(cell)?;
         Ok(())
     }
 }
 
-// Whether a token before a node has come, or one on a flow comes to the node.
-fn arrives(model: &Model, e: &Enter) -> bool
-    ensures { result ≡ arrives model.now e.now.node e.now.via }
+// Whether a token before a node has come, or the flow of one leads to the node.
+fn arrives(model: &Model, node: &str, via: &str) -> bool
+    ensures { result ≡ arrives model.now node.now via.now }
 {
-    e.via.as_str().is_empty() || leads_to(model, e.via.as_str(), e.node.as_str())
+    via.is_empty() || leads_to(model, via, node)
+}
+
+// Whether the token that enters comes by no flow.
+#[tactic(auto, using(crate::proofs::FlowLemmas::compared))]
+fn comes_by_none(e: &Enter) -> bool
+    ensures { result ≡ is_none_of e.now.via }
+{
+    e.via.as_str().is_empty()
 }

@@ -1,19 +1,20 @@
 ghost use Rattle.std.specs.Prelude.{◌≡◌, Some, None, false, OnOk, IsErrOf};
 ghost use Rattle.std.specs.Option.{option_map_or};
 ghost use Rattle.zb_tokens.specs.Board.{is_empty, node_with};
-ghost use Rattle.zb_tokens.specs.MoveFinish.{can_finish, node_goes_on, is_done, play_finish, waits_for_nothing};
+ghost use Rattle.zb_tokens.specs.MoveFinish.{fits_finish, node_goes_on, is_done, play_finish, waits_for_nothing};
 
 use crate::edits::put_in_phase;
-use crate::lookups::{has_cell_in, has_token_in, node_among};
+use crate::lookups::{has_cell_in, has_token_in, node_in};
 use crate::{Game, GameFault};
 use std::alloc::Global;
-use zb_model::{Key, List, Model, NodeKind};
+use zb_base::{Key, List};
+use zb_process::{Model, NodeKind};
 use zb_tokens::{Cell, Phase};
 
 impl Game {
     // Whether a cell may begin to complete.
-    pub(super) fn can_finish(&self, key: Key) -> bool
-        ensures { result ≡ can_finish self.now key }
+    pub(super) fn fits_finish(&self, key: Key) -> bool
+        ensures { result ≡ fits_finish self.now key }
     {
         match self.cell(key) {
             Some(cell) => cell.phase == Phase::Active && self.is_done(cell),
@@ -22,7 +23,7 @@ impl Game {
     }
 
     // Whether nothing is left that a cell waits for.
-    fn is_done(&self, cell: &Cell) -> bool
+    pub(super) fn is_done(&self, cell: &Cell) -> bool
         ensures { result ≡ is_done self.now cell.now }
     {
         if cell.scope == Key::new(0) {
@@ -43,7 +44,6 @@ impl Game {
     }
 
     // Whether nothing runs in a cell, and no token is in it.
-    #[tactic(auto, using(crate::proofs::FirstLemmas::any_first))]
     fn is_empty(&self, key: Key) -> bool
         ensures { result ≡ is_empty self.now key }
     {
@@ -61,11 +61,10 @@ impl Game {
 }
 
 // Whether the node with an id is there, and waits for nothing.
-#[tactic(auto, using(crate::proofs::FirstLemmas::found_first))]
 fn goes_on_at(model: &Model, id: &str) -> bool
     ensures { result ≡ option_map_or (λ n. waits_for_nothing n.kind) (node_with model.now id.now) false }
 {
-    match node_among(id, model.nodes.as_slice()) {
+    match node_in(model, id) {
         Some(node) => waits_for_nothing(node.kind),
         None => false,
     }

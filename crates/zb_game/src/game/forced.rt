@@ -1,32 +1,33 @@
-ghost use Rattle.std.specs.Prelude.{◌≡◌, IsTrue, IfOk, IfSome, is_some, option_map};
-ghost use Rattle.std.specs.Option.{option_copied};
-ghost use Rattle.zb_tokens.specs.Forced.{entry_at, entry_of, first_entry, forced_at, forced_in, if_can, newest, next_forced, take_first};
-ghost use Rattle.zb_game.specs.Newest.{keyed_answer, is_newer};
+ghost use Rattle.std.specs.Prelude.{◌≡◌, map, filter, position, option_map, false};
+ghost use Rattle.std.specs.Option.{option_copied, option_map_or};
+ghost use Rattle.zb_tokens.specs.Forced.{can_enter, entry_at, goes_on_in, greatest, is_forced, next_mover};
+ghost use Rattle.zb_tokens.specs.MoveEnter.{may_enter};
+ghost use Rattle.zb_game.specs.Searches.{is_newer};
 
 use crate::Game;
-use crate::lookups::flow_among;
-use std::alloc::{AllocError, Global};
-use zb_model::{Key, Model, Text, TryCopy};
-use zb_tokens::{Cell, Enter, Leave, Move, Phase, Spot, Take, Token};
+use crate::lookups::flow_in;
+use zb_process::Model;
+use zb_tokens::{Cell, Mover, Phase, Spot, Token};
 
 impl Game {
-    /// The next forced move, where a cell that begins gets this key; `None` where the game is quiet. It goes through
-    /// the cells and then the tokens; to see whether one of them moves takes at most what `can` takes for that move,
-    /// and for a cell also the cells once for each one above it. The texts of the move are copied, and those of each
-    /// entry that can't be made.
-    pub fn forced(&self, alloc: Global, key: Key) -> Result<Option<Move>, AllocError>
-        ensures { IfOk result (λ move. move ≡ next_forced self.now key) }
+    /// Who is forced to move next; `None` where the game is quiet. It goes through the cells from the last one on,
+    /// and then through the tokens. To see whether one of them moves it goes through the lists that the move looks
+    /// at, and through the cells once for each one above it. Nothing is copied.
+    pub fn next_mover(&self) -> Option<Mover>
+        ensures { result ≡ next_mover self.now }
     {
-        match self.newest() {
-            Some(cell) => self.forced_at(alloc, cell),
-            None => self.first_entry(alloc, key),
+        match self.newest_forced() {
+            Some(cell) => Some(Mover::Cell(cell.key)),
+            None => match self.first_entering() {
+                Some(place) => Some(Mover::Token(place)),
+                None => None,
+            },
         }
     }
 
-    // The cell with the greatest key of those that are forced to a move.
-    fn newest(&self) -> Option<&Cell>
-        ensures newest { newest (forced_at self.now) self.now.cells ≡ keyed_answer (forced_at self.now) (option_copied result) }
-        ensures forced { IfSome result (λ cell. IsTrue (is_some (forced_at self.now cell.now))) }
+    // The cell with the greatest key of those that are forced.
+    fn newest_forced(&self) -> Option<&Cell>
+        ensures { option_map (λ c. c.key) (option_copied result) ≡ greatest (map (λ c. c.key) (filter (is_forced self.now) self.now.cells)) }
     {
         let mut best: Option<&Cell> = None;
         for i in (0..self.cells.len()).rev() {
@@ -38,142 +39,67 @@ impl Game {
         best
     }
 
-    // Whether a cell is forced to a move.
-    fn is_forced(&self, cell: &Cell) -> bool
-        ensures { result ≡ is_some (forced_at self.now cell.now) }
+    // Where the first token is that can enter.
+    fn first_entering(&self) -> Option<usize>
+        ensures { result ≡ position (can_enter self.now) self.now.tokens }
     {
-        self.is_due(cell) && !self.is_doomed(cell)
+        self.tokens.iter().position(|token| self.can_enter(token))
     }
 
-    // Whether a cell is forced to a move, unless it is doomed.
-    fn is_due(&self, cell: &Cell) -> bool
-        ensures { result ≡ is_some (forced_in self.now cell.now cell.now.phase) }
+    // Whether a cell goes on by itself, and nothing calls it off.
+    fn is_forced(&self, cell: &Cell) -> bool
+        ensures { result ≡ is_forced self.now cell.now }
+    {
+        self.goes_on_by_itself(cell) && !self.is_doomed(cell)
+    }
+
+    // Whether a cell goes on by itself.
+    #[tactic(auto, using(crate::proofs::FlowLemmas::compared))]
+    fn goes_on_by_itself(&self, cell: &Cell) -> bool
+        ensures { result ≡ goes_on_in self.now cell.now cell.now.phase }
     {
         match cell.phase {
-            Phase::Activating | Phase::Completing => true,
-            Phase::Active => self.can_finish(cell.key),
+            Phase::Activating => self.opens(cell),
+            Phase::Active => self.is_done(cell),
+            Phase::Completing => true,
             Phase::Leaving => !cell.owed.as_slice().is_empty(),
             Phase::Terminating => false,
         }
     }
 
-    // The move that a cell is forced to.
-    fn forced_at(&self, alloc: Global, cell: &Cell) -> Result<Option<Move>, AllocError>
-        requires { IsTrue (is_some (forced_at self.now cell.now)) }
-        ensures { IfOk result (λ move. move ≡ forced_at self.now cell.now) }
+    // Whether a token can enter the node that it has come to.
+    fn can_enter(&self, token: &Token) -> bool
+        ensures { result ≡ can_enter self.now token.now }
     {
-        match cell.phase {
-            Phase::Activating => Ok(Some(Move::Open(cell.key))),
-            Phase::Active => Ok(Some(Move::Finish(cell.key))),
-            Phase::Completing => {
-                let owed = self.owed_by(alloc, cell)?;
-                Ok(Some(Move::Leave(Leave {
-                    key: cell.key,
-                    owed,
-                })))
-            }
-            Phase::Leaving => take_first(alloc, cell.key, cell.owed.as_slice()),
-            Phase::Terminating => Ok(None),
-        }
-    }
-
-    // The entry of the first token that can enter, where its cell gets this key.
-    fn first_entry(&self, alloc: Global, key: Key) -> Result<Option<Move>, AllocError>
-        ensures { IfOk result (λ move. move ≡ first_entry self.now key self.now.tokens) }
-    {
-        for token in &self.tokens {
-            let entry = self.entry_of(alloc, key, token)?;
-            if entry.is_some() {
-                return Ok(entry);
-            }
-        }
-        Ok(None)
-    }
-
-    // The entry of a token, if it can enter.
-    fn entry_of(&self, alloc: Global, key: Key, token: &Token) -> Result<Option<Move>, AllocError>
-        ensures { IfOk result (λ move. move ≡ entry_of self.now key token.now) }
-    {
-        let Some(definition) = self.definition_of(token.scope) else {
-            return Ok(None);
+        let Some(cell) = self.cell(token.scope) else {
+            return false;
         };
-        let Some(model) = self.model(definition) else {
-            return Ok(None);
+        let Some(model) = self.model(cell.definition) else {
+            return false;
         };
-        match entry_in(alloc, model, key, token)? {
-            Some(entry) => Ok(self.if_can(entry)),
-            None => Ok(None),
-        }
+        self.can_enter_in(model, token)
     }
 
-    // An entry, if it can be made.
-    fn if_can(&self, entry: Enter) -> Option<Move>
-        ensures { result ≡ if_can self.now entry }
+    // Whether a token can enter the node that it has come to in a model.
+    fn can_enter_in(&self, model: &Model, token: &Token) -> bool
+        ensures { result ≡ option_map_or (λ way. may_enter self.now token.now.scope way.0 way.1) (entry_at model.now token.now.spot) false }
     {
-        if self.can_enter(&entry) {
-            Some(Move::Enter(entry))
-        } else {
-            None
+        match &token.spot {
+            Spot::BeforeNode(node) => self.may_enter(token.scope, node.as_str(), ""),
+            Spot::OnFlow(id) => match flow_in(model, id.as_str()) {
+                Some(flow) => self.may_enter(token.scope, flow.to.as_str(), id.as_str()),
+                None => false,
+            },
         }
     }
 }
 
 // Whether the cell has a greater key than the best so far.
 fn is_newer(cell: &Cell, best: Option<&Cell>) -> bool
-    ensures { result ≡ is_newer cell.now.key (option_copied best.entry) }
+    ensures { result ≡ is_newer cell.now.key (option_map (λ c. c.key) (option_copied best.entry)) }
 {
     match best {
         Some(best) => cell.key > best.key,
         None => true,
-    }
-}
-
-// The taking of the first flow that is owed.
-fn take_first(alloc: Global, key: Key, owed: &[Text]) -> Result<Option<Move>, AllocError>
-    ensures { IfOk result (λ move. move ≡ take_first key owed.now) }
-{
-    match owed {
-        [flow, ..] => {
-            let flow = flow.copy(alloc)?;
-            Ok(Some(Move::Take(Take { key, flow })))
-        }
-        [] => Ok(None),
-    }
-}
-
-// The entry that a token would make in a model.
-#[tactic(auto, using(crate::proofs::FirstLemmas::found_first))]
-fn entry_in(
-    alloc: Global,
-    model: &Model,
-    key: Key,
-    token: &Token,
-) -> Result<Option<Enter>, AllocError>
-    ensures { IfOk result (λ entry. entry ≡ option_map (λ way. record { key = key; scope = token.now.scope; node = way.0; via = way.1 }) (entry_at model.now token.now.spot)) }
-{
-    match &token.spot {
-        Spot::BeforeNode(node) => {
-            let node = node.copy(alloc)?;
-            let via = Text::empty(alloc);
-            Ok(Some(Enter {
-                key,
-                scope: token.scope,
-                node,
-                via,
-            }))
-        }
-        Spot::OnFlow(id) => match flow_among(id.as_str(), model.flows.as_slice()) {
-            Some(flow) => {
-                let node = flow.to.copy(alloc)?;
-                let via = id.copy(alloc)?;
-                Ok(Some(Enter {
-                    key,
-                    scope: token.scope,
-                    node,
-                    via,
-                }))
-            }
-            None => Ok(None),
-        },
     }
 }

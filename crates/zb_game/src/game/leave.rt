@@ -1,34 +1,34 @@
 ghost use Rattle.std.specs.Prelude.{◌≡◌, Some, None, IfOk, OnOk, IsErrOf};
-ghost use Rattle.zb_tokens.specs.MoveLeave.{can_leave, ids_eq, leaving, owed_by, play_leave};
+ghost use Rattle.zb_tokens.specs.MoveLeave.{are_among, fits_leave, flows_of, leaving, owed_by, play_leave};
 
-use crate::edits::{copy_of, forget_variables, put_in_phase, take_away};
-use crate::flows::{are_flows_out, flows_out};
+use crate::edits::{copy_of, put_in_phase, take_away};
+use crate::flows::{are_among_flows, flows_out};
 use crate::{Game, GameFault};
 use std::alloc::{AllocError, Global};
-use zb_model::{Key, List, Text};
+use zb_base::{Key, List, Text};
 use zb_tokens::{Cell, Leave, Phase};
 
 impl Game {
-    // Whether a cell has completed, and owes these flows.
-    pub(super) fn can_leave(&self, l: &Leave) -> bool
-        ensures { result ≡ can_leave self.now l.now }
+    // Whether a cell has completed, and these flows go out of its node.
+    pub(super) fn fits_leave(&self, l: &Leave) -> bool
+        ensures { result ≡ fits_leave self.now l.now }
     {
         match self.cell(l.key) {
-            Some(cell) => cell.phase == Phase::Completing && self.owes(cell, l.owed.as_slice()),
+            Some(cell) => cell.phase == Phase::Completing && self.may_owe(cell, l.owed.as_slice()),
             None => false,
         }
     }
 
-    // Whether these are the flows that a cell owes.
+    // Whether these are flows out of the node of a cell, in order.
     #[tactic(auto, using(crate::proofs::FlowLemmas::compared))]
-    fn owes(&self, cell: &Cell, ids: &[Text]) -> bool
-        ensures { result ≡ ids_eq ids.now (owed_by self.now cell.now) }
+    fn may_owe(&self, cell: &Cell, ids: &[Text]) -> bool
+        ensures { result ≡ are_among ids.now (flows_of self.now cell.now) }
     {
         if cell.scope == Key::new(0) {
             return ids.is_empty();
         }
         match self.model(cell.definition) {
-            Some(model) => are_flows_out(ids, model, cell.node.as_str()),
+            Some(model) => are_among_flows(ids, model, cell.node.as_str()),
             None => ids.is_empty(),
         }
     }
@@ -56,16 +56,14 @@ impl Game {
         self.leaving(l.key, owed)
     }
 
-    // A cell leaves and owes these flows; where there are none it is gone, and so are its variables.
+    // A cell leaves and owes these flows; where there are none it is gone.
     pub(super) fn leaving(&mut self, key: Key, owed: List<Text>) -> Result<(), GameFault>
         ensures left { OnOk result (leaving owed key self.old ≡ Some self.new) }
         ensures none { IsErrOf result GameFault.Illegal → leaving owed key self.old ≡ None }
         ensures kept { IsErrOf result GameFault.Illegal → self.new ≡ self.old }
     {
         if owed.as_slice().is_empty() {
-            take_away(&mut self.cells, key)?;
-            forget_variables(&mut self.variables, key);
-            Ok(())
+            take_away(&mut self.cells, key)
         } else {
             put_in_phase(&mut self.cells, key, Phase::Leaving, owed)
         }

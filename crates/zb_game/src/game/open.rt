@@ -1,22 +1,33 @@
 ghost use Rattle.std.specs.Prelude.{◌≡◌, ◌∷◌, [], Some, None, IfOk, OnOk, IsErrOf};
 ghost use Rattle.std.specs.Option.{option_map_or};
-ghost use Rattle.zb_tokens.specs.MoveOpen.{can_open, first_tokens, play_open};
+ghost use Rattle.zb_tokens.specs.MoveOpen.{fits_open, first_tokens, opens, play_open};
 
 use crate::edits::{add_token, put_in_phase};
-use crate::lookups::start_among;
+use crate::lookups::start_in;
 use crate::{Game, GameFault};
-use std::alloc::{AllocError, Global};
-use zb_model::{Key, List, TryCopy};
+use std::alloc::Global;
+use zb_base::{Key, List, TryCopy};
 use zb_tokens::{Cell, Phase, Spot, Token};
 
 impl Game {
     // Whether a cell may become active.
-    pub(super) fn can_open(&self, key: Key) -> bool
-        ensures { result ≡ can_open self.now key }
+    pub(super) fn fits_open(&self, key: Key) -> bool
+        ensures { result ≡ fits_open self.now key }
     {
         match self.cell(key) {
-            Some(cell) => cell.phase == Phase::Activating,
+            Some(cell) => cell.phase == Phase::Activating && self.opens(cell),
             None => false,
+        }
+    }
+
+    // Whether the model of a cell is there, if the cell is a root.
+    pub(super) fn opens(&self, cell: &Cell) -> bool
+        ensures { result ≡ opens self.now cell.now }
+    {
+        if cell.scope == Key::new(0) {
+            self.model(cell.definition).is_some()
+        } else {
+            true
         }
     }
 
@@ -36,17 +47,17 @@ impl Game {
     }
 
     // The token that this cell gets as it opens, if it gets one.
-    #[tactic(auto, using(crate::proofs::FirstLemmas::found_first))]
-    fn first_token(&self, alloc: Global, cell: &Cell) -> Result<Option<Token>, AllocError>
-        ensures { IfOk result (λ token. first_tokens self.now cell.now ≡ option_map_or (λ t. t ∷ []) token []) }
+    fn first_token(&self, alloc: Global, cell: &Cell) -> Result<Option<Token>, GameFault>
+        ensures known { IfOk result (λ token. first_tokens self.now cell.now ≡ Some (option_map_or (λ t. t ∷ []) token [])) }
+        ensures none { IsErrOf result GameFault.Illegal → first_tokens self.now cell.now ≡ None }
     {
         if cell.scope != Key::new(0) {
             return Ok(None);
         }
         let Some(model) = self.model(cell.definition) else {
-            return Ok(None);
+            return Err(GameFault::Illegal);
         };
-        let Some(start) = start_among(model.nodes.as_slice()) else {
+        let Some(start) = start_in(model) else {
             return Ok(None);
         };
         let id = start.id.copy(alloc)?;

@@ -1,15 +1,15 @@
 ghost use Rattle.std.specs.Prelude.{◌≡◌, Some, None, OnOk, IsErrOf};
-ghost use Rattle.zb_tokens.specs.MoveStand.{can_stand, play_stand};
+ghost use Rattle.zb_tokens.specs.MoveStand.{fits_stand, play_stand};
 
 use crate::{Game, GameFault};
 use std::alloc::Global;
-use zb_model::TryCopy;
+use zb_base::TryCopy;
 use zb_tokens::Deployed;
 
 impl Game {
     // Whether a model may stand under a key.
-    pub(super) fn can_stand(&self, d: &Deployed) -> bool
-        ensures { result ≡ can_stand self.now d.now }
+    pub(super) fn fits_stand(&self, d: &Deployed) -> bool
+        ensures { result ≡ fits_stand self.now d.now }
     {
         self.model(d.key).is_none()
     }

@@ -1,15 +1,16 @@
 ghost use Rattle.std.specs.Prelude.{◌≡◌, Some, None, OnOk, IsErrOf};
-ghost use Rattle.zb_tokens.specs.MoveStart.{can_start, play_start};
+ghost use Rattle.zb_tokens.specs.MoveStart.{fits_start, play_start};
 
+use crate::edits::new_cell;
 use crate::{Game, GameFault};
 use std::alloc::Global;
-use zb_model::{Key, List, Role, TryCopy};
-use zb_tokens::{Cell, Phase, Start};
+use zb_base::{Key, TryCopy};
+use zb_tokens::Start;
 
 impl Game {
     // Whether a process may be instantiated.
-    pub(super) fn can_start(&self, s: &Start) -> bool
-        ensures { result ≡ can_start self.now s.now }
+    pub(super) fn fits_start(&self, s: &Start) -> bool
+        ensures { result ≡ fits_start self.now s.now }
     {
         self.model(s.definition).is_some()
     }
@@ -24,15 +25,8 @@ impl Game {
             return Err(GameFault::Illegal);
         };
         let node = model.process.copy(alloc)?;
-        self.cells.push(Cell {
-            key: s.key,
-            scope: Key::new(0),
-            definition: s.definition,
-            node,
-            role: Role::Plain,
-            phase: Phase::Activating,
-            owed: List::empty(alloc),
-        })?;
+        let cell = new_cell(alloc, s.key, Key::new(0), s.definition, node, false);
+        self.cells.push(cell)?;
         Ok(())
     }
 }

@@ -1,16 +1,16 @@
 ghost use Rattle.std.specs.Prelude.{◌≡◌, Some, None, IfOk, OnOk, IsErrOf};
-ghost use Rattle.zb_tokens.specs.MoveTake.{can_take, is_first, play_take, rest_of};
+ghost use Rattle.zb_tokens.specs.MoveTake.{fits_take, is_first, play_take, rest_of};
 
 use crate::edits::copy_of;
 use crate::{Game, GameFault};
 use std::alloc::{AllocError, Global};
-use zb_model::{List, Text, TryCopy};
+use zb_base::{List, Text, TryCopy};
 use zb_tokens::{Phase, Spot, Take, Token};
 
 impl Game {
     // Whether a cell leaves, and owes this flow first.
-    pub(super) fn can_take(&self, t: &Take) -> bool
-        ensures { result ≡ can_take self.now t.now }
+    pub(super) fn fits_take(&self, t: &Take) -> bool
+        ensures { result ≡ fits_take self.now t.now }
     {
         match self.cell(t.key) {
             Some(cell) => cell.phase == Phase::Leaving

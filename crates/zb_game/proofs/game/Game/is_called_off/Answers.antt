@@ -1,12 +1,11 @@
 use Rattle.std.proofs.Common.{◌≡◌, true, false, sym, ◌∙◌, rules}
-use Rattle.zb_tokens.specs.declared.board.Phase.TheVariants as phases
-use Rattle.zb_tokens.specs.Board.{is_phase}
+use Rattle.zb_tokens.specs.Doom.{calls_off}
 use Rattle.zb_game.proofs.ScopeLemmas.{called_off-at, called_off-above, called_off-none}
 use Rattle.zb_game.proofs.game.Game.is_called_off.Goals as goal
 
-pub returns-then-eq : goal.returns-then-eq
-returns-then-eq c =
-    let is : is_phase c.in-Some.cell.now.phase phases.Terminating ≡ true = search rules in
+pub returns-then-calls_off : goal.returns-then-calls_off
+returns-then-calls_off c =
+    let is : calls_off c.in-Some.cell.now ≡ true = search rules in
     sym (called_off-at c.args.self.now c.loop-step.key c.loop-step._step c.in-Some.cell.now (search rules) (sym c.in-Some.ensures) is) ∙ c.loop-step.invariant
 
 pub returns-in-None : goal.returns-in-None
@@ -14,5 +13,5 @@ returns-in-None c = sym (called_off-none c.args.self.now c.loop-step.key c.loop-
 
 pub loop-step-preserved : goal.loop-step-preserved
 loop-step-preserved c =
-    let is : is_phase c.in-Some.cell.now.phase phases.Terminating ≡ false = search rules in
+    let is : calls_off c.in-Some.cell.now ≡ false = search rules in
     sym (called_off-above c.args.self.now c.loop-step.key c.loop-step._step c.in-Some.cell.now (search rules) (sym c.in-Some.ensures) is) ∙ c.loop-step.invariant

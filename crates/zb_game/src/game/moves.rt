@@ -1,0 +1,113 @@
+ghost use Rattle.std.specs.Prelude.{◌≡◌, ℕ, IfOk, option_map};
+ghost use Rattle.zb_tokens.specs.declared.board.Move.TheVariants as moves;
+ghost use Rattle.zb_tokens.specs.Forced.{entry_at, entry_of, move_in, move_of, take_first};
+
+use crate::Game;
+use crate::lookups::flow_in;
+use std::alloc::{AllocError, Global};
+use zb_base::{Key, Text, TryCopy};
+use zb_process::Model;
+use zb_tokens::{Cell, Enter, Leave, Move, Mover, Phase, Spot, Take, Token};
+
+impl Game {
+    /// The move of a mover, where a cell that begins gets this key; `None` where the mover isn't there or does
+    /// nothing. It goes through the cells or the tokens once, and through the flows of a model; the texts of the
+    /// move are copied.
+    pub fn move_of(&self, alloc: Global, key: Key, mover: Mover) -> Result<Option<Move>, AllocError>
+        ensures { (moment : ℕ) → IfOk result (λ move. move ≡ move_of self.now moment key mover) }
+    {
+        match mover {
+            Mover::Cell(cell) => match self.cell(cell) {
+                Some(cell) => self.move_in(alloc, cell),
+                None => Ok(None),
+            },
+            Mover::Token(place) => match self.tokens.get(place) {
+                Some(token) => self.entry_of(alloc, key, token),
+                None => Ok(None),
+            },
+        }
+    }
+
+    // What a cell does by itself in its phase.
+    fn move_in(&self, alloc: Global, cell: &Cell) -> Result<Option<Move>, AllocError>
+        ensures { IfOk result (λ move. move ≡ move_in self.now cell.now cell.now.phase) }
+    {
+        match cell.phase {
+            Phase::Activating => Ok(Some(Move::Open(cell.key))),
+            Phase::Active => Ok(Some(Move::Finish(cell.key))),
+            Phase::Completing => {
+                let owed = self.owed_by(alloc, cell)?;
+                Ok(Some(Move::Leave(Leave {
+                    key: cell.key,
+                    owed,
+                })))
+            }
+            Phase::Leaving => take_first(alloc, cell.key, cell.owed.as_slice()),
+            Phase::Terminating => Ok(None),
+        }
+    }
+
+    // How a token enters the node that it has come to.
+    fn entry_of(&self, alloc: Global, key: Key, token: &Token) -> Result<Option<Move>, AllocError>
+        ensures { IfOk result (λ move. move ≡ entry_of self.now key token.now) }
+    {
+        let Some(cell) = self.cell(token.scope) else {
+            return Ok(None);
+        };
+        let Some(model) = self.model(cell.definition) else {
+            return Ok(None);
+        };
+        entry_in(alloc, model, key, token)
+    }
+}
+
+// The taking of the first flow that is owed.
+fn take_first(alloc: Global, key: Key, owed: &[Text]) -> Result<Option<Move>, AllocError>
+    ensures { IfOk result (λ move. move ≡ take_first key owed.now) }
+{
+    match owed {
+        [flow, ..] => {
+            let flow = flow.copy(alloc)?;
+            Ok(Some(Move::Take(Take { key, flow })))
+        }
+        [] => Ok(None),
+    }
+}
+
+// How a token in a model enters the node that it has come to.
+fn entry_in(
+    alloc: Global,
+    model: &Model,
+    key: Key,
+    token: &Token,
+) -> Result<Option<Move>, AllocError>
+    ensures { IfOk result (λ move. move ≡ option_map (λ way. moves.Enter (record { key = key; scope = token.now.scope; node = way.0; via = way.1 })) (entry_at model.now token.now.spot)) }
+{
+    match &token.spot {
+        Spot::BeforeNode(node) => {
+            let node = node.copy(alloc)?;
+            let via = Text::empty(alloc);
+            let scope = token.scope;
+            Ok(Some(Move::Enter(Enter {
+                key,
+                scope,
+                node,
+                via,
+            })))
+        }
+        Spot::OnFlow(id) => match flow_in(model, id.as_str()) {
+            Some(flow) => {
+                let node = flow.to.copy(alloc)?;
+                let via = id.copy(alloc)?;
+                let scope = token.scope;
+                Ok(Some(Move::Enter(Enter {
+                    key,
+                    scope,
+                    node,
+                    via,
+                })))
+            }
+            None => Ok(None),
+        },
+    }
+}
