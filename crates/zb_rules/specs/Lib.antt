@@ -15,3 +15,10 @@ pub mod Sound
 pub mod StepLaws
 pub mod GrowthLaws
 pub mod DueLaws
+pub mod CellsLaws
+pub mod SoundLaws
+pub mod ProgressLaws
+pub mod ModelsLaws
+pub mod OwnLaws
+pub mod CreateLaws
+pub mod PlayedLaws

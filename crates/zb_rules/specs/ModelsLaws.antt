@@ -1,0 +1,152 @@
+-- Laws of the models of a board: the definitions of a log stand on it, under keys that were named.
+use Rattle.std.proofs.Common.{◌≡◌, ℕ, ◌≤◌, ◌==◌, List, [], ◌∷◌, ◌++◌, Bool, true, false, if◌then◌else◌, IsTrue, is_some, not, Option, Some, None, option_map, option_and_then, All, refl, sym, ap, ◌∙◌, subst, arith, append-nil}
+use Rattle.std.specs.Option.{option_map_or, option_or}
+use Rattle.std.specs.List.{find}
+use Rattle.std.specs.Str.{bytes_eq}
+use Rattle.std.proofs.lemmas.Bool.Decides.{nat_tests}
+use Rattle.std.proofs.lemmas.List.Elements.{All-nil, All-cons, All-append, All-weaker}
+use Rattle.std.proofs.lemmas.List.Folds.{find-append}
+use Rattle.zb_process.specs.declared.model.Model.{Model}
+use Rattle.zb_model.specs.declared.record.Event.{Event}
+use Rattle.zb_model.specs.declared.record.Event.TheVariants as events
+use Rattle.zb_views.specs.declared.definition.Definition.{Definition}
+use Rattle.zb_views.specs.View.{counter_at, greatest_counter}
+use Rattle.zb_views.specs.ViewLaws.{greatest_counter_more, definitions_more}
+use Rattle.zb_views.specs.Definitions.{definition_told, definitions}
+use Rattle.zb_tokens.specs.declared.board.Cell.{Cell}
+use Rattle.zb_tokens.specs.declared.board.Deployed.{Deployed}
+use Rattle.zb_tokens.specs.declared.board.Move.{Move}
+use Rattle.zb_tokens.specs.declared.board.Move.TheVariants as moves
+use Rattle.zb_tokens.specs.Edits.{edited, removed}
+use Rattle.zb_tokens.specs.Board.{Board, cell_at, model_under, in_phase}
+use Rattle.zb_tokens.specs.declared.board.Phase.TheVariants as phases
+use Rattle.zb_tokens.specs.MoveEnter.{comes_to}
+use Rattle.zb_tokens.specs.MoveOpen.{first_tokens}
+use Rattle.zb_tokens.specs.MoveLeave.{leaving}
+use Rattle.zb_tokens.specs.MoveTake.{rest_of, with_token}
+use Rattle.zb_tokens.specs.MoveAssign.{with_variable}
+use Rattle.zb_tokens.specs.Game.{empty_board, played}
+use Rattle.zb_tokens.specs.ForcedLaws.{same_bytes}
+use Rattle.zb_rules.specs.Shown.{shown, after_shown, board_of}
+use Rattle.zb_rules.specs.Applies.{all_apply, is_process_of}
+use Rattle.zb_rules.specs.CellsLaws.{mapped_holds, chained_holds}
+use Rattle.zb_rules.specs.SoundLaws.{IsApplied, holds_of_all, first_named}
+
+-- the model that a move puts on the board
+abbrev models_made : Move → List Deployed
+models_made (moves.Stand d) = d ∷ []
+models_made _ = []
+
+-- the models after a move
+module _ (b : Board) where
+  abbrev Kept : Board → Type 0
+  Kept after = after.models ≡ b.models
+
+  cells_only : (after : Board) (cells : Option (List Cell)) → option_map (λ cs. record b { cells = cs }) cells ≡ Some after → Kept after
+  cells_only after cells made = mapped_holds Kept (λ cs. record b { cells = cs }) cells after (λ cs found. refl) made
+
+  leaving_only : (after : Board) (owed : List (List ℕ)) (key : ℕ) → leaving owed key b ≡ Some after → Kept after
+  leaving_only after [] key made = cells_only after (removed (λ c. c.key == key) b.cells) made
+  leaving_only after (flow ∷ owed) key made = cells_only after (edited (λ c. c.key == key) (in_phase phases.Leaving (flow ∷ owed)) b.cells) made
+
+  none_more : (after : Board) → Kept after → after.models ≡ b.models ++ []
+  none_more after kept = kept ∙ sym (append-nil b.models)
+
+  models_played : (after : Board) (move : Move) → played b move ≡ Some after → after.models ≡ b.models ++ models_made move
+  models_played after (moves.Stand d) made = ap (λ (x : Board). x.models) (sym (let same : record b { models = b.models ++ d ∷ [] } ≡ after = cc in same))
+  models_played after (moves.Start s) made = none_more after (mapped_holds Kept _ (model_under b s.definition) after (λ m found. refl) made)
+  models_played after (moves.Enter e) made = none_more after (chained_holds Kept _ (cell_at b e.scope) after (λ c found z led.
+      mapped_holds Kept _ (removed (comes_to e.scope e.node e.via) b.tokens) z (λ tokens left. refl) led) made)
+  models_played after (moves.Open key) made = none_more after (chained_holds Kept _ (cell_at b key) after (λ c found z led.
+      chained_holds Kept _ (first_tokens b c) z (λ tokens got y came.
+      mapped_holds Kept _ (edited (λ x. x.key == key) (in_phase phases.Active []) b.cells) y (λ cells there. refl) came) led) made)
+  models_played after (moves.Finish key) made = none_more after (cells_only after (edited (λ c. c.key == key) (in_phase phases.Completing []) b.cells) made)
+  models_played after (moves.Leave l) made = none_more after (leaving_only after l.owed l.key made)
+  models_played after (moves.Take t) made = none_more after (chained_holds Kept _ (cell_at b t.key) after (λ c found z led.
+      mapped_holds Kept (with_token c.scope t.flow) (leaving (rest_of c.owed) t.key b) z (λ l left. leaving_only l (rest_of c.owed) t.key left) led) made)
+  models_played after (moves.Assign a) made = none_more after (cells_only after (edited (λ c. c.key == a.scope) (with_variable a.name a.value) b.cells) made)
+
+  models_shown : (after : Board) (move : Option Move) → after_shown b move ≡ Some after → after.models ≡ b.models ++ option_map_or models_made move []
+  models_shown after None made = none_more after (ap (λ (x : Board). x.models) (sym (let same : b ≡ after = cc in same)))
+  models_shown after (Some move) made = models_played after move made
+
+-- the model that an event puts on the board
+abbrev models_told : Event → List Deployed
+models_told (events.ProcessCreated e) = record { key = e.key; model = e.model } ∷ []
+models_told _ = []
+
+either_none : (t : Bool) (a b : Move) → models_made a ≡ [] → models_made b ≡ [] → option_map_or models_made (if t then Some a else Some b) [] ≡ []
+either_none true a b none other = none
+either_none false a b none other = other
+
+told_made : (before : List Event) (e : Event) → option_map_or models_made (shown before e) [] ≡ models_told e
+told_made before (events.ElementActivating a) = either_none (a.scope == 0) (moves.Start (record { key = a.key; definition = a.definition })) (moves.Enter (record { key = a.key; scope = a.scope; node = a.node; via = a.via })) refl refl
+told_made before e = refl
+
+models_more : (p : ℕ) (before : List Event) (b : Board) (e : Event) (after : Board) → IsApplied p before b e after → after.models ≡ b.models ++ models_told e
+models_more p before b e after h = models_shown b after (shown before e) h.leads ∙ ap (λ (ms : List Deployed). b.models ++ ms) (told_made before e)
+
+-- among some models the one under a key has this process id
+abbrev is_process_among : ℕ → List ℕ → List Deployed → Bool
+is_process_among key id models = option_map_or (λ (m : Model). bytes_eq m.process id) (option_map (λ (d : Deployed). d.model) (find (λ (d : Deployed). d.key == key) models)) false
+
+among_by : (id : List ℕ) (found other : Option Deployed) → IsTrue (option_map_or (λ (m : Model). bytes_eq m.process id) (option_map (λ (d : Deployed). d.model) found) false)
+    → IsTrue (option_map_or (λ (m : Model). bytes_eq m.process id) (option_map (λ (d : Deployed). d.model) (option_or found other)) false)
+among_by id None other is = absurd (cc)
+among_by id (Some d) other is = is
+
+among_more : (key : ℕ) (id : List ℕ) (models more : List Deployed) → IsTrue (is_process_among key id models) → IsTrue (is_process_among key id (models ++ more))
+among_more key id models more is = rw (find-append (λ (d : Deployed). d.key == key) models more) (among_by id (find (λ (d : Deployed). d.key == key) models) (find (λ (d : Deployed). d.key == key) more) is)
+
+among_new : (d : Deployed) (models : List Deployed) → find (λ (x : Deployed). x.key == d.key) models ≡ None → IsTrue (is_process_among d.key d.model.process (models ++ d ∷ []))
+among_new d models none =
+    let same : (d.key == d.key) ≡ true = grind (arith, nat_tests) in
+    rw (find-append (λ (x : Deployed). x.key == d.key) models (d ∷ []), none, same) (same_bytes d.model.process)
+
+none_under : (found : Option Deployed) → IsTrue (not (is_some (option_map (λ (d : Deployed). d.model) found))) → found ≡ None
+none_under None is = refl
+none_under (Some d) is = absurd (cc)
+
+-- the keys of the models were named, and each definition has the model of its process
+pub record Knows (p : ℕ) (es : List Event) (b : Board) : Type 0 where
+  pub counted : All (λ (d : Deployed). counter_at p d.key ≤ greatest_counter p es) b.models
+  pub defined : All (λ (d : Definition). IsTrue (is_process_of d.key d.process b)) (definitions es)
+
+told_counted : (p : ℕ) (before : List Event) (e : Event) → All (λ (d : Deployed). counter_at p d.key ≤ greatest_counter p (before ++ e ∷ [])) (models_told e)
+told_counted p before (events.ProcessCreated e) =
+    let named = first_named p e.key [] in
+    All-cons (λ (d : Deployed). counter_at p d.key ≤ greatest_counter p (before ++ events.ProcessCreated e ∷ [])) (record { key = e.key; model = e.model }) []
+    (omega (arith, named, greatest_counter_more p before (events.ProcessCreated e ∷ []))) (All-nil _)
+told_counted p before e = All-nil (λ (d : Deployed). counter_at p d.key ≤ greatest_counter p (before ++ e ∷ []))
+
+told_defined : (p : ℕ) (before : List Event) (b : Board) (e : Event) (after : Board) → IsApplied p before b e after → All (λ (d : Definition). IsTrue (is_process_among d.key d.process (b.models ++ models_told e))) (definition_told e)
+told_defined p before b (events.ProcessCreated e) after h =
+    All-cons (λ (d : Definition). IsTrue (is_process_among d.key d.process (b.models ++ record { key = e.key; model = e.model } ∷ []))) (record { key = e.key; version = e.version; process = e.model.process }) []
+    (among_new (record { key = e.key; model = e.model }) b.models (none_under (find (λ (x : Deployed). x.key == e.key) b.models) h.fit)) (All-nil _)
+told_defined p before b e after h = All-nil (λ (d : Definition). IsTrue (is_process_among d.key d.process (b.models ++ models_told e)))
+
+knows_on : (p : ℕ) (before : List Event) (b : Board) (e : Event) (after : Board) → IsApplied p before b e after → Knows p before b → Knows p (before ++ e ∷ []) after
+knows_on p before b e after h k =
+    let models = models_more p before b e after h in
+    let Counted : Deployed → Type 0 = λ d. counter_at p d.key ≤ greatest_counter p (before ++ e ∷ []) in
+    let Defined : Definition → Type 0 = λ d. IsTrue (is_process_among d.key d.process (b.models ++ models_told e)) in
+    let grown = greatest_counter_more p before (e ∷ []) in
+    let counted : All Counted (b.models ++ models_told e) = All-append Counted b.models (models_told e)
+    (All-weaker (λ (d : Deployed). counter_at p d.key ≤ greatest_counter p before) Counted (λ d below. omega (arith, below, grown)) b.models k.counted) (told_counted p before e) in
+    let defined : All Defined (definitions before ++ definition_told e) = All-append Defined (definitions before) (definition_told e)
+    (All-weaker (λ (d : Definition). IsTrue (is_process_of d.key d.process b)) Defined (λ d there. among_more d.key d.process b.models (models_told e) there) (definitions before) k.defined) (told_defined p before b e after h) in
+    record {
+      counted = subst (All Counted) (sym models) counted;
+      defined = subst (λ (ds : List Definition). All (λ (d : Definition). IsTrue (is_process_among d.key d.process after.models)) ds) (sym (definitions_more before e))
+          (subst (λ (ms : List Deployed). All (λ (d : Definition). IsTrue (is_process_among d.key d.process ms)) (definitions before ++ definition_told e)) (sym models) defined);
+    }
+
+knows_first : (p : ℕ) → Knows p [] empty_board
+knows_first p = record {
+  counted = All-nil (λ (d : Deployed). counter_at p d.key ≤ greatest_counter p []);
+  defined = All-nil (λ (d : Definition). IsTrue (is_process_of d.key d.process empty_board));
+}
+
+-- the board of a log whose events apply
+pub board_knows : (p : ℕ) (es : List Event) (b : Board) → IsTrue (all_apply p [] es) → board_of es ≡ Some b → Knows p es b
+board_knows p es b apply is = holds_of_all p (Knows p) (knows_on p) es b (knows_first p) apply is
