@@ -36,7 +36,9 @@ use Rattle.zb_rules.specs.Applies.{has_definition, holds_own, holds_of_game, app
 use Rattle.zb_rules.specs.Sound.{HasKeys}
 use Rattle.zb_rules.specs.Create.{variable_event, instance_under, created}
 use Rattle.zb_rules.specs.CellsLaws.{Between, mapped_holds}
-use Rattle.zb_rules.specs.SoundLaws.{some_of, game_holds_from, applied_from, applied_board, board_behind, Stands}
+use Rattle.zb_rules.specs.AppliedLaws.{some_of, game_holds_from, applied_from, applied_board, board_behind}
+use Rattle.zb_rules.specs.KeysLaws.{Stands}
+use Rattle.zb_rules.specs.ScopesLaws.{edited_found}
 use Rattle.zb_rules.specs.ModelsLaws.{Knows}
 use Rattle.zb_rules.specs.OwnLaws.{fresh_from, silent_applies, board_after}
 
@@ -70,29 +72,6 @@ new_still v w there less new =
 
 all_new : (v : Variable) (vs there : List Variable) → All (λ (w : Variable). order_of v.name w.name ≡ Less) vs → AreNew vs there → AreNew vs (with_value v.name v.value there)
 all_new v vs there less new = λ k d within. new_still v (get_or vs k d) there (less k d within) (new k d within)
-
--- the cell with a key, edited
-edited_here : (key : ℕ) (edit : Cell → Cell) (x c : Cell) (cells after : List Cell) (t : Bool) (later : Option (List Cell)) → ((y : Cell) → (edit y).key ≡ y.key) → (x.key == key) ≡ t
-    → ((rest : List Cell) → later ≡ Some rest → find (λ (y : Cell). y.key == key) cells ≡ Some c → find (λ (y : Cell). y.key == key) rest ≡ Some (edit c))
-    → (if t then Some x else find (λ (y : Cell). y.key == key) cells) ≡ Some c → (if t then Some (edit x ∷ cells) else option_map (λ ys. x ∷ ys) later) ≡ Some after
-    → find (λ (y : Cell). y.key == key) after ≡ Some (edit c)
-edited_here key edit x c cells after true later keeps same behind found made =
-    let is : edit x ∷ cells ≡ after = cc in
-    let its : x ≡ c = cc in
-    let first : ((edit x).key == key) ≡ true = rw (keeps x) same in
-    let here : find (λ (y : Cell). y.key == key) (edit x ∷ cells) ≡ Some (edit x) = rw first refl in
-    subst (λ (cs : List Cell). find (λ (y : Cell). y.key == key) cs ≡ Some (edit c)) is (here ∙ ap (λ (y : Cell). Some (edit y)) its)
-edited_here key edit x c cells after false None keeps other behind found made = absurd (cc)
-edited_here key edit x c cells after false (Some rest) keeps other behind found made =
-    let is : x ∷ rest ≡ after = cc in
-    let here : find (λ (y : Cell). y.key == key) (x ∷ rest) ≡ Some (edit c) = rw other (behind rest refl found) in
-    subst (λ (cs : List Cell). find (λ (y : Cell). y.key == key) cs ≡ Some (edit c)) is here
-
-edited_found : (key : ℕ) (edit : Cell → Cell) (c : Cell) (cells after : List Cell) → ((y : Cell) → (edit y).key ≡ y.key) → find (λ (y : Cell). y.key == key) cells ≡ Some c
-    → edited (λ (y : Cell). y.key == key) edit cells ≡ Some after → find (λ (y : Cell). y.key == key) after ≡ Some (edit c)
-edited_found key edit c [] after keeps found made = absurd (cc)
-edited_found key edit c (x ∷ cells) after keeps found made =
-    edited_here key edit x c cells after (x.key == key) (edited (λ (y : Cell). y.key == key) edit cells) keeps refl (λ rest is there. edited_found key edit c cells rest keeps there is) found made
 
 -- new variables whose names ascend can be set one after the other
 assign_all : (p root : ℕ) (vs : List Variable) (before : List Event) (b : Board) (c : Cell) → board_of before ≡ Some b → cell_at b root ≡ Some c → AreNew vs c.variables → IsTrue (is_ascending vs)

@@ -16,9 +16,13 @@ pub mod StepLaws
 pub mod GrowthLaws
 pub mod DueLaws
 pub mod CellsLaws
-pub mod SoundLaws
-pub mod ProgressLaws
+pub mod AppliedLaws
+pub mod KeysLaws
 pub mod ModelsLaws
+pub mod PlayedLaws
+pub mod ScopesLaws
+pub mod PlacedLaws
+pub mod SoundLaws
 pub mod OwnLaws
 pub mod CreateLaws
-pub mod PlayedLaws
+pub mod ProgressLaws

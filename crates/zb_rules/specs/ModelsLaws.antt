@@ -30,7 +30,8 @@ use Rattle.zb_tokens.specs.ForcedLaws.{same_bytes}
 use Rattle.zb_rules.specs.Shown.{shown, after_shown, board_of}
 use Rattle.zb_rules.specs.Applies.{all_apply, is_process_of}
 use Rattle.zb_rules.specs.CellsLaws.{mapped_holds, chained_holds}
-use Rattle.zb_rules.specs.SoundLaws.{IsApplied, holds_of_all, first_named}
+use Rattle.zb_rules.specs.AppliedLaws.{IsApplied, holds_of_all}
+use Rattle.zb_rules.specs.KeysLaws.{first_named}
 
 -- the model that a move puts on the board
 abbrev models_made : Move → List Deployed
@@ -66,7 +67,7 @@ module _ (b : Board) where
       mapped_holds Kept (with_token c.scope t.flow) (leaving (rest_of c.owed) t.key b) z (λ l left. leaving_only l (rest_of c.owed) t.key left) led) made)
   models_played after (moves.Assign a) made = none_more after (cells_only after (edited (λ c. c.key == a.scope) (with_variable a.name a.value) b.cells) made)
 
-  models_shown : (after : Board) (move : Option Move) → after_shown b move ≡ Some after → after.models ≡ b.models ++ option_map_or models_made move []
+  pub models_shown : (after : Board) (move : Option Move) → after_shown b move ≡ Some after → after.models ≡ b.models ++ option_map_or models_made move []
   models_shown after None made = none_more after (ap (λ (x : Board). x.models) (sym (let same : b ≡ after = cc in same)))
   models_shown after (Some move) made = models_played after move made
 

@@ -28,7 +28,7 @@ use Rattle.zb_rules.specs.Deploy.{reason_to_deploy, deployed, version_behind}
 use Rattle.zb_rules.specs.Publish.{message_under, published_under}
 use Rattle.zb_rules.specs.Expire.{reason_to_expire, expired, is_due_at}
 use Rattle.zb_rules.specs.GrowthLaws.{board_of_more}
-use Rattle.zb_rules.specs.SoundLaws.{game_holds_from, applied_from}
+use Rattle.zb_rules.specs.AppliedLaws.{game_holds_from, applied_from}
 use Rattle.zb_rules.specs.ModelsLaws.{Knows}
 use Rattle.zb_faults.specs.Faults.{first_fault, is_well_formed, fault_text}
 use Rattle.zb_faults.specs.declared.fault.Fault.{Fault}

@@ -46,7 +46,9 @@ use Rattle.zb_rules.specs.OwnLaws.{deploy_applies, publish_applies, expire_appli
 use Rattle.zb_rules.specs.CreateLaws.{create_applies}
 use Rattle.zb_rules.specs.Sound.{HasKeys, HasOrderedNames, IsForcedEvent}
 use Rattle.zb_rules.specs.GrowthLaws.{board_of_more}
-use Rattle.zb_rules.specs.SoundLaws.{Stands, applied_from, board_stands, some_of, board_is_there, cells_ascend, game_holds, game_holds_from, applied_board, board_behind, IsApplied}
+use Rattle.zb_rules.specs.AppliedLaws.{applied_from, some_of, game_holds, game_holds_from, applied_board, board_behind, IsApplied}
+use Rattle.zb_rules.specs.KeysLaws.{Stands, board_stands}
+use Rattle.zb_rules.specs.SoundLaws.{board_is_there, cells_ascend}
 
 -- the moves that a mover makes, where a new cell gets this key
 abbrev IsMade : ℕ → Move → Type 0

@@ -1,4 +1,4 @@
--- What holds of the board of every log whose events apply, proved from the left, event by event.
+-- What holds of the board of every log whose events apply.
 use Rattle.std.proofs.Common.{◌≡◌, ℕ, ◌+◌, ◌^◌, max, ◌<◌, ◌≤◌, ◌==◌, nat_lt, List, [], ◌∷◌, ◌++◌, Bool, true, false, ◌&&◌, if◌then◌else◌, IsTrue, is_some, Option, Some, None, option_map, option_and_then, refl, sym, ap, ◌∙◌, subst, arith, append-nil, append_assoc}
 use Rattle.std.specs.List.{flat_map}
 use Rattle.std.specs.Option.{option_map_or, IfSome}
@@ -22,150 +22,14 @@ use Rattle.zb_rules.specs.Shown.{shown, after_shown, board_of}
 use Rattle.zb_rules.specs.Applies.{is_fresh, is_plain, begins_instance, begins_cell, begins_well, holds_own, holds_of_game, may_fit, applies, all_apply, is_process_of, is_definition_of}
 use Rattle.zb_rules.specs.GrowthLaws.{board_of_more}
 use Rattle.zb_rules.specs.CellsLaws.{Between, ascend_between, ordered_between, between_higher, key_made, between_played}
-
--- what an event does to the board of those before it
-pub record IsApplied (p : ℕ) (before : List Event) (b : Board) (e : Event) (after : Board) : Type 0 where
-  pub board : board_of before ≡ Some b
-  pub own : IsTrue (holds_own p before e)
-  pub fit : IsTrue (may_fit (shown before e) b)
-  pub leads : after_shown b (shown before e) ≡ Some after
-
--- what holds of a board holds where it is that of the events
-pub game_holds : (holds : Board → Bool) (es : List Event) (b : Board) → board_of es ≡ Some b → IsTrue (holds_of_game holds es) → IsTrue (holds b)
-game_holds holds es b is h = subst (λ (o : Option Board). IsTrue (option_map_or holds o false)) is h
-
-pub game_holds_from : (holds : Board → Bool) (es : List Event) (b : Board) → board_of es ≡ Some b → IsTrue (holds b) → IsTrue (holds_of_game holds es)
-game_holds_from holds es b is h = subst (λ (o : Option Board). IsTrue (option_map_or holds o false)) (sym is) h
-
--- an event that shows a move that fits applies, where its own condition holds
-pub applied_from : (p : ℕ) (es : List Event) (b : Board) (e : Event) (move : Move) → board_of es ≡ Some b → IsTrue (holds_own p es e) → shown es e ≡ Some move → IsTrue (fits b move) → IsTrue (applies p es e)
-applied_from p es b e move is own shows fit =
-    let there : IsTrue (holds_of_game (may_fit (shown es e)) es) = game_holds_from (may_fit (shown es e)) es b is (subst (λ (o : Option Move). IsTrue (may_fit o b)) (sym shows) fit) in
-    rw (own, there) refl
-
--- a move that fits is made
-made_by : (b : Board) (move : Option Move) → IsTrue (may_fit move b) → IsTrue (is_some (after_shown b move))
-made_by b None fit = refl
-made_by b (Some move) fit = fitting_is_played b move fit
-
-pub some_of : {A : Type 0} (o : Option A) → IsTrue (is_some o) → (a : A) × (o ≡ Some a)
-some_of None there = absurd (cc)
-some_of (Some a) there = (a, refl)
-
--- an event that applies has a board after it
-pub applied_board : (p : ℕ) (before : List Event) (b : Board) (e : Event) → board_of before ≡ Some b → IsTrue (applies p before e) → (after : Board) × IsApplied p before b e after
-applied_board p before b e is h =
-    let own = both_left (holds_own p before e) _ h in
-    let fit = game_holds (may_fit (shown before e)) before b is (both_right (holds_own p before e) _ h) in
-    let found = some_of (after_shown b (shown before e)) (made_by b (shown before e) fit) in
-    (found.0, record { board = is; own = own; fit = fit; leads = found.1 })
-
--- and it is the board of the events with that one behind
-pub board_behind : (p : ℕ) (before : List Event) (b : Board) (e : Event) (after : Board) → IsApplied p before b e after → board_of (before ++ e ∷ []) ≡ Some after
-board_behind p before b e after h = board_of_more before e ∙ (ap (option_and_then (λ (x : Board). after_shown x (shown before e))) h.board ∙ h.leads)
-
--- what each event that applies keeps holds of the board of them all
-module _ (p : ℕ) (Holds : List Event → Board → Type 0) (keeps : (before : List Event) (b : Board) (e : Event) (after : Board) → IsApplied p before b e after → Holds before b → Holds (before ++ e ∷ []) after) where
-  pub holds_on : (before es : List Event) (b : Board) → board_of before ≡ Some b → Holds before b → IsTrue (all_apply p before es) → (after : Board) × (board_of (before ++ es) ≡ Some after) × Holds (before ++ es) after
-  holds_on before [] b is h apply = rw (append-nil before) (b, is, h)
-  holds_on before (e ∷ es) b is h apply =
-      let made = applied_board p before b e is (both_left (applies p before e) _ apply) in
-      let r = holds_on (before ++ e ∷ []) es made.0 (board_behind p before b e made.0 made.1) (keeps before b e made.0 made.1 h) (both_right (applies p before e) _ apply) in
-      rw append_assoc at r
-
-  pub holds_of_all : (es : List Event) (b : Board) → Holds [] empty_board → IsTrue (all_apply p [] es) → board_of es ≡ Some b → Holds es b
-  holds_of_all es b first apply is =
-      let r = holds_on [] es empty_board refl first apply in
-      let same : r.0 ≡ b = (let e : Some r.0 ≡ Some b = sym r.1 ∙ is in cc) in
-      subst (Holds es) same r.2
+use Rattle.zb_rules.specs.AppliedLaws.{IsApplied, holds_on, holds_of_all}
+use Rattle.zb_rules.specs.KeysLaws.{Stands, board_stands}
 
 -- the board of a log whose events apply is there
 pub board_is_there : (p : ℕ) (es : List Event) → IsTrue (all_apply p [] es) → IsTrue (is_some (board_of es))
 board_is_there p es apply =
     let r = holds_on p (λ before b. Unit {0}) (λ before b e after made h. tt) [] es empty_board refl tt apply in
     rw r.1 refl
-
--- the next key as a log grows
-pub next_key_more : (p : ℕ) (before : List Event) (e : Event) → next_key p before ≤ next_key p (before ++ e ∷ [])
-next_key_more p before e = omega (arith, greatest_counter_more p before (e ∷ []))
-
--- a fresh key lies below the next one
-pub fresh_is : (p : ℕ) (before : List Event) (key : ℕ) → IsTrue (is_fresh p before key) → (greatest_counter p before + 1 < 2 ^ 51) × (key ≡ next_key p before)
-fresh_is p before key fresh = grind (arith, nat_tests)
-
-pub fresh_below : (p : ℕ) (before : List Event) (e : Event) (key : ℕ) → IsTrue (is_fresh p before key) → counter_at p key ≤ greatest_counter p (e ∷ []) → key < next_key p (before ++ e ∷ [])
-fresh_below p before e key fresh named =
-    let f = fresh_is p before key fresh in
-    let counted : counter_at p (next_key p before) ≡ greatest_counter p before + 1 = counter_at-key_of p (greatest_counter p before + 1) f.0 in
-    let its : counter_at p key ≡ greatest_counter p before + 1 = subst (λ (k : ℕ). counter_at p k ≡ greatest_counter p before + 1) (sym f.1) counted in
-    omega (arith, f.1, its, greatest_counter_more p before (e ∷ []))
-
-pub first_named : (p key : ℕ) (keys : List ℕ) → counter_at p key ≤ greatest_among p (key ∷ keys)
-first_named p key keys = omega arith
-
--- the keys of the cells of a board of a log ascend, and lie below the next key; those before an instance that begins, below its key
-pub record Stands (p : ℕ) (es : List Event) (b : Board) : Type 0 where
-  pub between : Between 1 (next_key p es) b.cells
-  pub begins : (i : Begun) → begun es ≡ Some i → Between 1 i.key b.cells × (i.key < next_key p es)
-
-between_shown : (low high : ℕ) (b after : Board) (move : Option Move) (top : ℕ) → Between low high b.cells → high ≤ top
-    → IfSome (option_and_then key_made move) (λ key. (high ≤ key) × (key < top)) → after_shown b move ≡ Some after → Between low top after.cells
-between_shown low high b after None top is more new made = between_higher low high top after.cells more (let same : b ≡ after = cc in subst (λ (x : Board). Between low high x.cells) same is)
-between_shown low high b after (Some move) top is more new made = between_played low high b is after move top more new made
-
-begun_is : (key definition : ℕ) (found : Option Begun) → IsTrue (option_map_or (λ (i : Begun). (i.key == key) && (i.definition == definition)) found false) → (i : Begun) × (found ≡ Some i) × (i.key ≡ key)
-begun_is key definition None is = absurd (cc)
-begun_is key definition (Some i) is = (i, refl, let first = both_left (i.key == key) (i.definition == definition) is in grind (arith, nat_tests))
-
--- a cell that begins
-module _ (p : ℕ) (before : List Event) (b after : Board) (a : ElementActivating) (s : Stands p before b) where
-  activating_by : (t : Bool) → IsTrue (if t then begins_instance before a else begins_cell p before a)
-      → after_shown b (if t then Some (moves.Start (record { key = a.key; definition = a.definition })) else Some (moves.Enter (record { key = a.key; scope = a.scope; node = a.node; via = a.via }))) ≡ Some after
-      → Between 1 (next_key p (before ++ events.ElementActivating a ∷ [])) after.cells
-  activating_by true begins made =
-      let r = begun_is a.key a.definition (begun before) (both_left (option_map_or (λ (i : Begun). (i.key == a.key) && (i.definition == a.definition)) (begun before) false) _ (both_left _ _ begins)) in
-      let k = s.begins r.0 r.1 in
-      let more = next_key_more p before (events.ElementActivating a) in
-      between_played 1 r.0.key b k.0 after (moves.Start (record { key = a.key; definition = a.definition })) (next_key p (before ++ events.ElementActivating a ∷ [])) (omega (arith, k.1, more)) (omega (arith, r.2), omega (arith, r.2, k.1, more)) made
-  activating_by false begins made =
-      let fresh = both_left (is_fresh p before a.key) _ begins in
-      let f = fresh_is p before a.key fresh in
-      let below = fresh_below p before (events.ElementActivating a) a.key fresh (first_named p a.key (a.scope ∷ a.definition ∷ [])) in
-      between_played 1 (next_key p before) b s.between after (moves.Enter (record { key = a.key; scope = a.scope; node = a.node; via = a.via })) (next_key p (before ++ events.ElementActivating a ∷ []))
-      (next_key_more p before (events.ElementActivating a)) (omega (arith, f.1), below) made
-
-begins_by : (p : ℕ) (before : List Event) (a : ElementActivating) → IsTrue (begins_well p before a) → IsTrue (if a.scope == 0 then begins_instance before a else begins_cell p before a)
-begins_by p before a h = both_right (is_plain a.role && bytes_eq a.started []) _ h
-
-keys_between : (p : ℕ) (before : List Event) (b : Board) (e : Event) (after : Board) → IsApplied p before b e after → Stands p before b → Between 1 (next_key p (before ++ e ∷ [])) after.cells
-keys_between p before b (events.ElementActivating a) after h s = activating_by p before b after a s (a.scope == 0) (begins_by p before a h.own) h.leads
-keys_between p before b e after h s = between_shown 1 (next_key p before) b after (shown before e) (next_key p (before ++ e ∷ [])) s.between (next_key_more p before e) tt h.leads
-
-keys_begin : (p : ℕ) (before : List Event) (b : Board) (e : Event) (after : Board) → IsApplied p before b e after → Stands p before b → (i : Begun) → begun_told e ≡ Some i → Between 1 i.key after.cells × (i.key < next_key p (before ++ e ∷ []))
-keys_begin p before b (events.ProcessInstanceCreationCreated c) after h s i is =
-    let fresh = both_left (is_fresh p before c.key) _ h.own in
-    let f = fresh_is p before c.key fresh in
-    let below = fresh_below p before (events.ProcessInstanceCreationCreated c) c.key fresh (first_named p c.key (c.definition ∷ [])) in
-    let same : b ≡ after = (let led : Some b ≡ Some after = h.leads in cc) in
-    let its : c.key ≡ i.key = (let told : Some (record { key = c.key; definition = c.definition }) ≡ Some i = is in ap (λ (o : Option Begun). option_map_or (λ (x : Begun). x.key) o 0) told) in
-    (subst (λ (x : Board). Between 1 i.key x.cells) same (subst (λ (k : ℕ). Between 1 k b.cells) (sym f.1 ∙ its) s.between), omega (arith, below, its))
-keys_begin p before b e after h s i is = absurd (cc)
-
-stands_on : (p : ℕ) (before : List Event) (b : Board) (e : Event) (after : Board) → IsApplied p before b e after → Stands p before b → Stands p (before ++ e ∷ []) after
-stands_on p before b e after h s = record {
-  between = keys_between p before b e after h s;
-  begins = λ i is. keys_begin p before b e after h s i (sym (begun_more before e) ∙ is);
-}
-
-stands_first : (p : ℕ) → Stands p [] empty_board
-stands_first p = record {
-  between = omega arith;
-  begins = λ i is. absurd (cc);
-}
-
--- the board of a log whose events apply
-pub board_stands : (p : ℕ) (es : List Event) (b : Board) → IsTrue (all_apply p [] es) → board_of es ≡ Some b → Stands p es b
-board_stands p es b apply is = holds_of_all p (Stands p) (stands_on p) es b (stands_first p) apply is
 
 -- its cells ascend, and none has the key 0
 pub cells_ascend : (p : ℕ) (es : List Event) (b : Board) → IsTrue (all_apply p [] es) → board_of es ≡ Some b → CellsAscend 1 b.cells
