@@ -1,7 +1,7 @@
 -- A state with an event more.
-use Rattle.std.proofs.Common.{◌≡◌, ℕ, ◌+◌, ◌<◌, ◌≤◌, ◌==◌, nat_le, max, Option, Some, None, is_some, option_map, false, ◌&&◌, if◌then◌else◌, Result, Ok, Err, OnOk, OnErr, List, [], ◌∷◌, ◌++◌, IsTrue, refl, sym, ap, ◌∙◌, arith, append-nil}
+use Rattle.std.proofs.Common.{◌≡◌, ℕ, ◌+◌, ◌<◌, ◌≤◌, ◌==◌, nat_le, max, Option, Some, None, is_some, option_map, Bool, false, ◌&&◌, if◌then◌else◌, Result, Ok, Err, OnOk, OnErr, List, [], ◌∷◌, ◌++◌, IsTrue, ◌↔◌, not, refl, sym, ap, subst, ◌∙◌, arith, append-nil}
 use Rattle.std.specs.Prelude.{⊤}
-use Rattle.std.specs.List.{list_any}
+use Rattle.std.specs.List.{find, list_any}
 use Rattle.std.specs.Option.{option_map_or}
 use Rattle.std.specs.declared.alloc.AllocError.{AllocError}
 use Rattle.zb_base.specs.Key.{key_of}
@@ -11,15 +11,18 @@ use Rattle.zb_model.specs.declared.record.Event.TheVariants as events
 use Rattle.zb_views.specs.View.{counter_at, keys_in, greatest_among, greatest_counter}
 use Rattle.zb_table.specs.Rows.{Ascend, are_below, row_at, with_row}
 use Rattle.zb_table.proofs.Growing.{with_last, below_higher, below_more, below_without, has_row, passes_at}
-use Rattle.zb_tokens.specs.Edits.{first}
 use Rattle.zb_views.specs.Messages.{buffered, is_past_deadline, without_message}
 use Rattle.zb_views.specs.MessageLaws.{buffered_published, buffered_expired}
-use Rattle.zb_rules.specs.GrowthLaws.{definitions_more, begun_more, board_of_more, buffered_kept}
+use Rattle.zb_views.specs.ViewLaws.{definitions_more, begun_more, buffered_kept, greatest_counter_more}
+use Rattle.zb_rules.specs.GrowthLaws.{board_of_more}
 use Rattle.zb_views.specs.Definitions.{definition_told}
-use Rattle.zb_rules.specs.Create.{instance_told}
+use Rattle.zb_views.specs.Begin.{begun_told}
 use Rattle.zb_tokens.specs.Board.{Board}
-use Rattle.zb_rules.specs.Shown.{shown, after_shown}
-use Rattle.zb_rules.specs.StepLaws.{greatest_counter_more}
+use Rattle.zb_rules.specs.Shown.{shown, after_shown, board_of}
+use Rattle.zb_rules.specs.Applies.{applies, all_apply}
+use Rattle.zb_rules.specs.StepLaws.{all_apply_more}
+use Rattle.zb_rules.specs.Settling.{HasQuietGame}
+use Rattle.zb_tokens.specs.Forced.{next_mover}
 use Rattle.zb_views.specs.CounterLaws.{counter_at-key_of}
 use Rattle.zb_state.specs.declared.change.Change.{Change}
 use Rattle.zb_state.specs.declared.change.Change.TheVariants as changes
@@ -46,7 +49,7 @@ definition_made (events.MessagePublished m) = refl
 definition_made (events.MessageExpired key) = refl
 definition_made e = refl
 
-instance_made : (e : Event) → instance_told e ≡ instance_of_change (change_told e)
+instance_made : (e : Event) → begun_told e ≡ instance_of_change (change_told e)
 instance_made (events.ProcessCreated e) = refl
 instance_made (events.ProcessInstanceCreationCreated i) = refl
 instance_made (events.MessagePublished m) = refl
@@ -81,7 +84,7 @@ pub below_expired : (p n n' k : ℕ) (messages : List MessagePublished) → n �
 below_expired p n n' k messages le below = below_kept p n n' (without_message k messages) le (below_without key k (key_of p (n + 1)) messages below)
 
 -- the message with a key
-pub row_is_first : (k : ℕ) (messages : List MessagePublished) → row_at key k messages ≡ first (λ m. m.key == k) messages
+pub row_is_first : (k : ℕ) (messages : List MessagePublished) → row_at key k messages ≡ find (λ m. m.key == k) messages
 row_is_first k [] = refl
 row_is_first k (m ∷ messages) = ap (λ (later : Option MessagePublished). if m.key == k then Some m else later) (row_is_first k messages)
 
@@ -120,13 +123,37 @@ pub record IsNoted (n : ℕ) (change : Change) (old new : State) : Type 0 where
   pub begun : new.begun ≡ instance_of_change change
   pub game : new.game ≡ old.game
 
+-- two tests hold
+both : (a b : Bool) → IsTrue a → IsTrue b → IsTrue (a && b)
+both a b first second = rw (first, second) refl
+
 -- the state where each part grows
-pub state_more : {counter : ℕ} {change : Change} → (es : List Event) (e : Event) (old mid new : State) → IsStateOf es old → IsSameBeside old mid → after_shown old.game (shown e) ≡ Some mid.game
+pub state_more : {counter : ℕ} {change : Change} → (es : List Event) (e : Event) (old mid new : State) → IsStateOf es old → IsSameBeside old mid → IsTrue (applies old.place es e) → after_shown old.game (shown es e) ≡ Some mid.game
     → change ≡ change_told e → counter ≡ greatest_among mid.place (keys_in e) → IsNoted counter change mid new → IsStateOf (es ++ e ∷ []) new
-state_more es e old mid new is same played change counter noted = record {
+state_more es e old mid new is same applied played change counter noted = record {
+  applied = rw (noted.place, same.place, all_apply_more old.place [] es e) (both (all_apply old.place [] es) (applies old.place es e) is.applied applied);
   counter = rw (noted.place, same.place, counter_more old.place es e, is.counter) (sym (rw (counter, same.counter, same.place) at noted.counter));
   messages = rw (messages_more es e, is.messages) (sym (rw (change, same.messages) at noted.messages));
   definitions = rw (definitions_more es e, is.definitions, definition_made e) (sym (rw (change, same.definitions) at noted.definitions));
   begun = begun_more es e ∙ (instance_made e ∙ sym (rw change at noted.begun));
   game = rw (board_of_more es e, is.game) (played ∙ ap (λ (b : Board). Some b) (sym noted.game));
 }
+
+-- the board of some events is one alone
+pub same_board : (o : Option Board) (a b : Board) → o ≡ Some a → o ≡ Some b → a ≡ b
+same_board o a b first second = let e : Some a ≡ Some b = sym first ∙ second in cc
+
+none_is : {A : Type 0} (o : Option A) → IsTrue (not (is_some o)) → o ≡ None
+none_is None none = refl
+none_is (Some a) none = absurd (cc)
+
+none_told : {A : Type 0} (o : Option A) → o ≡ None → IsTrue (not (is_some o))
+none_told None none = refl
+none_told (Some a) none = absurd (cc)
+
+-- nobody moves next where the game is quiet, and only there
+pub quiet_told : (es : List Event) (b : Board) → board_of es ≡ Some b → IsTrue (not (is_some (next_mover b))) ↔ HasQuietGame es
+quiet_told es b is = (
+  λ none. record { board = b; is = is; quiet = none_is (next_mover b) none },
+  λ (told : HasQuietGame es). let same = same_board (board_of es) told.board b told.is is in none_told (next_mover b) (subst (λ (x : Board). next_mover x ≡ None) same told.quiet),
+)

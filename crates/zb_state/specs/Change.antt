@@ -2,9 +2,9 @@
 use Rattle.std.specs.Prelude.{◌≡◌, ℕ, ◌+◌, ◌<◌, ◌^◌, List, [], ◌∷◌, ◌++◌, Option, Some, None}
 use Rattle.zb_base.specs.Key.{key_of}
 use Rattle.zb_exchange_records.specs.declared.message.MessagePublished.{MessagePublished}
-use Rattle.zb_instance_records.specs.declared.instance.ProcessInstanceCreationCreated.{ProcessInstanceCreationCreated}
 use Rattle.zb_model.specs.declared.record.Event.{Event}
 use Rattle.zb_model.specs.declared.record.Event.TheVariants as events
+use Rattle.zb_views.specs.declared.begun.Begun.{Begun}
 use Rattle.zb_views.specs.declared.definition.Definition.{Definition}
 use Rattle.zb_views.specs.Messages.{without_message}
 use Rattle.zb_state.specs.declared.change.Change.{Change}
@@ -13,7 +13,7 @@ use Rattle.zb_state.specs.declared.change.Change.TheVariants as changes
 -- what an event changes
 abbrev pub change_told : Event → Change
 change_told (events.ProcessCreated e) = changes.Defined (record { key = e.key; version = e.version; process = e.model.process })
-change_told (events.ProcessInstanceCreationCreated i) = changes.Begun i
+change_told (events.ProcessInstanceCreationCreated i) = changes.Begun (record { key = i.key; definition = i.definition })
 change_told (events.MessagePublished m) = changes.Published m
 change_told (events.MessageExpired key) = changes.Expired key
 change_told _ = changes.Nothing
@@ -23,8 +23,8 @@ abbrev pub definition_of_change : Change → List Definition
 definition_of_change (changes.Defined d) = d ∷ []
 definition_of_change _ = []
 
--- the instance that is made
-abbrev pub instance_of_change : Change → Option ProcessInstanceCreationCreated
+-- the instance that begins
+abbrev pub instance_of_change : Change → Option Begun
 instance_of_change (changes.Begun i) = Some i
 instance_of_change _ = None
 

@@ -1,24 +1,34 @@
 -- What contracts see of a state.
-use Rattle.std.specs.Prelude.{◌≡◌, ℕ, List, Some}
+use Rattle.std.specs.Prelude.{◌≡◌, ℕ, List, [], Some, IsTrue}
 use Rattle.zb_model.specs.declared.record.Event.{Event}
 use Rattle.zb_state.specs.declared.state.State.{State}
 use Rattle.zb_views.specs.View.{greatest_counter}
 use Rattle.zb_views.specs.Messages.{buffered}
 use Rattle.zb_views.specs.Definitions.{definitions}
-use Rattle.zb_rules.specs.Create.{begun}
+use Rattle.zb_views.specs.Begin.{begun}
+use Rattle.zb_rules.specs.Applies.{applies, all_apply}
 use Rattle.zb_rules.specs.Shown.{board_of}
 
 -- the partition that the state is of
 abbrev pub partition_of : State → ℕ
 partition_of state = state.place
 
--- it is what these events come to
+-- each of these events applies to those before it, and the state is what they come to
 pub record IsStateOf (es : List Event) (state : State) : Type 0 where
+  pub applied : IsTrue (all_apply state.place [] es)
   pub counter : greatest_counter state.place es ≡ state.counter
   pub messages : buffered es ≡ state.messages
   pub definitions : definitions es ≡ state.definitions.items
   pub begun : begun es ≡ state.begun
   pub game : board_of es ≡ Some state.game
+
+-- some events come to this state
+abbrev pub IsReached : State → Type 0
+IsReached state = ∥ ((es : List Event) × IsStateOf es state) ∥₁
+
+-- some events come to this state, and this one applies to them
+abbrev pub Admits : State → Event → Type 0
+Admits state event = ∥ ((es : List Event) × IsStateOf es state × IsTrue (applies (partition_of state) es event)) ∥₁
 
 -- two states that differ in their game alone
 pub record IsSameBeside (old new : State) : Type 0 where

@@ -4,18 +4,16 @@ ghost use Rattle.zb_model.specs.declared.record.Event.TheVariants as events;
 ghost use Rattle.zb_state.specs.Change.{change_told};
 
 use std::alloc::{AllocError, Global};
-use zb_model::{
-    Event, Key, MessagePublished, ProcessCreated, ProcessInstanceCreationCreated, TryCopy,
-};
-use zb_views::Definition;
+use zb_model::{Event, Key, MessagePublished, ProcessCreated, TryCopy};
+use zb_views::{Begun, Definition};
 
 /// What an event changes beside the game and the counter.
 #[derive(Drop)]
 pub enum Change {
     /// A definition is made.
     Defined(Definition),
-    /// An instance is made.
-    Begun(ProcessInstanceCreationCreated),
+    /// An instance begins.
+    Begun(Begun),
     /// A message is buffered.
     Published(MessagePublished),
     /// The message with this key is buffered no more.
@@ -29,7 +27,10 @@ pub fn copied_change(alloc: Global, event: &Event) -> Result<Change, AllocError>
 {
     match event {
         Event::ProcessCreated(process) => defined(alloc, process),
-        Event::ProcessInstanceCreationCreated(instance) => Ok(Change::Begun(*instance)),
+        Event::ProcessInstanceCreationCreated(instance) => Ok(Change::Begun(Begun {
+            key: instance.key,
+            definition: instance.definition,
+        })),
         Event::MessagePublished(message) => Ok(Change::Published(message.copy(alloc)?)),
         Event::MessageExpired(key) => Ok(Change::Expired(*key)),
         _ => Ok(Change::Nothing),

@@ -5,7 +5,7 @@ ghost use Rattle.zb_views.specs.View.{counter_at, greatest_among, keys_in};
 use zb_model::{Event, Key, PartitionId};
 
 /// The greatest counter that the event names in a key of the partition, or 0. It takes a step for each key.
-pub fn greatest_counter(place: PartitionId, event: &Event) -> u64
+pub fn greatest_counter_of(place: PartitionId, event: &Event) -> u64
     ensures value { result ≡ greatest_among place (keys_in event.now) }
     ensures small { result < 2 ^ 51 }
 {

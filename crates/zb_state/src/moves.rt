@@ -1,8 +1,9 @@
 // The moves that events show.
-ghost use Rattle.std.specs.Prelude.{◌≡◌, IsTrue, IsFalse, IsErrOf, IfOk, OnOk, Some};
+ghost use Rattle.std.specs.Prelude.{◌≡◌, List, IsTrue, IsFalse, IsErrOf, IfOk, OnOk, Some};
+ghost use Rattle.zb_model.specs.declared.record.Event.{Event};
 ghost use Rattle.zb_model.specs.declared.record.Event.TheVariants as events;
-ghost use Rattle.zb_rules.specs.Applies.{is_possible};
-ghost use Rattle.zb_tokens.specs.Game.{can, played};
+ghost use Rattle.zb_rules.specs.Applies.{may_fit};
+ghost use Rattle.zb_tokens.specs.Game.{fits, played};
 ghost use Rattle.zb_rules.specs.Shown.{shown, after_shown, event_of};
 ghost use Rattle.zb_tokens.specs.declared.board.Move.TheVariants as moves;
 
@@ -14,13 +15,13 @@ use zb_model::{
 };
 use zb_tokens::{Assigned, Deployed, Enter, Leave, Move, Start, Take};
 
-/// Makes the move that the event shows, if it shows one. At `NotApplicable`, exactly where it isn't legal,
+/// Makes the move that the event shows, if it shows one. At `NotApplicable`, exactly where it doesn't fit,
 /// nothing has changed; after `Memory` the game is only dropped. It costs a copy of the event's texts, its
 /// model and its value, and a walk over the lists that the move looks at or changes.
 pub fn play(alloc: Global, event: &Event, game: &mut Game) -> Result<(), TableFault>
-    ensures legal { OnOk result (IsTrue (is_possible (shown event.now) game.old)) }
-    ensures played { OnOk result (after_shown game.old (shown event.now) ≡ Some game.new) }
-    ensures illegal { IsErrOf result TableFault.NotApplicable → IsFalse (is_possible (shown event.now) game.old) }
+    ensures fit { (before : List Event) → OnOk result (IsTrue (may_fit (shown before event.now) game.old)) }
+    ensures played { (before : List Event) → OnOk result (after_shown game.old (shown before event.now) ≡ Some game.new) }
+    ensures illegal { (before : List Event) → IsErrOf result TableFault.NotApplicable → IsFalse (may_fit (shown before event.now) game.old) }
     ensures kept { IsErrOf result TableFault.NotApplicable → game.new ≡ game.old }
 {
     match shown(alloc, event)? {
@@ -31,9 +32,9 @@ pub fn play(alloc: Global, event: &Event, game: &mut Game) -> Result<(), TableFa
 
 // Makes a move, and answers as a table does.
 fn make(alloc: Global, shown: &Move, game: &mut Game) -> Result<(), TableFault>
-    ensures legal { OnOk result (IsTrue (can game.old shown.now)) }
+    ensures fit { OnOk result (IsTrue (fits game.old shown.now)) }
     ensures played { OnOk result (played game.old shown.now ≡ Some game.new) }
-    ensures illegal { IsErrOf result TableFault.NotApplicable → IsFalse (can game.old shown.now) }
+    ensures illegal { IsErrOf result TableFault.NotApplicable → IsFalse (fits game.old shown.now) }
     ensures kept { IsErrOf result TableFault.NotApplicable → game.new ≡ game.old }
 {
     match game.make(alloc, shown) {
@@ -45,7 +46,7 @@ fn make(alloc: Global, shown: &Move, game: &mut Game) -> Result<(), TableFault>
 
 // The move that the event shows, if it shows one.
 fn shown(alloc: Global, event: &Event) -> Result<Option<Move>, AllocError>
-    ensures { IfOk result (λ move. move ≡ shown event.now) }
+    ensures { (before : List Event) → IfOk result (λ move. move ≡ shown before event.now) }
 {
     match event {
         Event::ProcessCreated(process) => Ok(Some(stand_of(alloc, process)?)),
@@ -60,7 +61,7 @@ fn shown(alloc: Global, event: &Event) -> Result<Option<Move>, AllocError>
 }
 
 fn stand_of(alloc: Global, process: &ProcessCreated) -> Result<Move, AllocError>
-    ensures { IfOk result (λ move. Some move ≡ shown (events.ProcessCreated process.now)) }
+    ensures { (before : List Event) → IfOk result (λ move. Some move ≡ shown before (events.ProcessCreated process.now)) }
 {
     Ok(Move::Stand(Deployed {
         key: process.key,
@@ -70,7 +71,7 @@ fn stand_of(alloc: Global, process: &ProcessCreated) -> Result<Move, AllocError>
 
 // A root starts, and another cell is entered.
 fn entry_of(alloc: Global, element: &ElementActivating) -> Result<Move, AllocError>
-    ensures { IfOk result (λ move. Some move ≡ shown (events.ElementActivating element.now)) }
+    ensures { (before : List Event) → IfOk result (λ move. Some move ≡ shown before (events.ElementActivating element.now)) }
 {
     if element.scope == Key::new(0) {
         return Ok(Move::Start(Start {
@@ -87,7 +88,7 @@ fn entry_of(alloc: Global, element: &ElementActivating) -> Result<Move, AllocErr
 }
 
 fn leave_of(alloc: Global, element: &ElementCompleted) -> Result<Move, AllocError>
-    ensures { IfOk result (λ move. Some move ≡ shown (events.ElementCompleted element.now)) }
+    ensures { (before : List Event) → IfOk result (λ move. Some move ≡ shown before (events.ElementCompleted element.now)) }
 {
     Ok(Move::Leave(Leave {
         key: element.key,
@@ -96,7 +97,7 @@ fn leave_of(alloc: Global, element: &ElementCompleted) -> Result<Move, AllocErro
 }
 
 fn take_of(alloc: Global, taken: &SequenceFlowTaken) -> Result<Move, AllocError>
-    ensures { IfOk result (λ move. Some move ≡ shown (events.SequenceFlowTaken taken.now)) }
+    ensures { (before : List Event) → IfOk result (λ move. Some move ≡ shown before (events.SequenceFlowTaken taken.now)) }
 {
     Ok(Move::Take(Take {
         key: taken.key,
@@ -105,7 +106,7 @@ fn take_of(alloc: Global, taken: &SequenceFlowTaken) -> Result<Move, AllocError>
 }
 
 fn assign_of(alloc: Global, variable: &VariableCreated) -> Result<Move, AllocError>
-    ensures { IfOk result (λ move. Some move ≡ shown (events.VariableCreated variable.now)) }
+    ensures { (before : List Event) → IfOk result (λ move. Some move ≡ shown before (events.VariableCreated variable.now)) }
 {
     Ok(Move::Assign(Assigned {
         scope: variable.scope,

@@ -1,12 +1,12 @@
 ghost use Rattle.std.specs.Prelude.{◌≡◌, ◌++◌, ◌∷◌, List, [], length, IsTrue, OnOk};
 ghost use Rattle.zb_model.specs.declared.record.Event.{Event};
 ghost use Rattle.zb_rules.specs.Applies.{applies};
-ghost use Rattle.zb_state.specs.State.{partition_of, IsStateOf};
+ghost use Rattle.zb_state.specs.State.{partition_of, Admits, IsStateOf};
 
 use crate::State;
 use std::alloc::{AllocError, Global};
 use std::marker::Model;
-use zb_model::{Event, List};
+use zb_model::{Event, List, TableFault};
 
 /// The events that a command has made so far.
 #[derive(Drop)]
@@ -44,10 +44,10 @@ impl Out {
         self.events.as_slice().len()
     }
 
-    /// Takes an event into the state, and adds it. Where it doesn't apply it is answered as want of memory,
-    /// since no event that a command makes is such a one. After a refusal both are only dropped. It costs what
-    /// `State::apply` does.
+    /// Takes an event that applies into the state, and adds it. After a refusal both are only dropped. It costs
+    /// what `State::apply` does.
     pub fn put(&mut self, alloc: Global, state: &mut State, event: Event) -> Result<(), AllocError>
+        requires { Admits state.old event }
         ensures put { OnOk result (self.new ≡ self.old ++ event ∷ []) }
         ensures place { partition_of state.new ≡ partition_of state.old }
         ensures applied { (es : List Event) → IsStateOf es state.old → OnOk result (IsTrue (applies (partition_of state.old) es event)) }
@@ -55,7 +55,8 @@ impl Out {
     {
         match state.apply(alloc, &event) {
             Ok(()) => {}
-            Err(_) => return Err(AllocError),
+            Err(TableFault::NotApplicable) => unreachable!(),
+            Err(TableFault::Memory) => return Err(AllocError),
         }
         self.events.push(event)?;
         Ok(())

@@ -1,9 +1,9 @@
-ghost use Rattle.std.specs.Prelude.{◌≡◌, ◌==◌, nat_le, ◌&&◌, ◌<◌, ◌+◌, ◌^◌, max, false, ℕ, List, [], ◌∷◌, ◌++◌, IsTrue, IsFalse, IsErrOf, IfOk, OnOk, Some, is_some, option_map};
+ghost use Rattle.std.specs.Prelude.{◌≡◌, ◌↔◌, ◌==◌, nat_le, ◌&&◌, ◌<◌, ◌+◌, ◌^◌, max, false, ℕ, List, [], ◌∷◌, ◌++◌, IsTrue, IsFalse, IsErrOf, IfOk, OnOk, Some, is_some, option_map};
 ghost use Rattle.std.specs.List.{list_any};
 ghost use Rattle.std.specs.Option.{option_map_or};
 ghost use Rattle.zb_base.specs.Key.{key_of};
 ghost use Rattle.zb_model.specs.declared.record.Event.{Event};
-ghost use Rattle.zb_views.specs.View.{next_key};
+ghost use Rattle.zb_views.specs.View.{greatest_counter, next_key};
 ghost use Rattle.zb_views.specs.Messages.{buffered, is_buffered, message_at};
 ghost use Rattle.zb_rules.specs.Publish.{is_same};
 ghost use Rattle.zb_rules.specs.Expire.{is_due_at};
@@ -11,7 +11,10 @@ ghost use Rattle.zb_rules.specs.Due.{due_message};
 ghost use Rattle.zb_rules.specs.Applies.{applies, holds_own, is_fresh, has_definition, begins_well, begins_instance, begins_cell, is_definition_of};
 ghost use Rattle.zb_views.specs.Definitions.{definitions, definition_for, greatest_version};
 ghost use Rattle.zb_faults.specs.Faults.{is_well_formed};
-ghost use Rattle.zb_rules.specs.Settling.{turn};
+ghost use Rattle.zb_rules.specs.Settling.{turn_of, HasQuietGame};
+ghost use Rattle.zb_rules.specs.Sound.{HasKeys};
+ghost use Rattle.zb_tokens.specs.Board.{Board};
+ghost use Rattle.zb_tokens.specs.Forced.{next_mover};
 ghost use Rattle.zb_rules.specs.Shown.{shown, after_shown, board_of};
 ghost use Rattle.zb_table.specs.Rows.{are_below};
 ghost use Rattle.zb_state.specs.Change.{with_change, definition_of_change, instance_of_change, IsNext, HasNextKey, Draws};
@@ -19,17 +22,18 @@ ghost use Rattle.zb_state.specs.Change.{with_change, definition_of_change, insta
 use crate::buffered::{self, Buffered};
 use crate::change::{Change, copied_change, moved_change};
 use crate::definitions;
-use crate::keys::greatest_counter;
+use crate::keys::greatest_counter_of;
 use crate::moves::{event_of, play};
 use std::alloc::{AllocError, Global};
 use zb_check::{ModelFault, check};
 use zb_game::Game;
 use zb_model::{
     ElementActivating, Event, Key, MessagePublish, Model as ProcessModel, Moment, PartitionId,
-    ProcessInstanceCreationCreated, Role, TableFault, TryCopy,
+    Role, TableFault, TryCopy,
 };
-use zb_views::Definition;
 use zb_table::Table;
+use zb_tokens::Mover;
+use zb_views::{Begun, Definition};
 
 /// What the events of a partition's log come to. Its clauses hold for all lists of events of which it is
 /// the state.
@@ -42,8 +46,8 @@ pub struct State {
     messages: Table<Buffered>,
     // The definitions, in the order in which they were made.
     definitions: Vec<Definition>,
-    // The instance that the last event made, if it made one.
-    begun: Option<ProcessInstanceCreationCreated>,
+    // The instance that the last event began, if it began one.
+    begun: Option<Begun>,
     game: Game,
     ghost drawn: { counter < 2 ^ 51 },
     ghost in_order: { IsTrue (are_below (λ m. m.key) (key_of place (counter + 1)) messages) },
@@ -80,7 +84,7 @@ impl State {
         ensures kept { IsErrOf result TableFault.NotApplicable → self.new ≡ self.old }
     {
         self.admit(alloc, event)?;
-        let counter = greatest_counter(self.place, event);
+        let counter = greatest_counter_of(self.place, event);
         let change = copied_change(alloc, event)?;
         self.note(counter, change)?;
         Ok(())
@@ -96,7 +100,7 @@ impl State {
         ensures kept { IsErrOf result TableFault.NotApplicable → self.new ≡ self.old }
     {
         self.admit(alloc, &event)?;
-        let counter = greatest_counter(self.place, &event);
+        let counter = greatest_counter_of(self.place, &event);
         let change = moved_change(alloc, event)?;
         self.note(counter, change)?;
         Ok(())
@@ -107,6 +111,22 @@ impl State {
         ensures { (es : List Event) → IsStateOf es self.now → result ≡ next_key (partition_of self.now) es }
     {
         self.fresh()
+    }
+
+    /// The key behind the next one that the partition draws, as far as it has counters.
+    pub fn second_key(&self) -> Key
+        ensures { (es : List Event) → IsStateOf es self.now
+            → result ≡ key_of (partition_of self.now) (greatest_counter (partition_of self.now) es + 2) }
+    {
+        let place = u64::from(self.place.number());
+        Key::new(place * Key::COUNTERS + self.counter + 2)
+    }
+
+    /// Whether the partition has so many keys left.
+    pub fn has_keys(&self, count: u64) -> bool
+        ensures { (es : List Event) → IsStateOf es self.now → IsTrue result ↔ HasKeys (partition_of self.now) es count }
+    {
+        count < Key::COUNTERS - self.counter
     }
 
     /// Whether a message with this name, correlation key and id is buffered. It goes through all that are.
@@ -156,15 +176,27 @@ impl State {
         self.game.copy(alloc)
     }
 
-    /// The event of the next forced move; `None` where the game is quiet. It goes through the cells and the
-    /// tokens.
-    #[tactic(auto, unfolding(zb_rules::specs::Settling::turn))]
-    pub fn turn(&self, alloc: Global) -> Result<Option<Event>, AllocError>
-        ensures { (es : List Event) → IsStateOf es self.now
-            → IfOk result (λ event. turn (partition_of self.now) es ≡ option_map (λ e. e ∷ []) event) }
+    /// Who moves next; `None` where the game is quiet. It goes through the cells and then the tokens.
+    pub fn next_mover(&self) -> Option<Mover>
+        ensures { (es : List Event) (b : Board) → IsStateOf es self.now → board_of es ≡ Some b → result ≡ next_mover b }
     {
-        match self.game.forced(alloc, self.next_key())? {
-            Some(forced) => Ok(event_of(alloc, forced, &self.game)),
+        self.game.next_mover()
+    }
+
+    /// Whether nobody is forced to move. It goes through the cells and then the tokens.
+    pub fn quiet(&self) -> bool
+        ensures { (es : List Event) → IsStateOf es self.now → IsTrue result ↔ HasQuietGame es }
+    {
+        self.game.next_mover().is_none()
+    }
+
+    /// The event of the move of a mover, if it has one. It goes through the cells.
+    pub fn event_of(&self, alloc: Global, mover: Mover) -> Result<Option<Event>, AllocError>
+        ensures { (n moment : ℕ) (es : List Event) (b : Board) → IsStateOf es self.now → board_of es ≡ Some b
+            → IfOk result (λ event. turn_of (partition_of self.now) n moment es b mover ≡ option_map (λ e. e ∷ []) event) }
+    {
+        match self.game.move_of(alloc, self.next_key(), mover)? {
+            Some(made) => Ok(event_of(alloc, made, &self.game)),
             None => Ok(None),
         }
     }
@@ -274,7 +306,7 @@ impl State {
     fn admit(&mut self, alloc: Global, event: &Event) -> Result<(), TableFault>
         ensures beside { IsSameBeside self.old self.new }
         ensures applied { (es : List Event) → IsStateOf es self.old → OnOk result (IsTrue (applies (partition_of self.old) es event.now)) }
-        ensures played { OnOk result (after_shown self.old.game (shown event.now) ≡ Some self.new.game) }
+        ensures played { (es : List Event) → OnOk result (after_shown self.old.game (shown es event.now) ≡ Some self.new.game) }
         ensures next { OnOk result (HasNextKey (partition_of self.old) self.old.counter event.now) }
         ensures refused { (es : List Event) → IsStateOf es self.old
             → IsErrOf result TableFault.NotApplicable → IsFalse (applies (partition_of self.old) es event.now) }

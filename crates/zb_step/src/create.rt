@@ -7,8 +7,9 @@ ghost use Rattle.zb_state.specs.State.{partition_of, IsStateOf, IsReached};
 use crate::rejection::rejection;
 use std::alloc::{AllocError, Global};
 use zb_model::{
-    ElementActivating, Event, Key, List, ProcessInstanceCreationCreate, ProcessInstanceCreationCreated,
-    Rejection, RejectionKind, Role, Text, TryCopy, Variable, VariableCreated,
+    ElementActivating, Event, Key, List, ProcessInstanceCreationCreate,
+    ProcessInstanceCreationCreated, Rejection, RejectionKind, Role, Text, TryCopy, Variable,
+    VariableCreated,
 };
 use zb_state::State;
 

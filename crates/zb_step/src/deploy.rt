@@ -9,10 +9,10 @@ ghost use Rattle.zb_rules.specs.Sound.{HasKeys};
 use crate::rejection::rejection;
 use std::alloc::{AllocError, Global};
 use zb_check::{ModelFault, check};
+use zb_faults::Fault;
 use zb_model::{
     DeploymentCreated, Event, List, Model, ProcessCreated, Rejection, RejectionKind, TryCopy,
 };
-use zb_faults::Fault;
 use zb_state::State;
 
 /// Why a model isn't deployed: its first fault.
