@@ -1,11 +1,10 @@
 -- The flows out of a node.
-use Rattle.std.proofs.Common.{◌≡◌, ℕ, suc, ◌==◌, true, false, Bool, if◌then◌else◌, List, [], ◌∷◌, length, map, filter, refl, sym, arith}
+use Rattle.std.proofs.Common.{◌≡◌, ℕ, suc, ◌==◌, false, List, [], ◌∷◌, length, map, filter, refl, sym, arith}
 use Rattle.std.proofs.lemmas.Bool.Decides.{nat_tests}
 use Rattle.std.specs.Str.{bytes_eq}
 use Rattle.zb_tokens.specs.Edits.{is_none_of}
 use Rattle.zb_tokens.specs.MoveLeave.{are_among}
 use Rattle.zb_process.specs.declared.model.Flow.{Flow}
-use Rattle.zb_game.specs.Searches.{left_after}
 
 -- the ids of those of the flows that go out of a node
 abbrev pub ids_out : List ℕ → List Flow → List (List ℕ)
@@ -24,15 +23,6 @@ are_among-none (id ∷ ids) = sym (suc_not (length ids))
 pub is_none_of-length : {A : Type 0} (xs : List A) → is_none_of xs ≡ (length xs == 0)
 is_none_of-length [] = refl
 is_none_of-length (x ∷ xs) = sym (suc_not (length xs))
-
--- an id more among which to find
-pub are_among-after : (ids ys : List (List ℕ)) (id : List ℕ) → are_among ids (id ∷ ys) ≡ are_among (left_after ids id) ys
-are_among-after [] ys id = refl
-are_among-after (first ∷ rest) ys id = by_test (bytes_eq first id)
-  where
-    by_test : (t : Bool) → (if t then are_among rest ys else are_among (first ∷ rest) ys) ≡ are_among (if t then rest else first ∷ rest) ys
-    by_test true = refl
-    by_test false = refl
 
 -- for functions that ask whether there are any
 pub ruleset compared = (are_among-none, is_none_of-length)

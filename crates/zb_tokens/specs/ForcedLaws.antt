@@ -1,5 +1,5 @@
 -- Laws of forced moves, in the subject's own words.
-use Rattle.std.proofs.Common.{◌≡◌, ◌⊎◌, ℕ, ◌+◌, ◌<◌, ◌≤◌, ◌==◌, max, length, get_or, List, [], ◌∷◌, map, filter, slice_get, position, All, Bool, true, false, ◌&&◌, not, cond, if◌then◌else◌, IsTrue, IsFalse, Option, Some, None, is_some, option_map, option_and_then, refl, inl, inr, ⊎_elim, ap, sym, ◌∙◌, subst, arith}
+use Rattle.std.proofs.Common.{◌≡◌, ◌⊎◌, ℕ, ◌+◌, ◌≤◌, ◌==◌, max, length, get_or, List, [], ◌∷◌, map, filter, slice_get, position, All, Bool, true, false, ◌&&◌, not, cond, IsTrue, IsFalse, Option, Some, None, is_some, option_map, option_and_then, refl, inl, inr, ⊎_elim, ap, sym, ◌∙◌, subst, arith}
 use Rattle.std.specs.Option.{option_map_or, option_or}
 use Rattle.std.specs.List.{find, position_or_len}
 use Rattle.std.specs.Str.{bytes_eq}
@@ -12,7 +12,6 @@ use Rattle.std.proofs.lemmas.Option.{slice_get-get_or}
 use Rattle.std.proofs.lemmas.Slice.Eq.{bytes_eq-Decides}
 use Rattle.zb_tokens.specs.declared.board.Cell.{Cell}
 use Rattle.zb_tokens.specs.declared.board.Token.{Token}
-use Rattle.zb_tokens.specs.declared.board.Enter.{Enter}
 use Rattle.zb_tokens.specs.declared.board.Move.{Move}
 use Rattle.zb_tokens.specs.declared.board.Move.TheVariants as moves
 use Rattle.zb_tokens.specs.declared.board.Mover.{Mover}
@@ -40,24 +39,24 @@ among_themselves [] = refl
 among_themselves (id ∷ ids) = rw (same_bytes id, among_themselves ids) refl
 
 -- a cell with this key that passes is the one that is found with it, and its key is not below `low`
-abbrev pub IsFound : (Cell → Bool) → ℕ → List Cell → ℕ → Type 0
-IsFound passes low cells key = (c : Cell) × (low ≤ c.key) × (c.key ≡ key) × (find (λ x. x.key == key) cells ≡ Some c) × (passes c ≡ true)
+abbrev pub IsKeyOfCell : (Cell → Bool) → ℕ → List Cell → ℕ → Type 0
+IsKeyOfCell passes low cells key = (c : Cell) × (low ≤ c.key) × (c.key ≡ key) × (find (λ x. x.key == key) cells ≡ Some c) × (passes c ≡ true)
 
 module _ (passes : Cell → Bool) where
-  found_later : (low : ℕ) (c : Cell) (cells : List Cell) (key : ℕ) → low ≤ c.key → IsFound passes (c.key + 1) cells key → IsFound passes low (c ∷ cells) key
+  found_later : (low : ℕ) (c : Cell) (cells : List Cell) (key : ℕ) → low ≤ c.key → IsKeyOfCell passes (c.key + 1) cells key → IsKeyOfCell passes low (c ∷ cells) key
   found_later low c cells key above r =
       let above_it = r.1 in
       let its_key = r.2 in
       let other : (c.key == key) ≡ false = grind (arith, nat_tests, above_it, its_key) in
       (r.0, omega (arith, above_it), r.2, rw other r.3, r.4)
 
-  found_here : (low : ℕ) (c : Cell) (cells : List Cell) (key : ℕ) → low ≤ c.key → c.key ≡ key → passes c ≡ true → IsFound passes low (c ∷ cells) key
+  found_here : (low : ℕ) (c : Cell) (cells : List Cell) (key : ℕ) → low ≤ c.key → c.key ≡ key → passes c ≡ true → IsKeyOfCell passes low (c ∷ cells) key
   found_here low c cells key above is it =
       let same : (c.key == key) ≡ true = grind (arith, nat_tests, is) in
       (c, above, is, rw same refl, it)
 
-  found_by : (low : ℕ) (c : Cell) (cells : List Cell) (key : ℕ) (best : Option ℕ) → low ≤ c.key → passes c ≡ true → ((k : ℕ) → best ≡ Some k → IsFound passes (c.key + 1) cells k)
-      → Some (option_map_or (max c.key) best c.key) ≡ Some key → IsFound passes low (c ∷ cells) key
+  found_by : (low : ℕ) (c : Cell) (cells : List Cell) (key : ℕ) (best : Option ℕ) → low ≤ c.key → passes c ≡ true → ((k : ℕ) → best ≡ Some k → IsKeyOfCell passes (c.key + 1) cells k)
+      → Some (option_map_or (max c.key) best c.key) ≡ Some key → IsKeyOfCell passes low (c ∷ cells) key
   found_by low c cells key None above it later is = found_here low c cells key above (cc) it
   found_by low c cells key (Some k) above it later is =
       let r = later k refl in
@@ -65,15 +64,15 @@ module _ (passes : Cell → Bool) where
       let its_key = r.2 in
       let greater : max c.key k ≡ key = cc in
       let same : k ≡ key = omega (arith, above_it, its_key, greater) in
-      found_later low c cells key above (subst (λ (n : ℕ). IsFound passes (c.key + 1) cells n) same r)
+      found_later low c cells key above (subst (λ (n : ℕ). IsKeyOfCell passes (c.key + 1) cells n) same r)
 
-  found_from : (low : ℕ) (c : Cell) (cells : List Cell) (key : ℕ) (t : Bool) → low ≤ c.key → passes c ≡ t → ((k : ℕ) → greatest (map (λ x. x.key) (filter passes cells)) ≡ Some k → IsFound passes (c.key + 1) cells k)
-      → greatest (map (λ x. x.key) (cond t (c ∷ filter passes cells) (filter passes cells))) ≡ Some key → IsFound passes low (c ∷ cells) key
+  found_from : (low : ℕ) (c : Cell) (cells : List Cell) (key : ℕ) (t : Bool) → low ≤ c.key → passes c ≡ t → ((k : ℕ) → greatest (map (λ x. x.key) (filter passes cells)) ≡ Some k → IsKeyOfCell passes (c.key + 1) cells k)
+      → greatest (map (λ x. x.key) (cond t (c ∷ filter passes cells) (filter passes cells))) ≡ Some key → IsKeyOfCell passes low (c ∷ cells) key
   found_from low c cells key true above it later is = found_by low c cells key (greatest (map (λ x. x.key) (filter passes cells))) above it later is
   found_from low c cells key false above it later is = found_later low c cells key above (later key is)
 
   -- the greatest key of those that pass is that of a cell that is found with it, where the cells stand in the order of their keys
-  pub greatest_found : (low : ℕ) (cells : List Cell) (key : ℕ) → CellsAscend low cells → greatest (map (λ x. x.key) (filter passes cells)) ≡ Some key → IsFound passes low cells key
+  pub greatest_found : (low : ℕ) (cells : List Cell) (key : ℕ) → CellsAscend low cells → greatest (map (λ x. x.key) (filter passes cells)) ≡ Some key → IsKeyOfCell passes low cells key
   greatest_found low [] key up is = absurd (cc)
   greatest_found low (c ∷ cells) key up is = found_from low c cells key (passes c) up.0 refl (λ k. greatest_found (c.key + 1) cells k up.1) is
 

@@ -11,5 +11,7 @@ pub mod MoveTake
 pub mod MoveAssign
 pub mod Game
 pub mod Forced
+pub mod Effects
 pub mod GameLaws
 pub mod ForcedLaws
+pub mod EffectLaws
