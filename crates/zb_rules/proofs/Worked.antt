@@ -1,5 +1,5 @@
--- The play of a process of one start event, one flow and one end event, worked out by hand.
-use Rattle.std.proofs.Common.{◌≡◌, ℕ, List, [], ◌∷◌, ◌++◌, Bool, true, false, ◌&&◌, Some, None, refl}
+-- The plays of a process of one start event, one flow and one end event, and of one with two flows and two end events, worked out by hand.
+use Rattle.std.proofs.Common.{◌≡◌, ℕ, List, [], ◌∷◌, ◌++◌, Bool, true, false, ◌+◌, Some, None, refl}
 use Rattle.std.specs.Prelude.{codes}
 use Rattle.zb_process.specs.declared.model.Model.{Model}
 use Rattle.zb_process.specs.declared.model.Node.{Node}
@@ -12,7 +12,7 @@ use Rattle.zb_model.specs.declared.record.Event.TheVariants as events
 use Rattle.zb_model.specs.declared.record.RejectionKind.TheVariants as kinds_of
 use Rattle.zb_rules.specs.Settling.{turn}
 use Rattle.zb_rules.specs.Deploy.{deployed}
-use Rattle.zb_rules.specs.Applies.{applies}
+use Rattle.zb_rules.specs.Applies.{all_apply}
 use Rattle.zb_rules.specs.Create.{created, reason_to_create}
 use Rattle.zb_rules.specs.Expire.{no_message, not_due, reason_to_expire}
 use Rattle.zb_rules.specs.Due.{due_command}
@@ -128,13 +128,82 @@ none_due : due_command 999 (message 1 2000 ∷ message 2 1000 ∷ []) ≡ None
 none_due = refl
 
 -- every event of the play applies to those before it
-all_apply : List Event → List Event → Bool
-all_apply done [] = true
-all_apply done (e ∷ es) = applies 1 done e && all_apply (done ++ e ∷ []) es
-
 abbrev whole_play : List Event
 whole_play = before ++ turns (true ∷ true ∷ true ∷ true ∷ true ∷ true ∷ true ∷ true ∷ true ∷ true ∷ true ∷ true ∷ true ∷ true ∷ []) before
 
-each_applies : all_apply [] whole_play ≡ true
-unfolding turn all_apply
+each_applies : all_apply 1 [] whole_play ≡ true
+unfolding turn
 each_applies = refl
+
+-- the key of partition 1 with a counter
+abbrev key : ℕ → ℕ
+key n = 2251799813685248 + n
+
+abbrev taken : ℕ → List ℕ → Event
+taken cell flow = events.SequenceFlowTaken (record { key = cell; flow = flow })
+
+-- an instance that is made, and its root
+abbrev instance : ℕ → List Event
+instance root = events.ProcessInstanceCreationCreated (record { key = root; definition = key 1 }) ∷ activating root 0 (codes "p") [] ∷ []
+
+-- a node that waits for nothing, from its beginning to where it has completed
+abbrev passes : ℕ → ℕ → List ℕ → List ℕ → List (List ℕ) → List Event
+passes cell scope id via owed = activating cell scope id via ∷ activated cell ∷ events.ElementCompleting cell ∷ completed cell owed ∷ []
+
+-- a root with nothing in it ends
+abbrev ends : ℕ → List Event
+ends root = events.ElementCompleting root ∷ completed root [] ∷ []
+
+-- as many turns as are enough for all the plays below, and more
+abbrev many : List Bool
+many = true ∷ true ∷ true ∷ true ∷ true ∷ true ∷ true ∷ true ∷ true ∷ true ∷ true ∷ true ∷ true ∷ true ∷ true ∷ true ∷ true ∷ true ∷ true ∷ true
+    ∷ true ∷ true ∷ true ∷ true ∷ true ∷ true ∷ true ∷ true ∷ true ∷ true ∷ true ∷ true ∷ true ∷ true ∷ true ∷ true ∷ true ∷ true ∷ true ∷ true ∷ []
+
+-- a start event with two flows, to two end events
+abbrev fork : Model
+fork = record {
+  process = codes "p";
+  tag = [];
+  nodes = node (codes "s") kinds.StartEvent ∷ node (codes "e") kinds.EndEvent ∷ node (codes "d") kinds.EndEvent ∷ [];
+  flows = record { id = codes "f"; from = codes "s"; to = codes "e"; condition = None } ∷ record { id = codes "g"; from = codes "s"; to = codes "d"; condition = None } ∷ [];
+}
+
+fork_is_good : first_fault fork ≡ None
+fork_is_good = refl
+
+abbrev fork_begun : List Event
+fork_begun = events.ProcessCreated (record { key = key 1; version = 1; model = fork }) ∷ events.DeploymentCreated (record { key = key 2; definition = key 1 }) ∷ instance (key 3)
+
+-- worked out by hand: a token goes out on each flow in the order of the model before one of them enters its node; each of them comes to an end; then the process ends
+abbrev fork_plays : List Event
+fork_plays =
+    activated (key 3) ∷ passes (key 4) (key 3) (codes "s") [] (codes "f" ∷ codes "g" ∷ [])
+    ++ (taken (key 4) (codes "f") ∷ taken (key 4) (codes "g") ∷ passes (key 5) (key 3) (codes "e") (codes "f") [] ++ (passes (key 6) (key 3) (codes "d") (codes "g") [] ++ ends (key 3)))
+
+fork_play : turns many fork_begun ≡ fork_plays
+unfolding turn
+fork_play = refl
+
+fork_applies : all_apply 1 [] (fork_begun ++ fork_plays) ≡ true
+fork_applies = refl
+
+-- two instances at once
+abbrev two_begun : List Event
+two_begun = events.ProcessCreated (record { key = key 1; version = 1; model = process }) ∷ events.DeploymentCreated (record { key = key 2; definition = key 1 }) ∷ instance (key 3) ++ instance (key 4)
+
+-- worked out by hand: of the two roots the one with the greater key opens first, then the other, and then the token that was made first goes on.
+-- A token on a flow stands behind those that were made before it; a root ends as soon as nothing is in it, before another token enters
+abbrev two_play : List Event
+two_play =
+    activated (key 4) ∷ activated (key 3)
+    ∷ passes (key 5) (key 4) (codes "s") [] (codes "f" ∷ []) ++ (taken (key 5) (codes "f")
+    ∷ passes (key 6) (key 3) (codes "s") [] (codes "f" ∷ []) ++ (taken (key 6) (codes "f")
+    ∷ passes (key 7) (key 4) (codes "e") (codes "f") [] ++ (ends (key 4)
+    ++ (passes (key 8) (key 3) (codes "e") (codes "f") [] ++ ends (key 3)))))
+
+both_play : turns many two_begun ≡ two_play
+unfolding turn
+both_play = refl
+
+both_apply : all_apply 1 [] (two_begun ++ two_play) ≡ true
+both_apply = refl

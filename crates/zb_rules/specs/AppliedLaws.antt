@@ -1,30 +1,17 @@
 -- Laws of events that apply: each has a board after it, and what each keeps holds of the board of them all.
-use Rattle.std.proofs.Common.{◌≡◌, ℕ, ◌+◌, ◌^◌, max, ◌<◌, ◌≤◌, ◌==◌, nat_lt, List, [], ◌∷◌, ◌++◌, Bool, true, false, ◌&&◌, if◌then◌else◌, IsTrue, is_some, Option, Some, None, option_map, option_and_then, refl, sym, ap, ◌∙◌, subst, arith, append-nil, append_assoc}
-use Rattle.std.specs.List.{flat_map}
-use Rattle.std.specs.Option.{option_map_or, IfSome}
-use Rattle.std.specs.Str.{bytes_eq}
-use Rattle.std.proofs.lemmas.Bool.Decides.{nat_tests}
-use Rattle.zb_base.specs.Key.{key_of}
-use Rattle.zb_instance_records.specs.declared.instance.ElementActivating.{ElementActivating}
+use Rattle.std.proofs.Common.{◌≡◌, ℕ, List, [], ◌∷◌, ◌++◌, Bool, false, IsTrue, is_some, Option, Some, None, option_and_then, refl, sym, ap, ◌∙◌, subst, append-nil, append_assoc}
+use Rattle.std.specs.Option.{option_map_or}
 use Rattle.zb_model.specs.declared.record.Event.{Event}
-use Rattle.zb_model.specs.declared.record.Event.TheVariants as events
-use Rattle.zb_views.specs.View.{keys_in, counter_at, greatest_among, greatest_counter, next_key}
-use Rattle.zb_views.specs.ViewLaws.{greatest_counter_more, begun_more}
-use Rattle.zb_views.specs.CounterLaws.{counter_at-key_of}
-use Rattle.zb_views.specs.Begin.{begun_told, begun}
-use Rattle.zb_views.specs.declared.begun.Begun.{Begun}
 use Rattle.zb_tokens.specs.declared.board.Move.{Move}
-use Rattle.zb_tokens.specs.declared.board.Move.TheVariants as moves
-use Rattle.zb_tokens.specs.Board.{Board, CellsAscend}
-use Rattle.zb_tokens.specs.Game.{empty_board, fits, played}
+use Rattle.zb_tokens.specs.Board.{Board}
+use Rattle.zb_tokens.specs.Game.{empty_board, fits}
 use Rattle.zb_tokens.specs.GameLaws.{both_left, both_right, fitting_is_played}
 use Rattle.zb_rules.specs.Shown.{shown, after_shown, board_of}
-use Rattle.zb_rules.specs.Applies.{is_fresh, is_plain, begins_instance, begins_cell, begins_well, holds_own, holds_of_game, may_fit, applies, all_apply, is_process_of, is_definition_of}
+use Rattle.zb_rules.specs.Applies.{holds_own, holds_of_game, may_fit, applies, all_apply}
 use Rattle.zb_rules.specs.GrowthLaws.{board_of_more}
-use Rattle.zb_rules.specs.CellsLaws.{Between, ascend_between, ordered_between, between_higher, key_made, between_played}
 
 -- what an event does to the board of those before it
-pub record IsApplied (p : ℕ) (before : List Event) (b : Board) (e : Event) (after : Board) : Type 0 where
+pub record Advances (p : ℕ) (before : List Event) (b : Board) (e : Event) (after : Board) : Type 0 where
   pub board : board_of before ≡ Some b
   pub own : IsTrue (holds_own p before e)
   pub fit : IsTrue (may_fit (shown before e) b)
@@ -34,6 +21,7 @@ pub record IsApplied (p : ℕ) (before : List Event) (b : Board) (e : Event) (af
 pub game_holds : (holds : Board → Bool) (es : List Event) (b : Board) → board_of es ≡ Some b → IsTrue (holds_of_game holds es) → IsTrue (holds b)
 game_holds holds es b is h = subst (λ (o : Option Board). IsTrue (option_map_or holds o false)) is h
 
+-- and the other way
 pub game_holds_from : (holds : Board → Bool) (es : List Event) (b : Board) → board_of es ≡ Some b → IsTrue (holds b) → IsTrue (holds_of_game holds es)
 game_holds_from holds es b is h = subst (λ (o : Option Board). IsTrue (option_map_or holds o false)) (sym is) h
 
@@ -48,12 +36,13 @@ made_by : (b : Board) (move : Option Move) → IsTrue (may_fit move b) → IsTru
 made_by b None fit = refl
 made_by b (Some move) fit = fitting_is_played b move fit
 
+-- what is in an option that has something
 pub some_of : {A : Type 0} (o : Option A) → IsTrue (is_some o) → (a : A) × (o ≡ Some a)
 some_of None there = absurd (cc)
 some_of (Some a) there = (a, refl)
 
 -- an event that applies has a board after it
-pub applied_board : (p : ℕ) (before : List Event) (b : Board) (e : Event) → board_of before ≡ Some b → IsTrue (applies p before e) → (after : Board) × IsApplied p before b e after
+pub applied_board : (p : ℕ) (before : List Event) (b : Board) (e : Event) → board_of before ≡ Some b → IsTrue (applies p before e) → (after : Board) × Advances p before b e after
 applied_board p before b e is h =
     let own = both_left (holds_own p before e) _ h in
     let fit = game_holds (may_fit (shown before e)) before b is (both_right (holds_own p before e) _ h) in
@@ -61,11 +50,12 @@ applied_board p before b e is h =
     (found.0, record { board = is; own = own; fit = fit; leads = found.1 })
 
 -- and it is the board of the events with that one behind
-pub board_behind : (p : ℕ) (before : List Event) (b : Board) (e : Event) (after : Board) → IsApplied p before b e after → board_of (before ++ e ∷ []) ≡ Some after
+pub board_behind : (p : ℕ) (before : List Event) (b : Board) (e : Event) (after : Board) → Advances p before b e after → board_of (before ++ e ∷ []) ≡ Some after
 board_behind p before b e after h = board_of_more before e ∙ (ap (option_and_then (λ (x : Board). after_shown x (shown before e))) h.board ∙ h.leads)
 
 -- what each event that applies keeps holds of the board of them all
-module _ (p : ℕ) (Holds : List Event → Board → Type 0) (keeps : (before : List Event) (b : Board) (e : Event) (after : Board) → IsApplied p before b e after → Holds before b → Holds (before ++ e ∷ []) after) where
+module _ (p : ℕ) (Holds : List Event → Board → Type 0) (keeps : (before : List Event) (b : Board) (e : Event) (after : Board) → Advances p before b e after → Holds before b → Holds (before ++ e ∷ []) after) where
+  -- behind the events of any board that has it
   pub holds_on : (before es : List Event) (b : Board) → board_of before ≡ Some b → Holds before b → IsTrue (all_apply p before es) → (after : Board) × (board_of (before ++ es) ≡ Some after) × Holds (before ++ es) after
   holds_on before [] b is h apply = rw (append-nil before) (b, is, h)
   holds_on before (e ∷ es) b is h apply =
@@ -73,6 +63,7 @@ module _ (p : ℕ) (Holds : List Event → Board → Type 0) (keeps : (before : 
       let r = holds_on (before ++ e ∷ []) es made.0 (board_behind p before b e made.0 made.1) (keeps before b e made.0 made.1 h) (both_right (applies p before e) _ apply) in
       rw append_assoc at r
 
+  -- and so of the whole log
   pub holds_of_all : (es : List Event) (b : Board) → Holds [] empty_board → IsTrue (all_apply p [] es) → board_of es ≡ Some b → Holds es b
   holds_of_all es b first apply is =
       let r = holds_on [] es empty_board refl first apply in

@@ -1,8 +1,7 @@
 -- Laws of the cells of a board as a move is made: their keys ascend.
-use Rattle.std.proofs.Common.{◌≡◌, ℕ, ◌+◌, ◌<◌, ◌≤◌, ◌==◌, List, [], ◌∷◌, ◌++◌, Bool, true, false, if◌then◌else◌, Option, Some, None, option_map, option_and_then, refl, sym, ap, subst, arith}
+use Rattle.std.proofs.Common.{◌≡◌, ℕ, ◌+◌, ◌<◌, ◌≤◌, ◌==◌, List, [], ◌∷◌, ◌++◌, Bool, true, false, if◌then◌else◌, Option, Some, None, option_map, option_and_then, refl, subst, arith}
 use Rattle.std.specs.Option.{IfSome}
 use Rattle.zb_tokens.specs.declared.board.Cell.{Cell}
-use Rattle.zb_tokens.specs.declared.board.Token.{Token}
 use Rattle.zb_tokens.specs.declared.board.Enter.{Enter}
 use Rattle.zb_tokens.specs.declared.board.Start.{Start}
 use Rattle.zb_tokens.specs.declared.board.Take.{Take}
@@ -11,7 +10,7 @@ use Rattle.zb_tokens.specs.declared.board.Move.TheVariants as moves
 use Rattle.zb_tokens.specs.declared.board.Phase.TheVariants as phases
 use Rattle.zb_tokens.specs.Edits.{edited, removed, is_none_of}
 use Rattle.zb_tokens.specs.Board.{Board, CellsAscend, cell_at, model_under, new_cell, in_phase}
-use Rattle.zb_tokens.specs.MoveEnter.{comes_to, play_enter}
+use Rattle.zb_tokens.specs.MoveEnter.{comes_to}
 use Rattle.zb_tokens.specs.MoveOpen.{first_tokens}
 use Rattle.zb_tokens.specs.MoveLeave.{leaving}
 use Rattle.zb_tokens.specs.MoveTake.{rest_of, with_token}
@@ -23,18 +22,22 @@ abbrev pub Between : ℕ → ℕ → List Cell → Type 0
 Between low high [] = low ≤ high
 Between low high (c ∷ cells) = (low ≤ c.key) × (c.key < high) × Between (c.key + 1) high cells
 
+-- their keys ascend
 pub ascend_between : (low high : ℕ) (cells : List Cell) → Between low high cells → CellsAscend low cells
 ascend_between low high [] is = tt
 ascend_between low high (c ∷ cells) is = (is.0, ascend_between (c.key + 1) high cells is.2)
 
+-- the bounds are in order
 pub ordered_between : (low high : ℕ) (cells : List Cell) → Between low high cells → low ≤ high
 ordered_between low high [] is = is
 ordered_between low high (c ∷ cells) is = omega arith
 
+-- the lower bound may be less
 pub between_lower : (less low high : ℕ) (cells : List Cell) → less ≤ low → Between low high cells → Between less high cells
 between_lower less low high [] below is = omega arith
 between_lower less low high (c ∷ cells) below is = (omega (arith, is.0), is.1, is.2)
 
+-- the higher bound may be more
 pub between_higher : (low high more : ℕ) (cells : List Cell) → high ≤ more → Between low high cells → Between low more cells
 between_higher low high more [] above is = omega arith
 between_higher low high more (c ∷ cells) above is = (is.0, omega (arith, is.1), between_higher (c.key + 1) high more cells above is.2)
@@ -58,6 +61,7 @@ module _ (passes : Cell → Bool) (edit : Cell → Cell) (keeps : (c : Cell) →
       let here : Between low high (c ∷ rest) = (is.0, is.1, behind rest refl) in
       subst (Between low high) same here
 
+  -- the list with a cell edited
   pub between_edited : (low high : ℕ) (cells after : List Cell) → Between low high cells → edited passes edit cells ≡ Some after → Between low high after
   between_edited low high [] after is made = absurd (cc)
   between_edited low high (c ∷ cells) after is made =
@@ -76,6 +80,7 @@ module _ (passes : Cell → Bool) where
       let here : Between low high (c ∷ rest) = (is.0, is.1, behind rest refl) in
       subst (Between low high) same here
 
+  -- the list without it
   pub between_removed : (low high : ℕ) (cells after : List Cell) → Between low high cells → removed passes cells ≡ Some after → Between low high after
   between_removed low high [] after is made = absurd (cc)
   between_removed low high (c ∷ cells) after is made =
@@ -89,10 +94,12 @@ key_made _ = None
 
 -- the cells of a board that is made of others
 module _ {A B : Type 0} where
+  -- what each way through the option gives holds of what comes out
   pub chained_holds : (Q : B → Type 0) (f : A → Option B) (o : Option A) (y : B) → ((x : A) → o ≡ Some x → (z : B) → f x ≡ Some z → Q z) → option_and_then f o ≡ Some y → Q y
   chained_holds Q f None y each made = absurd (cc)
   chained_holds Q f (Some x) y each made = each x refl y made
 
+  -- and of what is mapped
   pub mapped_holds : (Q : B → Type 0) (f : A → B) (o : Option A) (y : B) → ((x : A) → o ≡ Some x → Q (f x)) → option_map f o ≡ Some y → Q y
   mapped_holds Q f None y each made = absurd (cc)
   mapped_holds Q f (Some x) y each made = let same : f x ≡ y = cc in subst Q same (each x refl)

@@ -1,17 +1,15 @@
 -- The own events of an instance that is made apply: it is made, its root begins, and its variables get their first values.
-use Rattle.std.proofs.Common.{◌≡◌, ℕ, ◌+◌, max, ◌<◌, ◌≤◌, ◌==◌, length, get_or, List, [], ◌∷◌, ◌++◌, map, Bool, true, false, ◌&&◌, if◌then◌else◌, IsTrue, is_some, not, Option, Some, None, option_map, option_and_then, All, Contains, refl, sym, ap, ◌∙◌, subst, arith, append-nil}
+use Rattle.std.proofs.Common.{◌≡◌, ℕ, ◌+◌, max, ◌==◌, get_or, List, [], ◌∷◌, ◌++◌, map, Bool, true, false, ◌&&◌, if◌then◌else◌, IsTrue, Option, Some, None, All, Contains, refl, ap, ◌∙◌, subst, arith}
 use Rattle.std.specs.declared.cmp.Ordering.{Ordering}
 use Rattle.std.specs.declared.cmp.Ordering.TheVariants.{Less, Equal, Greater}
 use Rattle.std.specs.Ordering.{is_lt, ordering_reverse}
-use Rattle.std.specs.Option.{option_map_or}
-use Rattle.std.specs.List.{find, list_any}
+use Rattle.std.specs.List.{find}
 use Rattle.std.specs.Str.{bytes_eq}
 use Rattle.std.proofs.lemmas.Bool.Decides.{nat_tests}
 use Rattle.std.proofs.lemmas.Cmp.{nat_list_cmp_total}
 use Rattle.std.proofs.lemmas.List.Elements.{All-nil, All-cons, All-head, All-tail, All-weaker, All-contains, All-contains_itself}
 use Rattle.std.proofs.lemmas.List.Folds.{find-append}
 use Rattle.std.proofs.lemmas.Slice.Eq.{bytes_eq-Decides}
-use Rattle.zb_base.specs.declared.value.Value.{Value}
 use Rattle.zb_base.specs.declared.vars.Variable.{Variable}
 use Rattle.zb_base.specs.Vars.{order_of, order_at, is_ascending, value_named, with_value}
 use Rattle.zb_base.specs.VarsLaws.{value_of_set}
@@ -31,13 +29,13 @@ use Rattle.zb_tokens.specs.Edits.{edited}
 use Rattle.zb_tokens.specs.Board.{Board, cell_at, model_under, new_cell}
 use Rattle.zb_tokens.specs.MoveAssign.{with_variable}
 use Rattle.zb_tokens.specs.GameLaws.{holds_some}
-use Rattle.zb_rules.specs.Shown.{shown, after_shown, board_of}
+use Rattle.zb_rules.specs.Shown.{board_of}
 use Rattle.zb_rules.specs.Applies.{has_definition, holds_own, holds_of_game, applies, all_apply, is_process_of}
 use Rattle.zb_rules.specs.Sound.{HasKeys}
 use Rattle.zb_rules.specs.Create.{variable_event, instance_under, created}
 use Rattle.zb_rules.specs.CellsLaws.{Between, mapped_holds}
 use Rattle.zb_rules.specs.AppliedLaws.{some_of, game_holds_from, applied_from, applied_board, board_behind}
-use Rattle.zb_rules.specs.KeysLaws.{Stands}
+use Rattle.zb_rules.specs.KeysLaws.{HasOrderedCells}
 use Rattle.zb_rules.specs.ScopesLaws.{edited_found}
 use Rattle.zb_rules.specs.ModelsLaws.{Knows}
 use Rattle.zb_rules.specs.OwnLaws.{fresh_from, silent_applies, board_after}
@@ -128,7 +126,7 @@ none_between low high (c ∷ cells) is =
     let other : (c.key == high) ≡ false = (let below = is.1 in grind (arith, nat_tests)) in
     rw (other) (none_between (c.key + 1) high cells is.2)
 
-module _ (p : ℕ) (es : List Event) (b : Board) (is : board_of es ≡ Some b) (stands : Stands p es b) (knows : Knows p es b) where
+module _ (p : ℕ) (es : List Event) (b : Board) (is : board_of es ≡ Some b) (stands : HasOrderedCells p es b) (knows : Knows p es b) where
   root_found : (definition : ℕ) (node : List ℕ) → find (λ (c : Cell). c.key == next_key p es) (b.cells ++ new_cell (next_key p es) 0 definition node false ∷ []) ≡ Some (new_cell (next_key p es) 0 definition node false)
   root_found definition node =
       let same : (next_key p es == next_key p es) ≡ true = grind (arith, nat_tests) in
@@ -158,6 +156,7 @@ module _ (p : ℕ) (es : List Event) (b : Board) (is : board_of es ≡ Some b) (
       let its = All-contains (λ (x : Definition). IsTrue (is_process_of x.key x.process b)) (definitions es) d knows.defined of.0 in
       subst (λ (id : List ℕ). IsTrue (is_process_of d.key id b)) ((bytes_eq-Decides d.process process).0 of.1) its
 
+  -- the own events of a create apply
   pub create_applies : (c : ProcessInstanceCreationCreate) (own : List Event) → HasKeys p es 1 → IsTrue (is_ascending c.variables) → created p es c ≡ Some own → IsTrue (all_apply p es own)
   create_applies c own keys up made = mapped_holds (λ (x : List Event). IsTrue (all_apply p es x)) (λ (d : Definition). instance_under (next_key p es) d.key c) (definition_for c.process c.version es) own
       (λ d asked.

@@ -1,7 +1,6 @@
 -- Deploying a model (own; the records as in Zeebe).
-use Rattle.std.specs.Prelude.{ℕ, ◌+◌, ◌-◌, ◌^◌, min, List, [], ◌∷◌, ◌++◌, Option, option_map}
+use Rattle.std.specs.Prelude.{ℕ, ◌+◌, ◌-◌, ◌^◌, min, [], ◌∷◌, Option, option_map}
 use Rattle.zb_process.specs.declared.model.Model.{Model}
-use Rattle.zb_model.specs.declared.record.Event.{Event}
 use Rattle.zb_model.specs.declared.record.Event.TheVariants as events
 use Rattle.zb_model.specs.declared.record.Rejection.{Rejection}
 use Rattle.zb_model.specs.declared.record.RejectionKind.TheVariants as kinds

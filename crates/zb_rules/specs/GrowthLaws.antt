@@ -1,5 +1,5 @@
 -- Laws of the board of a log as it grows by an event.
-use Rattle.std.proofs.Common.{◌≡◌, List, [], ◌∷◌, ◌++◌, Option, Some, None, option_and_then, refl, sym, append_assoc, append-nil, subst}
+use Rattle.std.proofs.Common.{◌≡◌, List, [], ◌∷◌, ◌++◌, Option, Some, None, option_and_then, refl, append_assoc, append-nil, subst}
 use Rattle.zb_model.specs.declared.record.Event.{Event}
 use Rattle.zb_tokens.specs.Board.{Board}
 use Rattle.zb_tokens.specs.Game.{empty_board}

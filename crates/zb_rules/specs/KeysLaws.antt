@@ -1,28 +1,25 @@
 -- Laws of the keys of a log whose events apply: those of cells ascend, and lie below the next key.
-use Rattle.std.proofs.Common.{◌≡◌, ℕ, ◌+◌, ◌^◌, max, ◌<◌, ◌≤◌, ◌==◌, nat_lt, List, [], ◌∷◌, ◌++◌, Bool, true, false, ◌&&◌, if◌then◌else◌, IsTrue, is_some, Option, Some, None, option_map, option_and_then, refl, sym, ap, ◌∙◌, subst, arith, append-nil, append_assoc}
-use Rattle.std.specs.List.{flat_map}
+use Rattle.std.proofs.Common.{◌≡◌, ℕ, ◌+◌, ◌^◌, ◌<◌, ◌≤◌, ◌==◌, List, [], ◌∷◌, ◌++◌, Bool, true, false, ◌&&◌, if◌then◌else◌, IsTrue, Option, Some, None, option_and_then, refl, sym, ap, ◌∙◌, subst, arith}
 use Rattle.std.specs.Option.{option_map_or, IfSome}
 use Rattle.std.specs.Str.{bytes_eq}
 use Rattle.std.proofs.lemmas.Bool.Decides.{nat_tests}
-use Rattle.zb_base.specs.Key.{key_of}
 use Rattle.zb_instance_records.specs.declared.instance.ElementActivating.{ElementActivating}
 use Rattle.zb_model.specs.declared.record.Event.{Event}
 use Rattle.zb_model.specs.declared.record.Event.TheVariants as events
-use Rattle.zb_views.specs.View.{keys_in, counter_at, greatest_among, greatest_counter, next_key}
+use Rattle.zb_views.specs.View.{counter_at, greatest_among, greatest_counter, next_key}
 use Rattle.zb_views.specs.ViewLaws.{greatest_counter_more, begun_more}
 use Rattle.zb_views.specs.CounterLaws.{counter_at-key_of}
 use Rattle.zb_views.specs.Begin.{begun_told, begun}
 use Rattle.zb_views.specs.declared.begun.Begun.{Begun}
 use Rattle.zb_tokens.specs.declared.board.Move.{Move}
 use Rattle.zb_tokens.specs.declared.board.Move.TheVariants as moves
-use Rattle.zb_tokens.specs.Board.{Board, CellsAscend}
-use Rattle.zb_tokens.specs.Game.{empty_board, fits, played}
-use Rattle.zb_tokens.specs.GameLaws.{both_left, both_right, fitting_is_played}
+use Rattle.zb_tokens.specs.Board.{Board}
+use Rattle.zb_tokens.specs.Game.{empty_board}
+use Rattle.zb_tokens.specs.GameLaws.{both_left, both_right}
 use Rattle.zb_rules.specs.Shown.{shown, after_shown, board_of}
-use Rattle.zb_rules.specs.Applies.{is_fresh, is_plain, begins_instance, begins_cell, begins_well, holds_own, holds_of_game, may_fit, applies, all_apply, is_process_of, is_definition_of}
-use Rattle.zb_rules.specs.GrowthLaws.{board_of_more}
-use Rattle.zb_rules.specs.CellsLaws.{Between, ascend_between, ordered_between, between_higher, key_made, between_played}
-use Rattle.zb_rules.specs.AppliedLaws.{IsApplied, holds_of_all}
+use Rattle.zb_rules.specs.Applies.{is_fresh, is_plain, begins_instance, begins_cell, begins_well, all_apply}
+use Rattle.zb_rules.specs.CellsLaws.{Between, between_higher, key_made, between_played}
+use Rattle.zb_rules.specs.AppliedLaws.{Advances, holds_of_all}
 
 -- the next key as a log grows
 pub next_key_more : (p : ℕ) (before : List Event) (e : Event) → next_key p before ≤ next_key p (before ++ e ∷ [])
@@ -32,6 +29,7 @@ next_key_more p before e = omega (arith, greatest_counter_more p before (e ∷ [
 pub fresh_is : (p : ℕ) (before : List Event) (key : ℕ) → IsTrue (is_fresh p before key) → (greatest_counter p before + 1 < 2 ^ 51) × (key ≡ next_key p before)
 fresh_is p before key fresh = grind (arith, nat_tests)
 
+-- once an event has named a fresh key, that lies below the next one
 pub fresh_below : (p : ℕ) (before : List Event) (e : Event) (key : ℕ) → IsTrue (is_fresh p before key) → counter_at p key ≤ greatest_counter p (e ∷ []) → key < next_key p (before ++ e ∷ [])
 fresh_below p before e key fresh named =
     let f = fresh_is p before key fresh in
@@ -39,11 +37,12 @@ fresh_below p before e key fresh named =
     let its : counter_at p key ≡ greatest_counter p before + 1 = subst (λ (k : ℕ). counter_at p k ≡ greatest_counter p before + 1) (sym f.1) counted in
     omega (arith, f.1, its, greatest_counter_more p before (e ∷ []))
 
+-- the counter of the first key is at most the greatest
 pub first_named : (p key : ℕ) (keys : List ℕ) → counter_at p key ≤ greatest_among p (key ∷ keys)
 first_named p key keys = omega arith
 
 -- the keys of the cells of a board of a log ascend, and lie below the next key; those before an instance that begins, below its key
-pub record Stands (p : ℕ) (es : List Event) (b : Board) : Type 0 where
+pub record HasOrderedCells (p : ℕ) (es : List Event) (b : Board) : Type 0 where
   pub between : Between 1 (next_key p es) b.cells
   pub begins : (i : Begun) → begun es ≡ Some i → Between 1 i.key b.cells × (i.key < next_key p es)
 
@@ -57,7 +56,7 @@ begun_is key definition None is = absurd (cc)
 begun_is key definition (Some i) is = (i, refl, let first = both_left (i.key == key) (i.definition == definition) is in grind (arith, nat_tests))
 
 -- a cell that begins
-module _ (p : ℕ) (before : List Event) (b after : Board) (a : ElementActivating) (s : Stands p before b) where
+module _ (p : ℕ) (before : List Event) (b after : Board) (a : ElementActivating) (s : HasOrderedCells p before b) where
   activating_by : (t : Bool) → IsTrue (if t then begins_instance before a else begins_cell p before a)
       → after_shown b (if t then Some (moves.Start (record { key = a.key; definition = a.definition })) else Some (moves.Enter (record { key = a.key; scope = a.scope; node = a.node; via = a.via }))) ≡ Some after
       → Between 1 (next_key p (before ++ events.ElementActivating a ∷ [])) after.cells
@@ -73,14 +72,15 @@ module _ (p : ℕ) (before : List Event) (b after : Board) (a : ElementActivatin
       between_played 1 (next_key p before) b s.between after (moves.Enter (record { key = a.key; scope = a.scope; node = a.node; via = a.via })) (next_key p (before ++ events.ElementActivating a ∷ []))
       (next_key_more p before (events.ElementActivating a)) (omega (arith, f.1), below) made
 
+-- what a cell that begins well meets: a root comes behind its instance, another cell in a scope
 pub begins_by : (p : ℕ) (before : List Event) (a : ElementActivating) → IsTrue (begins_well p before a) → IsTrue (if a.scope == 0 then begins_instance before a else begins_cell p before a)
 begins_by p before a h = both_right (is_plain a.role && bytes_eq a.started []) _ h
 
-keys_between : (p : ℕ) (before : List Event) (b : Board) (e : Event) (after : Board) → IsApplied p before b e after → Stands p before b → Between 1 (next_key p (before ++ e ∷ [])) after.cells
+keys_between : (p : ℕ) (before : List Event) (b : Board) (e : Event) (after : Board) → Advances p before b e after → HasOrderedCells p before b → Between 1 (next_key p (before ++ e ∷ [])) after.cells
 keys_between p before b (events.ElementActivating a) after h s = activating_by p before b after a s (a.scope == 0) (begins_by p before a h.own) h.leads
 keys_between p before b e after h s = between_shown 1 (next_key p before) b after (shown before e) (next_key p (before ++ e ∷ [])) s.between (next_key_more p before e) tt h.leads
 
-keys_begin : (p : ℕ) (before : List Event) (b : Board) (e : Event) (after : Board) → IsApplied p before b e after → Stands p before b → (i : Begun) → begun_told e ≡ Some i → Between 1 i.key after.cells × (i.key < next_key p (before ++ e ∷ []))
+keys_begin : (p : ℕ) (before : List Event) (b : Board) (e : Event) (after : Board) → Advances p before b e after → HasOrderedCells p before b → (i : Begun) → begun_told e ≡ Some i → Between 1 i.key after.cells × (i.key < next_key p (before ++ e ∷ []))
 keys_begin p before b (events.ProcessInstanceCreationCreated c) after h s i is =
     let fresh = both_left (is_fresh p before c.key) _ h.own in
     let f = fresh_is p before c.key fresh in
@@ -90,18 +90,20 @@ keys_begin p before b (events.ProcessInstanceCreationCreated c) after h s i is =
     (subst (λ (x : Board). Between 1 i.key x.cells) same (subst (λ (k : ℕ). Between 1 k b.cells) (sym f.1 ∙ its) s.between), omega (arith, below, its))
 keys_begin p before b e after h s i is = absurd (cc)
 
-pub stands_on : (p : ℕ) (before : List Event) (b : Board) (e : Event) (after : Board) → IsApplied p before b e after → Stands p before b → Stands p (before ++ e ∷ []) after
+-- an event that applies keeps them in order
+pub stands_on : (p : ℕ) (before : List Event) (b : Board) (e : Event) (after : Board) → Advances p before b e after → HasOrderedCells p before b → HasOrderedCells p (before ++ e ∷ []) after
 stands_on p before b e after h s = record {
   between = keys_between p before b e after h s;
   begins = λ i is. keys_begin p before b e after h s i (sym (begun_more before e) ∙ is);
 }
 
-pub stands_first : (p : ℕ) → Stands p [] empty_board
+-- they are in order where there are none
+pub stands_first : (p : ℕ) → HasOrderedCells p [] empty_board
 stands_first p = record {
   between = omega arith;
   begins = λ i is. absurd (cc);
 }
 
 -- the board of a log whose events apply
-pub board_stands : (p : ℕ) (es : List Event) (b : Board) → IsTrue (all_apply p [] es) → board_of es ≡ Some b → Stands p es b
-board_stands p es b apply is = holds_of_all p (Stands p) (stands_on p) es b (stands_first p) apply is
+pub board_stands : (p : ℕ) (es : List Event) (b : Board) → IsTrue (all_apply p [] es) → board_of es ≡ Some b → HasOrderedCells p es b
+board_stands p es b apply is = holds_of_all p (HasOrderedCells p) (stands_on p) es b (stands_first p) apply is

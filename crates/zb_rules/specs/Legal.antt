@@ -1,5 +1,5 @@
 -- Legal moves in a log (BPMN 2.0.2, 13).
-use Rattle.std.specs.Prelude.{◌≡◌, ℕ, List, [], ◌∷◌, ◌++◌, Option, Some, IfSome}
+use Rattle.std.specs.Prelude.{◌≡◌, ℕ, List, [], ◌∷◌, ◌++◌, Some, IfSome}
 use Rattle.zb_model.specs.declared.record.Event.{Event}
 use Rattle.zb_tokens.specs.declared.board.Move.{Move}
 use Rattle.zb_tokens.specs.Board.{Board}

@@ -25,4 +25,5 @@ pub mod PlacedLaws
 pub mod SoundLaws
 pub mod OwnLaws
 pub mod CreateLaws
+pub mod MoversLaws
 pub mod ProgressLaws

@@ -1,5 +1,5 @@
 -- Laws of the models of a board: the definitions of a log stand on it, under keys that were named.
-use Rattle.std.proofs.Common.{◌≡◌, ℕ, ◌≤◌, ◌==◌, List, [], ◌∷◌, ◌++◌, Bool, true, false, if◌then◌else◌, IsTrue, is_some, not, Option, Some, None, option_map, option_and_then, All, refl, sym, ap, ◌∙◌, subst, arith, append-nil}
+use Rattle.std.proofs.Common.{◌≡◌, ℕ, ◌≤◌, ◌==◌, List, [], ◌∷◌, ◌++◌, Bool, true, false, if◌then◌else◌, IsTrue, is_some, not, Option, Some, None, option_map, All, refl, sym, ap, ◌∙◌, subst, arith, append-nil}
 use Rattle.std.specs.Option.{option_map_or, option_or}
 use Rattle.std.specs.List.{find}
 use Rattle.std.specs.Str.{bytes_eq}
@@ -30,7 +30,7 @@ use Rattle.zb_tokens.specs.ForcedLaws.{same_bytes}
 use Rattle.zb_rules.specs.Shown.{shown, after_shown, board_of}
 use Rattle.zb_rules.specs.Applies.{all_apply, is_process_of}
 use Rattle.zb_rules.specs.CellsLaws.{mapped_holds, chained_holds}
-use Rattle.zb_rules.specs.AppliedLaws.{IsApplied, holds_of_all}
+use Rattle.zb_rules.specs.AppliedLaws.{Advances, holds_of_all}
 use Rattle.zb_rules.specs.KeysLaws.{first_named}
 
 -- the model that a move puts on the board
@@ -67,6 +67,7 @@ module _ (b : Board) where
       mapped_holds Kept (with_token c.scope t.flow) (leaving (rest_of c.owed) t.key b) z (λ l left. leaving_only l (rest_of c.owed) t.key left) led) made)
   models_played after (moves.Assign a) made = none_more after (cells_only after (edited (λ c. c.key == a.scope) (with_variable a.name a.value) b.cells) made)
 
+  -- the models after the move that an event shows
   pub models_shown : (after : Board) (move : Option Move) → after_shown b move ≡ Some after → after.models ≡ b.models ++ option_map_or models_made move []
   models_shown after None made = none_more after (ap (λ (x : Board). x.models) (sym (let same : b ≡ after = cc in same)))
   models_shown after (Some move) made = models_played after move made
@@ -84,7 +85,7 @@ told_made : (before : List Event) (e : Event) → option_map_or models_made (sho
 told_made before (events.ElementActivating a) = either_none (a.scope == 0) (moves.Start (record { key = a.key; definition = a.definition })) (moves.Enter (record { key = a.key; scope = a.scope; node = a.node; via = a.via })) refl refl
 told_made before e = refl
 
-models_more : (p : ℕ) (before : List Event) (b : Board) (e : Event) (after : Board) → IsApplied p before b e after → after.models ≡ b.models ++ models_told e
+models_more : (p : ℕ) (before : List Event) (b : Board) (e : Event) (after : Board) → Advances p before b e after → after.models ≡ b.models ++ models_told e
 models_more p before b e after h = models_shown b after (shown before e) h.leads ∙ ap (λ (ms : List Deployed). b.models ++ ms) (told_made before e)
 
 -- among some models the one under a key has this process id
@@ -120,13 +121,13 @@ told_counted p before (events.ProcessCreated e) =
     (omega (arith, named, greatest_counter_more p before (events.ProcessCreated e ∷ []))) (All-nil _)
 told_counted p before e = All-nil (λ (d : Deployed). counter_at p d.key ≤ greatest_counter p (before ++ e ∷ []))
 
-told_defined : (p : ℕ) (before : List Event) (b : Board) (e : Event) (after : Board) → IsApplied p before b e after → All (λ (d : Definition). IsTrue (is_process_among d.key d.process (b.models ++ models_told e))) (definition_told e)
+told_defined : (p : ℕ) (before : List Event) (b : Board) (e : Event) (after : Board) → Advances p before b e after → All (λ (d : Definition). IsTrue (is_process_among d.key d.process (b.models ++ models_told e))) (definition_told e)
 told_defined p before b (events.ProcessCreated e) after h =
     All-cons (λ (d : Definition). IsTrue (is_process_among d.key d.process (b.models ++ record { key = e.key; model = e.model } ∷ []))) (record { key = e.key; version = e.version; process = e.model.process }) []
     (among_new (record { key = e.key; model = e.model }) b.models (none_under (find (λ (x : Deployed). x.key == e.key) b.models) h.fit)) (All-nil _)
 told_defined p before b e after h = All-nil (λ (d : Definition). IsTrue (is_process_among d.key d.process (b.models ++ models_told e)))
 
-knows_on : (p : ℕ) (before : List Event) (b : Board) (e : Event) (after : Board) → IsApplied p before b e after → Knows p before b → Knows p (before ++ e ∷ []) after
+knows_on : (p : ℕ) (before : List Event) (b : Board) (e : Event) (after : Board) → Advances p before b e after → Knows p before b → Knows p (before ++ e ∷ []) after
 knows_on p before b e after h k =
     let models = models_more p before b e after h in
     let Counted : Deployed → Type 0 = λ d. counter_at p d.key ≤ greatest_counter p (before ++ e ∷ []) in

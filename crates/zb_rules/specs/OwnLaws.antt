@@ -1,11 +1,9 @@
 -- The own events of each command apply, where there is no reason against it.
-use Rattle.std.proofs.Common.{◌≡◌, ℕ, ◌+◌, ◌^◌, max, ◌<◌, ◌≤◌, ◌==◌, nat_lt, List, [], ◌∷◌, ◌++◌, map, Bool, true, false, ◌&&◌, ◌||◌, if◌then◌else◌, IsTrue, is_some, not, Option, Some, None, option_map, option_and_then, All, Contains, refl, sym, ap, ◌∙◌, subst, arith, append-nil}
-use Rattle.std.specs.Option.{option_map_or}
+use Rattle.std.proofs.Common.{◌≡◌, ℕ, ◌+◌, ◌≤◌, ◌==◌, List, [], ◌∷◌, ◌++◌, Bool, true, false, ◌||◌, if◌then◌else◌, IsTrue, not, Option, Some, None, option_map, option_and_then, All, refl, sym, ap, ◌∙◌, subst, arith}
 use Rattle.std.specs.List.{find, list_any}
-use Rattle.std.specs.Str.{bytes_eq}
 use Rattle.std.proofs.lemmas.Bool.Decides.{nat_tests}
-use Rattle.std.proofs.lemmas.List.Elements.{All-nil, All-cons, All-head, All-tail}
-use Rattle.std.proofs.lemmas.List.Folds.{find-append, list_any-append}
+use Rattle.std.proofs.lemmas.List.Elements.{All-head, All-tail}
+use Rattle.std.proofs.lemmas.List.Folds.{list_any-append}
 use Rattle.zb_process.specs.declared.model.Model.{Model}
 use Rattle.zb_model.specs.declared.record.Event.{Event}
 use Rattle.zb_model.specs.declared.record.Event.TheVariants as events
@@ -20,7 +18,6 @@ use Rattle.zb_views.specs.Definitions.{definitions, greatest_version}
 use Rattle.zb_tokens.specs.declared.board.Deployed.{Deployed}
 use Rattle.zb_tokens.specs.declared.board.Move.TheVariants as moves
 use Rattle.zb_tokens.specs.Board.{Board, model_under}
-use Rattle.zb_tokens.specs.Game.{fits}
 use Rattle.zb_rules.specs.Shown.{shown, after_shown, board_of}
 use Rattle.zb_rules.specs.Applies.{is_fresh, has_definition, holds_own, holds_of_game, may_fit, applies, all_apply}
 use Rattle.zb_rules.specs.Sound.{HasKeys}
@@ -85,6 +82,7 @@ formed_by m None good none = rw good refl
 formed_by m (Some f) good none = absurd (cc)
 
 module _ (p : ℕ) (es : List Event) (b : Board) (is : board_of es ≡ Some b) (knows : Knows p es b) where
+  -- the own events of a deployment apply
   pub deploy_applies : (m : Model) → HasKeys p es 2 → reason_to_deploy m ≡ None → IsTrue (all_apply p es (deployed p m es))
   deploy_applies m keys none =
       let key = next_key p es in
@@ -112,6 +110,7 @@ module _ (p : ℕ) (es : List Event) (b : Board) (is : board_of es ≡ Some b) (
       silent_applies p (es ++ events.MessagePublished m ∷ []) b (events.MessageExpired m.key) (board_after es b b (events.MessagePublished m) is refl) waits refl in
       rw second refl
 
+  -- the own events of a message apply
   pub publish_applies : (moment : ℕ) (c : MessagePublish) → HasKeys p es 2 → IsTrue (all_apply p es (published_under (next_key p es) moment c))
   publish_applies moment c keys =
       let one : HasKeys p es 1 = omega arith in
@@ -124,6 +123,7 @@ module _ (p : ℕ) (es : List Event) (b : Board) (is : board_of es ≡ Some b) (
   expiry_by key true due a z none = refl
   expiry_by key false due a z none = absurd (cc)
 
+  -- the own event of an expiry applies
   pub expire_applies : (key moment : ℕ) → reason_to_expire es moment key ≡ None → IsTrue (all_apply p es (expired key))
   expire_applies key moment none =
       let waits = expiry_by key (is_buffered key es) (is_due_at moment key es) _ _ none in

@@ -1,5 +1,5 @@
 -- Each cell of a board of a log has its model and stands in a scope, and so does each token; a leaving cell owes a flow.
-use Rattle.std.proofs.Common.{◌≡◌, ◌⊎◌, ℕ, ◌+◌, ◌<◌, ◌≤◌, ◌==◌, length, get_or, List, [], ◌∷◌, ◌++◌, Bool, true, false, ◌&&◌, ◌||◌, not, if◌then◌else◌, IsTrue, IsFalse, is_some, Option, Some, None, option_map, option_and_then, All, refl, inl, inr, ⊎_elim, sym, ap, ◌∙◌, subst, arith}
+use Rattle.std.proofs.Common.{◌≡◌, ◌⊎◌, ℕ, ◌+◌, ◌<◌, ◌==◌, get_or, List, [], ◌∷◌, ◌++◌, Bool, true, false, ◌&&◌, ◌||◌, not, if◌then◌else◌, IsTrue, IsFalse, is_some, Option, Some, None, option_map, All, refl, inl, inr, ⊎_elim, sym, subst, arith}
 use Rattle.std.specs.Option.{option_map_or, option_or, IfSome}
 use Rattle.std.specs.List.{find, list_any}
 use Rattle.std.proofs.lemmas.Bool.{not-true, or_parts}
@@ -8,10 +8,6 @@ use Rattle.std.proofs.lemmas.List.Elements.{All-nil, All-cons, All-head, All-tai
 use Rattle.std.proofs.lemmas.List.Folds.{find-append}
 use Rattle.zb_process.specs.declared.model.Model.{Model}
 use Rattle.zb_process.specs.declared.model.Node.{Node}
-use Rattle.zb_instance_records.specs.declared.instance.ElementActivating.{ElementActivating}
-use Rattle.zb_model.specs.declared.record.Event.{Event}
-use Rattle.zb_model.specs.declared.record.Event.TheVariants as events
-use Rattle.zb_views.specs.View.{next_key}
 use Rattle.zb_tokens.specs.declared.board.Cell.{Cell}
 use Rattle.zb_tokens.specs.declared.board.Token.{Token}
 use Rattle.zb_tokens.specs.declared.board.Deployed.{Deployed}
@@ -25,20 +21,19 @@ use Rattle.zb_tokens.specs.declared.board.Phase.TheVariants as phases
 use Rattle.zb_tokens.specs.Edits.{is_none_of}
 use Rattle.zb_tokens.specs.Board.{Board, cell_at, model_under, start_in, is_phase, is_root, is_empty}
 use Rattle.zb_tokens.specs.MoveEnter.{comes_to}
-use Rattle.zb_tokens.specs.MoveOpen.{start_token, first_tokens}
+use Rattle.zb_tokens.specs.MoveOpen.{start_token}
 use Rattle.zb_tokens.specs.MoveFinish.{is_done, node_goes_on}
 use Rattle.zb_tokens.specs.MoveLeave.{flows_of, are_among}
 use Rattle.zb_tokens.specs.MoveTake.{is_first}
-use Rattle.zb_tokens.specs.Game.{empty_board, fits, played}
+use Rattle.zb_tokens.specs.Game.{fits, played}
 use Rattle.zb_tokens.specs.GameLaws.{both_left, both_right, holds_some}
-use Rattle.zb_rules.specs.Shown.{shown, after_shown, board_of}
-use Rattle.zb_rules.specs.Applies.{begins_instance, begins_cell, is_fresh, may_fit, all_apply}
-use Rattle.zb_rules.specs.AppliedLaws.{IsApplied, some_of, holds_of_all}
+use Rattle.zb_rules.specs.Shown.{after_shown}
+use Rattle.zb_rules.specs.Applies.{may_fit}
+use Rattle.zb_rules.specs.AppliedLaws.{some_of}
 use Rattle.zb_rules.specs.CellsLaws.{Between}
-use Rattle.zb_rules.specs.KeysLaws.{Stands, stands_on, stands_first, begins_by, fresh_is}
 use Rattle.zb_rules.specs.ModelsLaws.{models_shown}
 use Rattle.zb_rules.specs.PlayedLaws.{found_holds, CellKept, TokenKept, cells_played, tokens_played}
-use Rattle.zb_rules.specs.ScopesLaws.{holds_others, is_scope, at_cell, EndsNone, scopes_played, others_finished, opened_scope}
+use Rattle.zb_rules.specs.ScopesLaws.{is_scope, at_cell, scopes_played, others_finished, opened_scope}
 
 -- the model of a cell is there
 abbrev pub HasModel : Board → Cell → Type 0
@@ -80,7 +75,8 @@ model_kept b after (moves.Leave l) still all = λ flow owed is c found has. has
 model_kept b after (moves.Take t) still all = λ flow owed c found has. has
 model_kept b after (moves.Assign a) still all = λ c found has. has
 
-models_on : (b after : Board) (move : Option Move) → after_shown b move ≡ Some after → All (HasModel b) b.cells → All (HasModel after) after.cells
+-- each cell has its model after the move that an event shows
+pub models_on : (b after : Board) (move : Option Move) → after_shown b move ≡ Some after → All (HasModel b) b.cells → All (HasModel after) after.cells
 models_on b after None made all = subst (λ (x : Board). All (HasModel x) x.cells) (let same : b ≡ after = cc in same) all
 models_on b after (Some move) made all =
     let still = models_still b after (Some move) made in
@@ -113,7 +109,8 @@ owes_kept b (moves.Leave l) fit = owes_leave b l fit
 owes_kept b (moves.Take t) fit = owes_take b t fit
 owes_kept b (moves.Assign a) fit = λ c found has. has
 
-owes_on : (b after : Board) (move : Option Move) → IsTrue (may_fit move b) → after_shown b move ≡ Some after → All Owes b.cells → All Owes after.cells
+-- each leaving cell owes a flow after it
+pub owes_on : (b after : Board) (move : Option Move) → IsTrue (may_fit move b) → after_shown b move ≡ Some after → All Owes b.cells → All Owes after.cells
 owes_on b after None fit made all = subst (λ (x : Board). All Owes x.cells) (let same : b ≡ after = cc in same) all
 owes_on b after (Some move) fit made all = cells_played b Owes all after move (owes_kept b move fit) made
 
@@ -179,7 +176,7 @@ placed_still b after (moves.Take t) fit made placed = all_still b after (scopes_
 placed_still b after (moves.Assign a) fit made placed = all_still b after (scopes_played b after (moves.Assign a) fit tt made) placed
 
 -- a cell that enters has a key behind all
-abbrev IsNewIn : Board → Move → Type 0
+abbrev pub IsNewIn : Board → Move → Type 0
 IsNewIn b (moves.Enter e) = Between 1 e.key b.cells
 IsNewIn b _ = Unit {0}
 
@@ -251,7 +248,8 @@ token_kept b after (moves.Open key) fit made owes scopes = opens_kept b after ke
 token_kept b after (moves.Take t) fit made owes scopes = take_kept b after t fit owes scopes
 token_kept b after _ fit made owes scopes = tt
 
-placed_on : (b after : Board) (move : Option Move) → IsTrue (may_fit move b) → IfSome move (IsNewIn b) → after_shown b move ≡ Some after → All Owes b.cells → Placed b → Placed after
+-- each cell and each token stands in a scope after it
+pub placed_on : (b after : Board) (move : Option Move) → IsTrue (may_fit move b) → IfSome move (IsNewIn b) → after_shown b move ≡ Some after → All Owes b.cells → Placed b → Placed after
 placed_on b after None fit new made owes placed = subst Placed (let same : b ≡ after = cc in same) placed
 placed_on b after (Some move) fit new made owes placed =
     let still = placed_still b after move fit made placed in

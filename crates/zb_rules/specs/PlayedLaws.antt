@@ -1,8 +1,7 @@
 -- What holds of each cell and of each token after a move.
-use Rattle.std.proofs.Common.{◌≡◌, ℕ, ◌==◌, List, [], ◌∷◌, ◌++◌, Bool, true, false, if◌then◌else◌, IsTrue, is_some, Option, Some, None, option_map, option_and_then, All, refl, sym, ap, ◌∙◌, subst, arith, append-nil}
+use Rattle.std.proofs.Common.{◌≡◌, ℕ, ◌==◌, List, [], ◌∷◌, ◌++◌, Bool, true, false, if◌then◌else◌, IsTrue, is_some, Option, Some, None, option_map, All, refl, subst}
 use Rattle.std.specs.List.{find}
-use Rattle.std.proofs.lemmas.Bool.Decides.{nat_tests}
-use Rattle.std.proofs.lemmas.List.Elements.{All-nil, All-cons, All-head, All-tail, All-append, All-push}
+use Rattle.std.proofs.lemmas.List.Elements.{All-cons, All-head, All-tail, All-append, All-push}
 use Rattle.zb_tokens.specs.declared.board.Cell.{Cell}
 use Rattle.zb_tokens.specs.declared.board.Token.{Token}
 use Rattle.zb_tokens.specs.declared.board.Spot.TheVariants as spots
@@ -25,6 +24,7 @@ module _ {A : Type 0} (passes : A → Bool) (P : A → Type 0) where
   found_by x y xs true passed here later is = let same : x ≡ y = cc in (subst P same here, subst (λ (z : A). passes z ≡ true) same passed)
   found_by x y xs false passed here later is = later is
 
+  -- and that one passes
   pub found_holds : (xs : List A) (y : A) → All P xs → find passes xs ≡ Some y → P y × (passes y ≡ true)
   found_holds [] y all is = absurd (cc)
   found_holds (x ∷ xs) y all is = found_by x y xs (passes x) refl (All-head P x xs all) (found_holds xs y (All-tail P x xs all)) is
@@ -51,6 +51,7 @@ module _ {A : Type 0} (passes : A → Bool) (P : A → Type 0) where
   removed_by x xs after false (Some rest) all behind made =
       subst (All P) (let same : x ∷ rest ≡ after = cc in same) (All-cons P x rest (All-head P x xs all) (behind rest refl))
 
+  -- what holds of each holds of each without one
   pub removed_all : (xs after : List A) → All P xs → removed passes xs ≡ Some after → All P after
   removed_all [] after all made = absurd (cc)
   removed_all (x ∷ xs) after all made = removed_by x xs after (passes x) (removed passes xs) all (λ rest is. removed_all xs rest (All-tail P x xs all) is) made

@@ -1,7 +1,7 @@
 -- Who is forced has an event that applies; where nobody is, the game is quiet.
-use Rattle.std.proofs.Common.{◌≡◌, ℕ, ◌+◌, ◌^◌, ◌<◌, ◌≤◌, ◌==◌, nat_lt, List, [], ◌∷◌, ◌++◌, map, Bool, true, false, ◌&&◌, if◌then◌else◌, IsTrue, is_some, Option, Some, None, option_map, option_and_then, slice_get, ◌↔◌, refl, sym, ap, ◌∙◌, subst, arith}
-use Rattle.std.specs.List.{find, list_any}
-use Rattle.std.specs.Option.{option_map_or, IfSome}
+use Rattle.std.proofs.Common.{◌≡◌, ℕ, ◌==◌, List, [], ◌∷◌, ◌++◌, map, Bool, true, false, if◌then◌else◌, IsTrue, is_some, Option, Some, None, ◌↔◌, refl, subst, arith}
+use Rattle.std.specs.List.{list_any}
+use Rattle.std.specs.Option.{IfSome}
 use Rattle.std.proofs.lemmas.Bool.Decides.{nat_tests}
 use Rattle.zb_instance_records.specs.declared.instance.Role.TheVariants as roles
 use Rattle.zb_base.specs.declared.vars.Variable.{Variable}
@@ -14,21 +14,17 @@ use Rattle.zb_views.specs.declared.definition.Definition.{Definition}
 use Rattle.zb_views.specs.Definitions.{definition_for}
 use Rattle.zb_model.specs.declared.record.Event.{Event}
 use Rattle.zb_model.specs.declared.record.Event.TheVariants as events
-use Rattle.zb_views.specs.View.{greatest_counter, next_key}
+use Rattle.zb_views.specs.View.{next_key}
 use Rattle.zb_tokens.specs.declared.board.Cell.{Cell}
-use Rattle.zb_tokens.specs.declared.board.Token.{Token}
 use Rattle.zb_tokens.specs.declared.board.Enter.{Enter}
 use Rattle.zb_tokens.specs.declared.board.Move.{Move}
 use Rattle.zb_tokens.specs.declared.board.Move.TheVariants as moves
 use Rattle.zb_tokens.specs.declared.board.Mover.{Mover}
-use Rattle.zb_tokens.specs.declared.board.Mover.TheVariants as movers
-use Rattle.zb_tokens.specs.declared.board.Phase.{Phase}
-use Rattle.zb_tokens.specs.declared.board.Phase.TheVariants as phases
 use Rattle.zb_tokens.specs.Board.{Board, CellsAscend, cell_at}
 use Rattle.zb_tokens.specs.MoveEnter.{comes_to}
 use Rattle.zb_tokens.specs.Game.{fits, agrees, played}
-use Rattle.zb_tokens.specs.GameLaws.{both_left, both_right, holds_some, mapped_some, fitting_is_played}
-use Rattle.zb_tokens.specs.Forced.{next_mover, move_in, take_first, entry_of, move_of, way_of}
+use Rattle.zb_tokens.specs.GameLaws.{both_left, both_right, holds_some, mapped_some}
+use Rattle.zb_tokens.specs.Forced.{next_mover, move_of}
 use Rattle.zb_tokens.specs.ForcedLaws.{movers_move, movers_fit, movers_agree}
 use Rattle.zb_rules.specs.Shown.{shown, after_shown, board_of, event_of}
 use Rattle.zb_rules.specs.Applies.{is_fresh, holds_own, holds_of_game, may_fit, applies, all_apply, is_definition_of}
@@ -45,63 +41,10 @@ use Rattle.zb_rules.specs.ModelsLaws.{Knows, board_knows}
 use Rattle.zb_rules.specs.OwnLaws.{deploy_applies, publish_applies, expire_applies}
 use Rattle.zb_rules.specs.CreateLaws.{create_applies}
 use Rattle.zb_rules.specs.Sound.{HasKeys, HasOrderedNames, IsForcedEvent}
-use Rattle.zb_rules.specs.GrowthLaws.{board_of_more}
-use Rattle.zb_rules.specs.AppliedLaws.{applied_from, some_of, game_holds, game_holds_from, applied_board, board_behind, IsApplied}
-use Rattle.zb_rules.specs.KeysLaws.{Stands, board_stands}
+use Rattle.zb_rules.specs.MoversLaws.{IsMade, mover_made, found_key, from_none, event_there}
+use Rattle.zb_rules.specs.AppliedLaws.{applied_from, some_of, game_holds_from, applied_board, board_behind}
+use Rattle.zb_rules.specs.KeysLaws.{HasOrderedCells, board_stands}
 use Rattle.zb_rules.specs.SoundLaws.{board_is_there, cells_ascend}
-
--- the moves that a mover makes, where a new cell gets this key
-abbrev IsMade : ℕ → Move → Type 0
-IsMade key (moves.Stand d) = ⊥
-IsMade key (moves.Start s) = ⊥
-IsMade key (moves.Assign a) = ⊥
-IsMade key (moves.Enter e) = e.key ≡ key
-IsMade key _ = Unit {0}
-
-some_made : (key : ℕ) (a b : Move) → IsMade key a → Some a ≡ Some b → IsMade key b
-some_made key a b made is = subst (IsMade key) (let same : a ≡ b = cc in same) made
-
-first_made : (key cell : ℕ) (owed : List (List ℕ)) (move : Move) → take_first cell owed ≡ Some move → IsMade key move
-first_made key cell [] move is = absurd (cc)
-first_made key cell (flow ∷ owed) move is = some_made key (moves.Take (record { key = cell; flow = flow })) move tt is
-
-phase_made : (b : Board) (key : ℕ) (c : Cell) (phase : Phase) (move : Move) → move_in b c phase ≡ Some move → IsMade key move
-phase_made b key c phases.Activating move is = some_made key (moves.Open c.key) move tt is
-phase_made b key c phases.Active move is = some_made key (moves.Finish c.key) move tt is
-phase_made b key c phases.Completing move is = some_made key _ move tt is
-phase_made b key c phases.Leaving move is = first_made key c.key c.owed move is
-phase_made b key c phases.Terminating move is = absurd (cc)
-
-cell_made : (b : Board) (key : ℕ) (found : Option Cell) (move : Move) → option_and_then (λ (c : Cell). move_in b c c.phase) found ≡ Some move → IsMade key move
-cell_made b key None move is = absurd (cc)
-cell_made b key (Some c) move is = phase_made b key c c.phase move is
-
-way_made : (key : ℕ) (t : Token) (way : Option (List ℕ × List ℕ)) (move : Move)
-    → option_map (λ (w : List ℕ × List ℕ). moves.Enter (record { key = key; scope = t.scope; node = w.0; via = w.1 })) way ≡ Some move → IsMade key move
-way_made key t None move is = absurd (cc)
-way_made key t (Some way) move is = some_made key (moves.Enter (record { key = key; scope = t.scope; node = way.0; via = way.1 })) move refl is
-
-token_made : (b : Board) (key : ℕ) (found : Option Token) (move : Move) → option_and_then (entry_of b key) found ≡ Some move → IsMade key move
-token_made b key None move is = absurd (cc)
-token_made b key (Some t) move is = way_made key t (way_of b t) move is
-
-mover_made : (b : Board) (moment key : ℕ) (mover : Mover) (move : Move) → move_of b moment key mover ≡ Some move → IsMade key move
-mover_made b moment key (movers.Cell cell) move is = cell_made b key (cell_at b cell) move is
-mover_made b moment key (movers.Token place) move is = token_made b key (slice_get b.tokens place) move is
-
--- a cell that is found has a key of its own
-found_by : (low key : ℕ) (cells : List Cell) (x c : Cell) (t : Bool) → low ≤ x.key → (x.key == key) ≡ t → (find (λ y. y.key == key) cells ≡ Some c → x.key + 1 ≤ key)
-    → (if t then Some x else find (λ y. y.key == key) cells) ≡ Some c → low ≤ key
-found_by low key cells x c true above same later is = grind (arith, nat_tests)
-found_by low key cells x c false above other later is = omega (arith, later is)
-
-found_key : (low key : ℕ) (cells : List Cell) (c : Cell) → CellsAscend low cells → find (λ x. x.key == key) cells ≡ Some c → low ≤ key
-found_key low key [] c up is = absurd (cc)
-found_key low key (x ∷ cells) c up is = found_by low key cells x c (x.key == key) up.0 refl (found_key (x.key + 1) key cells c up.1) is
-
-from_none : (cells : List Cell) → CellsAscend 1 cells → CellsAscend 0 cells
-from_none [] up = tt
-from_none (c ∷ cells) up = (omega arith, up.1)
 
 module _ (p moment : ℕ) (es : List Event) (b : Board) (mover : Mover) (is : board_of es ≡ Some b) where
   event_by : (move : Move) (e : Event) → move_of b moment (next_key p es) mover ≡ Some move → IsTrue (fits b move) → IsTrue (agrees b moment move)
@@ -166,33 +109,40 @@ made_by p moment es e b (Some move) shows is h each =
       legal = record { fit = fit; agreed = each move shows; leads = led };
     }
 
+-- the event makes its move legally
 pub made_legally : (p moment : ℕ) (es : List Event) (e : Event) → IsTrue (applies p es e)
     → ((b : Board) (move : Move) → board_of es ≡ Some b → shown es e ≡ Some move → IsTrue (agrees b moment move)) → IfSome (shown es e) (IsMadeLegally moment es e)
 made_legally p moment es e h each =
     let found = some_of (board_of es) (holds_some _ (board_of es) (both_right (holds_own p es e) _ h)) in
     made_by p moment es e found.0 (shown es e) refl found.1 h (λ m. each found.0 m found.1)
 
--- the turn of a mover is there exactly where somebody is forced
-turn_there : (p n moment : ℕ) (es : List Event) (b : Board) (mover : Mover) → board_of es ≡ Some b → next_mover b ≡ Some mover → IsForcedEvent p moment es b mover → turn p n moment es ≡ None → ⊥
-unfolding turn
-turn_there p n moment es b mover is next forced none =
-    let its : turn_of p n moment es b mover ≡ None = rw (is, next) at none in
-    let made : turn_of p n moment es b mover ≡ Some (forced.event ∷ []) = rw (forced.is_move, forced.is_event) refl in
-    cc
+turn_made : (p n moment : ℕ) (es : List Event) (b : Board) (mover : Mover) (move : Move) (e : Event) → move_of b moment (next_key p es) mover ≡ Some move → event_of b move ≡ Some e → turn_of p n moment es b mover ≡ Some (e ∷ [])
+turn_made p n moment es b mover move e made told = rw (made, told) refl
 
-quiet_by : (p n moment : ℕ) (es : List Event) (b : Board) (next : Option Mover) → board_of es ≡ Some b → next_mover b ≡ next
-    → ((mover : Mover) → next_mover b ≡ Some mover → IsForcedEvent p moment es b mover) → turn p n moment es ≡ None → HasQuietGame es
-quiet_by p n moment es b None is nobody forced none = record { board = b; is = is; quiet = nobody }
-quiet_by p n moment es b (Some mover) is next forced none = absurd (turn_there p n moment es b mover is next (forced mover next) none)
+turn_there : (p n moment : ℕ) (es : List Event) (b : Board) (mover : Mover) → CellsAscend 0 b.cells → next_mover b ≡ Some mover → IsTrue (is_some (turn_of p n moment es b mover))
+turn_there p n moment es b mover up next =
+    let found = some_of (move_of b moment (next_key p es) mover) (movers_move b moment (next_key p es) mover up next) in
+    let event = some_of (event_of b found.0) (event_there b (next_key p es) found.0 (mover_made b moment (next_key p es) mover found.0 found.1) (movers_fit b moment (next_key p es) mover found.0 up next found.1)) in
+    let made : turn_of p n moment es b mover ≡ Some (event.0 ∷ []) = turn_made p n moment es b mover found.0 event.0 found.1 event.1 in
+    rw made refl
+
+quiet_by : (p n moment : ℕ) (es : List Event) (b : Board) (next : Option Mover) → board_of es ≡ Some b → next_mover b ≡ next → CellsAscend 0 b.cells → turn p n moment es ≡ None → HasQuietGame es
+unfolding turn
+quiet_by p n moment es b None is nobody up none = record { board = b; is = is; quiet = nobody }
+quiet_by p n moment es b (Some mover) is next up none =
+    let its : turn_of p n moment es b mover ≡ None = rw (is, next) at none in
+    let there = turn_there p n moment es b mover up next in
+    absurd (let missing : IsTrue (is_some {T = List Event} None) = rw its at there in cc)
 
 no_turn : (p n moment : ℕ) (es : List Event) → HasQuietGame es → turn p n moment es ≡ None
 unfolding turn
 no_turn p n moment es q = rw (q.is, q.quiet) refl
 
-pub no_turn_is_quiet : (p n moment : ℕ) (es : List Event) → IsTrue (all_apply p [] es) → HasKeys p es 1 → turn p n moment es ≡ None ↔ HasQuietGame es
-no_turn_is_quiet p n moment es apply keys =
+-- the turn of a mover is there exactly where somebody is forced
+pub no_turn_is_quiet : (p n moment : ℕ) (es : List Event) → IsTrue (all_apply p [] es) → turn p n moment es ≡ None ↔ HasQuietGame es
+no_turn_is_quiet p n moment es apply =
     let found = some_of (board_of es) (board_is_there p es apply) in
-    (quiet_by p n moment es found.0 (next_mover found.0) found.1 refl (λ mover. forced_event p moment es found.0 mover apply keys found.1), no_turn p n moment es)
+    (quiet_by p n moment es found.0 (next_mover found.0) found.1 refl (from_none found.0.cells (cells_ascend p es found.0 apply found.1)), no_turn p n moment es)
 
 -- a command without a reason against it has own events
 asked_there : (latest asked : Option Definition) (c : ProcessInstanceCreationCreate) → reason_by latest asked c ≡ None → IsTrue (is_some asked)
@@ -200,6 +150,7 @@ asked_there None asked c none = absurd (cc)
 asked_there (Some latest) None c none = absurd (cc)
 asked_there (Some latest) (Some asked) c none = refl
 
+-- so they are there
 pub own_there : (p n : ℕ) (es : List Event) (moment : ℕ) (command : Command) → IsSupported command → reason_for es moment command ≡ None → IsTrue (is_some (own_events p n es moment command))
 own_there p n es moment (commands.DeploymentCreate m) supported none = refl
 own_there p n es moment (commands.ProcessInstanceCreationCreate c) supported none =
@@ -265,7 +216,7 @@ pub own_legal : (p n : ℕ) (es : List Event) (moment : ℕ) (command : Command)
 own_legal p n es moment command own apply is = legal_by p moment es own (own_never p n es moment command own is) apply
 
 -- the own events of a command without a reason apply
-own_apply_by : (p n : ℕ) (es : List Event) (b : Board) (moment : ℕ) (command : Command) (own : List Event) → board_of es ≡ Some b → Stands p es b → Knows p es b → HasKeys p es 2 → HasOrderedNames command
+own_apply_by : (p n : ℕ) (es : List Event) (b : Board) (moment : ℕ) (command : Command) (own : List Event) → board_of es ≡ Some b → HasOrderedCells p es b → Knows p es b → HasKeys p es 2 → HasOrderedNames command
     → IsSupported command → reason_for es moment command ≡ None → own_events p n es moment command ≡ Some own → IsTrue (all_apply p es own)
 own_apply_by p n es b moment (commands.DeploymentCreate m) own is stands knows keys ordered supported none made =
     subst (λ (x : List Event). IsTrue (all_apply p es x)) (let same : deployed p m es ≡ own = cc in same) (deploy_applies p es b is knows m keys none)
@@ -276,6 +227,7 @@ own_apply_by p n es b moment (commands.MessageExpire key) own is stands knows ke
     subst (λ (x : List Event). IsTrue (all_apply p es x)) (let same : expired key ≡ own = cc in same) (expire_applies p es b is knows key moment none)
 own_apply_by p n es b moment _ own is stands knows keys ordered supported none made = absurd supported
 
+-- behind any log whose events apply
 pub own_apply : (p n : ℕ) (es : List Event) (moment : ℕ) (command : Command) (own : List Event) → IsTrue (all_apply p [] es) → HasKeys p es 2 → HasOrderedNames command
     → IsSupported command → reason_for es moment command ≡ None → own_events p n es moment command ≡ Some own → IsTrue (all_apply p es own)
 own_apply p n es moment command own apply keys ordered supported none made =

@@ -1,10 +1,9 @@
 -- Scopes: a root that is active. A move keeps each that something is in.
-use Rattle.std.proofs.Common.{◌≡◌, ℕ, ◌+◌, ◌<◌, ◌≤◌, ◌==◌, List, [], ◌∷◌, ◌++◌, Bool, true, false, ◌&&◌, ◌||◌, not, if◌then◌else◌, IsTrue, is_some, Option, Some, None, option_map, option_and_then, All, refl, sym, ap, ◌∙◌, subst, arith}
+use Rattle.std.proofs.Common.{◌≡◌, ℕ, ◌==◌, List, [], ◌∷◌, ◌++◌, Bool, true, false, ◌&&◌, if◌then◌else◌, IsTrue, Option, Some, None, option_map, refl, sym, ap, ◌∙◌, subst, arith}
 use Rattle.std.specs.Option.{option_map_or, option_or}
-use Rattle.std.specs.List.{find, list_any}
+use Rattle.std.specs.List.{find}
 use Rattle.std.proofs.lemmas.Bool.{and_right}
 use Rattle.std.proofs.lemmas.Bool.Decides.{nat_tests}
-use Rattle.std.proofs.lemmas.List.Elements.{All-nil, All-cons}
 use Rattle.std.proofs.lemmas.List.Folds.{find-append}
 use Rattle.zb_tokens.specs.declared.board.Cell.{Cell}
 use Rattle.zb_tokens.specs.declared.board.Move.{Move}
@@ -18,12 +17,11 @@ use Rattle.zb_tokens.specs.Edits.{edited, removed, is_none_of}
 use Rattle.zb_tokens.specs.Board.{Board, cell_at, model_under, new_cell, in_phase, is_phase, is_root}
 use Rattle.zb_tokens.specs.MoveEnter.{comes_to}
 use Rattle.zb_tokens.specs.MoveOpen.{first_tokens, opens}
-use Rattle.zb_tokens.specs.MoveFinish.{is_done}
 use Rattle.zb_tokens.specs.MoveLeave.{leaving, flows_of, are_among}
 use Rattle.zb_tokens.specs.MoveTake.{rest_of, with_token, is_first}
 use Rattle.zb_tokens.specs.MoveAssign.{with_variable}
 use Rattle.zb_tokens.specs.Game.{fits, played}
-use Rattle.zb_tokens.specs.GameLaws.{both_left, both_right, holds_some}
+use Rattle.zb_tokens.specs.GameLaws.{both_left, holds_some}
 use Rattle.zb_rules.specs.CellsLaws.{mapped_holds, chained_holds}
 use Rattle.zb_rules.specs.AppliedLaws.{some_of}
 
@@ -132,6 +130,7 @@ edited_here key edit x c cells after false (Some rest) keeps other behind found 
     let here : find (λ (y : Cell). y.key == key) (x ∷ rest) ≡ Some (edit c) = rw other (behind rest refl found) in
     subst (λ (cs : List Cell). find (λ (y : Cell). y.key == key) cs ≡ Some (edit c)) is here
 
+-- it is found as it was edited
 pub edited_found : (key : ℕ) (edit : Cell → Cell) (c : Cell) (cells after : List Cell) → ((y : Cell) → (edit y).key ≡ y.key) → find (λ (y : Cell). y.key == key) cells ≡ Some c
     → edited (λ (y : Cell). y.key == key) edit cells ≡ Some after → find (λ (y : Cell). y.key == key) after ≡ Some (edit c)
 edited_found key edit c [] after keeps found made = absurd (cc)

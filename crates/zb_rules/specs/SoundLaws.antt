@@ -1,29 +1,27 @@
 -- What holds of the board of every log whose events apply.
-use Rattle.std.proofs.Common.{◌≡◌, ℕ, ◌+◌, ◌^◌, max, ◌<◌, ◌≤◌, ◌==◌, nat_lt, List, [], ◌∷◌, ◌++◌, Bool, true, false, ◌&&◌, if◌then◌else◌, IsTrue, is_some, Option, Some, None, option_map, option_and_then, refl, sym, ap, ◌∙◌, subst, arith, append-nil, append_assoc}
-use Rattle.std.specs.List.{flat_map}
-use Rattle.std.specs.Option.{option_map_or, IfSome}
-use Rattle.std.specs.Str.{bytes_eq}
-use Rattle.std.proofs.lemmas.Bool.Decides.{nat_tests}
-use Rattle.zb_base.specs.Key.{key_of}
+use Rattle.std.proofs.Common.{◌≡◌, ◌⊎◌, ℕ, ◌<◌, ◌==◌, List, [], ◌∷◌, ◌++◌, Bool, true, false, if◌then◌else◌, IsTrue, IsFalse, is_some, Some, All, refl, inl, inr, ⊎_elim, sym, subst}
+use Rattle.std.specs.Option.{IfSome}
+use Rattle.std.proofs.lemmas.List.Elements.{All-nil, All-weaker}
 use Rattle.zb_instance_records.specs.declared.instance.ElementActivating.{ElementActivating}
 use Rattle.zb_model.specs.declared.record.Event.{Event}
 use Rattle.zb_model.specs.declared.record.Event.TheVariants as events
-use Rattle.zb_views.specs.View.{keys_in, counter_at, greatest_among, greatest_counter, next_key}
-use Rattle.zb_views.specs.ViewLaws.{greatest_counter_more, begun_more}
-use Rattle.zb_views.specs.CounterLaws.{counter_at-key_of}
-use Rattle.zb_views.specs.Begin.{begun_told, begun}
-use Rattle.zb_views.specs.declared.begun.Begun.{Begun}
-use Rattle.zb_tokens.specs.declared.board.Move.{Move}
+use Rattle.zb_views.specs.View.{next_key}
+use Rattle.zb_tokens.specs.declared.board.Cell.{Cell}
+use Rattle.zb_tokens.specs.declared.board.Token.{Token}
 use Rattle.zb_tokens.specs.declared.board.Move.TheVariants as moves
-use Rattle.zb_tokens.specs.Board.{Board, CellsAscend}
-use Rattle.zb_tokens.specs.Game.{empty_board, fits, played}
-use Rattle.zb_tokens.specs.GameLaws.{both_left, both_right, fitting_is_played}
-use Rattle.zb_rules.specs.Shown.{shown, after_shown, board_of}
-use Rattle.zb_rules.specs.Applies.{is_fresh, is_plain, begins_instance, begins_cell, begins_well, holds_own, holds_of_game, may_fit, applies, all_apply, is_process_of, is_definition_of}
-use Rattle.zb_rules.specs.GrowthLaws.{board_of_more}
-use Rattle.zb_rules.specs.CellsLaws.{Between, ascend_between, ordered_between, between_higher, key_made, between_played}
-use Rattle.zb_rules.specs.AppliedLaws.{IsApplied, holds_on, holds_of_all}
-use Rattle.zb_rules.specs.KeysLaws.{Stands, board_stands}
+use Rattle.zb_tokens.specs.declared.board.Phase.TheVariants as phases
+use Rattle.zb_tokens.specs.Edits.{is_none_of}
+use Rattle.zb_tokens.specs.Board.{Board, CellsAscend, cell_at, is_phase}
+use Rattle.zb_tokens.specs.Game.{empty_board}
+use Rattle.zb_tokens.specs.GameLaws.{both_left, holds_some}
+use Rattle.zb_rules.specs.Shown.{shown, board_of}
+use Rattle.zb_rules.specs.Applies.{is_fresh, begins_instance, begins_cell, all_apply}
+use Rattle.zb_rules.specs.Sound.{IsSound}
+use Rattle.zb_rules.specs.CellsLaws.{Between, ascend_between}
+use Rattle.zb_rules.specs.AppliedLaws.{Advances, holds_on, holds_of_all}
+use Rattle.zb_rules.specs.KeysLaws.{HasOrderedCells, board_stands, stands_on, stands_first, begins_by, fresh_is}
+use Rattle.zb_rules.specs.ScopesLaws.{holds_others, is_scope}
+use Rattle.zb_rules.specs.PlacedLaws.{HasModel, Owes, InScope, IsIn, Placed, IsNewIn, models_on, owes_on, placed_on}
 
 -- the board of a log whose events apply is there
 pub board_is_there : (p : ℕ) (es : List Event) → IsTrue (all_apply p [] es) → IsTrue (is_some (board_of es))
@@ -34,3 +32,56 @@ board_is_there p es apply =
 -- its cells ascend, and none has the key 0
 pub cells_ascend : (p : ℕ) (es : List Event) (b : Board) → IsTrue (all_apply p [] es) → board_of es ≡ Some b → CellsAscend 1 b.cells
 cells_ascend p es b apply is = ascend_between 1 (next_key p es) b.cells (board_stands p es b apply is).between
+
+-- where a cell enters, its key is behind all
+new_by : (p : ℕ) (before : List Event) (b : Board) (a : ElementActivating) (t : Bool) → HasOrderedCells p before b → IsTrue (if t then begins_instance before a else begins_cell p before a)
+    → IfSome (if t then Some (moves.Start (record { key = a.key; definition = a.definition })) else Some (moves.Enter (record { key = a.key; scope = a.scope; node = a.node; via = a.via }))) (IsNewIn b)
+new_by p before b a true stands begins = tt
+new_by p before b a false stands begins =
+    let f = fresh_is p before a.key (both_left (is_fresh p before a.key) _ begins) in
+    subst (λ (k : ℕ). Between 1 k b.cells) (sym f.1) stands.between
+
+shown_new : (p : ℕ) (before : List Event) (b : Board) (e : Event) (after : Board) → Advances p before b e after → HasOrderedCells p before b → IfSome (shown before e) (IsNewIn b)
+shown_new p before b (events.ElementActivating a) after h stands = new_by p before b a (a.scope == 0) stands (begins_by p before a h.own)
+shown_new p before b e after h stands = tt
+
+-- what each event keeps of the board
+record Keeps (p : ℕ) (es : List Event) (b : Board) : Type 0 where
+  stands : HasOrderedCells p es b
+  models : All (HasModel b) b.cells
+  owes : All Owes b.cells
+  placed : Placed b
+
+keeps_on : (p : ℕ) (before : List Event) (b : Board) (e : Event) (after : Board) → Advances p before b e after → Keeps p before b → Keeps p (before ++ e ∷ []) after
+keeps_on p before b e after h k = record {
+  stands = stands_on p before b e after h k.stands;
+  models = models_on b after (shown before e) h.leads k.models;
+  owes = owes_on b after (shown before e) h.fit h.leads k.owes;
+  placed = placed_on b after (shown before e) h.fit (shown_new p before b e after h k.stands) h.leads k.owes k.placed;
+}
+
+keeps_first : (p : ℕ) → Keeps p [] empty_board
+keeps_first p = record {
+  stands = stands_first p;
+  models = All-nil (HasModel empty_board);
+  owes = All-nil Owes;
+  placed = record { scopes = All-nil (InScope empty_board); tokens = All-nil (IsIn empty_board) };
+}
+
+-- a scope is a cell that is there
+scope_there : (b : Board) (key : ℕ) → IsTrue (is_scope b key) → IsTrue (is_some (cell_at b key))
+scope_there b key is = holds_some holds_others (cell_at b key) is
+
+sound_from : (p : ℕ) (es : List Event) (b : Board) → Keeps p es b → IsSound b
+sound_from p es b k = record {
+  cells = ascend_between 1 (next_key p es) b.cells k.stands.between;
+  scopes = All-weaker (InScope b) (λ (c : Cell). (c.scope ≡ 0) ⊎ (IsTrue (is_some (cell_at b c.scope)) × (c.scope < c.key)))
+      (λ c is. ⊎_elim (λ root. inl root) (λ r. inr (scope_there b c.scope r.0, r.1)) is) b.cells k.placed.scopes;
+  models = k.models;
+  tokens = All-weaker (IsIn b) (λ (t : Token). IsTrue (is_some (cell_at b t.scope))) (λ t is. scope_there b t.scope is) b.tokens k.placed.tokens;
+  leaving = All-weaker Owes (λ (c : Cell). IsTrue (is_phase c.phase phases.Leaving) → IsFalse (is_none_of c.owed)) (λ c owes phase. (owes phase).0) b.cells k.owes;
+}
+
+-- the board of a log whose events apply is sound
+pub board_is_sound : (p : ℕ) (es : List Event) (b : Board) → IsTrue (all_apply p [] es) → board_of es ≡ Some b → IsSound b
+board_is_sound p es b apply is = sound_from p es b (holds_of_all p (Keeps p) (keeps_on p) es b (keeps_first p) apply is)

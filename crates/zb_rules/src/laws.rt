@@ -1,11 +1,22 @@
-ghost use Rattle.std.specs.Prelude.{◌≡◌, ◌≤◌, ◌<◌, ℕ, List, Some, None, All};
+ghost use Rattle.std.specs.Prelude.{◌≡◌, ◌≤◌, ◌<◌, ◌↔◌, ℕ, List, [], Option, Some, None, All, IsTrue, is_some};
+ghost use Rattle.std.specs.Option.{IfSome};
 ghost use Rattle.zb_exchange_records.specs.declared.message.MessagePublished.{MessagePublished};
 ghost use Rattle.zb_model.specs.declared.record.Command.{Command};
 ghost use Rattle.zb_model.specs.declared.record.Command.TheVariants as commands;
 ghost use Rattle.zb_model.specs.declared.record.Event.{Event};
 ghost use Rattle.zb_views.specs.Messages.{buffered};
+ghost use Rattle.zb_tokens.specs.declared.board.Move.{Move};
+ghost use Rattle.zb_tokens.specs.declared.board.Mover.{Mover};
+ghost use Rattle.zb_tokens.specs.Board.{Board};
+ghost use Rattle.zb_tokens.specs.Game.{agrees};
+ghost use Rattle.zb_tokens.specs.Forced.{next_mover};
+ghost use Rattle.zb_rules.specs.Shown.{shown, board_of};
+ghost use Rattle.zb_rules.specs.Applies.{applies, all_apply};
+ghost use Rattle.zb_rules.specs.Legal.{IsMadeLegally, AllLegal};
+ghost use Rattle.zb_rules.specs.Settling.{turn, HasQuietGame};
+ghost use Rattle.zb_rules.specs.Sound.{IsSound, HasKeys, HasOrderedNames, IsForcedEvent};
 ghost use Rattle.zb_rules.specs.Reason.{reason_for};
-ghost use Rattle.zb_rules.specs.Own.{IsSupported};
+ghost use Rattle.zb_rules.specs.Own.{IsSupported, own_events};
 ghost use Rattle.zb_rules.specs.Due.{due_command, IsFirstDue};
 
 /// The command that is due first expires a message that is buffered and due, and no other one that is comes
@@ -20,4 +31,44 @@ pub fn due_commands_come_first()
 pub fn due_commands_have_no_reason()
     ensures no_reason { (now moment : ℕ) (es : List Event) (command : Command) → now ≤ moment → due_command now es ≡ Some command → reason_for es moment command ≡ None }
     ensures run { (now : ℕ) (es : List Event) (command : Command) → due_command now es ≡ Some command → IsSupported command }
+{}
+
+/// A log whose events apply has a board, and that is sound: its cells ascend, each has its model and stands in
+/// an earlier cell or in none, each token stands in a cell, and a cell that leaves owes a flow.
+pub fn boards_of_logs_are_sound()
+    ensures there { (p : ℕ) (es : List Event) → IsTrue (all_apply p [] es) → IsTrue (is_some (board_of es)) }
+    ensures sound { (p : ℕ) (es : List Event) (board : Board) → IsTrue (all_apply p [] es) → board_of es ≡ Some board → IsSound board }
+{}
+
+/// Who is forced behind a log whose events apply has an event, where a key is left: that applies, and shows the
+/// move of the mover, which agrees with what it evaluates.
+pub fn forced_events_apply()
+    ensures { (p moment : ℕ) (es : List Event) (board : Board) (mover : Mover) → IsTrue (all_apply p [] es) → HasKeys p es 1
+        → board_of es ≡ Some board → next_mover board ≡ Some mover → IsForcedEvent p moment es board mover }
+{}
+
+/// Behind a log whose events apply there is no turn exactly where the game is quiet.
+pub fn no_turn_is_quiet()
+    ensures { (p n moment : ℕ) (es : List Event) → IsTrue (all_apply p [] es)
+        → (turn p n moment es ≡ None) ↔ HasQuietGame es }
+{}
+
+/// An event that applies makes the move that it shows legally, where that agrees with what it evaluates.
+pub fn applied_moves_are_legal()
+    ensures { (p moment : ℕ) (es : List Event) (event : Event) → IsTrue (applies p es event)
+        → ((board : Board) (move : Move) → board_of es ≡ Some board → shown es event ≡ Some move → IsTrue (agrees board moment move))
+        → IfSome (shown es event) (IsMadeLegally moment es event) }
+{}
+
+/// A command that is run, and has no reason against it, has own events. Behind a log whose events apply, and where
+/// two keys are left and the names of the command's variables ascend, each of them applies. Of own events that
+/// apply each move is legal.
+pub fn own_events_apply()
+    ensures there { (p n : ℕ) (es : List Event) (moment : ℕ) (command : Command) → IsSupported command
+        → reason_for es moment command ≡ None → IsTrue (is_some (own_events p n es moment command)) }
+    ensures apply { (p n : ℕ) (es : List Event) (moment : ℕ) (command : Command) (own : List Event) → IsTrue (all_apply p [] es)
+        → HasKeys p es 2 → HasOrderedNames command → IsSupported command → reason_for es moment command ≡ None
+        → own_events p n es moment command ≡ Some own → IsTrue (all_apply p es own) }
+    ensures legal { (p n : ℕ) (es : List Event) (moment : ℕ) (command : Command) (own : List Event) → IsTrue (all_apply p es own)
+        → own_events p n es moment command ≡ Some own → AllLegal moment es own }
 {}

@@ -1,0 +1,82 @@
+-- Which moves a mover makes, and that each has an event.
+use Rattle.std.proofs.Common.{◌≡◌, ℕ, ◌+◌, ◌≤◌, ◌==◌, List, [], ◌∷◌, Bool, true, false, if◌then◌else◌, IsTrue, is_some, Option, Some, None, option_map, option_and_then, slice_get, refl, subst, arith}
+use Rattle.std.specs.List.{find, list_any}
+use Rattle.std.proofs.lemmas.Bool.Decides.{nat_tests}
+use Rattle.zb_tokens.specs.declared.board.Cell.{Cell}
+use Rattle.zb_tokens.specs.declared.board.Token.{Token}
+use Rattle.zb_tokens.specs.declared.board.Move.{Move}
+use Rattle.zb_tokens.specs.declared.board.Move.TheVariants as moves
+use Rattle.zb_tokens.specs.declared.board.Mover.{Mover}
+use Rattle.zb_tokens.specs.declared.board.Mover.TheVariants as movers
+use Rattle.zb_tokens.specs.declared.board.Phase.{Phase}
+use Rattle.zb_tokens.specs.declared.board.Phase.TheVariants as phases
+use Rattle.zb_tokens.specs.Board.{Board, CellsAscend, cell_at}
+use Rattle.zb_tokens.specs.MoveEnter.{comes_to}
+use Rattle.zb_tokens.specs.Game.{fits}
+use Rattle.zb_tokens.specs.GameLaws.{both_right, holds_some, mapped_some}
+use Rattle.zb_tokens.specs.Forced.{move_in, take_first, entry_of, move_of, way_of}
+use Rattle.zb_rules.specs.Shown.{event_of}
+
+-- the moves that a mover makes, where a new cell gets this key
+abbrev pub IsMade : ℕ → Move → Type 0
+IsMade key (moves.Stand d) = ⊥
+IsMade key (moves.Start s) = ⊥
+IsMade key (moves.Assign a) = ⊥
+IsMade key (moves.Enter e) = e.key ≡ key
+IsMade key _ = Unit {0}
+
+some_made : (key : ℕ) (a b : Move) → IsMade key a → Some a ≡ Some b → IsMade key b
+some_made key a b made is = subst (IsMade key) (let same : a ≡ b = cc in same) made
+
+first_made : (key cell : ℕ) (owed : List (List ℕ)) (move : Move) → take_first cell owed ≡ Some move → IsMade key move
+first_made key cell [] move is = absurd (cc)
+first_made key cell (flow ∷ owed) move is = some_made key (moves.Take (record { key = cell; flow = flow })) move tt is
+
+phase_made : (b : Board) (key : ℕ) (c : Cell) (phase : Phase) (move : Move) → move_in b c phase ≡ Some move → IsMade key move
+phase_made b key c phases.Activating move is = some_made key (moves.Open c.key) move tt is
+phase_made b key c phases.Active move is = some_made key (moves.Finish c.key) move tt is
+phase_made b key c phases.Completing move is = some_made key _ move tt is
+phase_made b key c phases.Leaving move is = first_made key c.key c.owed move is
+phase_made b key c phases.Terminating move is = absurd (cc)
+
+cell_made : (b : Board) (key : ℕ) (found : Option Cell) (move : Move) → option_and_then (λ (c : Cell). move_in b c c.phase) found ≡ Some move → IsMade key move
+cell_made b key None move is = absurd (cc)
+cell_made b key (Some c) move is = phase_made b key c c.phase move is
+
+way_made : (key : ℕ) (t : Token) (way : Option (List ℕ × List ℕ)) (move : Move)
+    → option_map (λ (w : List ℕ × List ℕ). moves.Enter (record { key = key; scope = t.scope; node = w.0; via = w.1 })) way ≡ Some move → IsMade key move
+way_made key t None move is = absurd (cc)
+way_made key t (Some way) move is = some_made key (moves.Enter (record { key = key; scope = t.scope; node = way.0; via = way.1 })) move refl is
+
+token_made : (b : Board) (key : ℕ) (found : Option Token) (move : Move) → option_and_then (entry_of b key) found ≡ Some move → IsMade key move
+token_made b key None move is = absurd (cc)
+token_made b key (Some t) move is = way_made key t (way_of b t) move is
+
+pub mover_made : (b : Board) (moment key : ℕ) (mover : Mover) (move : Move) → move_of b moment key mover ≡ Some move → IsMade key move
+mover_made b moment key (movers.Cell cell) move is = cell_made b key (cell_at b cell) move is
+mover_made b moment key (movers.Token place) move is = token_made b key (slice_get b.tokens place) move is
+
+-- a cell that is found has a key of its own
+found_by : (low key : ℕ) (cells : List Cell) (x c : Cell) (t : Bool) → low ≤ x.key → (x.key == key) ≡ t → (find (λ y. y.key == key) cells ≡ Some c → x.key + 1 ≤ key)
+    → (if t then Some x else find (λ y. y.key == key) cells) ≡ Some c → low ≤ key
+found_by low key cells x c true above same later is = grind (arith, nat_tests)
+found_by low key cells x c false above other later is = omega (arith, later is)
+
+pub found_key : (low key : ℕ) (cells : List Cell) (c : Cell) → CellsAscend low cells → find (λ x. x.key == key) cells ≡ Some c → low ≤ key
+found_key low key [] c up is = absurd (cc)
+found_key low key (x ∷ cells) c up is = found_by low key cells x c (x.key == key) up.0 refl (found_key (x.key + 1) key cells c up.1) is
+
+pub from_none : (cells : List Cell) → CellsAscend 1 cells → CellsAscend 0 cells
+from_none [] up = tt
+from_none (c ∷ cells) up = (omega arith, up.1)
+
+-- the turn of who is forced is there
+pub event_there : (b : Board) (key : ℕ) (move : Move) → IsMade key move → IsTrue (fits b move) → IsTrue (is_some (event_of b move))
+event_there b key (moves.Stand d) made fit = absurd made
+event_there b key (moves.Start s) made fit = absurd made
+event_there b key (moves.Enter e) made fit = mapped_some _ (cell_at b e.scope) (holds_some _ (cell_at b e.scope) (both_right (list_any (comes_to e.scope e.node e.via) b.tokens) _ fit))
+event_there b key (moves.Open cell) made fit = refl
+event_there b key (moves.Finish cell) made fit = refl
+event_there b key (moves.Leave l) made fit = refl
+event_there b key (moves.Take t) made fit = refl
+event_there b key (moves.Assign a) made fit = absurd made
