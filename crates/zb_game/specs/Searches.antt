@@ -1,6 +1,22 @@
--- What the searches on a board keep as they go on.
-use Rattle.std.specs.Prelude.{ℕ, nat_lt, List, [], ◌∷◌, Bool, true, if◌then◌else◌, Option, Some, None}
+-- Words of the player's own functions.
+use Rattle.std.specs.Prelude.{ℕ, nat_lt, List, [], ◌∷◌, map, filter, Bool, true, false, ◌&&◌, not, if◌then◌else◌, Option, Some, None, option_map}
+use Rattle.std.specs.Option.{option_map_or}
 use Rattle.std.specs.Str.{bytes_eq}
+use Rattle.zb_tokens.specs.declared.board.Cell.{Cell}
+use Rattle.zb_tokens.specs.declared.board.Move.{Move}
+use Rattle.zb_tokens.specs.declared.board.Move.TheVariants as moves
+use Rattle.zb_tokens.specs.Board.{Board, cell_at}
+use Rattle.zb_tokens.specs.Doom.{is_called_off}
+use Rattle.zb_tokens.specs.MoveEnter.{has_way, may_enter}
+use Rattle.zb_tokens.specs.Forced.{greatest, is_forced}
+
+-- the key of a cell that may be there
+abbrev pub key_in : Option Cell → Option ℕ
+key_in found = option_map (λ c. c.key) found
+
+-- the greatest key of the cells that are forced
+abbrev pub newest_key : Board → Option ℕ
+newest_key b = greatest (map (λ c. c.key) (filter (is_forced b) b.cells))
 
 -- a key is greater than the best so far
 abbrev pub is_newer : ℕ → Option ℕ → Bool
@@ -11,3 +27,15 @@ is_newer key (Some best) = nat_lt best key
 abbrev pub left_after : List (List ℕ) → List ℕ → List (List ℕ)
 left_after [] id = []
 left_after (first ∷ rest) id = if bytes_eq first id then rest else first ∷ rest
+
+-- nothing calls a scope off, and in its definition the flow leads to the node
+abbrev pub lets_in : Board → ℕ → List ℕ → List ℕ → Bool
+lets_in b scope node via = option_map_or (λ c. not (is_called_off b.cells b scope) && has_way b c.definition node via) (cell_at b scope) false
+
+-- a token in a scope can enter by the way that it has
+abbrev pub enters_by : Board → ℕ → Option (List ℕ × List ℕ) → Bool
+enters_by b scope way = option_map_or (λ w. may_enter b scope w.0 w.1) way false
+
+-- how a token in a scope enters by the way that it has, where the new cell gets this key
+abbrev pub entry_by : ℕ → ℕ → Option (List ℕ × List ℕ) → Option Move
+entry_by key scope way = option_map (λ w. moves.Enter (record { key = key; scope = scope; node = w.0; via = w.1 })) way

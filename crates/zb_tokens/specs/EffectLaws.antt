@@ -21,7 +21,7 @@ use Rattle.zb_tokens.specs.MoveTake.{rest_of, with_token}
 use Rattle.zb_tokens.specs.MoveAssign.{with_variable}
 use Rattle.zb_tokens.specs.Game.{played}
 use Rattle.zb_tokens.specs.GameLaws.{both_left}
-use Rattle.zb_tokens.specs.Effects.{names_scope, other_cells, other_tokens, is_stand, IsWithoutFirst}
+use Rattle.zb_tokens.specs.Effects.{names_scope, other_cells, other_tokens, is_other, is_stand, IsWithoutFirst}
 
 same_key : (key : ℕ) → (key == key) ≡ true
 same_key key = grind (arith, nat_tests)
@@ -94,15 +94,11 @@ module _ {A : Type 0} (keep : A → Bool) where
     removed_keeps [] ys is = absurd (cc)
     removed_keeps (x ∷ xs) ys is = removed_by (passes x) x xs ys refl (removed_keeps xs) is
 
--- all but the cell with a key
-abbrev is_other : ℕ → Cell → Bool
-is_other key c = not (c.key == key)
-
-key_apart : (key : ℕ) (c : Cell) → (c.key == key) ≡ true → is_other key c ≡ false
+pub key_apart : (key : ℕ) (c : Cell) → (c.key == key) ≡ true → is_other key c ≡ false
 key_apart key c is = ap not is
 
 -- the parts of a board after a cell has left
-leaving_parts : (b after : Board) (owed : List (List ℕ)) (key : ℕ) → leaving owed key b ≡ Some after → (filter (is_other key) after.cells ≡ filter (is_other key) b.cells) × (after.tokens ≡ b.tokens) × (after.models ≡ b.models)
+pub leaving_parts : (b after : Board) (owed : List (List ℕ)) (key : ℕ) → leaving owed key b ≡ Some after → (filter (is_other key) after.cells ≡ filter (is_other key) b.cells) × (after.tokens ≡ b.tokens) × (after.models ≡ b.models)
 leaving_parts b after [] key is =
     let r = mapped_from (λ (cs : List Cell). record b { cells = cs }) (removed (λ c. c.key == key) b.cells) after is in (
       subst (λ (x : Board). filter (is_other key) x.cells ≡ filter (is_other key) b.cells) r.2 (removed_keeps (is_other key) (λ c. c.key == key) (key_apart key) b.cells r.0 r.1),
@@ -117,7 +113,7 @@ leaving_parts b after (flow ∷ owed) key is =
     )
 
 -- a board whose cells alone are edited
-edited_parts : (b after : Board) (key : ℕ) (edit : Cell → Cell) → ((c : Cell) → (edit c).key ≡ c.key) → option_map (λ cells. record b { cells = cells }) (edited (λ c. c.key == key) edit b.cells) ≡ Some after
+pub edited_parts : (b after : Board) (key : ℕ) (edit : Cell → Cell) → ((c : Cell) → (edit c).key ≡ c.key) → option_map (λ cells. record b { cells = cells }) (edited (λ c. c.key == key) edit b.cells) ≡ Some after
     → (filter (is_other key) after.cells ≡ filter (is_other key) b.cells) × (after.tokens ≡ b.tokens) × (after.models ≡ b.models)
 edited_parts b after key edit like is =
     let r = mapped_from (λ (cs : List Cell). record b { cells = cs }) (edited (λ c. c.key == key) edit b.cells) after is in (
@@ -127,14 +123,14 @@ edited_parts b after key edit like is =
     )
 
 -- what is known of an Enter, an Open and a Take that were played
-enter_parts : (b after : Board) (e : Enter) → play_enter b e ≡ Some after
+pub enter_parts : (b after : Board) (e : Enter) → play_enter b e ≡ Some after
     → (c : Cell) × (cell_at b e.scope ≡ Some c) × (removed (comes_to e.scope e.node e.via) b.tokens ≡ Some after.tokens) × (after.cells ≡ b.cells ++ new_cell e.key e.scope c.definition e.node (is_none_of e.via) ∷ []) × (after.models ≡ b.models)
 enter_parts b after e is =
     let r = chained_from (λ (c : Cell). option_map (λ tokens. record b { cells = b.cells ++ new_cell e.key e.scope c.definition e.node (is_none_of e.via) ∷ []; tokens = tokens }) (removed (comes_to e.scope e.node e.via) b.tokens)) (cell_at b e.scope) after is in
     let s = mapped_from (λ (tokens : List Token). record b { cells = b.cells ++ new_cell e.key e.scope r.0.definition e.node (is_none_of e.via) ∷ []; tokens = tokens }) (removed (comes_to e.scope e.node e.via) b.tokens) after r.2 in
     (r.0, r.1, subst (λ (x : Board). removed (comes_to e.scope e.node e.via) b.tokens ≡ Some x.tokens) s.2 s.1, ap (λ (x : Board). x.cells) (sym s.2), ap (λ (x : Board). x.models) (sym s.2))
 
-open_parts : (b after : Board) (key : ℕ) → played b (moves.Open key) ≡ Some after
+pub open_parts : (b after : Board) (key : ℕ) → played b (moves.Open key) ≡ Some after
     → (c : Cell) × (cell_at b key ≡ Some c) × (more : List Token) × (first_tokens b c ≡ Some more) × (after.tokens ≡ b.tokens ++ more) × (filter (is_other key) after.cells ≡ filter (is_other key) b.cells) × (after.models ≡ b.models)
 open_parts b after key is =
     let r = chained_from (λ (c : Cell). option_and_then (λ tokens. option_map (λ cells. record b { cells = cells; tokens = b.tokens ++ tokens }) (edited (λ x. x.key == key) (in_phase phases.Active []) b.cells)) (first_tokens b c)) (cell_at b key) after is in
@@ -149,7 +145,7 @@ open_parts b after key is =
       ap (λ (x : Board). x.models) (sym u.2),
     )
 
-take_parts : (b after : Board) (key : ℕ) (flow : List ℕ) → played b (moves.Take (record { key = key; flow = flow })) ≡ Some after
+pub take_parts : (b after : Board) (key : ℕ) (flow : List ℕ) → played b (moves.Take (record { key = key; flow = flow })) ≡ Some after
     → (c : Cell) × (cell_at b key ≡ Some c) × (left : Board) × (leaving (rest_of c.owed) key b ≡ Some left) × (with_token c.scope flow left ≡ after)
 take_parts b after key flow is =
     let r = chained_from (λ (c : Cell). option_map (with_token c.scope flow) (leaving (rest_of c.owed) key b)) (cell_at b key) after is in

@@ -34,6 +34,10 @@ other_cells move b = filter (λ c. not (names_cell move c.key)) b.cells
 abbrev pub other_tokens : Board → Move → Board → List Token
 other_tokens named move b = filter (λ t. not (names_scope named move t.scope)) b.tokens
 
+-- it is not the cell with this key (own)
+abbrev pub is_other : ℕ → Cell → Bool
+is_other key c = not (c.key == key)
+
 -- it is the move by which a model stands there
 abbrev pub is_stand : Move → Bool
 is_stand (moves.Stand d) = true

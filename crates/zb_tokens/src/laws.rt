@@ -17,16 +17,19 @@ ghost use Rattle.zb_tokens.specs.Forced.{is_forced, can_enter, next_mover, move_
 
 /// Who is forced has a move, where the cells stand in the order of their keys.
 pub fn movers_have_moves()
-    ensures { (board : Board) (moment key : ℕ) (mover : Mover) → CellsAscend 0 board.cells → next_mover board ≡ Some mover
+    ensures { (board : Board) (moment key : ℕ) (mover : Mover)
+        → CellsAscend 0 board.cells → next_mover board ≡ Some mover
         → IsTrue (is_some (move_of board moment key mover)) }
 {}
 
 /// A forced move fits the board and agrees with what it evaluates, where the cells stand in the order of their keys.
 pub fn moves_of_movers_fit()
-    ensures fits { (board : Board) (moment key : ℕ) (mover : Mover) (move : Move) → CellsAscend 0 board.cells
-        → next_mover board ≡ Some mover → move_of board moment key mover ≡ Some move → IsTrue (fits board move) }
-    ensures agrees { (board : Board) (moment key : ℕ) (mover : Mover) (move : Move) → CellsAscend 0 board.cells
-        → next_mover board ≡ Some mover → move_of board moment key mover ≡ Some move → IsTrue (agrees board moment move) }
+    ensures fits { (board : Board) (moment key : ℕ) (mover : Mover) (move : Move)
+        → CellsAscend 0 board.cells → next_mover board ≡ Some mover
+        → move_of board moment key mover ≡ Some move → IsTrue (fits board move) }
+    ensures agrees { (board : Board) (moment key : ℕ) (mover : Mover) (move : Move)
+        → CellsAscend 0 board.cells → next_mover board ≡ Some mover
+        → move_of board moment key mover ≡ Some move → IsTrue (agrees board moment move) }
 {}
 
 /// A cell that is called off isn't forced to any of these moves. Those that end it aren't built yet.
@@ -36,8 +39,10 @@ pub fn doomed_cells_rest()
 
 /// Where nobody is forced, no cell is, and no token can enter.
 pub fn quiet_games_rest()
-    ensures cells { (board : Board) → IsQuiet board → All (λ (cell : Cell). IsFalse (is_forced board cell)) board.cells }
-    ensures tokens { (board : Board) → IsQuiet board → All (λ (token : Token). IsFalse (can_enter board token)) board.tokens }
+    ensures cells { (board : Board) → IsQuiet board
+        → All (λ (cell : Cell). IsFalse (is_forced board cell)) board.cells }
+    ensures tokens { (board : Board) → IsQuiet board
+        → All (λ (token : Token). IsFalse (can_enter board token)) board.tokens }
 {}
 
 /// A move that fits can be played.
@@ -48,24 +53,29 @@ pub fn fitting_moves_are_played()
 /// A flow that is taken makes exactly one token, on that flow, in the scope of the cell that is left.
 pub fn taken_flows_make_one_token()
     ensures { (board after : Board) (take : Take) → play_take board take ≡ Some after
-        → (cell : Cell) × (cell_at board take.key ≡ Some cell) × (after.tokens ≡ board.tokens ++ record { scope = cell.scope; spot = spots.OnFlow take.flow } ∷ []) }
+        → (cell : Cell) × (cell_at board take.key ≡ Some cell)
+        × (after.tokens ≡ board.tokens ++ record { scope = cell.scope; spot = spots.OnFlow take.flow } ∷ []) }
 {}
 
 /// An entry takes exactly one token, the first that has come by it, and makes exactly one cell, in the scope.
 pub fn entries_take_one_token()
     ensures token { (board after : Board) (entry : Enter) → play_enter board entry ≡ Some after
         → IsWithoutFirst (comes_to entry.scope entry.node entry.via) board.tokens after.tokens }
-    ensures cell { (board after : Board) (entry : Enter) → play_enter board entry ≡ Some after → (cell : Cell) × (cell_at board entry.scope ≡ Some cell)
+    ensures cell { (board after : Board) (entry : Enter) → play_enter board entry ≡ Some after
+        → (cell : Cell) × (cell_at board entry.scope ≡ Some cell)
         × (after.cells ≡ board.cells ++ new_cell entry.key entry.scope cell.definition entry.node (is_none_of entry.via) ∷ []) }
 {}
 
 /// A move changes no cell but those that it names, and no token but those in a scope that it names.
 pub fn moves_leave_others_alone()
-    ensures cells { (board after : Board) (move : Move) → played board move ≡ Some after → other_cells move after ≡ other_cells move board }
-    ensures tokens { (board after : Board) (move : Move) → played board move ≡ Some after → other_tokens board move after ≡ other_tokens board move board }
+    ensures cells { (board after : Board) (move : Move) → played board move ≡ Some after
+        → other_cells move after ≡ other_cells move board }
+    ensures tokens { (board after : Board) (move : Move) → played board move ≡ Some after
+        → other_tokens board move after ≡ other_tokens board move board }
 {}
 
 /// Only the move by which a model stands there changes the models.
 pub fn models_stay()
-    ensures { (board after : Board) (move : Move) → IsFalse (is_stand move) → played board move ≡ Some after → after.models ≡ board.models }
+    ensures { (board after : Board) (move : Move) → IsFalse (is_stand move)
+        → played board move ≡ Some after → after.models ≡ board.models }
 {}

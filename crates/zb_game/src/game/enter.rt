@@ -1,9 +1,7 @@
-ghost use Rattle.std.specs.Prelude.{◌≡◌, Some, None, OnOk, IsErrOf, false, not, ◌&&◌};
-ghost use Rattle.std.specs.Option.{option_map_or};
-ghost use Rattle.zb_tokens.specs.Board.{cell_at};
-ghost use Rattle.zb_tokens.specs.Doom.{is_called_off};
+ghost use Rattle.std.specs.Prelude.{◌≡◌, Some, None, OnOk, IsErrOf};
 ghost use Rattle.zb_tokens.specs.Edits.{is_none_of};
 ghost use Rattle.zb_tokens.specs.MoveEnter.{arrives, fits_enter, has_way, may_enter, play_enter};
+ghost use Rattle.zb_game.specs.Searches.{lets_in};
 
 use crate::edits::{new_cell, take_token};
 use crate::flows::leads_to;
@@ -31,7 +29,7 @@ impl Game {
 
     // Whether nothing calls the scope off, and in its definition the flow leads to the node.
     fn lets_in(&self, scope: Key, node: &str, via: &str) -> bool
-        ensures { result ≡ option_map_or (λ c. not (is_called_off self.now.cells self.now scope) && has_way self.now c.definition node.now via.now) (cell_at self.now scope) false }
+        ensures { result ≡ lets_in self.now scope node.now via.now }
     {
         match self.cell(scope) {
             Some(cell) => !self.is_called_off(scope) && self.has_way(cell.definition, node, via),

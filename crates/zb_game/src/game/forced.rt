@@ -1,8 +1,7 @@
-ghost use Rattle.std.specs.Prelude.{◌≡◌, map, filter, position, option_map, false};
-ghost use Rattle.std.specs.Option.{option_copied, option_map_or};
-ghost use Rattle.zb_tokens.specs.Forced.{can_enter, entry_at, goes_on_in, greatest, is_forced, next_mover};
-ghost use Rattle.zb_tokens.specs.MoveEnter.{may_enter};
-ghost use Rattle.zb_game.specs.Searches.{is_newer};
+ghost use Rattle.std.specs.Prelude.{◌≡◌, position};
+ghost use Rattle.std.specs.Option.{option_copied};
+ghost use Rattle.zb_tokens.specs.Forced.{can_enter, entry_at, goes_on_in, is_forced, next_mover};
+ghost use Rattle.zb_game.specs.Searches.{enters_by, is_newer, key_in, newest_key};
 
 use crate::Game;
 use crate::lookups::flow_in;
@@ -27,7 +26,7 @@ impl Game {
 
     // The cell with the greatest key of those that are forced.
     fn newest_forced(&self) -> Option<&Cell>
-        ensures { option_map (λ c. c.key) (option_copied result) ≡ greatest (map (λ c. c.key) (filter (is_forced self.now) self.now.cells)) }
+        ensures { key_in (option_copied result) ≡ newest_key self.now }
     {
         let mut best: Option<&Cell> = None;
         for i in (0..self.cells.len()).rev() {
@@ -82,7 +81,7 @@ impl Game {
 
     // Whether a token can enter the node that it has come to in a model.
     fn can_enter_in(&self, model: &Model, token: &Token) -> bool
-        ensures { result ≡ option_map_or (λ way. may_enter self.now token.now.scope way.0 way.1) (entry_at model.now token.now.spot) false }
+        ensures { result ≡ enters_by self.now token.now.scope (entry_at model.now token.now.spot) }
     {
         match &token.spot {
             Spot::BeforeNode(node) => self.may_enter(token.scope, node.as_str(), ""),
@@ -96,7 +95,7 @@ impl Game {
 
 // Whether the cell has a greater key than the best so far.
 fn is_newer(cell: &Cell, best: Option<&Cell>) -> bool
-    ensures { result ≡ is_newer cell.now.key (option_map (λ c. c.key) (option_copied best.entry)) }
+    ensures { result ≡ is_newer cell.now.key (key_in (option_copied best.entry)) }
 {
     match best {
         Some(best) => cell.key > best.key,

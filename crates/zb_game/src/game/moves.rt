@@ -1,6 +1,6 @@
-ghost use Rattle.std.specs.Prelude.{◌≡◌, ℕ, IfOk, option_map};
-ghost use Rattle.zb_tokens.specs.declared.board.Move.TheVariants as moves;
+ghost use Rattle.std.specs.Prelude.{◌≡◌, ℕ, IfOk};
 ghost use Rattle.zb_tokens.specs.Forced.{entry_at, entry_of, move_in, move_of, take_first};
+ghost use Rattle.zb_game.specs.Searches.{entry_by};
 
 use crate::Game;
 use crate::lookups::flow_in;
@@ -81,7 +81,7 @@ fn entry_in(
     key: Key,
     token: &Token,
 ) -> Result<Option<Move>, AllocError>
-    ensures { IfOk result (λ move. move ≡ option_map (λ way. moves.Enter (record { key = key; scope = token.now.scope; node = way.0; via = way.1 })) (entry_at model.now token.now.spot)) }
+    ensures { IfOk result (λ move. move ≡ entry_by key token.now.scope (entry_at model.now token.now.spot)) }
 {
     match &token.spot {
         Spot::BeforeNode(node) => {
