@@ -6,8 +6,9 @@ ghost use Rattle.zb_check.specs.declared.checking.ModelFault.TheVariants as faul
 
 use crate::faults::{bad_start, dangling, double_id, empty_id, flow_end, no_incoming, too_large};
 use std::alloc::{AllocError, Global};
-use zb_model::{Model, Text, TryCopy};
+use zb_base::{Text, TryCopy};
 use zb_faults::Fault;
+use zb_process::Model;
 
 /// Why a model is refused.
 #[derive(Drop)]

@@ -3,11 +3,12 @@ ghost use Rattle.std.specs.Prelude.{◌≡◌, ◌&&◌, not, [], count_by};
 ghost use Rattle.std.specs.List.{list_any};
 ghost use Rattle.std.specs.Option.{option_copied};
 ghost use Rattle.std.specs.Str.{bytes_eq};
-ghost use Rattle.zb_tokens.specs.Board.{is_start};
+ghost use Rattle.zb_faults.specs.Faults.{is_start};
 ghost use Rattle.zb_faults.specs.Faults.{is_end_kind, is_at, empty_id, double_id, dangling, bad_start, flow_end, no_incoming, too_large};
 
 use crate::ids::{first_empty, first_used, has_id, is_empty};
-use zb_model::{Flow, Model, Node, NodeKind, Text};
+use zb_base::Text;
+use zb_process::{Flow, Model, Node, NodeKind};
 
 // How many nodes a model may have.
 const MOST_NODES: usize = 1000;

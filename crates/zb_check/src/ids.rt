@@ -5,7 +5,8 @@ ghost use Rattle.std.specs.Option.{option_copied};
 ghost use Rattle.std.specs.Str.{bytes_eq};
 ghost use Rattle.zb_faults.specs.Faults.{has_id, repeated};
 
-use zb_model::{Flow, Node, Text};
+use zb_base::Text;
+use zb_process::{Flow, Node};
 
 /// What has an id.
 pub trait HasId {

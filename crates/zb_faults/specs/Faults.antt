@@ -121,6 +121,16 @@ name_of faults.FlowEnd = codes "FLOW_END"
 name_of faults.NoIncoming = codes "NO_INCOMING"
 name_of faults.Limit = codes "LIMIT"
 
+-- the number of a fault; those between them are of models that aren't run so far
+abbrev pub number_of : Fault → ℕ
+number_of faults.EmptyId = 1
+number_of faults.DoubleId = 2
+number_of faults.Dangling = 4
+number_of faults.Start = 6
+number_of faults.FlowEnd = 7
+number_of faults.NoIncoming = 8
+number_of faults.Limit = 14
+
 -- what is said of a fault and its offender
 abbrev pub fault_text : Fault → List ℕ → List ℕ
 fault_text fault id = name_of fault ++ (codes ": " ++ id)

@@ -20,7 +20,7 @@ pub enum Fault {
 }
 
 impl Fault {
-    ghost use Rattle.zb_faults.specs.Faults.{name_of};
+    ghost use Rattle.zb_faults.specs.Faults.{name_of, number_of};
 
     /// Its name.
     pub fn name(self) -> &'static str
@@ -34,6 +34,21 @@ impl Fault {
             Fault::FlowEnd => "FLOW_END",
             Fault::NoIncoming => "NO_INCOMING",
             Fault::Limit => "LIMIT",
+        }
+    }
+
+    /// Its number, from 1 to 14. It ascends in the order in which faults are looked for.
+    pub fn number(self) -> u32
+        ensures { result ≡ number_of self }
+    {
+        match self {
+            Fault::EmptyId => 1,
+            Fault::DoubleId => 2,
+            Fault::Dangling => 4,
+            Fault::Start => 6,
+            Fault::FlowEnd => 7,
+            Fault::NoIncoming => 8,
+            Fault::Limit => 14,
         }
     }
 }

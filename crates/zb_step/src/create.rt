@@ -1,18 +1,17 @@
 // Making an instance of a process.
-ghost use Rattle.std.specs.Prelude.{◌≡◌, ◌++◌, List, [], Some, map, IfOk, OnOk, string_bytes};
+ghost use Rattle.std.specs.Prelude.{◌≡◌, ◌++◌, List, [], Some, None, map, IfOk, OnOk, string_bytes};
 ghost use Rattle.zb_model.specs.declared.record.Event.{Event};
-ghost use Rattle.zb_rules.specs.Create.{reason_to_create, no_process, no_version, variable_event, created};
-ghost use Rattle.zb_state.specs.State.{partition_of, IsStateOf};
-ghost use Rattle.zb_step.specs.Made.{AreMadeEvents};
+ghost use Rattle.zb_rules.specs.Create.{reason_to_create, no_process, no_version, variable_event, instance_under, created};
+ghost use Rattle.zb_state.specs.State.{partition_of, IsStateOf, IsReached};
 
-use crate::adding::add;
 use crate::rejection::rejection;
 use std::alloc::{AllocError, Global};
 use zb_model::{
-    ElementActivating, Event, Key, ProcessInstanceCreationCreate, ProcessInstanceCreationCreated,
-    Rejection, RejectionKind, Role, Text, TryCopy, Variable, VariableCreated,
+    ElementActivating, Event, Key, List, ProcessInstanceCreationCreate,
+    ProcessInstanceCreationCreated, Rejection, RejectionKind, Role, Text, TryCopy, Variable,
+    VariableCreated,
 };
-use zb_state::{Out, State};
+use zb_state::State;
 
 /// Why an instance isn't made: there is no such process, or no such version of it. It goes through all
 /// definitions.
@@ -60,34 +59,39 @@ fn text_of_version(alloc: Global, process: &str, version: u32) -> Result<String,
     Ok(text)
 }
 
-/// Makes the events of an instance: it is made, its root is activated, and it has its variables. Where the
-/// definition isn't there it is answered as want of memory.
-pub fn emit(
+/// The events of an instance, where its definition is there: it is made, its root is activated, and it has its
+/// variables.
+pub fn own(
     alloc: Global,
-    state: &mut State,
+    state: &State,
     command: &ProcessInstanceCreationCreate,
-    out: &mut Out,
-) -> Result<(), AllocError>
-    requires { out.old ≡ [] }
-    ensures own { (es : List Event) → IsStateOf es state.old → OnOk result (created (partition_of state.old) es command.now ≡ Some out.new) }
-    ensures made { (es : List Event) → IsStateOf es state.old → OnOk result (AreMadeEvents (partition_of state.old) es out.new state.new) }
-    ensures place { partition_of state.new ≡ partition_of state.old }
+) -> Result<List<Event>, AllocError>
+    requires reached { IsReached state.now }
+    requires unrefused { (es : List Event) → IsStateOf es state.now → reason_to_create es command.now ≡ None }
+    ensures { (es : List Event) → IsStateOf es state.now → IfOk result (λ events. created (partition_of state.now) es command.now ≡ Some events) }
 {
-    let process = command.process.as_str();
-    let Some(definition) = state.definition_for(process, command.version) else {
-        return Err(AllocError);
-    };
-    let key = state.next_key();
-    let instance = ProcessInstanceCreationCreated { key, definition };
-    add(
-        alloc,
-        state,
-        Event::ProcessInstanceCreationCreated(instance),
-        out,
-    )?;
-    let root = root(alloc, key, definition, process)?;
-    add(alloc, state, Event::ElementActivating(root), out)?;
-    add_variables(alloc, state, key, command.variables.as_slice(), out)
+    match state.definition_for(command.process.as_str(), command.version) {
+        Some(definition) => instance(alloc, state.next_key(), definition, command),
+        None => unreachable!(),
+    }
+}
+
+// The events of an instance under this key.
+fn instance(
+    alloc: Global,
+    key: Key,
+    definition: Key,
+    command: &ProcessInstanceCreationCreate,
+) -> Result<List<Event>, AllocError>
+    ensures { IfOk result (λ events. events ≡ instance_under key definition command.now) }
+{
+    let mut events = List::empty(alloc);
+    let made = ProcessInstanceCreationCreated { key, definition };
+    events.push(Event::ProcessInstanceCreationCreated(made))?;
+    let root = root(alloc, key, definition, command.process.as_str())?;
+    events.push(Event::ElementActivating(root))?;
+    add_variables(alloc, key, command.variables.as_slice(), &mut events)?;
+    Ok(events)
 }
 
 // The root of an instance of this definition.
@@ -110,21 +114,17 @@ fn root(
     })
 }
 
-// Adds the variables of an instance, in order.
+// Adds the events of an instance's variables, in order.
 fn add_variables(
     alloc: Global,
-    state: &mut State,
     root: Key,
     variables: &[Variable],
-    out: &mut Out,
+    events: &mut List<Event>,
 ) -> Result<(), AllocError>
-    ensures added { OnOk result (out.new ≡ out.old ++ map (variable_event root) variables.now) }
-    ensures made { (es : List Event) → AreMadeEvents (partition_of state.old) es out.old state.old → OnOk result (AreMadeEvents (partition_of state.old) es out.new state.new) }
-    ensures place { partition_of state.new ≡ partition_of state.old }
+    ensures { OnOk result (events.new ≡ events.old ++ map (variable_event root) variables.now) }
 {
     for variable in variables {
-        let event = event_of_variable(alloc, root, variable)?;
-        add(alloc, state, event, out)?;
+        events.push(event_of_variable(alloc, root, variable)?)?;
     }
     Ok(())
 }

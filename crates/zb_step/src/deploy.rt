@@ -1,20 +1,19 @@
 // Deploying a model.
-ghost use Rattle.std.specs.Prelude.{◌≡◌, List, [], IfOk, OnOk, string_bytes};
+ghost use Rattle.std.specs.Prelude.{◌≡◌, List, IfOk, string_bytes};
 ghost use Rattle.zb_model.specs.declared.record.Event.{Event};
 ghost use Rattle.zb_rules.specs.Deploy.{reason_to_deploy, version_behind, deployed};
 ghost use Rattle.zb_faults.specs.Faults.{fault_text};
 ghost use Rattle.zb_state.specs.State.{partition_of, IsStateOf};
-ghost use Rattle.zb_step.specs.Made.{AreMadeEvents};
+ghost use Rattle.zb_rules.specs.Sound.{HasKeys};
 
-use crate::adding::add;
 use crate::rejection::rejection;
 use std::alloc::{AllocError, Global};
 use zb_check::{ModelFault, check};
-use zb_model::{
-    DeploymentCreated, Event, Model, ProcessCreated, Rejection, RejectionKind, TryCopy,
-};
 use zb_faults::Fault;
-use zb_state::{Out, State};
+use zb_model::{
+    DeploymentCreated, Event, List, Model, ProcessCreated, Rejection, RejectionKind, TryCopy,
+};
+use zb_state::State;
 
 /// Why a model isn't deployed: its first fault.
 pub fn reason(alloc: Global, model: &Model) -> Result<Option<Rejection>, AllocError>
@@ -44,17 +43,10 @@ fn text_of_fault(alloc: Global, fault: Fault, id: &str) -> Result<String, AllocE
     Ok(text)
 }
 
-/// Makes the events of a model that is deployed: its definition, and the deployment.
-pub fn emit(
-    alloc: Global,
-    state: &mut State,
-    model: &Model,
-    out: &mut Out,
-) -> Result<(), AllocError>
-    requires { out.old ≡ [] }
-    ensures own { (es : List Event) → IsStateOf es state.old → OnOk result (out.new ≡ deployed (partition_of state.old) es model.now) }
-    ensures made { (es : List Event) → IsStateOf es state.old → OnOk result (AreMadeEvents (partition_of state.old) es out.new state.new) }
-    ensures place { partition_of state.new ≡ partition_of state.old }
+/// The events of a model that is deployed, where two keys are left: its definition, and the deployment.
+pub fn own(alloc: Global, state: &State, model: &Model) -> Result<List<Event>, AllocError>
+    requires { (es : List Event) → IsStateOf es state.now → HasKeys (partition_of state.now) es 2 }
+    ensures { (es : List Event) → IsStateOf es state.now → IfOk result (λ events. events ≡ deployed (partition_of state.now) model.now es) }
 {
     let definition = state.next_key();
     let created = ProcessCreated {
@@ -62,12 +54,14 @@ pub fn emit(
         version: version_behind(state.greatest_version(model.process.as_str())),
         model: model.copy(alloc)?,
     };
-    add(alloc, state, Event::ProcessCreated(created), out)?;
     let deployment = DeploymentCreated {
-        key: state.next_key(),
+        key: state.second_key(),
         definition,
     };
-    add(alloc, state, Event::DeploymentCreated(deployment), out)
+    let mut events = List::empty(alloc);
+    events.push(Event::ProcessCreated(created))?;
+    events.push(Event::DeploymentCreated(deployment))?;
+    Ok(events)
 }
 
 // The version behind this one; it stands still at the greatest number of 32 bits.

@@ -1,16 +1,19 @@
-ghost use Rattle.std.specs.Prelude.{◌≡◌, ◌++◌, List, [], Some, IsTrue, OnOk};
+ghost use Rattle.std.specs.Prelude.{◌≡◌, ◌++◌, ℕ, List, [], Some, None, IsTrue, OnOk};
 ghost use Rattle.zb_model.specs.declared.record.Event.{Event};
+ghost use Rattle.zb_rules.specs.Reason.{reason_for};
 ghost use Rattle.zb_rules.specs.Own.{IsSupported, own_events};
 ghost use Rattle.zb_rules.specs.Applies.{all_apply};
-ghost use Rattle.zb_state.specs.State.{partition_of, IsStateOf};
+ghost use Rattle.zb_rules.specs.Sound.{HasOrderedNames};
+ghost use Rattle.zb_state.specs.State.{partition_of, IsStateOf, IsReached};
 
-use crate::{create, deploy, expire, publish};
+use crate::own::own_events;
 use std::alloc::{AllocError, Global};
-use zb_model::{Command, Moment};
+use zb_model::{Command, Event, List, Moment};
 use zb_state::{Out, State};
 
-/// Makes a command's own events. Where there is a reason against the command, this may be answered as want of
-/// memory. Each event costs what `Out::put` does. After a refusal the state and the events are only dropped.
+/// Makes a command's own events, where there is no reason against it. Each event costs what `Out::put` does.
+/// Where two keys aren't left it is answered as want of memory. After a refusal the state and the events are
+/// only dropped.
 pub fn emit(
     alloc: Global,
     state: &mut State,
@@ -20,18 +23,47 @@ pub fn emit(
 ) -> Result<(), AllocError>
     requires run { IsSupported command.now }
     requires none { out.old ≡ [] }
-    ensures own { (es : List Event) → IsStateOf es state.old → OnOk result (own_events (partition_of state.old) es moment command.now ≡ Some out.new) }
-    ensures applied { (es : List Event) → IsStateOf es state.old → OnOk result (IsTrue (all_apply (partition_of state.old) es out.new)) }
+    requires reached { IsReached state.old }
+    requires unrefused { (es : List Event) → IsStateOf es state.old → reason_for es moment command.now ≡ None }
+    ensures own { (n : ℕ) (es : List Event) → IsStateOf es state.old
+        → OnOk result (own_events (partition_of state.old) n es moment command.now ≡ Some out.new) }
     ensures state { (es : List Event) → IsStateOf es state.old → OnOk result (IsStateOf (es ++ out.new) state.new) }
     ensures place { partition_of state.new ≡ partition_of state.old }
+    ensures reached { OnOk result (IsReached state.new) }
 {
-    match command {
-        Command::DeploymentCreate(model) => deploy::emit(alloc, state, model, out),
-        Command::ProcessInstanceCreationCreate(instance) => create::emit(
-            alloc, state, instance, out,
-        ),
-        Command::MessagePublish(message) => publish::emit(alloc, state, moment, message, out),
-        Command::MessageExpire(key) => expire::emit(alloc, state, *key, out),
-        _ => unreachable!(),
+    if !state.has_keys(2) {
+        return Err(AllocError);
     }
+    let events = own_events(alloc, state, moment, command)?;
+    see_names(command);
+    put_all(alloc, state, events, out)
+}
+
+// A command has its variables by ascending names.
+fn see_names(command: &Command)
+    ensures { HasOrderedNames command.now }
+{
+    if let Command::ProcessInstanceCreationCreate(instance) = command {
+        let _ = instance.variables.as_slice();
+    }
+}
+
+// Puts these events, each of which applies, one after the other.
+fn put_all(
+    alloc: Global,
+    state: &mut State,
+    events: List<Event>,
+    out: &mut Out,
+) -> Result<(), AllocError>
+    requires reached { IsReached state.old }
+    requires applied { (es : List Event) → IsStateOf es state.old → IsTrue (all_apply (partition_of state.old) es events) }
+    ensures put { OnOk result (out.new ≡ out.old ++ events) }
+    ensures state { (es : List Event) → IsStateOf es state.old → OnOk result (IsStateOf (es ++ events) state.new) }
+    ensures place { partition_of state.new ≡ partition_of state.old }
+    ensures reached { OnOk result (IsReached state.new) }
+{
+    for event in events.into_vec() {
+        out.put(alloc, state, event)?;
+    }
+    Ok(())
 }

@@ -1,15 +1,13 @@
 // Expiring a message.
-ghost use Rattle.std.specs.Prelude.{◌≡◌, List, [], IfOk, OnOk, string_bytes};
+ghost use Rattle.std.specs.Prelude.{◌≡◌, List, IfOk, string_bytes};
 ghost use Rattle.zb_model.specs.declared.record.Event.{Event};
 ghost use Rattle.zb_rules.specs.Expire.{reason_to_expire, no_message, not_due, expired};
-ghost use Rattle.zb_state.specs.State.{partition_of, IsStateOf};
-ghost use Rattle.zb_step.specs.Made.{AreMadeEvents};
+ghost use Rattle.zb_state.specs.State.{IsStateOf};
 
-use crate::adding::add;
 use crate::rejection::rejection;
 use std::alloc::{AllocError, Global};
-use zb_model::{Event, Key, Moment, Rejection, RejectionKind};
-use zb_state::{Out, State};
+use zb_model::{Event, Key, List, Moment, Rejection, RejectionKind};
+use zb_state::State;
 
 /// Why a message doesn't expire: it isn't buffered, or its deadline lies ahead. It goes through the buffered
 /// messages.
@@ -47,12 +45,11 @@ fn early(alloc: Global, key: Key) -> Result<Rejection, AllocError>
     rejection(alloc, RejectionKind::InvalidState, text.as_str())
 }
 
-/// Makes the event of a message that expires.
-pub fn emit(alloc: Global, state: &mut State, key: Key, out: &mut Out) -> Result<(), AllocError>
-    requires { out.old ≡ [] }
-    ensures own { OnOk result (out.new ≡ expired key) }
-    ensures made { (es : List Event) → IsStateOf es state.old → OnOk result (AreMadeEvents (partition_of state.old) es out.new state.new) }
-    ensures place { partition_of state.new ≡ partition_of state.old }
+/// The event of a message that expires.
+pub fn own(alloc: Global, key: Key) -> Result<List<Event>, AllocError>
+    ensures { IfOk result (λ events. events ≡ expired key) }
 {
-    add(alloc, state, Event::MessageExpired(key), out)
+    let mut events = List::empty(alloc);
+    events.push(Event::MessageExpired(key))?;
+    Ok(events)
 }

@@ -1,16 +1,18 @@
-//! What a command leads to: why it is rejected, or the events that it makes.
+//! What a command leads to: why it is rejected, or the events that it makes and those that they force.
 #![tactic(auto)]
 
-mod adding;
 mod create;
 mod deploy;
 mod emitting;
 mod expire;
 mod outcome;
+mod own;
 mod publish;
 mod reasons;
 mod rejection;
+mod settling;
 
 pub use emitting::emit;
 pub use outcome::outcome_of;
 pub use reasons::reason;
+pub use settling::settle;

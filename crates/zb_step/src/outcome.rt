@@ -1,15 +1,15 @@
-ghost use Rattle.std.specs.Prelude.{◌≡◌, ◌++◌, List, IfOk};
+ghost use Rattle.std.specs.Prelude.{◌≡◌, ◌++◌, ℕ, List, None, IfOk, OnOk};
 ghost use Rattle.zb_model.specs.declared.record.Event.{Event};
 ghost use Rattle.zb_views.specs.View.{events_in};
 ghost use Rattle.zb_rules.specs.Reason.{reason_for};
-ghost use Rattle.zb_rules.specs.Own.{IsSupported, own_events};
+ghost use Rattle.zb_rules.specs.Own.{IsSupported};
 ghost use Rattle.zb_rules.specs.Step.{IsAcceptance, IsOutcomeOf};
-ghost use Rattle.zb_state.specs.State.{partition_of, IsStateOf};
+ghost use Rattle.zb_state.specs.State.{partition_of, IsStateOf, IsReached};
 
 use crate::emitting::emit;
 use crate::reasons::reason;
+use crate::settling::settle;
 use std::alloc::{AllocError, Global};
-use zb_flow::settle;
 use zb_model::{Command, Moment, Outcome};
 use zb_state::{Out, State};
 
@@ -21,11 +21,13 @@ pub fn outcome_of(
     moment: Moment,
     command: &Command,
 ) -> Result<Outcome, AllocError>
-    requires { IsSupported command.now }
-    ensures outcome { (es : List Event) → IsStateOf es state.old
-        → IfOk result (IsOutcomeOf (partition_of state.old) es (reason_for es moment command.now) (own_events (partition_of state.old) es moment command.now)) }
+    requires run { IsSupported command.now }
+    requires reached { IsReached state.old }
+    ensures outcome { (n : ℕ) (es : List Event) → IsStateOf es state.old
+        → IfOk result (IsOutcomeOf (partition_of state.old) n moment es command.now) }
     ensures state { (es : List Event) → IsStateOf es state.old → IfOk result (λ outcome. IsStateOf (es ++ events_in outcome) state.new) }
     ensures place { partition_of state.new ≡ partition_of state.old }
+    ensures reached { OnOk result (IsReached state.new) }
 {
     match reason(alloc, state, moment, command)? {
         Some(rejection) => Ok(Outcome::Rejected(rejection)),
@@ -40,11 +42,14 @@ fn run(
     moment: Moment,
     command: &Command,
 ) -> Result<Outcome, AllocError>
-    requires { IsSupported command.now }
-    ensures acceptance { (es : List Event) → IsStateOf es state.old
-        → IfOk result (IsAcceptance (partition_of state.old) es (own_events (partition_of state.old) es moment command.now)) }
+    requires run { IsSupported command.now }
+    requires reached { IsReached state.old }
+    requires unrefused { (es : List Event) → IsStateOf es state.old → reason_for es moment command.now ≡ None }
+    ensures acceptance { (n : ℕ) (es : List Event) → IsStateOf es state.old
+        → IfOk result (IsAcceptance (partition_of state.old) n moment es command.now) }
     ensures state { (es : List Event) → IsStateOf es state.old → IfOk result (λ outcome. IsStateOf (es ++ events_in outcome) state.new) }
     ensures place { partition_of state.new ≡ partition_of state.old }
+    ensures reached { OnOk result (IsReached state.new) }
 {
     let mut out = Out::new(alloc);
     emit(alloc, state, moment, command, &mut out)?;

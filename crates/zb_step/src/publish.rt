@@ -1,18 +1,16 @@
 // Publishing a message.
-ghost use Rattle.std.specs.Prelude.{◌≡◌, List, [], IfOk, OnOk, string_bytes};
+ghost use Rattle.std.specs.Prelude.{◌≡◌, List, IfOk, string_bytes};
 ghost use Rattle.zb_model.specs.declared.record.Event.{Event};
 ghost use Rattle.zb_views.specs.View.{next_key};
 ghost use Rattle.zb_rules.specs.Publish.{reason_to_publish, is_repeated, buffered_text, message_under, published_under};
 ghost use Rattle.zb_state.specs.State.{partition_of, IsStateOf};
-ghost use Rattle.zb_step.specs.Made.{AreMadeEvents};
 
-use crate::adding::add;
 use crate::rejection::rejection;
 use std::alloc::{AllocError, Global};
 use zb_model::{
-    Event, Key, MessagePublish, MessagePublished, Moment, Rejection, RejectionKind, TryCopy,
+    Event, Key, List, MessagePublish, MessagePublished, Moment, Rejection, RejectionKind, TryCopy,
 };
-use zb_state::{Out, State};
+use zb_state::State;
 
 /// Why a message isn't published: one with its name, correlation key and id is buffered, and the id isn't
 /// empty. That costs a step for each buffered message, and only where the id isn't empty.
@@ -58,26 +56,23 @@ fn text_of_repeated(alloc: Global, command: &MessagePublish) -> Result<String, A
     Ok(text)
 }
 
-/// Makes the events of a message that is published.
-pub fn emit(
+/// The events of a message that is published.
+pub fn own(
     alloc: Global,
-    state: &mut State,
+    state: &State,
     moment: Moment,
     command: &MessagePublish,
-    out: &mut Out,
-) -> Result<(), AllocError>
-    requires { out.old ≡ [] }
-    ensures own { (es : List Event) → IsStateOf es state.old → OnOk result (out.new ≡ published_under (next_key (partition_of state.old) es) moment command.now) }
-    ensures made { (es : List Event) → IsStateOf es state.old → OnOk result (AreMadeEvents (partition_of state.old) es out.new state.new) }
-    ensures place { partition_of state.new ≡ partition_of state.old }
+) -> Result<List<Event>, AllocError>
+    ensures { (es : List Event) → IsStateOf es state.now
+        → IfOk result (λ events. events ≡ published_under (next_key (partition_of state.now) es) moment command.now) }
 {
     let key = state.next_key();
-    let message = message(alloc, key, moment, command)?;
-    add(alloc, state, Event::MessagePublished(message), out)?;
+    let mut events = List::empty(alloc);
+    events.push(Event::MessagePublished(message(alloc, key, moment, command)?))?;
     if command.time_to_live == 0 {
-        add(alloc, state, Event::MessageExpired(key), out)?;
+        events.push(Event::MessageExpired(key))?;
     }
-    Ok(())
+    Ok(events)
 }
 
 // The message under this key.

@@ -1,0 +1,101 @@
+-- How settling goes on, turn by turn.
+use Rattle.std.proofs.Common.{◌≡◌, ℕ, ◌+◌, ◌<◌, ◌≤◌, ◌⊎◌, Bool, ◌&&◌, List, [], ◌∷◌, ◌++◌, length, IsTrue, Some, Result, Ok, Err, OnOk, refl, sym, ap, ◌∙◌, subst, inl, inr, arith, append-nil, append_assoc}
+use Rattle.std.specs.Prelude.{IfSome}
+use Rattle.std.proofs.lemmas.List.{length-append}
+use Rattle.zb_model.specs.declared.record.Event.{Event}
+use Rattle.zb_rules.specs.Shown.{shown}
+use Rattle.zb_rules.specs.Applies.{applies, all_apply}
+use Rattle.zb_rules.specs.Legal.{IsMadeLegally, AllLegal}
+use Rattle.zb_rules.specs.Settling.{full, turn, AreTurns, joined, HasQuietGame}
+use Rattle.zb_rules.specs.StepLaws.{all_apply_more}
+use Rattle.zb_step.specs.Settled.{IsTurn, SettlesTo}
+
+-- the events of some turns, and of one behind them
+joined_more : (turns : List (List Event)) (made : List Event) → joined (turns ++ made ∷ []) ≡ joined turns ++ made
+joined_more [] made = append-nil made
+joined_more (first ∷ turns) made = ap (λ es. first ++ es) (joined_more turns made) ∙ sym (append_assoc first (joined turns) made)
+
+-- some turns, and the next one behind them
+are_turns_more : (p n moment : ℕ) (es : List Event) (count : ℕ) (turns : List (List Event)) (made : List Event)
+    → AreTurns p n moment es count turns → count + length (joined turns) < full → turn p n moment (es ++ joined turns) ≡ Some made → AreTurns p n moment es count (turns ++ made ∷ [])
+are_turns_more p n moment es count [] made each room next =
+    let within : count < full = omega (arith, room) in
+    let here : turn p n moment es ≡ Some made = subst (λ (l : List Event). turn p n moment l ≡ Some made) (append-nil es) next in
+    (within, here, tt)
+are_turns_more p n moment es count (first ∷ turns) made each room next =
+    let many = length-append first (joined turns) in
+    let left : count + length first + length (joined turns) < full = omega (arith, room, many) in
+    let behind : turn p n moment ((es ++ first) ++ joined turns) ≡ Some made = subst (λ (l : List Event). turn p n moment l ≡ Some made) (sym (append_assoc es first (joined turns))) next in
+    (each.0, each.1, are_turns_more p n moment (es ++ first) (count + length first) turns made each.2 left behind)
+
+-- how many events a full batch has
+pub full_is : full ≡ 1024
+unfolding full
+full_is = refl
+
+-- two tests hold
+both : (a b : Bool) → IsTrue a → IsTrue b → IsTrue (a && b)
+both a b first second = rw (first, second) refl
+
+-- what holds anyway holds at a success
+pub on_ok : {A E : Type 0} (r : Result A E) (P : Type 0) → P → OnOk r P
+on_ok (Ok x) P holds = holds
+on_ok (Err e) P holds = tt
+
+-- legal moves, and those behind them
+pub all_legal_on : (moment : ℕ) (before es more : List Event) → AllLegal moment before es → AllLegal moment (before ++ es) more → AllLegal moment before (es ++ more)
+all_legal_on moment before [] more each behind = subst (λ (l : List Event). AllLegal moment l more) (append-nil before) behind
+all_legal_on moment before (e ∷ es) more each behind =
+    (each.0, all_legal_on moment (before ++ e ∷ []) es more each.1 (subst (λ (l : List Event). AllLegal moment l more) (sym (append_assoc before (e ∷ []) es)) behind))
+
+-- behind own events, made on those before, came some turns; each of their events applies, and each of their moves is legal
+pub record GoesOn (p n moment : ℕ) (before own made : List Event) : Type 0 where
+  pub turns : List (List Event)
+  pub is : made ≡ own ++ joined turns
+  pub each : AreTurns p n moment (before ++ own) (length own) turns
+  pub applied : IsTrue (all_apply p (before ++ own) (joined turns))
+  pub legal : AllLegal moment (before ++ own) (joined turns)
+
+-- no turn came so far
+pub goes_on_start : (p n moment : ℕ) (before own : List Event) → GoesOn p n moment before own own
+goes_on_start p n moment before own = record { turns = []; is = sym (append-nil own); each = tt; applied = refl; legal = tt }
+
+-- and then came a turn of one event
+pub goes_on_more : (p n moment : ℕ) (before own made : List Event) (e : Event)
+    → GoesOn p n moment before own made → length made < full → IsTurn p n moment (before ++ made) e → GoesOn p n moment before own (made ++ e ∷ [])
+goes_on_more p n moment before own made e so_far room next =
+    let turns = so_far.turns in
+    let behind : before ++ made ≡ (before ++ own) ++ joined turns = ap (λ (l : List Event). before ++ l) so_far.is ∙ sym (append_assoc before own (joined turns)) in
+    let count : length made ≡ length own + length (joined turns) = ap length so_far.is ∙ length-append own (joined turns) in
+    let more = joined_more turns (e ∷ []) in
+    let this : IsTurn p n moment ((before ++ own) ++ joined turns) e = subst (λ (l : List Event). IsTurn p n moment l e) behind next in
+    record {
+      turns = turns ++ (e ∷ []) ∷ [];
+      is = ap (λ (l : List Event). l ++ e ∷ []) so_far.is ∙ append_assoc own (joined turns) (e ∷ []) ∙ ap (λ (l : List Event). own ++ l) (sym more);
+      each = are_turns_more p n moment (before ++ own) (length own) turns (e ∷ []) so_far.each (omega (arith, room, count)) this.forced;
+      applied = rw (more, all_apply_more p (before ++ own) (joined turns) e) (both (all_apply p (before ++ own) (joined turns)) (applies p ((before ++ own) ++ joined turns) e) so_far.applied this.applied);
+      legal = subst (λ (l : List Event). AllLegal moment (before ++ own) l) (sym more) (all_legal_on moment (before ++ own) (joined turns) (e ∷ []) so_far.legal (this.legal, tt));
+    }
+
+-- the end of the turns, said of their events
+end_of : (p n moment : ℕ) (before own made : List Event) (so_far : GoesOn p n moment before own made) → HasQuietGame (before ++ made) ⊎ (full ≤ length made)
+    → HasQuietGame (before ++ (own ++ joined so_far.turns)) ⊎ (full ≤ length own + length (joined so_far.turns))
+end_of p n moment before own made so_far (inl quiet) = inl (subst (λ (l : List Event). HasQuietGame (before ++ l)) so_far.is quiet)
+end_of p n moment before own made so_far (inr filled) =
+    let count : length made ≡ length own + length (joined so_far.turns) = ap length so_far.is ∙ length-append own (joined so_far.turns) in
+    inr (omega (arith, filled, count))
+
+-- it ends where the game is quiet, and where the batch is full
+pub goes_on_end : (p n moment : ℕ) (before own made : List Event) → GoesOn p n moment before own made → HasQuietGame (before ++ made) ⊎ (full ≤ length made) → SettlesTo p n moment before own made
+goes_on_end p n moment before own made so_far ended = record {
+  rest = joined so_far.turns;
+  is = so_far.is;
+  settles = record {
+    turns = so_far.turns;
+    is = refl;
+    each = so_far.each;
+    ended = end_of p n moment before own made so_far ended;
+  };
+  applied = so_far.applied;
+  legal = so_far.legal;
+}

@@ -1,0 +1,36 @@
+// A command's own events.
+ghost use Rattle.std.specs.Prelude.{◌≡◌, ℕ, List, Some, None, IfOk};
+ghost use Rattle.zb_model.specs.declared.record.Event.{Event};
+ghost use Rattle.zb_rules.specs.Reason.{reason_for};
+ghost use Rattle.zb_rules.specs.Own.{IsSupported, own_events};
+ghost use Rattle.zb_rules.specs.Sound.{HasKeys};
+ghost use Rattle.zb_state.specs.State.{partition_of, IsStateOf, IsReached};
+
+use crate::{create, deploy, expire, publish};
+use std::alloc::{AllocError, Global};
+use zb_model::{Command, Event, List, Moment};
+use zb_state::State;
+
+/// The events that a command makes of the state as it stands, where two keys are left and there is no reason
+/// against the command.
+pub fn own_events(
+    alloc: Global,
+    state: &State,
+    moment: Moment,
+    command: &Command,
+) -> Result<List<Event>, AllocError>
+    requires run { IsSupported command.now }
+    requires reached { IsReached state.now }
+    requires keys { (es : List Event) → IsStateOf es state.now → HasKeys (partition_of state.now) es 2 }
+    requires unrefused { (es : List Event) → IsStateOf es state.now → reason_for es moment command.now ≡ None }
+    ensures { (n : ℕ) (es : List Event) → IsStateOf es state.now
+        → IfOk result (λ events. own_events (partition_of state.now) n es moment command.now ≡ Some events) }
+{
+    match command {
+        Command::DeploymentCreate(model) => deploy::own(alloc, state, model),
+        Command::ProcessInstanceCreationCreate(instance) => create::own(alloc, state, instance),
+        Command::MessagePublish(message) => publish::own(alloc, state, moment, message),
+        Command::MessageExpire(key) => expire::own(alloc, *key),
+        _ => unreachable!(),
+    }
+}

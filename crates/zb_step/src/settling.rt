@@ -1,0 +1,58 @@
+// How a step goes on by itself.
+ghost use Rattle.std.specs.Prelude.{◌≡◌, ◌↔◌, ◌++◌, ℕ, List, Some, IsTrue, IfOk, OnOk};
+ghost use Rattle.zb_model.specs.declared.record.Event.{Event};
+ghost use Rattle.zb_tokens.specs.Board.{Board};
+ghost use Rattle.zb_tokens.specs.Forced.{next_mover};
+ghost use Rattle.zb_rules.specs.Shown.{board_of};
+ghost use Rattle.zb_rules.specs.Settling.{HasQuietGame};
+ghost use Rattle.zb_state.specs.State.{partition_of, IsStateOf, IsReached};
+ghost use Rattle.zb_step.specs.Settled.{IsTurn, SettlesTo};
+
+use std::alloc::{AllocError, Global};
+use zb_model::Event;
+use zb_state::{Out, State};
+use zb_tokens::Mover;
+
+// A batch is full with so many events.
+const FULL: usize = 1024;
+
+/// Makes the forced moves behind the events that a command has made so far, one after the other, until the
+/// game is quiet or the batch is full. Tells whether the game is quiet. Each move costs a walk over the cells
+/// and the tokens. Where no key is left it is answered as want of memory. After a refusal the state and the
+/// events are only dropped.
+pub fn settle(alloc: Global, state: &mut State, out: &mut Out) -> Result<bool, AllocError>
+    requires { IsReached state.old }
+    ensures settled { (n moment : ℕ) (before : List Event) → IsStateOf (before ++ out.old) state.old
+        → OnOk result (SettlesTo (partition_of state.old) n moment before out.old out.new) }
+    ensures state { (before : List Event) → IsStateOf (before ++ out.old) state.old → OnOk result (IsStateOf (before ++ out.new) state.new) }
+    ensures quiet { (before : List Event) → IsStateOf (before ++ out.old) state.old
+        → IfOk result (λ quiet. IsTrue quiet ↔ HasQuietGame (before ++ out.new)) }
+    ensures place { partition_of state.new ≡ partition_of state.old }
+    ensures reached { OnOk result (IsReached state.new) }
+{
+    while out.len() < FULL {
+        match state.next_mover() {
+            None => return Ok(true),
+            Some(mover) => {
+                let event = forced_event(alloc, state, mover)?;
+                out.put(alloc, state, event)?;
+            }
+        }
+    }
+    Ok(state.quiet())
+}
+
+// The event of who is forced to move next.
+fn forced_event(alloc: Global, state: &State, mover: Mover) -> Result<Event, AllocError>
+    requires reached { IsReached state.now }
+    requires next { (es : List Event) (board : Board) → IsStateOf es state.now → board_of es ≡ Some board → next_mover board ≡ Some mover }
+    ensures { (n moment : ℕ) (es : List Event) → IsStateOf es state.now → IfOk result (IsTurn (partition_of state.now) n moment es) }
+{
+    if !state.has_keys(1) {
+        return Err(AllocError);
+    }
+    match state.event_of(alloc, mover)? {
+        Some(event) => Ok(event),
+        None => unreachable!(),
+    }
+}
