@@ -1,5 +1,5 @@
 -- A state with an event more.
-use Rattle.std.proofs.Common.{◌≡◌, ℕ, ◌+◌, ◌<◌, ◌≤◌, ◌==◌, nat_le, max, Option, Some, None, is_some, option_map, Bool, false, ◌&&◌, if◌then◌else◌, Result, Ok, Err, OnOk, OnErr, List, [], ◌∷◌, ◌++◌, IsTrue, ◌↔◌, not, refl, sym, ap, subst, ◌∙◌, arith, append-nil}
+use Rattle.std.proofs.Common.{◌≡◌, ℕ, ◌+◌, ◌<◌, ◌≤◌, ◌==◌, nat_le, max, Option, Some, None, is_some, option_map, Bool, true, false, ◌&&◌, if◌then◌else◌, Result, Ok, Err, OnOk, OnErr, List, [], ◌∷◌, ◌++◌, IsTrue, ◌↔◌, not, refl, sym, ap, subst, ◌∙◌, arith, append-nil}
 use Rattle.std.specs.Prelude.{⊤}
 use Rattle.std.specs.List.{find, list_any}
 use Rattle.std.specs.Option.{option_map_or}
@@ -8,7 +8,7 @@ use Rattle.zb_base.specs.Key.{key_of}
 use Rattle.zb_exchange_records.specs.declared.message.MessagePublished.{MessagePublished}
 use Rattle.zb_model.specs.declared.record.Event.{Event}
 use Rattle.zb_model.specs.declared.record.Event.TheVariants as events
-use Rattle.zb_views.specs.View.{counter_at, keys_in, greatest_among, greatest_counter}
+use Rattle.zb_views.specs.View.{counter_at, keys_in, greatest_among, greatest_counter, next_key}
 use Rattle.zb_table.specs.Rows.{Ascend, are_below, row_at, with_row}
 use Rattle.zb_table.proofs.Growing.{with_last, below_higher, below_more, below_without, has_row, passes_at}
 use Rattle.zb_views.specs.Messages.{buffered, is_past_deadline, without_message}
@@ -18,11 +18,13 @@ use Rattle.zb_rules.specs.GrowthLaws.{board_of_more}
 use Rattle.zb_views.specs.Definitions.{definition_told}
 use Rattle.zb_views.specs.Begin.{begun_told}
 use Rattle.zb_tokens.specs.Board.{Board}
-use Rattle.zb_rules.specs.Shown.{shown, after_shown, board_of}
-use Rattle.zb_rules.specs.Applies.{applies, all_apply}
+use Rattle.zb_rules.specs.Shown.{shown, after_shown, board_of, event_of}
+use Rattle.zb_rules.specs.Applies.{applies, all_apply, holds_own, may_fit}
 use Rattle.zb_rules.specs.StepLaws.{all_apply_more}
-use Rattle.zb_rules.specs.Settling.{HasQuietGame}
-use Rattle.zb_tokens.specs.Forced.{next_mover}
+use Rattle.zb_rules.specs.Settling.{turn_of, HasQuietGame}
+use Rattle.zb_tokens.specs.Forced.{next_mover, move_of}
+use Rattle.zb_tokens.specs.declared.board.Move.{Move}
+use Rattle.zb_tokens.specs.declared.board.Mover.{Mover}
 use Rattle.zb_views.specs.CounterLaws.{counter_at-key_of}
 use Rattle.zb_state.specs.declared.change.Change.{Change}
 use Rattle.zb_state.specs.declared.change.Change.TheVariants as changes
@@ -157,3 +159,21 @@ quiet_told es b is = (
   λ none. record { board = b; is = is; quiet = none_is (next_mover b) none },
   λ (told : HasQuietGame es). let same = same_board (board_of es) told.board b told.is is in none_told (next_mover b) (subst (λ (x : Board). next_mover x ≡ None) same told.quiet),
 )
+
+-- an event that meets its own condition applies where its move fits the board
+pub applies_by : (p : ℕ) (es : List Event) (e : Event) (b : Board) → holds_own p es e ≡ true → board_of es ≡ Some b → applies p es e ≡ may_fit (shown es e) b
+applies_by p es e b own is = rw (own, is) refl
+
+-- what a mover does is one event
+pub turn_told : (p n moment : ℕ) (es : List Event) (b game : Board) (mover : Mover) (key : ℕ) (move : Move) (event : Option Event)
+    → b ≡ game → key ≡ next_key p es → Some move ≡ move_of game moment key mover → event ≡ event_of game move → turn_of p n moment es b mover ≡ option_map (λ e. e ∷ []) event
+turn_told p n moment es b game mover key move event same drawn is_move is_event =
+    let told : move_of game moment (next_key p es) mover ≡ Some move = subst (λ (k : ℕ). move_of game moment k mover ≡ Some move) drawn (sym is_move) in
+    rw (same, told, is_event) refl
+
+-- and nothing where he has no move
+pub no_turn_told : (p n moment : ℕ) (es : List Event) (b game : Board) (mover : Mover) (key : ℕ)
+    → b ≡ game → key ≡ next_key p es → None ≡ move_of game moment key mover → turn_of p n moment es b mover ≡ None
+no_turn_told p n moment es b game mover key same drawn is_move =
+    let told : move_of game moment (next_key p es) mover ≡ None = subst (λ (k : ℕ). move_of game moment k mover ≡ None) drawn (sym is_move) in
+    rw (same, told) refl

@@ -1,5 +1,5 @@
 // The moves that events show.
-ghost use Rattle.std.specs.Prelude.{◌≡◌, List, IsTrue, IsFalse, IsErrOf, IfOk, OnOk, Some};
+ghost use Rattle.std.specs.Prelude.{◌≡◌, List, [], IsTrue, IsFalse, IsErrOf, IfOk, OnOk, Some};
 ghost use Rattle.zb_model.specs.declared.record.Event.{Event};
 ghost use Rattle.zb_model.specs.declared.record.Event.TheVariants as events;
 ghost use Rattle.zb_rules.specs.Applies.{may_fit};
@@ -61,7 +61,7 @@ fn shown(alloc: Global, event: &Event) -> Result<Option<Move>, AllocError>
 }
 
 fn stand_of(alloc: Global, process: &ProcessCreated) -> Result<Move, AllocError>
-    ensures { (before : List Event) → IfOk result (λ move. Some move ≡ shown before (events.ProcessCreated process.now)) }
+    ensures { IfOk result (λ move. Some move ≡ shown [] (events.ProcessCreated process.now)) }
 {
     Ok(Move::Stand(Deployed {
         key: process.key,
@@ -71,7 +71,7 @@ fn stand_of(alloc: Global, process: &ProcessCreated) -> Result<Move, AllocError>
 
 // A root starts, and another cell is entered.
 fn entry_of(alloc: Global, element: &ElementActivating) -> Result<Move, AllocError>
-    ensures { (before : List Event) → IfOk result (λ move. Some move ≡ shown before (events.ElementActivating element.now)) }
+    ensures { IfOk result (λ move. Some move ≡ shown [] (events.ElementActivating element.now)) }
 {
     if element.scope == Key::new(0) {
         return Ok(Move::Start(Start {
@@ -88,7 +88,7 @@ fn entry_of(alloc: Global, element: &ElementActivating) -> Result<Move, AllocErr
 }
 
 fn leave_of(alloc: Global, element: &ElementCompleted) -> Result<Move, AllocError>
-    ensures { (before : List Event) → IfOk result (λ move. Some move ≡ shown before (events.ElementCompleted element.now)) }
+    ensures { IfOk result (λ move. Some move ≡ shown [] (events.ElementCompleted element.now)) }
 {
     Ok(Move::Leave(Leave {
         key: element.key,
@@ -97,7 +97,7 @@ fn leave_of(alloc: Global, element: &ElementCompleted) -> Result<Move, AllocErro
 }
 
 fn take_of(alloc: Global, taken: &SequenceFlowTaken) -> Result<Move, AllocError>
-    ensures { (before : List Event) → IfOk result (λ move. Some move ≡ shown before (events.SequenceFlowTaken taken.now)) }
+    ensures { IfOk result (λ move. Some move ≡ shown [] (events.SequenceFlowTaken taken.now)) }
 {
     Ok(Move::Take(Take {
         key: taken.key,
@@ -106,7 +106,7 @@ fn take_of(alloc: Global, taken: &SequenceFlowTaken) -> Result<Move, AllocError>
 }
 
 fn assign_of(alloc: Global, variable: &VariableCreated) -> Result<Move, AllocError>
-    ensures { (before : List Event) → IfOk result (λ move. Some move ≡ shown before (events.VariableCreated variable.now)) }
+    ensures { IfOk result (λ move. Some move ≡ shown [] (events.VariableCreated variable.now)) }
 {
     Ok(Move::Assign(Assigned {
         scope: variable.scope,

@@ -315,8 +315,7 @@ impl State {
         if !self.meets_own(alloc, event)? {
             return Err(TableFault::NotApplicable);
         }
-        play(alloc, event, &mut self.game)?;
-        Ok(())
+        play(alloc, event, &mut self.game)
     }
 
     // Takes in the greatest counter of an event, and what it changes beside the game. After a refusal the
