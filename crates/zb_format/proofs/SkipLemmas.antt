@@ -32,4 +32,20 @@ stops None second e = refl
 pub both_stops : {A B : Type 0} (first : Reader A) (second : Reader B) (bytes : List ℕ) → skipped_at first bytes ≡ None → skipped_at (both_at first second) bytes ≡ None
 both_stops first second bytes e = stops (first bytes) second e
 
+there : {A : Type 0} (read : Option (A × List ℕ)) (after : List ℕ) → skipped_at (λ bytes. read) [] ≡ Some (tt, after) → (x : A) × (read ≡ Some (x, after))
+there (Some x) after e = (x.0, ap (λ (bytes : List ℕ). Some (x.0, bytes)) (ap (λ (p : Unit {0} × List ℕ). p.1) (some_is (tt, x.1) (tt, after) e)))
+there None after e = absurd cc
+
+-- what was passed over was there
+pub was_there : {A : Type 0} (read : Reader A) (bytes after : List ℕ) → skipped_at read bytes ≡ Some (tt, after) → (x : A) × (read bytes ≡ Some (x, after))
+was_there read bytes after e = there (read bytes) after e
+
+absent : {A : Type 0} (read : Option (A × List ℕ)) → skipped_at (λ bytes. read) [] ≡ None → read ≡ None
+absent (Some x) e = absurd cc
+absent None e = refl
+
+-- what wasn't passed over wasn't there
+pub was_absent : {A : Type 0} (read : Reader A) (bytes : List ℕ) → skipped_at read bytes ≡ None → read bytes ≡ None
+was_absent read bytes e = absent (read bytes) e
+
 pub ruleset skips = (both_over, both_stops, made_over)
