@@ -1,6 +1,7 @@
 ghost use Rattle.zb_format.specs.Reading.{Reads, skipped_at};
 
 use crate::text::read_str;
+use crate::value::read_vars;
 use crate::{Cursor, Format, ReadFault};
 use std::alloc::Global;
 use zb_base::{Key, List, Moment, Text, Vars};
@@ -26,8 +27,6 @@ impl Skip for Key {}
 
 impl Skip for Moment {}
 
-impl Skip for Vars {}
-
 impl<T: Format> Skip for List<T> {}
 
 // The text is judged where it stands.
@@ -36,6 +35,20 @@ impl Skip for Text {
     fn skip(alloc: Global, cursor: &mut Cursor<'_>) -> Result<(), ReadFault> {
         let _ = read_str(alloc, cursor)?;
         Ok(())
+    }
+}
+
+// Variables are made where there are any, for their names are judged.
+#[tactic(auto, unfolding(crate::specs::Layout::variables, crate::specs::Layout::variable, crate::specs::Layout::number, crate::specs::Reading::counted_at))]
+impl Skip for Vars {
+    fn skip(alloc: Global, cursor: &mut Cursor<'_>) -> Result<(), ReadFault> {
+        match <u32 as Format>::read(alloc, cursor)? {
+            0 => Ok(()),
+            count => {
+                let _ = read_vars(alloc, count, cursor)?;
+                Ok(())
+            }
+        }
     }
 }
 
