@@ -104,7 +104,12 @@ fn read_body(alloc: Global, body: &[u8], frame: u64, known: &mut Known) -> Resul
 }
 
 // Takes in the upshot of this frame's batch.
-fn take_upshot(alloc: Global, upshot: Upshot, frame: u64, known: &mut Known) -> Result<(), OpenFault>
+fn take_upshot(
+    alloc: Global,
+    upshot: Upshot,
+    frame: u64,
+    known: &mut Known,
+) -> Result<(), OpenFault>
     ensures taken { (p : ℕ) (log : List Batch) (batch : Batch) → IsKnown p log known.old → IsBatch batch → upshot ≡ upshot_of batch
         → OnOk result (IsKnown p (log ++ batch ∷ []) known.new) }
     ensures bad { (p : ℕ) (log : List Batch) (n : ℕ) → IsKnown p log known.old

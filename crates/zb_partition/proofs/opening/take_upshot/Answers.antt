@@ -12,4 +12,4 @@ returns-in-Ok-clause-taken c = λ p log batch known fits is.
     let Is : Outcome → Type 0 = λ o. IsStateOf (events_of log ++ events_in o) c.take_in.new.state in
     let outcome = ap (λ u. u.outcome) is in
     known_more p log batch c.args.known.now _ fits known c.take_in.ensures.place (subst Applies outcome (c.in-Ok.ensures.applied (events_of log) known.state)) (subst Is outcome (c.in-Ok.ensures.state (events_of log) known.state))
-        (sym (ap (λ u. u.moment) is))
+    (sym (ap (λ u. u.moment) is))
