@@ -1,4 +1,4 @@
-use Rattle.std.proofs.Common.{◌++◌, ap, refl, subst, sym, IsTrue}
+use Rattle.std.proofs.Common.{◌++◌, ap, subst, sym, IsTrue}
 use Rattle.zb_model.specs.declared.record.Outcome.{Outcome}
 use Rattle.zb_rules.specs.Applies.{all_apply}
 use Rattle.zb_rules.specs.View.{events_of, events_in}
