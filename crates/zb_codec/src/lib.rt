@@ -43,11 +43,11 @@ pub fn read(alloc: Global, bytes: &[u8]) -> Result<Option<Batch>, AllocError>
     }
 }
 
-// The batch, where nothing follows it.
-fn where_ended(batch: Batch, ended: bool) -> Option<Batch>
-    ensures { result ≡ (if ended then Some batch else None) }
+// The value, where nothing follows it. It is any value, so that the proof doesn't look into a batch.
+fn where_ended<T: Drop>(value: T, ended: bool) -> Option<T>
+    ensures { result ≡ (if ended then Some value else None) }
 {
-    if ended { Some(batch) } else { None }
+    if ended { Some(value) } else { None }
 }
 
 /// No spelling begins another: what follows one in another is nothing, and the two are of one batch.
