@@ -1,6 +1,5 @@
 // Expressions, and how deep they may be.
 use std::alloc::Global;
-use std::mem::forget;
 use std::process::Abort;
 use zb_base::{Text, TryCopy};
 use zb_process::{Expr, ExprNode};
@@ -8,9 +7,7 @@ use zb_process::{Expr, ExprNode};
 // How deep a copy of the expression is.
 fn nesting_of_a_copy(rt: &impl Abort, alloc: Global, expr: &Expr) -> u64 {
     let copy = expr.copy(alloc).expect(rt, "memory");
-    let nesting = copy.nesting();
-    forget(copy);
-    nesting
+    copy.nesting()
 }
 
 // The expression with one more around it, if it isn't too deep.
@@ -44,5 +41,4 @@ fn a_list_without_members_is_a_leaf(rt: HostRuntime) {
     }
     let list = Expr::new(ExprNode::List(members)).expect(&rt, "a list");
     assert!(rt; nesting_of_a_copy(&rt, alloc, &list) == 1);
-    forget(list);
 }

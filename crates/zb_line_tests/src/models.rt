@@ -1,7 +1,6 @@
 // The places of wrong models are run by the program (crates/zbd/stdin). What no reply shows stands here.
 use serde_json::Value as Json;
 use std::alloc::Global;
-use std::mem::forget;
 use std::process::Abort;
 use zb_process::{Flow, Model, Node, NodeKind};
 use zb_reader::{LayoutFault, read_model};
@@ -12,9 +11,7 @@ fn read(rt: &impl Abort, alloc: Global, text: &str) -> Result<Model, LayoutFault
         Ok(value) => value,
         Err(_) => panic!(rt; "no JSON"),
     };
-    let model = read_model(alloc, &value);
-    forget(value);
-    model
+    read_model(alloc, &value)
 }
 
 #[test]
@@ -23,10 +20,7 @@ fn reads_a_model(rt: HostRuntime) {
         r#"{"process":"p","versionTag":"v","nodes":[{"id":"s","kind":"startEvent"},{"id":"e","kind":"endEvent"}],
         "flows":[{"id":"f","sourceRef":"s","targetRef":"e"}]}"#;
     match read(&rt, rt.alloc(), text) {
-        Ok(model) => {
-            assert!(rt; is_straight(&model));
-            forget(model);
-        }
+        Ok(model) => assert!(rt; is_straight(&model)),
         Err(_) => panic!(&rt; "no model"),
     }
 }

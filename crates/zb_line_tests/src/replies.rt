@@ -3,7 +3,6 @@ ghost use Rattle.std.specs.Prelude.{IsSome};
 ghost use Rattle.zb_reply.specs.Reply.{answer_of};
 
 use std::alloc::Global;
-use std::mem::forget;
 use std::process::Abort;
 use zb_model::{
     Batch, Command, Event, Key, List, MessagePublish, MessagePublished, Moment, Outcome, Rejection,
@@ -22,8 +21,6 @@ fn writes_replies(rt: HostRuntime) {
         reason: Text::of(alloc, "job 7 isn't due").expect(&rt, "memory"),
     });
     reply_text(alloc, &rejected, Some(1_000), &mut bytes).expect(&rt, "memory");
-    forget(reply);
-    forget(rejected);
     let lines =
         "> {\"ok\":{\"message\":7}}\n{\"reason\":\"job 7 isn't due\",\"rejected\":\"INVALID_STATE\",\"units\":1000}\n";
     assert!(rt; bytes.as_slice() == lines.as_bytes());
@@ -83,6 +80,4 @@ fn reads_a_reply_off_a_batch(rt: HostRuntime) {
     let batch = batch(&rt, rt.alloc());
     let reply = reply_of(rt.alloc(), &batch).expect(&rt, "memory");
     assert!(rt; is_published(&reply, 5));
-    forget(reply);
-    forget(batch);
 }

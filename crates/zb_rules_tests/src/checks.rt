@@ -1,6 +1,5 @@
 use crate::models::lone;
 use std::alloc::Global;
-use std::mem::forget;
 use std::process::Abort;
 use zb_check::{ModelFault, check};
 use zb_model::NodeKind;
@@ -15,7 +14,6 @@ fn tells(
 ) -> bool {
     let model = lone(rt, alloc, node, kind);
     let told = check(alloc, &model);
-    forget(model);
     match told {
         Ok(()) => want.is_none(),
         Err(ModelFault::Bad { fault, id }) => want == Some((fault.name(), id.as_str())),

@@ -1,6 +1,5 @@
 use crate::models::straight;
 use std::alloc::Global;
-use std::mem::forget;
 use std::process::Abort;
 use zb_game::{Game, GameFault};
 use zb_model::{Key, NodeKind, TryCopy};
@@ -15,11 +14,9 @@ fn started(rt: &impl Abort, alloc: Global, last: NodeKind) -> Game {
         model: straight(rt, alloc, last),
     });
     assert!(rt; game.make(alloc, &stand) == Ok(()));
-    forget(stand);
     let key = Key::new(2);
     let start = Move::Start(Start { key, definition });
     assert!(rt; game.make(alloc, &start) == Ok(()));
-    forget(start);
     game
 }
 
@@ -28,13 +25,9 @@ fn goes_on(rt: &impl Abort, alloc: Global, game: &mut Game, key: Key) -> bool {
     match game.forced(alloc, key).expect(rt, "memory") {
         Some(m) => {
             assert!(rt; game.make(alloc, &m) == Ok(()));
-            forget(m);
             true
         }
-        none => {
-            forget(none);
-            false
-        }
+        None => false,
     }
 }
 
@@ -47,7 +40,6 @@ fn forced_moves(rt: &impl Abort, alloc: Global, last: NodeKind) -> u64 {
             count = at + 1;
         }
     }
-    forget(game);
     count
 }
 
@@ -65,9 +57,7 @@ fn refuses_a_cell_that_is_not_there(rt: HostRuntime) {
     assert!(rt; !game.can(&astray));
     assert!(rt; game.make(alloc, &astray) == Err(GameFault::Illegal));
     assert!(rt; game.play(alloc, &astray) == Err(GameFault::Illegal));
-    forget(astray);
     let copy = game.copy(alloc).expect(&rt, "memory");
     assert!(rt; copy.definition_of(Key::new(2)) == Some(Key::new(1)));
     assert!(rt; copy.is_process_of(Key::new(1), "p"));
-    forget((game, copy));
 }

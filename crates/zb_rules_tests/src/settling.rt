@@ -1,6 +1,5 @@
 use crate::models::{begin, published, put};
 use std::alloc::Global;
-use std::mem::forget;
 use std::process::Abort;
 use zb_flow::settle;
 use zb_model::PartitionId;
@@ -24,7 +23,6 @@ fn settled(rt: &impl Abort, alloc: Global, count: usize) -> (usize, bool) {
     fill(rt, alloc, &mut state, count, &mut out);
     let quiet = settle(alloc, &mut state, &mut out).expect(rt, "memory");
     let events = out.len();
-    forget((state, first, out));
     (events, quiet)
 }
 

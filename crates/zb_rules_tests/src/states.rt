@@ -1,6 +1,5 @@
 use crate::models::{begin, published, put, wanted};
 use std::alloc::Global;
-use std::mem::forget;
 use std::process::Abort;
 use zb_model::{Event, Key, Moment, PartitionId, TableFault};
 use zb_state::{Out, State};
@@ -9,7 +8,7 @@ use zb_state::{Out, State};
 fn go_on(rt: &impl Abort, alloc: Global, state: &mut State, out: &mut Out) {
     match state.turn(alloc).expect(rt, "memory") {
         Some(event) => put(rt, alloc, state, out, event),
-        none => forget(none),
+        None => {}
     }
 }
 
@@ -25,10 +24,9 @@ fn an_instance_goes_on_by_itself(rt: HostRuntime) {
     assert!(rt; out.len() == 16);
     assert!(rt; state.greatest_version("p") == 1);
     assert!(rt; state.definition_for("p", 0).is_some());
-    forget(state.game(alloc).expect(&rt, "memory"));
+    let _game = state.game(alloc).expect(&rt, "memory");
     let events = out.events();
     assert!(rt; events.as_slice().len() == 16);
-    forget((state, events));
 }
 
 // The state of a message with this event, which applies once.
@@ -38,7 +36,6 @@ fn with_message(rt: &impl Abort, alloc: Global) -> (State, Key) {
     let event: Event = published(rt, alloc, key);
     assert!(rt; state.apply(alloc, &event) == Ok(()));
     assert!(rt; state.apply(alloc, &event) == Err(TableFault::NotApplicable));
-    forget(event);
     (state, key)
 }
 
@@ -48,9 +45,7 @@ fn a_message_waits_until_it_expires(rt: HostRuntime) {
     let (state, key) = with_message(&rt, alloc);
     let command = wanted(&rt, alloc);
     assert!(rt; state.buffers(&command));
-    forget(command);
     assert!(rt; state.deadline_of(key) == Some(Moment::new(1_000)));
     assert!(rt; state.due(Moment::new(999)).is_none());
     assert!(rt; state.due(Moment::new(1_000)) == Some(key));
-    forget(state);
 }

@@ -1,6 +1,5 @@
 use crate::models::wanted;
 use std::alloc::Global;
-use std::mem::forget;
 use std::process::Abort;
 use zb_model::{Command, Moment, Outcome, PartitionId};
 use zb_state::State;
@@ -31,5 +30,4 @@ fn a_message_is_published_once(rt: HostRuntime) {
     assert!(rt; has_events(&first, 1));
     let second = outcome_of(alloc, &mut state, Moment::new(0), &command).expect(&rt, "memory");
     assert!(rt; is_rejected(&second, "message paid o-1 x is buffered"));
-    forget((state, command, first, second));
 }
