@@ -59,7 +59,7 @@ pub fn read_upshot(alloc: Global, bytes: &[u8]) -> Result<Option<Upshot>, AllocE
     }
 }
 
-// The value, where nothing follows it.
+// The value, where nothing follows it. It is any value, so that the proof doesn't look into a batch.
 fn where_ended<T: Drop>(value: T, ended: bool) -> Option<T>
     ensures { result ≡ (if ended then Some value else None) }
 {

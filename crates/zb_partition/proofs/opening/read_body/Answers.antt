@@ -1,7 +1,7 @@
 use Rattle.std.proofs.Common.{◌++◌, ◌∷◌, [], subst, IsFalse}
 use Rattle.zb_model.specs.declared.record.Upshot.{Upshot}
 use Rattle.zb_rules.specs.Applies.{all_apply}
-use Rattle.zb_rules.specs.View.{events_of, events_in}
+use Rattle.zb_views.specs.View.{events_of, events_in}
 use Rattle.zb_partition.specs.Reading.{IsKnown}
 use Rattle.zb_partition.proofs.ReadingLemmas.{bad_body, ok_gives}
 use Rattle.zb_partition.proofs.opening.read_body.Goals as goal

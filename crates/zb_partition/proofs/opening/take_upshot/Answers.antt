@@ -1,7 +1,7 @@
 use Rattle.std.proofs.Common.{◌++◌, ap, subst, sym, IsTrue}
 use Rattle.zb_model.specs.declared.record.Outcome.{Outcome}
 use Rattle.zb_rules.specs.Applies.{all_apply}
-use Rattle.zb_rules.specs.View.{events_of, events_in}
+use Rattle.zb_views.specs.View.{events_of, events_in}
 use Rattle.zb_state.specs.State.{partition_of, IsStateOf}
 use Rattle.zb_partition.proofs.ReadingLemmas.{known_more}
 use Rattle.zb_partition.proofs.opening.take_upshot.Goals as goal
