@@ -5,10 +5,11 @@ ghost use Rattle.std.specs.Prelude.{◌≡◌, ◌≢◌, ◌++◌, ◌-◌, ◌
 ghost use Rattle.zb_model.specs.declared.record.Batch.{Batch};
 ghost use Rattle.zb_model.specs.Record.{bytes_of};
 ghost use Rattle.zb_model.specs.RecordFits.{IsBatch};
+ghost use Rattle.zb_model.specs.Upshots.{upshot_of};
 
 use std::alloc::{AllocError, Global};
 use zb_format::{Cursor, Format, ReadFault};
-use zb_model::Batch;
+use zb_model::{Batch, Upshot};
 
 /// The number of bytes that `write` appends for a batch, at most the greatest `u64`. It takes a step for each
 /// field of the batch.
@@ -43,11 +44,26 @@ pub fn read(alloc: Global, bytes: &[u8]) -> Result<Option<Batch>, AllocError>
     }
 }
 
-// The batch, where nothing follows it.
-fn where_ended(batch: Batch, ended: bool) -> Option<Batch>
-    ensures { result ≡ (if ended then Some batch else None) }
+/// The upshot of the batch that these bytes spell, all of them. None where no batch has these bytes. It takes a
+/// step for each byte, and keeps the upshot alone.
+#[tactic(auto, using(crate::proofs::UpshotLemmas::whole))]
+pub fn read_upshot(alloc: Global, bytes: &[u8]) -> Result<Option<Upshot>, AllocError>
+    ensures found { IfOk result (λ found. IfSome found (λ upshot. (batch : Batch) × IsBatch batch × (bytes.now ≡ bytes_of batch) × (upshot ≡ upshot_of batch))) }
+    ensures none { IfOk result (λ found. IfNone found ((batch : Batch) → IsBatch batch → bytes.now ≢ bytes_of batch)) }
 {
-    if ended { Some(batch) } else { None }
+    let mut cursor = Cursor::new(bytes);
+    match zb_model::read_upshot(alloc, &mut cursor) {
+        Ok(upshot) => Ok(where_ended(upshot, cursor.is_at_end())),
+        Err(ReadFault::NotSpelled) => Ok(None),
+        Err(ReadFault::Memory) => Err(AllocError),
+    }
+}
+
+// The value, where nothing follows it. It is any value, so that the proof doesn't look into a batch.
+fn where_ended<T: Drop>(value: T, ended: bool) -> Option<T>
+    ensures { result ≡ (if ended then Some value else None) }
+{
+    if ended { Some(value) } else { None }
 }
 
 /// No spelling begins another: what follows one in another is nothing, and the two are of one batch.

@@ -3,7 +3,7 @@ ghost use Rattle.zb_exchange_records.specs.Layouts as layouts;
 
 use std::alloc::{AllocError, Global};
 use zb_base::{Key, List, Moment, Text, Vars};
-use zb_format::{Cursor, Encoder, Fields, Format, ReadFault, pairs};
+use zb_format::{Cursor, Encoder, Fields, Format, ReadFault, Skip, pairs};
 
 /// What JOB_BATCH ACTIVATE asks for: jobs of a kind for a worker.
 #[derive(Drop)]
@@ -35,6 +35,13 @@ impl Format for JobBatchActivate {
     }
 }
 
+#[tactic(auto, using(zb_format::proofs::SkipLemmas::skips), unfolding(crate::specs::Layouts::job_batch_activate))]
+impl Skip for JobBatchActivate {
+    fn skip(alloc: Global, cursor: &mut Cursor<'_>) -> Result<(), ReadFault> {
+        <(Text, (Text, (u64, u32)))>::skip(alloc, cursor)
+    }
+}
+
 /// What JOB COMPLETE asks for: the job is done, with these results.
 #[derive(Drop)]
 pub struct JobComplete {
@@ -53,6 +60,13 @@ impl Format for JobComplete {
     fn read(alloc: Global, cursor: &mut Cursor<'_>) -> Result<JobComplete, ReadFault> {
         let (key, variables) = Format::read(alloc, cursor)?;
         Ok(JobComplete { key, variables })
+    }
+}
+
+#[tactic(auto, using(zb_format::proofs::SkipLemmas::skips), unfolding(crate::specs::Layouts::job_complete))]
+impl Skip for JobComplete {
+    fn skip(alloc: Global, cursor: &mut Cursor<'_>) -> Result<(), ReadFault> {
+        <(Key, Vars)>::skip(alloc, cursor)
     }
 }
 
@@ -79,6 +93,13 @@ impl Format for JobFail {
     }
 }
 
+#[tactic(auto, using(zb_format::proofs::SkipLemmas::skips), unfolding(crate::specs::Layouts::job_fail))]
+impl Skip for JobFail {
+    fn skip(alloc: Global, cursor: &mut Cursor<'_>) -> Result<(), ReadFault> {
+        <(Key, (u32, Text))>::skip(alloc, cursor)
+    }
+}
+
 /// What JOB THROW_ERROR asks for: the job ends by an error of the process.
 #[derive(Drop)]
 pub struct JobThrowError {
@@ -97,6 +118,13 @@ impl Format for JobThrowError {
     fn read(alloc: Global, cursor: &mut Cursor<'_>) -> Result<JobThrowError, ReadFault> {
         let (key, code) = Format::read(alloc, cursor)?;
         Ok(JobThrowError { key, code })
+    }
+}
+
+#[tactic(auto, using(zb_format::proofs::SkipLemmas::skips), unfolding(crate::specs::Layouts::job_throw_error))]
+impl Skip for JobThrowError {
+    fn skip(alloc: Global, cursor: &mut Cursor<'_>) -> Result<(), ReadFault> {
+        <(Key, Text)>::skip(alloc, cursor)
     }
 }
 
@@ -120,6 +148,8 @@ impl Format for JobUpdateRetries {
         Ok(JobUpdateRetries { key, retries })
     }
 }
+
+impl Skip for JobUpdateRetries {}
 
 /// JOB CREATED: the element waits for this job.
 #[derive(Drop)]

@@ -3,7 +3,7 @@ ghost use Rattle.zb_exchange_records.specs.Layouts as layouts;
 
 use std::alloc::{AllocError, Global};
 use zb_base::{Key, Moment, Text, TryCopy, Vars};
-use zb_format::{Cursor, Encoder, Fields, Format, ReadFault, pairs};
+use zb_format::{Cursor, Encoder, Fields, Format, ReadFault, Skip, pairs};
 
 /// What MESSAGE PUBLISH asks for: a message that waits for whoever wants it.
 #[derive(Drop)]
@@ -42,6 +42,13 @@ impl Format for MessagePublish {
             id,
             variables,
         })
+    }
+}
+
+#[tactic(auto, using(zb_format::proofs::SkipLemmas::skips), unfolding(crate::specs::Layouts::message_publish))]
+impl Skip for MessagePublish {
+    fn skip(alloc: Global, cursor: &mut Cursor<'_>) -> Result<(), ReadFault> {
+        <(Text, (Text, (u64, (Text, Vars))))>::skip(alloc, cursor)
     }
 }
 

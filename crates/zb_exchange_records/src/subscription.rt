@@ -3,7 +3,7 @@ ghost use Rattle.zb_exchange_records.specs.Layouts as layouts;
 
 use std::alloc::{AllocError, Global};
 use zb_base::{Key, List, Text, Vars};
-use zb_format::{Cursor, Encoder, Fields, Format, ReadFault, pairs};
+use zb_format::{Cursor, Encoder, Fields, Format, ReadFault, Skip, pairs};
 
 /// What MESSAGE_SUBSCRIPTION CREATE asks for: messages of this name and correlation key are wanted.
 #[derive(Drop)]
@@ -48,6 +48,13 @@ impl Format for MessageSubscriptionCreate {
     }
 }
 
+#[tactic(auto, using(zb_format::proofs::SkipLemmas::skips), unfolding(crate::specs::Layouts::message_subscription_create))]
+impl Skip for MessageSubscriptionCreate {
+    fn skip(alloc: Global, cursor: &mut Cursor<'_>) -> Result<(), ReadFault> {
+        <(Key, (Text, (Text, (Text, bool))))>::skip(alloc, cursor)
+    }
+}
+
 /// What MESSAGE_SUBSCRIPTION CORRELATE tells: the message has been taken.
 #[derive(Clone, Copy)]
 pub struct MessageSubscriptionCorrelate {
@@ -74,6 +81,8 @@ impl Format for MessageSubscriptionCorrelate {
         })
     }
 }
+
+impl Skip for MessageSubscriptionCorrelate {}
 
 /// What MESSAGE_SUBSCRIPTION REJECT tells: the message was not taken.
 #[derive(Clone, Copy)]
@@ -102,6 +111,8 @@ impl Format for MessageSubscriptionReject {
     }
 }
 
+impl Skip for MessageSubscriptionReject {}
+
 /// What MESSAGE_SUBSCRIPTION DELETE asks for: no message is wanted any longer. These were taken.
 #[derive(Drop)]
 pub struct MessageSubscriptionDelete {
@@ -125,6 +136,8 @@ impl Format for MessageSubscriptionDelete {
         Ok(MessageSubscriptionDelete { subscription, keys })
     }
 }
+
+impl Skip for MessageSubscriptionDelete {}
 
 /// What PROCESS_MESSAGE_SUBSCRIPTION CORRELATE asks for: the message is for this subscription.
 #[derive(Drop)]
@@ -152,6 +165,13 @@ impl Format for ProcessMessageSubscriptionCorrelate {
             message,
             variables,
         })
+    }
+}
+
+#[tactic(auto, using(zb_format::proofs::SkipLemmas::skips), unfolding(crate::specs::Layouts::process_message_subscription_correlate))]
+impl Skip for ProcessMessageSubscriptionCorrelate {
+    fn skip(alloc: Global, cursor: &mut Cursor<'_>) -> Result<(), ReadFault> {
+        <(Key, (Key, Vars))>::skip(alloc, cursor)
     }
 }
 

@@ -2,4 +2,5 @@ pub mod Adding
 pub mod ListLemmas
 pub mod PieceLemmas
 pub mod SizeLemmas
+pub mod SkipLemmas
 pub mod TextLemmas

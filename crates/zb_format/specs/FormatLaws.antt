@@ -18,9 +18,11 @@ use Rattle.zb_format.specs.Reading.{◌>>=◌, Reader, passed, empty_at, tagged_
 
 -- ---- bytes
 
+-- bytes are bytes still without the first few
 pub bytes-drop : (n : ℕ) (bytes : List ℕ) → IsBytes bytes → IsBytes (drop n bytes)
 bytes-drop n bytes h i = rw get_or-drop (h (n + i))
 
+-- the first few of some bytes are bytes
 pub bytes-take : (n : ℕ) (bytes : List ℕ) → IsBytes bytes → IsBytes (take n bytes)
 bytes-take n bytes h i =
     elim (cases_lt i n) [
@@ -28,6 +30,7 @@ bytes-take n bytes h i =
       | inr le ↦ rw (get_or_past (take n bytes) i 0 (omega (arith, length-take n bytes))) (omega arith)
     ]
 
+-- what stands behind the first byte is bytes
 pub bytes-rest : (b : ℕ) (bytes : List ℕ) → IsBytes (b ∷ bytes) → IsBytes bytes
 bytes-rest b bytes h i = h (suc i)
 
@@ -43,14 +46,17 @@ pub guard_some : {A : Type 0} (b : Bool) (x y : A) → cond b None (Some x) ≡ 
 guard_some true x y e = absurd cc
 guard_some false x y e = (refl, cc)
 
+-- equal options hold equal values
 pub some_is : {A : Type 0} (x y : A) → Some x ≡ Some y → x ≡ y
 some_is x y e = cc
 
+-- what one thing took and what the next one took of the rest is taken by both together
 pub takes-then : (a x b y c : List ℕ) → Takes a x b → Takes b y c → Takes a (x ++ y) c
 takes-then a x b y c p q = record { parts = p.parts ∙ ap (λ (t : List ℕ). x ++ t) q.parts ∙ sym (append_assoc x y c); rest_bytes = q.rest_bytes }
 
 -- ---- formats from formats
 
+-- one thing behind another is a format
 pub both_format : {A B : Type 0} {f : A → List ℕ} {g : B → List ℕ} {P : A → Type 0} {Q : B → Type 0} {r : Reader A} {s : Reader B} → IsFormat f P r → IsFormat g Q s → IsFormat (λ p. f p.0 ++ g p.1) (λ p. P p.0 × Q p.1) (both_at r s)
 both_format {f = f} {g = g} {P = P} {Q = Q} {r = r} {s = s} one two = record {
   takes = λ bytes x rest h e.
@@ -84,6 +90,7 @@ fits_again from make fits a same h = subst fits (sym same) h
 
 -- ---- numbers
 
+-- the first n bytes that are read off are n bytes, and the rest stands behind them
 pub front_takes : (n : ℕ) (bytes piece rest : List ℕ) → IsBytes bytes → front_at n bytes ≡ Some (piece, rest) → Takes bytes piece rest × (length piece ≡ n) × IsBytes piece
 front_takes n bytes piece rest h e =
     let g = guard_some (ltb (length bytes) n) (take n bytes, drop n bytes) (piece, rest) e in
@@ -91,6 +98,7 @@ front_takes n bytes piece rest h e =
     subst (λ z. Takes bytes z.0 z.1 × (length z.0 ≡ n) × IsBytes z.0) g.1
     (record { parts = sym (take-append-drop n bytes); rest_bytes = bytes-drop n bytes h }, omega (arith, length-take n bytes), bytes-take n bytes h)
 
+-- n bytes are read off whatever stands behind them
 pub front_again : (n : ℕ) (piece rest : List ℕ) → length piece ≡ n → front_at n (piece ++ rest) ≡ Some (piece, rest)
 front_again n piece rest len =
     let long_bytes : ltb (length (piece ++ rest)) n ≡ false = le-ltb _ _ (omega (arith, length-append piece rest, len)) in
@@ -102,6 +110,7 @@ front_format n = record {
   again = λ x rest h. front_again n x rest h;
 }
 
+-- numbers of four bytes are a format
 pub number_format : IsFormat number_bytes IsNumber number_at
 unfolding number_bytes number_at
 number_format = record {
@@ -115,6 +124,7 @@ number_format = record {
   again = λ x rest h. rw (front_again 4 (to_be_bytes w32 x) rest refl, from_be_bytes-to_be_bytes_4 x h) refl;
 }
 
+-- numbers of eight bytes are a format
 pub long_format : IsFormat long_bytes IsLong long_at
 unfolding long_bytes long_at
 long_format = record {
@@ -134,6 +144,7 @@ one_is_by : {A : Type 0} (byte : A → ℕ) (y : A) (b : ℕ) (x : A) (others : 
 one_is_by byte y b x others true h next e = ap byte (sym (some_is y x e)) ∙ eqb-true _ _ h
 one_is_by byte y b x others false h next e = next e
 
+-- the value that is found by a byte has that byte
 pub one_is : {A : Type 0} (byte : A → ℕ) (all : List A) (b : ℕ) (x : A) → one_of byte all b ≡ Some x → byte x ≡ b
 one_is byte [] b x e = absurd cc
 one_is byte (y ∷ ys) b x e = one_is_by byte y b x (one_of byte ys b) (eqb (byte y) b) refl (one_is byte ys b x) e
@@ -146,15 +157,18 @@ byte_takes byte all (b ∷ bs) x rest h e =
     subst (λ z. Takes (b ∷ bs) (byte z.0 ∷ []) z.1 × Unit {0}) (some_is (a.0, bs) (x, rest) a.2)
     (record { parts = ap (λ (c : ℕ). c ∷ bs) (sym same); rest_bytes = bytes-rest b bs h }, tt)
 
+-- values that are each known by a byte are a format
 pub byte_format : {A : Type 0} (byte : A → ℕ) (all : List A) → ((x : A) → one_of byte all (byte x) ≡ Some x) → IsFormat (λ x. byte x ∷ []) IsAny (chosen_at (one_of byte all) byte_at)
 byte_format byte all known = record {
   takes = byte_takes byte all;
   again = λ x rest h. rw (known x) refl;
 }
 
+-- truth values are a format
 pub flag_format : IsFormat flag_bytes IsAny flag_at
 flag_format = byte_format truth_byte (false ∷ true ∷ []) (elim [ false ↦ refl | true ↦ refl ])
 
+-- whole numbers with a sign are a format
 pub signed_format : IsFormat signed_bytes IsSigned signed_at
 unfolding signed_bytes long_bytes signed_at
 signed_format = made_format (cast_unsigned w64)
@@ -198,6 +212,7 @@ passing_format {f = f} {P = P} {r = r} test one = record {
 
 -- ---- texts
 
+-- texts behind their length are a format
 pub text_format : IsFormat text_bytes IsText text_at
 unfolding text_bytes text_at
 text_format = record {
@@ -231,6 +246,7 @@ many_again f P r one (x ∷ xs) rest h =
     let regrouped : flat_map f (x ∷ xs) ++ rest ≡ f x ++ (flat_map f xs ++ rest) = ap (λ (y : List ℕ). y ++ rest) (flat_map-cons f x xs) ∙ append_assoc (f x) (flat_map f xs) rest in
     ap (many_at r (suc (length xs))) regrouped ∙ rw (one.again x (flat_map f xs ++ rest) h.0, many_again f P r one xs rest h.1) refl
 
+-- lists behind their length are a format, where their members are
 pub counted_format : {A : Type 0} {f : A → List ℕ} {P : A → Type 0} {r : Reader A} → IsFormat f P r → IsFormat (counted_bytes f) (AreCounted P) (counted_at r)
 unfolding counted_bytes counted_at
 counted_format {f = f} {P = P} {r = r} one = record {
@@ -247,6 +263,7 @@ counted_format {f = f} {P = P} {r = r} one = record {
 
 -- ---- a byte for the kind
 
+-- nothing at all is a format, of no bytes
 pub empty_format : IsFormat (λ (u : Unit {0}). []) IsAny empty_at
 empty_format = record {
   takes = λ bytes x rest h e. subst (λ z. Takes bytes [] z.1 × Unit {0}) (some_is (tt, bytes) (x, rest) e) (record { parts = refl; rest_bytes = h }, tt);
@@ -257,6 +274,7 @@ empty_format = record {
 pub record IsTagged {A : Type 0} (spelling : A → List ℕ) (fits : A → Type 0) (behind : ℕ → Reader A) : Type 0 where
   pub behind_takes : (tag : ℕ) (bytes : List ℕ) (x : A) (rest : List ℕ) → IsBytes bytes → behind tag bytes ≡ Some (x, rest) → Takes (tag ∷ bytes) (spelling x) rest × fits x
 
+-- where no kind is left, nothing is read
 pub no_arm_tagged : {B : Type 0} {spelling : B → List ℕ} {fits : B → Type 0} → IsTagged spelling fits no_arm
 no_arm_tagged = record { behind_takes = λ tag bytes x rest h e. absurd cc }
 
@@ -272,6 +290,7 @@ arm_by : {B : Type 0} (n tag : ℕ) (t : Bool) → eqb tag n ≡ t → (here oth
 arm_by n tag true h here others Goal y one two e = subst Goal (sym (eqb-true _ _ h)) (one e)
 arm_by n tag false h here others Goal y one two e = two e
 
+-- one kind more, by its byte: what is read behind it is spelled so, where the other kinds are
 pub arm_tagged : {A B : Type 0} {f : A → List ℕ} {P : A → Type 0} {r : Reader A} {spelling : B → List ℕ} {fits : B → Type 0} {others : ℕ → Reader B} (n : ℕ) (make : A → B) → IsFormat f P r → ((a : A) → spelling (make a) ≡ n ∷ f a) → ((a : A) → P a → fits (make a)) → IsTagged spelling fits others → IsTagged spelling fits (arm n make r others)
 arm_tagged {f = f} {P = P} {r = r} {spelling = spelling} {fits = fits} {others = others} n make one spelled fitting more = record {
   behind_takes = λ tag bytes x rest h e. arm_by n tag (eqb tag n) refl (made_at make r bytes) (others tag bytes) (λ k. Takes (k ∷ bytes) (spelling x) rest × fits x) (x, rest)
@@ -282,6 +301,7 @@ tagged_takes : {A : Type 0} (spelling : A → List ℕ) (fits : A → Type 0) (b
 tagged_takes spelling fits behind tagged [] x rest h e = absurd cc
 tagged_takes spelling fits behind tagged (b ∷ bs) x rest h e = tagged.behind_takes b bs x rest (bytes-rest b bs h) e
 
+-- values behind the byte of their kind are a format, where each is read again
 pub tagged_format : {A : Type 0} {spelling : A → List ℕ} {fits : A → Type 0} {behind : ℕ → Reader A} → IsTagged spelling fits behind → ((x : A) (rest : List ℕ) → fits x → tagged_at behind (spelling x ++ rest) ≡ Some (x, rest)) → IsFormat spelling fits (tagged_at behind)
 tagged_format {spelling = spelling} {fits = fits} {behind = behind} tagged again = record { takes = tagged_takes spelling fits behind tagged; again = again }
 
@@ -291,6 +311,7 @@ optional_again : {A : Type 0} (f : A → List ℕ) (P : A → Type 0) (r : Reade
 optional_again f P r one None rest h = refl
 optional_again f P r one (Some x) rest h = rw (one.again x rest h) refl
 
+-- what may be absent is a format
 pub optional_format : {A : Type 0} {f : A → List ℕ} {P : A → Type 0} {r : Reader A} → IsFormat f P r → IsFormat (optional_bytes f) (IsOptional P) (optional_at r)
 optional_format {f = f} {P = P} {r = r} one = tagged_format
     (arm_tagged 0 (λ u. None) empty_format (λ u. refl) (λ u h. tt)
@@ -307,6 +328,7 @@ value_again (values.Bool b) rest h = rw (flag_format.again b rest tt) refl
 value_again (values.Text t) rest h = rw (text_format.again t rest h) refl
 value_again (values.List zs) rest h = rw ((counted_format signed_format).again zs rest h) refl
 
+-- values of variables are a format
 pub value_format : IsFormat value_bytes IsValue value_at
 unfolding value_bytes value_at
 value_format = tagged_format

@@ -50,6 +50,10 @@ made_at make read bytes = do
   x ← read bytes
   Some (make x.0, x.1)
 
+-- what stands there is passed over, and nothing is made of it
+abbrev pub skipped_at : {A : Type 0} → Reader A → Reader (Unit {0})
+skipped_at read = made_at (λ x. tt) read
+
 -- what is made of what is read, where it is something's spelling
 abbrev pub chosen_at : {A B : Type 0} → (A → Option B) → Reader A → Reader B
 chosen_at choose read bytes = do

@@ -1,6 +1,7 @@
 ghost use Rattle.zb_format.specs.Layout as layouts;
 
 use crate::front::write_count;
+use crate::text::read_str;
 use crate::{Cursor, Encoder, Format, ReadFault};
 use std::alloc::{AllocError, Global};
 use zb_base::{Key, Moment, Text};
@@ -102,14 +103,10 @@ impl Format for Text {
         encoder.add(spelled)
     }
 
-    #[tactic(auto, using(crate::proofs::TextLemmas::texts), unfolding(crate::specs::Layout::text, crate::specs::Layout::number, crate::specs::Reading::text_at))]
+    #[tactic(auto, unfolding(crate::specs::Layout::text))]
     fn read(alloc: Global, cursor: &mut Cursor<'_>) -> Result<Text, ReadFault> {
-        let length = <u32 as Format>::read(alloc, cursor)?;
-        let front = cursor.front(length as usize)?;
-        match std::str::from_utf8(front) {
-            Ok(text) => Ok(Text::of(alloc, text)?),
-            Err(_) => Err(ReadFault::NotSpelled),
-        }
+        let text = read_str(alloc, cursor)?;
+        Ok(Text::of(alloc, text)?)
     }
 }
 

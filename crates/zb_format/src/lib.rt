@@ -18,6 +18,8 @@ mod fields;
 mod format;
 mod front;
 mod list;
+mod skip;
+mod text;
 mod value;
 
 pub use cursor::Cursor;
@@ -26,3 +28,4 @@ pub use fault::ReadFault;
 pub use fields::Fields;
 pub use format::{Format, append, size};
 pub use front::{write_count, write_tagged};
+pub use skip::Skip;

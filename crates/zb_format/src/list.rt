@@ -42,8 +42,9 @@ pub fn write_all<T: Format>(items: &[T], encoder: &mut Encoder) -> Result<(), Al
     Ok(())
 }
 
+/// Reads so many items.
 #[tactic(auto, using(crate::proofs::ListLemmas::many))]
-fn read_many<T: Format>(
+pub fn read_many<T: Format>(
     alloc: Global,
     count: u32,
     cursor: &mut Cursor<'_>,

@@ -1,7 +1,9 @@
+ghost use Rattle.zb_base.specs.Vars.{is_ascending};
 ghost use Rattle.zb_format.specs.Layout as layouts;
+ghost use Rattle.zb_format.specs.Reading.{Reads, chosen_at, many_at, passed};
 
 use crate::front::write_tagged;
-use crate::list::write_all;
+use crate::list::{read_many, write_all};
 use crate::{Cursor, Encoder, Fields, Format, ReadFault};
 use std::alloc::{AllocError, Global};
 use zb_base::{List, Pair, Text, Value, Variable, Vars};
@@ -53,12 +55,23 @@ impl Format for Vars {
         write_all(self.as_slice(), encoder)
     }
 
-    #[tactic(auto, unfolding(crate::specs::Layout::variables, crate::specs::Layout::variable))]
+    #[tactic(auto, unfolding(crate::specs::Layout::variables, crate::specs::Layout::variable, crate::specs::Layout::number, crate::specs::Reading::counted_at))]
     fn read(alloc: Global, cursor: &mut Cursor<'_>) -> Result<Vars, ReadFault> {
-        match Vars::of(List::read(alloc, cursor)?) {
-            Some(variables) => Ok(variables),
-            None => Err(ReadFault::NotSpelled),
+        match <u32 as Format>::read(alloc, cursor)? {
+            0 => Ok(Vars::empty(alloc)),
+            count => read_vars(alloc, count, cursor),
         }
+    }
+}
+
+/// Reads so many variables.
+#[tactic(auto, unfolding(crate::specs::Layout::variable))]
+pub fn read_vars(alloc: Global, count: u32, cursor: &mut Cursor<'_>) -> Result<Vars, ReadFault>
+    ensures { Reads (chosen_at (passed is_ascending) (many_at layouts.variable.reading count) cursor.old) result cursor.new }
+{
+    match Vars::of(read_many(alloc, count, cursor)?) {
+        Some(variables) => Ok(variables),
+        None => Err(ReadFault::NotSpelled),
     }
 }
 

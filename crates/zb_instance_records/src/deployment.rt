@@ -3,7 +3,7 @@ ghost use Rattle.zb_instance_records.specs.Layouts as layouts;
 
 use std::alloc::{AllocError, Global};
 use zb_base::Key;
-use zb_format::{Cursor, Encoder, Fields, Format, ReadFault, pairs};
+use zb_format::{Cursor, Encoder, Fields, Format, ReadFault, Skip, pairs};
 use zb_process::Model;
 
 /// What DEPLOYMENT DISTRIBUTE asks for: the model is to stand here under the key that another partition drew.
@@ -29,6 +29,13 @@ impl Format for DeploymentDistribute {
             version,
             model,
         })
+    }
+}
+
+#[tactic(auto, using(zb_format::proofs::SkipLemmas::skips), unfolding(crate::specs::Layouts::deployment_distribute))]
+impl Skip for DeploymentDistribute {
+    fn skip(alloc: Global, cursor: &mut Cursor<'_>) -> Result<(), ReadFault> {
+        <(Key, (u32, Model))>::skip(alloc, cursor)
     }
 }
 
@@ -102,6 +109,8 @@ impl Format for CommandDistributionAcknowledge {
         Ok(CommandDistributionAcknowledge { key, partition })
     }
 }
+
+impl Skip for CommandDistributionAcknowledge {}
 
 /// COMMAND_DISTRIBUTION DISTRIBUTING: the definition is sent to that partition.
 #[derive(Clone, Copy)]

@@ -5,7 +5,7 @@ ghost use Rattle.zb_instance_records.specs.Layouts as layouts;
 
 use std::alloc::{AllocError, Global};
 use zb_base::{Key, Moment, Text, Value, Vars};
-use zb_format::{Cursor, Encoder, Fields, Format, ReadFault, pairs};
+use zb_format::{Cursor, Encoder, Fields, Format, ReadFault, Skip, pairs};
 
 /// Why an element cannot go on.
 #[derive(Clone, Copy, Debug, PartialEq, Eq)]
@@ -68,6 +68,13 @@ impl Format for VariableDocumentUpdate {
             local,
             variables,
         })
+    }
+}
+
+#[tactic(auto, using(zb_format::proofs::SkipLemmas::skips), unfolding(crate::specs::Layouts::variable_document_update))]
+impl Skip for VariableDocumentUpdate {
+    fn skip(alloc: Global, cursor: &mut Cursor<'_>) -> Result<(), ReadFault> {
+        <(Key, (bool, Vars))>::skip(alloc, cursor)
     }
 }
 

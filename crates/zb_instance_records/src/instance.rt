@@ -5,7 +5,7 @@ ghost use Rattle.zb_instance_records.specs.Layouts as layouts;
 
 use std::alloc::{AllocError, Global};
 use zb_base::{Key, List, Pair, Text, Vars};
-use zb_format::{Cursor, Encoder, Fields, Format, ReadFault, pairs};
+use zb_format::{Cursor, Encoder, Fields, Format, ReadFault, Skip, pairs};
 
 /// How an element stands in its scope.
 #[derive(Clone, Copy, Debug, PartialEq, Eq)]
@@ -48,6 +48,13 @@ impl Format for ProcessInstanceCreationCreate {
     }
 }
 
+#[tactic(auto, using(zb_format::proofs::SkipLemmas::skips), unfolding(crate::specs::Layouts::process_instance_creation_create))]
+impl Skip for ProcessInstanceCreationCreate {
+    fn skip(alloc: Global, cursor: &mut Cursor<'_>) -> Result<(), ReadFault> {
+        <(Text, (u32, Vars))>::skip(alloc, cursor)
+    }
+}
+
 /// What PROCESS_INSTANCE_MIGRATION MIGRATE asks for: the instance goes on in the target definition, each node under its new id.
 #[derive(Drop)]
 pub struct ProcessInstanceMigrationMigrate {
@@ -72,6 +79,8 @@ impl Format for ProcessInstanceMigrationMigrate {
         Ok(ProcessInstanceMigrationMigrate { key, target, pairs })
     }
 }
+
+impl Skip for ProcessInstanceMigrationMigrate {}
 
 /// PROCESS_INSTANCE_CREATION CREATED: an instance of the definition begins.
 #[derive(Clone, Copy)]

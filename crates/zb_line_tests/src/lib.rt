@@ -1,9 +1,7 @@
-//! Tests of what no clause says of values, expressions, models, batches, lines and replies: each public call with
+//! Tests of what no clause says of values, expressions, models, lines and replies: each public call with
 //! ample memory.
 #![tactic(auto)]
 
-#[cfg(test)]
-mod batches;
 #[cfg(test)]
 mod expressions;
 #[cfg(test)]

@@ -1,7 +1,7 @@
 // Lines with their replies are run by the program (crates/zbd/stdin). What no reply shows stands here.
 use std::alloc::Global;
-use std::test::Fail;
-use zb_model::{Command, MessagePublish, Value};
+use std::process::Abort;
+use zb_model::{Command, MessagePublish, Value, Vars};
 use zb_wire::{LineFault, Request, longest_shown, read_line};
 
 // A publish with variables of each kind.
@@ -9,64 +9,80 @@ const PAID: &[u8] =
     br#"{"op":"publish","name":"paid","correlationKey":"o-1","timeToLive":60000,"variables":
     {"n":9223372036854775807,"m":-9223372036854775808,"b":true,"":"\u00e9","l":[0,-1],"b":false,"e":[]}}"#;
 
-// The message that a line asks to publish.
-fn message_of(alloc: Global, line: &[u8]) -> Result<MessagePublish, LineFault> {
-    match read_line(alloc, line, false) {
-        Ok(Request::Publish(message)) => Ok(message),
-        Ok(_) => Err(LineFault::UnknownOp),
-        Err(fault) => Err(fault),
+// The message that the line asks to publish.
+fn message_of(rt: &impl Abort, alloc: Global) -> MessagePublish {
+    match read_line(alloc, PAID, false) {
+        Ok(Request::Publish(message)) => message,
+        _ => panic!(rt; "no publish"),
     }
 }
 
 #[test]
-fn reads_a_line(rt: HostRuntime) -> Result<(), Fail> {
-    let message = message_of(rt.alloc(), PAID)?;
-    assert_eq!(rt; message.name.as_str(), "paid");
-    assert_eq!(rt; message.correlation_key.as_str(), "o-1");
-    assert_eq!(rt; message.time_to_live, 60_000);
-    assert_eq!(rt; message.id.as_str(), "");
-    Ok(())
+fn reads_a_line(rt: HostRuntime) {
+    let message = message_of(&rt, rt.alloc());
+    assert!(rt; message.name.as_str() == "paid");
+    assert!(rt; message.correlation_key.as_str() == "o-1");
+    assert!(rt; message.time_to_live == 60_000);
+    assert!(rt; message.id.as_str() == "");
+}
+
+// Whether the variable of this name is this list.
+fn is_list(variables: &Vars, name: &str, want: &[i64]) -> bool {
+    match variables.get(name) {
+        Some(Value::List(list)) => list.as_slice() == want,
+        _ => false,
+    }
+}
+
+fn is_text(variables: &Vars, name: &str, want: &str) -> bool {
+    match variables.get(name) {
+        Some(Value::Text(text)) => text.as_str() == want,
+        _ => false,
+    }
+}
+
+fn is_int(variables: &Vars, name: &str, want: i64) -> bool {
+    match variables.get(name) {
+        Some(Value::Int(number)) => *number == want,
+        _ => false,
+    }
 }
 
 #[test]
-fn reads_variables(rt: HostRuntime) -> Result<(), Fail> {
-    let variables = message_of(rt.alloc(), PAID)?.variables;
-    assert_eq!(rt; variables.as_slice().len(), 6);
-    assert!(rt; matches!(variables.get("n"), Some(Value::Int(i64::MAX))));
-    assert!(rt; matches!(variables.get("m"), Some(Value::Int(i64::MIN))));
+fn reads_variables(rt: HostRuntime) {
+    let message = message_of(&rt, rt.alloc());
+    let variables = &message.variables;
+    assert!(rt; variables.as_slice().len() == 6);
+    assert!(rt; is_int(variables, "n", i64::MAX));
+    assert!(rt; is_int(variables, "m", i64::MIN));
     assert!(rt; matches!(variables.get("b"), Some(Value::Bool(false))));
-    assert!(rt; matches!(variables.get(""), Some(Value::Text(text)) if text.as_str() == "\u{e9}"));
-    assert!(rt;
-        matches!(variables.get("l"), Some(Value::List(list)) if list.as_slice() == [0, -1].as_slice())
-    );
-    assert!(rt;
-        matches!(variables.get("e"), Some(Value::List(list)) if list.as_slice().is_empty())
-    );
-    Ok(())
+    assert!(rt; is_text(variables, "", "\u{e9}"));
+    assert!(rt; is_list(variables, "l", &[0, -1]));
+    assert!(rt; is_list(variables, "e", &[]));
 }
 
 #[test]
-fn moves_no_real_clock(rt: HostRuntime) -> Result<(), Fail> {
+fn moves_no_real_clock(rt: HostRuntime) {
     let line = br#"{"op":"advance","ms":5}"#;
-    assert!(rt; matches!(read_line(rt.alloc(), line, true), Ok(Request::Advance(5))));
-    assert!(rt;
-        matches!(
-            read_line(rt.alloc(), line, false),
-            Err(LineFault::UnknownOp)
-        )
-    );
-    Ok(())
+    match read_line(rt.alloc(), line, true) {
+        Ok(Request::Advance(ms)) => assert!(rt; ms == 5),
+        _ => panic!(&rt; "no advance"),
+    }
+    match read_line(rt.alloc(), line, false) {
+        Err(LineFault::UnknownOp) => {}
+        _ => panic!(&rt; "another answer"),
+    }
 }
 
 #[test]
-fn asks_for_a_command(rt: HostRuntime) -> Result<(), Fail> {
-    let command = read_line(rt.alloc(), PAID, false)?.into_command();
-    assert!(rt; matches!(command, Some(Command::MessagePublish(_))));
-    Ok(())
+fn asks_for_a_command(rt: HostRuntime) {
+    match Request::Publish(message_of(&rt, rt.alloc())).into_command() {
+        Some(Command::MessagePublish(_)) => {}
+        _ => panic!(&rt; "another command"),
+    }
 }
 
 #[test]
-fn shows_one_byte_more_than_a_line_has(rt: HostRuntime) -> Result<(), Fail> {
-    assert_eq!(rt; longest_shown(), 262_145);
-    Ok(())
+fn shows_one_byte_more_than_a_line_has(rt: HostRuntime) {
+    assert!(rt; longest_shown() == 262_145);
 }

@@ -1,61 +1,74 @@
 // The places of wrong models are run by the program (crates/zbd/stdin). What no reply shows stands here.
 use serde_json::Value as Json;
+use std::alloc::Global;
 use std::process::Abort;
-use std::test::Fail;
-use zb_process::{Flow, Node, NodeKind};
+use zb_process::{Flow, Model, Node, NodeKind};
 use zb_reader::{LayoutFault, read_model};
 
-#[test]
-fn reads_a_model(rt: HostRuntime) -> Result<(), Fail> {
-    let value = Json::from_str(
-        rt.alloc(),
-        r#"{"process":"p","versionTag":"v","nodes":[{"id":"s","kind":"startEvent"},{"id":"e","kind":"endEvent"}],
-        "flows":[{"id":"f","sourceRef":"s","targetRef":"e"}]}"#,
-    )?;
-    let Ok(model) = read_model(rt.alloc(), &value) else {
-        panic!(&rt; "no model");
+// What is read of a text.
+fn read(rt: &impl Abort, alloc: Global, text: &str) -> Result<Model, LayoutFault> {
+    let value = match Json::from_str(alloc, text) {
+        Ok(value) => value,
+        Err(_) => panic!(rt; "no JSON"),
     };
-    assert_eq!(rt; model.process.as_str(), "p");
-    assert_eq!(rt; model.tag.as_str(), "v");
-    expect_nodes(
-        &rt,
-        model.nodes.as_slice(),
-        [("s", NodeKind::StartEvent), ("e", NodeKind::EndEvent)],
-    );
-    match model.flows.as_slice() {
-        [flow] => expect_flow(&rt, flow),
-        _ => panic!(&rt; "not one flow"),
-    }
-    Ok(())
-}
-
-fn expect_nodes(rt: &impl Abort, nodes: &[Node], want: [(&str, NodeKind); 2]) {
-    assert_eq!(rt; nodes.len(), 2);
-    for (node, (id, kind)) in nodes.iter().zip(want) {
-        assert_eq!(rt; node.id.as_str(), id);
-        assert!(rt; node.kind == kind);
-        for empty in [&node.parent, &node.attached, &node.otherwise, &node.name] {
-            assert_eq!(rt; empty.as_str(), "");
-        }
-        assert!(rt; !node.cancel && !node.handler && node.retries == 0);
-        assert!(rt; node.expr.is_none() && node.multi.is_none());
-        assert!(rt; node.inputs.as_slice().is_empty() && node.outputs.as_slice().is_empty());
-    }
-}
-
-fn expect_flow(rt: &impl Abort, flow: &Flow) {
-    assert_eq!(rt; flow.id.as_str(), "f");
-    assert_eq!(rt; flow.from.as_str(), "s");
-    assert_eq!(rt; flow.to.as_str(), "e");
-    assert!(rt; flow.condition.is_none());
+    read_model(alloc, &value)
 }
 
 #[test]
-fn names_a_place(rt: HostRuntime) -> Result<(), Fail> {
-    let value = Json::from_str(rt.alloc(), r#"{"process":"p","nodes":[{"id":"s"}]}"#)?;
-    match read_model(rt.alloc(), &value) {
-        Err(LayoutFault::Place { path }) => assert_eq!(rt; path.as_str(), "/nodes/0/kind"),
+fn reads_a_model(rt: HostRuntime) {
+    let text =
+        r#"{"process":"p","versionTag":"v","nodes":[{"id":"s","kind":"startEvent"},{"id":"e","kind":"endEvent"}],
+        "flows":[{"id":"f","sourceRef":"s","targetRef":"e"}]}"#;
+    match read(&rt, rt.alloc(), text) {
+        Ok(model) => assert!(rt; is_straight(&model)),
+        Err(_) => panic!(&rt; "no model"),
+    }
+}
+
+// Whether the model is one of a start event, a flow and an end event.
+fn is_straight(model: &Model) -> bool {
+    let ([start, end], [flow]) = (model.nodes.as_slice(), model.flows.as_slice()) else {
+        return false;
+    };
+    model.process.as_str() == "p"
+        && model.tag.as_str() == "v"
+        && is_bare(start, "s", NodeKind::StartEvent)
+        && is_bare(end, "e", NodeKind::EndEvent)
+        && is_flow(flow)
+}
+
+// Whether the node has this id and kind, and nothing else.
+fn is_bare(node: &Node, id: &str, kind: NodeKind) -> bool {
+    node.id.as_str() == id
+        && node.kind == kind
+        && has_no_texts(node)
+        && !node.cancel
+        && !node.handler
+        && node.retries == 0
+        && node.expr.is_none()
+        && node.multi.is_none()
+        && node.inputs.as_slice().is_empty()
+        && node.outputs.as_slice().is_empty()
+}
+
+fn has_no_texts(node: &Node) -> bool {
+    node.parent.as_str().is_empty()
+        && node.attached.as_str().is_empty()
+        && node.otherwise.as_str().is_empty()
+        && node.name.as_str().is_empty()
+}
+
+fn is_flow(flow: &Flow) -> bool {
+    flow.id.as_str() == "f"
+        && flow.from.as_str() == "s"
+        && flow.to.as_str() == "e"
+        && flow.condition.is_none()
+}
+
+#[test]
+fn names_a_place(rt: HostRuntime) {
+    match read(&rt, rt.alloc(), r#"{"process":"p","nodes":[{"id":"s"}]}"#) {
+        Err(LayoutFault::Place { path }) => assert!(rt; path.as_str() == "/nodes/0/kind"),
         _ => panic!(&rt; "no place"),
     }
-    Ok(())
 }

@@ -1,60 +1,87 @@
 // Keys, moments, homes, texts and variables.
-use std::test::Fail;
+use std::alloc::Global;
+use std::process::Abort;
 use zb_base::{Key, List, Moment, PartitionId, Text, TryCopy, Value, Variable, Vars, home_of};
 
+fn text(rt: &impl Abort, alloc: Global, text: &str) -> Text {
+    Text::of(alloc, text).expect(rt, "memory")
+}
+
+// Whether the variable of this name is this number.
+fn is_int(variables: &Vars, name: &str, want: i64) -> bool {
+    match variables.get(name) {
+        Some(Value::Int(number)) => *number == want,
+        _ => false,
+    }
+}
+
 #[test]
-fn one_value_a_name_in_order(rt: HostRuntime) -> Result<(), Fail> {
-    let mut variables = Vars::empty(rt.alloc());
+fn one_value_a_name_in_order(rt: HostRuntime) {
+    let alloc = rt.alloc();
+    let mut variables = Vars::empty(alloc);
     for (name, number) in [("b", 1), ("a", 2), ("b", 3)] {
-        variables.put(Text::of(rt.alloc(), name)?, Value::Int(number))?;
+        let name = text(&rt, alloc, name);
+        variables
+            .put(name, Value::Int(number))
+            .expect(&rt, "memory");
     }
-    let copy = variables.copy(rt.alloc())?;
-    assert_eq!(rt; copy.as_slice().len(), 2);
-    assert_eq!(rt; copy.as_slice()[0].name.as_str(), "a");
-    assert!(rt; matches!(copy.get("a"), Some(Value::Int(2))));
-    assert!(rt; matches!(copy.get("b"), Some(Value::Int(3))));
+    let copy = variables.copy(alloc).expect(&rt, "memory");
+    match copy.as_slice() {
+        [first, _] => assert!(rt; first.name.as_str() == "a"),
+        _ => panic!(&rt; "not two variables"),
+    }
+    assert!(rt; is_int(&copy, "a", 2));
+    assert!(rt; is_int(&copy, "b", 3));
     assert!(rt; copy.get("c").is_none());
-    Ok(())
 }
 
-#[test]
-fn names_that_ascend(rt: HostRuntime) -> Result<(), Fail> {
-    for (first, second, ascends) in [("a", "b", true), ("a", "a", false), ("b", "a", false)] {
-        let mut variables = List::empty(rt.alloc());
-        for name in [first, second] {
-            variables.push(Variable {
-                name: Text::of(rt.alloc(), name)?,
-                value: Value::Bool(true),
-            })?;
-        }
-        assert_eq!(rt; Vars::of(variables).is_some(), ascends);
+// Whether variables with these names in this order are some.
+fn ascend(rt: &impl Abort, alloc: Global, names: [&str; 2]) -> bool {
+    let mut variables = List::empty(alloc);
+    for name in names {
+        let variable = Variable {
+            name: text(rt, alloc, name),
+            value: Value::Bool(true),
+        };
+        variables.push(variable).expect(rt, "memory");
     }
-    Ok(())
+    Vars::of(variables).is_some()
 }
 
 #[test]
-fn copies_of_a_text_and_a_list(rt: HostRuntime) -> Result<(), Fail> {
-    let text = Value::Text(Text::of(rt.alloc(), "paid")?).copy(rt.alloc())?;
-    assert!(rt; matches!(&text, Value::Text(text) if text.as_str() == "paid"));
-    let mut numbers = List::empty(rt.alloc());
-    numbers.push(-2)?;
-    let list = Value::List(numbers).copy(rt.alloc())?;
-    assert!(rt; matches!(&list, Value::List(list) if list.as_slice() == [-2].as_slice()));
-    Ok(())
+fn names_that_ascend(rt: HostRuntime) {
+    assert!(rt; ascend(&rt, rt.alloc(), ["a", "b"]));
+    assert!(rt; !ascend(&rt, rt.alloc(), ["a", "a"]));
+    assert!(rt; !ascend(&rt, rt.alloc(), ["b", "a"]));
+}
+
+#[test]
+fn copies_of_a_text_and_a_list(rt: HostRuntime) {
+    let alloc = rt.alloc();
+    match Value::Text(text(&rt, alloc, "paid")).copy(alloc) {
+        Ok(Value::Text(text)) => assert!(rt; text.as_str() == "paid"),
+        _ => panic!(&rt; "no text"),
+    }
+    let mut numbers = List::empty(alloc);
+    numbers.push(-2).expect(&rt, "memory");
+    match Value::List(numbers).copy(alloc) {
+        Ok(Value::List(list)) => assert!(rt; list.as_slice() == [-2].as_slice()),
+        _ => panic!(&rt; "no list"),
+    }
 }
 
 #[test]
 fn first_key_of_the_first_partition(rt: HostRuntime) {
     let key = Key::make(PartitionId::new(1), 1);
-    assert_eq!(rt; key.number(), 2_251_799_813_685_249);
-    assert_eq!(rt; key.partition(), 1);
-    assert_eq!(rt; key.counter(), 1);
+    assert!(rt; key.number() == 2_251_799_813_685_249);
+    assert!(rt; key.partition() == 1);
+    assert!(rt; key.counter() == 1);
 }
 
 #[test]
 fn later_up_to_the_last(rt: HostRuntime) {
     for (from, later) in [(1_000, 61_000), (249_999_999_999_999, 250_000_000_000_000)] {
-        assert_eq!(rt; Moment::new(from).plus(60_000).ms(), later);
+        assert!(rt; Moment::new(from).plus(60_000).ms() == later);
     }
 }
 
@@ -72,9 +99,8 @@ fn homes(rt: HostRuntime) {
         ("k-7", 16, 6),
     ] {
         assert!(rt; partitions >= 1 && partitions <= 16);
-        assert_eq!(rt;
-            home_of(key.as_bytes(), partitions).number(),
-            home,
+        assert!(rt;
+            home_of(key.as_bytes(), partitions).number() == home,
             "{key} of {partitions}"
         );
     }

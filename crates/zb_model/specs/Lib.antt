@@ -8,3 +8,4 @@ pub mod OutcomeLaws
 pub mod Outcomes
 pub mod Record
 pub mod RecordFits
+pub mod Upshots

@@ -3,12 +3,15 @@
 
 mod batch_format;
 mod command_format;
+mod command_skip;
 mod event_format;
 mod record;
 mod stop;
+mod upshot;
 
-pub use record::{Batch, Command, Event, Outcome, Packet, Rejection, RejectionKind};
+pub use record::{Batch, Command, Event, Outcome, Packet, Rejection, RejectionKind, Upshot};
 pub use stop::{Note, Stop, TableFault};
+pub use upshot::read_upshot;
 pub use zb_base::{
     Key, List, Moment, Pair, PartitionId, Text, TryCopy, Value, Variable, Vars, home_of,
 };

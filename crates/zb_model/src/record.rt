@@ -144,6 +144,13 @@ pub struct Batch {
     pub outcome: Outcome,
 }
 
+/// What a batch says of the state: all of it but its command and its begin.
+#[derive(Drop)]
+pub struct Upshot {
+    pub moment: Moment,
+    pub outcome: Outcome,
+}
+
 /// A command that one partition sends to another.
 #[derive(Drop)]
 pub struct Packet {

@@ -3,6 +3,7 @@ ghost use Rattle.std.specs.Prelude.{◌≡◌, ◌++◌, ◌∷◌, ℕ, List, [
 ghost use Rattle.zb_model.specs.declared.record.Batch.{Batch};
 ghost use Rattle.zb_model.specs.Record.{bytes_of};
 ghost use Rattle.zb_model.specs.RecordFits.{IsBatch};
+ghost use Rattle.zb_model.specs.Upshots.{upshot_of};
 ghost use Rattle.zb_store.specs.Calls.{OnlyReads};
 ghost use Rattle.zb_store.specs.Scan.{disk_of_scan, limit_of_scan, gate_of_scan, is_over, is_closed};
 ghost use Rattle.zb_views.specs.View.{events_of, events_in};
@@ -15,7 +16,7 @@ use crate::fault::OpenFault;
 use crate::record::take_in;
 use std::alloc::Global;
 use zb_disk::Disk;
-use zb_model::{Batch, Moment, PartitionId, TableFault};
+use zb_model::{Batch, Moment, PartitionId, TableFault, Upshot};
 use zb_state::State;
 use zb_store::{Found, Scan};
 
@@ -96,22 +97,27 @@ fn read_body(alloc: Global, body: &[u8], frame: u64, known: &mut Known) -> Resul
         → IsErrOf result (OpenFault.BadLog n) → (n ≡ frame) × IsBadBody p log body.now }
     ensures silent { ¬ (IsErrOf result OpenFault.DiskFault) }
 {
-    match zb_codec::read(alloc, body)? {
-        Some(batch) => take_batch(alloc, batch, frame, known),
+    match zb_codec::read_upshot(alloc, body)? {
+        Some(upshot) => take_upshot(alloc, upshot, frame, known),
         None => Err(OpenFault::BadLog { frame }),
     }
 }
 
-// Takes in the batch of this frame.
-fn take_batch(alloc: Global, batch: Batch, frame: u64, known: &mut Known) -> Result<(), OpenFault>
-    requires { IsBatch batch }
-    ensures taken { (p : ℕ) (log : List Batch) → IsKnown p log known.old → OnOk result (IsKnown p (log ++ batch ∷ []) known.new) }
+// Takes in the upshot of this frame's batch.
+fn take_upshot(
+    alloc: Global,
+    upshot: Upshot,
+    frame: u64,
+    known: &mut Known,
+) -> Result<(), OpenFault>
+    ensures taken { (p : ℕ) (log : List Batch) (batch : Batch) → IsKnown p log known.old → IsBatch batch → upshot ≡ upshot_of batch
+        → OnOk result (IsKnown p (log ++ batch ∷ []) known.new) }
     ensures bad { (p : ℕ) (log : List Batch) (n : ℕ) → IsKnown p log known.old
-        → IsErrOf result (OpenFault.BadLog n) → (n ≡ frame) × IsFalse (all_apply p (events_of log) (events_in batch.outcome)) }
+        → IsErrOf result (OpenFault.BadLog n) → (n ≡ frame) × IsFalse (all_apply p (events_of log) (events_in upshot.outcome)) }
     ensures silent { ¬ (IsErrOf result OpenFault.DiskFault) }
 {
-    let moment = batch.moment;
-    match take_in(alloc, &mut known.state, batch) {
+    let moment = upshot.moment;
+    match take_in(alloc, &mut known.state, upshot.outcome) {
         Ok(()) => {
             known.last_moment = moment;
             Ok(())

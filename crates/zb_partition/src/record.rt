@@ -11,16 +11,15 @@ use std::alloc::{AllocError, Global};
 use zb_model::{Batch, Event, List, Outcome, TableFault};
 use zb_state::State;
 
-/// Takes in the events of a batch. At `NotApplicable` one of them doesn't apply; after any refusal the
+/// Takes in the events of an outcome. At `NotApplicable` one of them doesn't apply; after any refusal the
 /// state is only dropped.
-pub fn take_in(alloc: Global, state: &mut State, batch: Batch) -> Result<(), TableFault>
+pub fn take_in(alloc: Global, state: &mut State, outcome: Outcome) -> Result<(), TableFault>
     ensures place { partition_of state.new ≡ partition_of state.old }
-    ensures applied { (es : List Event) → IsStateOf es state.old → OnOk result (IsTrue (all_apply (partition_of state.old) es (events_in batch.outcome))) }
-    ensures state { (es : List Event) → IsStateOf es state.old → OnOk result (IsStateOf (es ++ events_in batch.outcome) state.new) }
+    ensures applied { (es : List Event) → IsStateOf es state.old → OnOk result (IsTrue (all_apply (partition_of state.old) es (events_in outcome))) }
+    ensures state { (es : List Event) → IsStateOf es state.old → OnOk result (IsStateOf (es ++ events_in outcome) state.new) }
     ensures refused { (es : List Event) → IsStateOf es state.old
-        → IsErrOf result TableFault.NotApplicable → IsFalse (all_apply (partition_of state.old) es (events_in batch.outcome)) }
+        → IsErrOf result TableFault.NotApplicable → IsFalse (all_apply (partition_of state.old) es (events_in outcome)) }
 {
-    let Batch { outcome, .. } = batch;
     match outcome {
         Outcome::Accepted(events) => take_all(alloc, state, events),
         Outcome::Rejected(_) => Ok(()),

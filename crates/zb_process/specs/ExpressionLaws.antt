@@ -26,18 +26,22 @@ list_back : (ts : List Tree) → list_of (trees_of ts) ≡ ts
 list_back [] = refl
 list_back (t ∷ ts) = ap (λ (us : List Tree). t ∷ us) (list_back ts)
 
+-- a list's trees are as many members as the list is long
 pub members_of : (ts : List Tree) → members (trees_of ts) ≡ length ts
 members_of [] = refl
 members_of (t ∷ ts) = omega (arith, members_of ts)
 
+-- members are spelled as the list of them, one behind the other
 pub trees_spelled : (ts : List Tree) → trees (trees_of ts) ≡ flat_map tree ts
 trees_spelled [] = refl
 trees_spelled (t ∷ ts) = ap (λ (y : List ℕ). tree t ++ y) (trees_spelled ts) ∙ sym (flat_map-cons tree t ts)
 
+-- a list expression is spelled as its kind and the counted list of its members
 pub list_spelled : (ts : List Tree) → tree (Members (trees_of ts)) ≡ 4 ∷ counted_bytes tree ts
 unfolding counted_bytes
 list_spelled ts = rw (members_of ts, trees_spelled ts) refl
 
+-- members that each have a spelling have one together
 pub trees_fit : (ts : List Tree) → AllByRecursion IsTree ts → AreTrees (trees_of ts)
 trees_fit [] h = tt
 trees_fit (t ∷ ts) h = (h.0, trees_fit ts h.1)
@@ -154,6 +158,7 @@ with_format P part one = tagged_format
     (operator_tagged P part one))))))))
     (made_again P part one)
 
+-- expressions that are nested less than so many levels deep are a format
 pub tree_format : (levels : ℕ) → IsFormat tree (IsBelow levels) (tree_at levels)
 unfolding tree_at
 tree_format zero = record {
@@ -167,5 +172,6 @@ tree_format (suc levels) =
       again = λ x rest h. one.again x rest (take_apart levels x h);
     }
 
+-- expressions are a format
 pub expression_format : IsFormat tree IsExpression expression_at
 expression_format = tree_format 65

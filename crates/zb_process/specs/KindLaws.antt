@@ -5,6 +5,7 @@ use Rattle.zb_process.specs.declared.model.NodeKind.{NodeKind}
 use Rattle.zb_process.specs.declared.model.NodeKind.TheVariants as kinds
 use Rattle.zb_process.specs.Kind.{kind_byte, each_kind}
 
+-- the byte of a kind of node finds that kind again
 pub known_kind : (k : NodeKind) → one_of kind_byte each_kind (kind_byte k) ≡ Some k
 known_kind kinds.StartEvent = refl
 known_kind kinds.MessageStartEvent = refl

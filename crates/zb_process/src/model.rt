@@ -3,7 +3,7 @@ ghost use Rattle.zb_process.specs.Layouts as layouts;
 use crate::Expr;
 use std::alloc::{AllocError, Global};
 use zb_base::{List, Text};
-use zb_format::{Cursor, Encoder, Fields, Format, ReadFault, pairs};
+use zb_format::{Cursor, Encoder, Fields, Format, ReadFault, Skip, pairs};
 
 /// What a node is.
 #[derive(Clone, Copy, Debug, PartialEq, Eq)]
@@ -65,6 +65,8 @@ impl Format for Model {
         })
     }
 }
+
+impl Skip for Model {}
 
 /// A node of a model. A text that is absent is empty.
 #[derive(Drop)]

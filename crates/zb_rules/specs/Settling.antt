@@ -14,16 +14,16 @@ unfoldable pub full : ℕ
 full = 1024
 
 -- the events in front of that of a move; so far there are none
-abbrev pub in_front : (n moment : ℕ) → Board → Move → Making
-in_front n moment b move before = []
+abbrev pub events_in_front : (n moment : ℕ) → Board → Move → Making
+events_in_front n moment b move before = []
 
 -- the events behind an event; so far there are none
-abbrev pub behind : (p n moment : ℕ) → Event → Making
-behind p n moment e before = []
+abbrev pub events_behind : (p n moment : ℕ) → Event → Making
+events_behind p n moment e before = []
 
 -- a move in events: those in front, its own, those behind
 abbrev pub in_events : (p n moment : ℕ) → Board → Move → Event → Making
-in_events p n moment b move e = and_then (in_front n moment b move) (and_then (just e) (behind p n moment e))
+in_events p n moment b move e = and_then (events_in_front n moment b move) (and_then (just e) (events_behind p n moment e))
 
 -- what a mover does on the board of some events, in events
 abbrev pub turn_of : (p n moment : ℕ) → List Event → Board → Mover → Option (List Event)

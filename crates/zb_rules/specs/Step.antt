@@ -24,13 +24,13 @@ pub record IsAcceptance (p n moment : ℕ) (before : List Event) (command : Comm
   pub accepted : outcome ≡ outcomes.Accepted (own ++ rest)
 
 -- a command with a reason is rejected by it; one without is run
-abbrev pub IsAnswerTo : Option Rejection → Outcome → Type 0 → Type 0
-IsAnswerTo (Some rejection) outcome Accepted = outcome ≡ outcomes.Rejected rejection
-IsAnswerTo None outcome Accepted = Accepted
+abbrev pub IsOutcomeBy : Option Rejection → Outcome → Type 0 → Type 0
+IsOutcomeBy (Some rejection) outcome Accepted = outcome ≡ outcomes.Rejected rejection
+IsOutcomeBy None outcome Accepted = Accepted
 
 -- the outcome of a command at a moment of partition p of n, behind these events
 abbrev pub IsOutcomeOf : (p n moment : ℕ) → List Event → Command → Outcome → Type 0
-IsOutcomeOf p n moment before command outcome = IsAnswerTo (reason_for before moment command) outcome (IsAcceptance p n moment before command outcome)
+IsOutcomeOf p n moment before command outcome = IsOutcomeBy (reason_for before moment command) outcome (IsAcceptance p n moment before command outcome)
 
 -- at partition p of n the batch is a step on this log
 pub record IsStep (p n : ℕ) (log : List Batch) (batch : Batch) : Type 0 where

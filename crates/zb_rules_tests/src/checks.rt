@@ -1,24 +1,37 @@
 use crate::models::lone;
 use std::alloc::Global;
-use std::test::Fail;
+use std::process::Abort;
 use zb_check::{ModelFault, check};
-use zb_model::{Model, NodeKind};
+use zb_model::NodeKind;
 
-// Whether this fault is found first, at this id.
-fn has(alloc: Global, model: &Model, name: &str, offender: &str) -> bool {
-    match check(alloc, model) {
-        Err(ModelFault::Bad { fault, id }) => fault.name() == name && id.as_str() == offender,
-        _ => false,
+// Whether nothing is wrong with the process `p` of this one node, or else this at this id.
+fn tells(
+    rt: &impl Abort,
+    alloc: Global,
+    node: &str,
+    kind: NodeKind,
+    want: Option<(&str, &str)>,
+) -> bool {
+    let model = lone(rt, alloc, node, kind);
+    let told = check(alloc, &model);
+    match told {
+        Ok(()) => want.is_none(),
+        Err(ModelFault::Bad { fault, id }) => want == Some((fault.name(), id.as_str())),
+        Err(_) => false,
     }
 }
 
 #[test]
-fn names_the_first_fault(rt: HostRuntime) -> Result<(), Fail> {
-    let alloc = rt.alloc();
-    let good = lone(alloc, "s", NodeKind::MessageStartEvent)?;
-    assert!(rt; check(alloc, &good).is_ok());
+fn names_the_first_fault(rt: HostRuntime) {
+    assert!(rt; tells(&rt, rt.alloc(), "s", NodeKind::MessageStartEvent, None));
     // The id of the process is used again, and no node starts it.
-    let bad = lone(alloc, "p", NodeKind::EndEvent)?;
-    assert!(rt; has(alloc, &bad, "DOUBLE_ID", "p"));
-    Ok(())
+    assert!(rt;
+        tells(
+            &rt,
+            rt.alloc(),
+            "p",
+            NodeKind::EndEvent,
+            Some(("DOUBLE_ID", "p"))
+        )
+    );
 }

@@ -1,58 +1,63 @@
 use crate::models::straight;
 use std::alloc::Global;
-use std::test::Fail;
+use std::process::Abort;
 use zb_game::{Game, GameFault};
 use zb_model::{Key, NodeKind, TryCopy};
 use zb_tokens::{Deployed, Move, Start};
 
-// Puts the process `p` with this last node on a board under key 1, and starts an instance of it under key 2.
-fn start(alloc: Global, game: &mut Game, last: NodeKind) -> Result<(), GameFault> {
-    let definition = Key::new(1);
-    let model = straight(alloc, last)?;
-    game.make(
-        alloc,
-        &Move::Stand(Deployed {
-            key: definition,
-            model,
-        }),
-    )?;
-    let key = Key::new(2);
-    game.make(alloc, &Move::Start(Start { key, definition }))
-}
-
-// Makes the forced moves until the game is quiet, and counts them.
-fn go_on(alloc: Global, game: &mut Game) -> Result<u64, GameFault> {
-    for count in 0..20 {
-        let Some(m) = game.forced(alloc, Key::new(count + 3))? else {
-            return Ok(count);
-        };
-        game.make(alloc, &m)?;
-    }
-    Ok(20)
-}
-
-#[test]
-fn goes_on_until_a_node_waits(rt: HostRuntime) -> Result<(), Fail> {
-    let alloc = rt.alloc();
-    for (last, moves) in [(NodeKind::EndEvent, 12), (NodeKind::ServiceTask, 8)] {
-        let mut game = Game::empty(alloc);
-        start(alloc, &mut game, last)?;
-        assert_eq!(rt; go_on(alloc, &mut game)?, moves);
-    }
-    Ok(())
-}
-
-#[test]
-fn refuses_a_cell_that_is_not_there(rt: HostRuntime) -> Result<(), Fail> {
-    let alloc = rt.alloc();
+// A board with the process `p` with this last node under key 1, and an instance of it begun under key 2.
+fn started(rt: &impl Abort, alloc: Global, last: NodeKind) -> Game {
     let mut game = Game::empty(alloc);
-    start(alloc, &mut game, NodeKind::EndEvent)?;
+    let definition = Key::new(1);
+    let stand = Move::Stand(Deployed {
+        key: definition,
+        model: straight(rt, alloc, last),
+    });
+    assert!(rt; game.make(alloc, &stand) == Ok(()));
+    let key = Key::new(2);
+    let start = Move::Start(Start { key, definition });
+    assert!(rt; game.make(alloc, &start) == Ok(()));
+    game
+}
+
+// Makes the forced move with this key, and says whether there was one.
+fn goes_on(rt: &impl Abort, alloc: Global, game: &mut Game, key: Key) -> bool {
+    match game.forced(alloc, key).expect(rt, "memory") {
+        Some(m) => {
+            assert!(rt; game.make(alloc, &m) == Ok(()));
+            true
+        }
+        None => false,
+    }
+}
+
+// How many forced moves there are until the game is quiet.
+fn forced_moves(rt: &impl Abort, alloc: Global, last: NodeKind) -> u64 {
+    let mut game = started(rt, alloc, last);
+    let mut count = 0;
+    for at in 0..20 {
+        if goes_on(rt, alloc, &mut game, Key::new(at + 3)) {
+            count = at + 1;
+        }
+    }
+    count
+}
+
+#[test]
+fn goes_on_until_a_node_waits(rt: HostRuntime) {
+    assert!(rt; forced_moves(&rt, rt.alloc(), NodeKind::EndEvent) == 12);
+    assert!(rt; forced_moves(&rt, rt.alloc(), NodeKind::ServiceTask) == 8);
+}
+
+#[test]
+fn refuses_a_cell_that_is_not_there(rt: HostRuntime) {
+    let alloc = rt.alloc();
+    let mut game = started(&rt, alloc, NodeKind::EndEvent);
     let astray = Move::Finish(Key::new(7));
     assert!(rt; !game.can(&astray));
-    assert_eq!(rt; game.make(alloc, &astray), Err(GameFault::Illegal));
-    assert_eq!(rt; game.play(alloc, &astray), Err(GameFault::Illegal));
-    let copy = game.copy(alloc)?;
-    assert_eq!(rt; copy.definition_of(Key::new(2)), Some(Key::new(1)));
+    assert!(rt; game.make(alloc, &astray) == Err(GameFault::Illegal));
+    assert!(rt; game.play(alloc, &astray) == Err(GameFault::Illegal));
+    let copy = game.copy(alloc).expect(&rt, "memory");
+    assert!(rt; copy.definition_of(Key::new(2)) == Some(Key::new(1)));
     assert!(rt; copy.is_process_of(Key::new(1), "p"));
-    Ok(())
 }

@@ -1,15 +1,21 @@
 // Models for tests, and an instance of one.
-use std::alloc::{AllocError, Global};
+use std::alloc::Global;
+use std::process::Abort;
 use zb_model::{
-    DeploymentCreated, ElementActivating, Event, Flow, Key, List, Model, Node, NodeKind,
-    ProcessCreated, ProcessInstanceCreationCreated, Role, Text,
+    DeploymentCreated, ElementActivating, Event, Flow, Key, List, MessagePublish, MessagePublished,
+    Model, Moment, Node, NodeKind, ProcessCreated, ProcessInstanceCreationCreated, Role, Text,
+    Vars,
 };
 use zb_state::{Out, State};
 
+fn text(rt: &impl Abort, alloc: Global, text: &str) -> Text {
+    Text::of(alloc, text).expect(rt, "memory")
+}
+
 // A node of this kind, and nothing else of it.
-fn node(alloc: Global, id: &str, kind: NodeKind) -> Result<Node, AllocError> {
-    Ok(Node {
-        id: Text::of(alloc, id)?,
+fn node(rt: &impl Abort, alloc: Global, id: &str, kind: NodeKind) -> Node {
+    Node {
+        id: text(rt, alloc, id),
         kind,
         parent: Text::empty(alloc),
         attached: Text::empty(alloc),
@@ -22,73 +28,107 @@ fn node(alloc: Global, id: &str, kind: NodeKind) -> Result<Node, AllocError> {
         multi: None,
         inputs: List::empty(alloc),
         outputs: List::empty(alloc),
-    })
+    }
 }
 
 // The process `p` of these nodes and flows.
-fn process(alloc: Global, nodes: List<Node>, flows: List<Flow>) -> Result<Model, AllocError> {
-    Ok(Model {
-        process: Text::of(alloc, "p")?,
+fn process(rt: &impl Abort, alloc: Global, nodes: List<Node>, flows: List<Flow>) -> Model {
+    Model {
+        process: text(rt, alloc, "p"),
         tag: Text::empty(alloc),
         nodes,
         flows,
-    })
+    }
 }
 
 /// The process `p` of one node without flows.
-pub fn lone(alloc: Global, id: &str, kind: NodeKind) -> Result<Model, AllocError> {
+pub fn lone(rt: &impl Abort, alloc: Global, id: &str, kind: NodeKind) -> Model {
     let mut nodes = List::empty(alloc);
-    nodes.push(node(alloc, id, kind)?)?;
-    process(alloc, nodes, List::empty(alloc))
+    nodes.push(node(rt, alloc, id, kind)).expect(rt, "memory");
+    process(rt, alloc, nodes, List::empty(alloc))
 }
 
 /// The process `p`: start event `s`, flow `f`, and a last node `e` of this kind.
-pub fn straight(alloc: Global, last: NodeKind) -> Result<Model, AllocError> {
+pub fn straight(rt: &impl Abort, alloc: Global, last: NodeKind) -> Model {
     let mut nodes = List::empty(alloc);
-    nodes.push(node(alloc, "s", NodeKind::StartEvent)?)?;
-    nodes.push(node(alloc, "e", last)?)?;
+    nodes
+        .push(node(rt, alloc, "s", NodeKind::StartEvent))
+        .expect(rt, "memory");
+    nodes.push(node(rt, alloc, "e", last)).expect(rt, "memory");
     let mut flows = List::empty(alloc);
-    flows.push(Flow {
-        id: Text::of(alloc, "f")?,
-        from: Text::of(alloc, "s")?,
-        to: Text::of(alloc, "e")?,
+    let flow = Flow {
+        id: text(rt, alloc, "f"),
+        from: text(rt, alloc, "s"),
+        to: text(rt, alloc, "e"),
         condition: None,
-    })?;
-    process(alloc, nodes, flows)
+    };
+    flows.push(flow).expect(rt, "memory");
+    process(rt, alloc, nodes, flows)
 }
 
 // The root of an instance of `p`.
-fn root(alloc: Global, key: Key, definition: Key) -> Result<Event, AllocError> {
-    Ok(Event::ElementActivating(ElementActivating {
+fn root(rt: &impl Abort, alloc: Global, key: Key, definition: Key) -> Event {
+    Event::ElementActivating(ElementActivating {
         key,
         scope: Key::new(0),
         definition,
-        node: Text::of(alloc, "p")?,
+        node: text(rt, alloc, "p"),
         role: Role::Plain,
         via: Text::empty(alloc),
         started: Text::empty(alloc),
-    }))
+    })
+}
+
+/// Takes in an event.
+pub fn put(rt: &impl Abort, alloc: Global, state: &mut State, out: &mut Out, event: Event) {
+    out.put(alloc, state, event)
+        .expect(rt, "an event that applies");
 }
 
 /// Takes in that `p`, from a start event to an end event, is deployed, and that an instance of it begins: four
 /// events.
-pub fn begin(alloc: Global, state: &mut State, out: &mut Out) -> Result<(), AllocError> {
+pub fn begin(rt: &impl Abort, alloc: Global, state: &mut State, out: &mut Out) {
     let definition = state.next_key();
     let process = Event::ProcessCreated(ProcessCreated {
         key: definition,
         version: 1,
-        model: straight(alloc, NodeKind::EndEvent)?,
+        model: straight(rt, alloc, NodeKind::EndEvent),
     });
-    out.put(alloc, state, process)?;
+    put(rt, alloc, state, out, process);
     let key = state.next_key();
     let deployment = Event::DeploymentCreated(DeploymentCreated { key, definition });
-    out.put(alloc, state, deployment)?;
+    put(rt, alloc, state, out, deployment);
     let key = state.next_key();
     let instance = ProcessInstanceCreationCreated { key, definition };
-    out.put(
+    put(
+        rt,
         alloc,
         state,
+        out,
         Event::ProcessInstanceCreationCreated(instance),
-    )?;
-    out.put(alloc, state, root(alloc, key, definition)?)
+    );
+    put(rt, alloc, state, out, root(rt, alloc, key, definition));
+}
+
+/// A message with this key and an id that waits until 1,000.
+pub fn published(rt: &impl Abort, alloc: Global, key: Key) -> Event {
+    Event::MessagePublished(MessagePublished {
+        key,
+        name: text(rt, alloc, "paid"),
+        correlation_key: text(rt, alloc, "o-1"),
+        id: text(rt, alloc, "x"),
+        deadline: Moment::new(1_000),
+        variables: Vars::empty(alloc),
+    })
+}
+
+/// The command that publishes it once more.
+pub fn wanted(rt: &impl Abort, alloc: Global) -> MessagePublish {
+    MessagePublish {
+        name: text(rt, alloc, "paid"),
+        correlation_key: text(rt, alloc, "o-1"),
+        time_to_live: 1_000,
+        id: text(rt, alloc, "x"),
+        variables: Vars::empty(alloc),
+    }
 }

@@ -1,45 +1,35 @@
-use crate::models::begin;
-use std::alloc::{AllocError, Global};
-use std::test::Fail;
+use crate::models::{begin, published, put};
+use std::alloc::Global;
+use std::process::Abort;
 use zb_flow::settle;
-use zb_model::{Event, MessagePublished, Moment, PartitionId, Text, Vars};
+use zb_model::PartitionId;
 use zb_state::{Out, State};
 
 // Adds so many published messages.
-fn fill(alloc: Global, state: &mut State, count: usize, out: &mut Out) -> Result<(), AllocError> {
+fn fill(rt: &impl Abort, alloc: Global, state: &mut State, count: usize, out: &mut Out) {
     for _ in 0..count {
-        let message = MessagePublished {
-            key: state.next_key(),
-            name: Text::of(alloc, "paid")?,
-            correlation_key: Text::of(alloc, "o-1")?,
-            id: Text::of(alloc, "x")?,
-            deadline: Moment::new(1000),
-            variables: Vars::empty(alloc),
-        };
-        out.put(alloc, state, Event::MessagePublished(message))?;
+        let key = state.next_key();
+        put(rt, alloc, state, out, published(rt, alloc, key));
     }
-    Ok(())
 }
 
 // How many events there are once the instance has settled behind so many others, and whether the game is
 // quiet then.
-fn settled(alloc: Global, count: usize) -> Result<(usize, bool), AllocError> {
+fn settled(rt: &impl Abort, alloc: Global, count: usize) -> (usize, bool) {
     let mut state = State::empty(alloc, PartitionId::new(1));
-    begin(alloc, &mut state, &mut Out::new(alloc))?;
+    let mut first = Out::new(alloc);
+    begin(rt, alloc, &mut state, &mut first);
     let mut out = Out::new(alloc);
-    fill(alloc, &mut state, count, &mut out)?;
-    let quiet = settle(alloc, &mut state, &mut out)?;
-    Ok((out.len(), quiet))
+    fill(rt, alloc, &mut state, count, &mut out);
+    let quiet = settle(alloc, &mut state, &mut out).expect(rt, "memory");
+    let events = out.len();
+    (events, quiet)
 }
 
 #[test]
-fn settles_until_the_game_is_quiet_or_the_batch_is_full(rt: HostRuntime) -> Result<(), Fail> {
+fn settles_until_the_game_is_quiet_or_the_batch_is_full(rt: HostRuntime) {
     // The instance takes twelve turns, and a batch is full with 1,024 events.
-    let table = [(0, 12, true), (1_012, 1_024, true), (1_015, 1_024, false)];
-    for (before, events, is_quiet) in table {
-        let (count, quiet) = settled(rt.alloc(), before)?;
-        assert_eq!(rt; count, events);
-        assert_eq!(rt; quiet, is_quiet);
-    }
-    Ok(())
+    assert!(rt; settled(&rt, rt.alloc(), 0) == (12, true));
+    assert!(rt; settled(&rt, rt.alloc(), 1_012) == (1_024, true));
+    assert!(rt; settled(&rt, rt.alloc(), 1_015) == (1_024, false));
 }

@@ -1,3 +1,5 @@
+ghost use Rattle.std.specs.Prelude.{◌≡◌};
+
 use std::fmt;
 use zb_model::{Batch, Stop};
 use zb_store::Volume;
@@ -101,4 +103,13 @@ pub struct Closed<S, K, D> {
     pub stamps: Vec<Vec<u64>>,
     /// The units of work that were done after the last line.
     pub units: u64,
+}
+
+impl<S, K, D> Closed<S, K, D> {
+    /// The sessions and the volumes, which were handed to the run.
+    pub fn into_devices(self) -> (Vec<Session<S, K>>, Vec<Volume<D>>)
+        ensures { result ≡ (self.sessions, self.volumes) }
+    {
+        (self.sessions, self.volumes)
+    }
 }

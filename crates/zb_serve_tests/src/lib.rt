@@ -1,8 +1,10 @@
-//! Tests of partitions and of the server, over devices in memory. They stand in a crate of their own, so that what
-//! they test is proved once.
+//! Tests of the server, over devices in memory. They stand in a crate of their own, so that what they test is
+//! proved once.
 #![tactic(auto)]
 
 #[cfg(test)]
-mod partition;
+mod crashes;
 #[cfg(test)]
-mod server;
+mod runs;
+#[cfg(test)]
+mod script;

@@ -1,7 +1,8 @@
 // Deploying a model.
-ghost use Rattle.std.specs.Prelude.{◌≡◌, List, IfOk, string_bytes};
+ghost use Rattle.std.specs.Prelude.{◌≡◌, List, [], ◌∷◌, IfOk, string_bytes};
 ghost use Rattle.zb_model.specs.declared.record.Event.{Event};
-ghost use Rattle.zb_rules.specs.Deploy.{reason_to_deploy, version_behind, deployed};
+ghost use Rattle.zb_model.specs.declared.record.Event.TheVariants as events;
+ghost use Rattle.zb_rules.specs.Deploy.{reason_to_deploy, version_behind, definition_of, deployed};
 ghost use Rattle.zb_faults.specs.Faults.{fault_text};
 ghost use Rattle.zb_state.specs.State.{partition_of, IsStateOf};
 ghost use Rattle.zb_rules.specs.Sound.{HasKeys};
@@ -44,23 +45,42 @@ fn text_of_fault(alloc: Global, fault: Fault, id: &str) -> Result<String, AllocE
 }
 
 /// The events of a model that is deployed, where two keys are left: its definition, and the deployment.
+#[tactic(auto, using(crate::proofs::DeployLemmas::second_behind))]
 pub fn own(alloc: Global, state: &State, model: &Model) -> Result<List<Event>, AllocError>
     requires { (es : List Event) → IsStateOf es state.now → HasKeys (partition_of state.now) es 2 }
     ensures { (es : List Event) → IsStateOf es state.now → IfOk result (λ events. events ≡ deployed (partition_of state.now) model.now es) }
 {
-    let definition = state.next_key();
-    let created = ProcessCreated {
-        key: definition,
-        version: version_behind(state.greatest_version(model.process.as_str())),
-        model: model.copy(alloc)?,
-    };
+    let definition = definition(alloc, state, model)?;
     let deployment = DeploymentCreated {
         key: state.second_key(),
-        definition,
+        definition: state.next_key(),
     };
+    both(
+        alloc,
+        Event::ProcessCreated(definition),
+        Event::DeploymentCreated(deployment),
+    )
+}
+
+// The definition of a model that is deployed.
+fn definition(alloc: Global, state: &State, model: &Model) -> Result<ProcessCreated, AllocError>
+    ensures { (es : List Event) → IsStateOf es state.now
+        → IfOk result (λ definition. definition_of (partition_of state.now) model.now es ≡ events.ProcessCreated definition ∷ []) }
+{
+    Ok(ProcessCreated {
+        key: state.next_key(),
+        version: version_behind(state.greatest_version(model.process.as_str())),
+        model: model.copy(alloc)?,
+    })
+}
+
+// Two events, one behind the other.
+fn both(alloc: Global, first: Event, second: Event) -> Result<List<Event>, AllocError>
+    ensures { IfOk result (λ events. events ≡ first ∷ second ∷ []) }
+{
     let mut events = List::empty(alloc);
-    events.push(Event::ProcessCreated(created))?;
-    events.push(Event::DeploymentCreated(deployment))?;
+    events.push(first)?;
+    events.push(second)?;
     Ok(events)
 }
 

@@ -1,29 +1,21 @@
 use std::io::{self, ErrorKind, Read, Write};
-use std::process::Abort;
-use std::test::Fail;
 use zb_outside::{Clock, MemSink, Sink, Source, StdClock, StdSink, StdSource, Trouble};
 
-// Reads once, at most three bytes, and wants this answer and these bytes.
-fn expect_read<S: Source>(
-    rt: &impl Abort,
-    source: &mut S,
-    want: Result<usize, Trouble>,
-    bytes: &[u8],
-) {
+// Whether a read of at most three bytes gives these.
+fn reads<S: Source>(source: &mut S, want: &[u8]) -> bool {
     let mut piece = [0; 3];
-    let count = source.read(&mut piece);
-    assert_eq!(rt; count, want);
-    let count = count.unwrap_or(0);
-    assert_eq!(rt; &piece[..count], bytes);
+    match source.read(&mut piece) {
+        Ok(count) => &piece[..count] == want,
+        Err(_) => false,
+    }
 }
 
 #[test]
-fn a_sink_in_memory(rt: HostRuntime) -> Result<(), Fail> {
-    let mut sink = MemSink::new(rt.alloc(), vec![in rt.alloc()]?);
-    assert_eq!(rt; sink.write(b"ab"), Ok(2));
-    assert_eq!(rt; sink.write(b"c"), Ok(1));
-    assert_eq!(rt; sink.bytes(), b"abc".as_slice());
-    Ok(())
+fn a_sink_in_memory(rt: HostRuntime) {
+    let mut sink = MemSink::new(rt.alloc(), Vec::new(rt.alloc()));
+    assert!(rt; sink.write(b"ab") == Ok(2));
+    assert!(rt; sink.write(b"c") == Ok(1));
+    assert!(rt; sink.bytes() == b"abc".as_slice());
 }
 
 // A reader that fails and a writer that takes nothing.
@@ -47,24 +39,30 @@ impl Write for Broken {
 }
 
 #[test]
-fn the_standard_streams(rt: HostRuntime) -> Result<(), Fail> {
+fn a_source_over_a_reader(rt: HostRuntime) {
     let bytes: &[u8] = b"abcd";
     let mut source = StdSource::new(bytes);
-    expect_read(&rt, &mut source, Ok(3), b"abc");
-    expect_read(&rt, &mut source, Ok(1), b"d");
-    expect_read(&rt, &mut source, Ok(0), b"");
-    expect_read(&rt, &mut StdSource::new(Broken), Err(Trouble::Failed), b"");
+    assert!(rt; reads(&mut source, b"abc"));
+    assert!(rt; reads(&mut source, b"d"));
+    assert!(rt; reads(&mut source, b""));
+    assert!(rt; StdSource::new(Broken).read(&mut [0; 3]) == Err(Trouble::Failed));
+}
 
+#[test]
+fn a_sink_over_a_writer(rt: HostRuntime) {
     let mut out: Vec<u8> = Vec::new(rt.alloc());
     let mut sink = StdSink::new(&mut out);
-    assert_eq!(rt; sink.write(b"ab"), Ok(2));
-    assert_eq!(rt; sink.flush(), Ok(()));
-    assert_eq!(rt; out.as_slice(), b"ab".as_slice());
+    assert!(rt; sink.write(b"ab") == Ok(2));
+    assert!(rt; sink.flush() == Ok(()));
+    assert!(rt; out.as_slice() == b"ab".as_slice());
+}
+
+#[test]
+fn a_sink_over_a_writer_that_fails(rt: HostRuntime) {
     let mut broken = StdSink::new(Broken);
-    assert_eq!(rt; broken.write(b"ab"), Err(Trouble::Failed));
-    assert_eq!(rt; broken.write(b""), Ok(0));
-    assert_eq!(rt; broken.flush(), Err(Trouble::Failed));
-    Ok(())
+    assert!(rt; broken.write(b"ab") == Err(Trouble::Failed));
+    assert!(rt; broken.write(b"") == Ok(0));
+    assert!(rt; broken.flush() == Err(Trouble::Failed));
 }
 
 #[test]

@@ -17,6 +17,7 @@ one_way a b is = grind (arith, nat_tests)
 chain : (a b c : ℕ × ℕ) → is_earlier a b ≡ false → is_earlier b c ≡ false → is_earlier a c ≡ false
 chain a b c first_passing next = grind (arith, nat_tests)
 
+-- what isn't earlier than another one comes no sooner, and at the same moment its key is no smaller
 pub not_before : (a b : ℕ × ℕ) → is_earlier a b ≡ false → (b.0 ≤ a.0) × (b.0 ≡ a.0 → b.1 ≤ a.1)
 not_before a b is = (grind (arith, nat_tests), λ same. grind (arith, nat_tests))
 

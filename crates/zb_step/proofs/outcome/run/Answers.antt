@@ -1,21 +1,26 @@
-use Rattle.std.proofs.Common.{ℕ, List, sym, subst}
+use Rattle.std.proofs.Common.{◌≡◌, ℕ, List, ◌++◌, [], IsTrue, sym, subst, ap}
 use Rattle.zb_model.specs.declared.record.Event.{Event}
 use Rattle.zb_model.specs.declared.record.Outcome.TheVariants as outcomes
-use Rattle.zb_rules.specs.Own.{own_events}
+use Rattle.zb_rules.specs.Applies.{all_apply}
 use Rattle.zb_rules.specs.Step.{IsAcceptance}
-use Rattle.zb_state.specs.State.{partition_of}
-use Rattle.zb_flow.specs.Settled.{SettlesTo}
+use Rattle.zb_rules.specs.ProgressLaws.{own_legal}
+use Rattle.zb_state.specs.State.{partition_of, IsStateOf}
+use Rattle.zb_step.specs.Settled.{SettlesTo}
+use Rattle.zb_step.proofs.EmittingLemmas.{behind_apply}
 use Rattle.zb_step.proofs.OutcomeLemmas.{acceptance_of}
 use Rattle.zb_step.proofs.outcome.run.Goals as goal
 
 pub returns-clause-acceptance : goal.returns-clause-acceptance
-returns-clause-acceptance c = λ es was.
+returns-clause-acceptance c = λ n es was.
     let p = partition_of c.args.state.now in
-    let events = c.emit.new.out in
+    let own = c.emit.new.out in
     let made = c.settle.new.out in
-    let own = own_events p es c.args.moment c.args.command.now in
     let told = c.in_ok-emit.ensures in
-    let Settles : ℕ → Type 0 = λ q. SettlesTo q es events made in
-    let Accepts : List Event → Type 0 = λ l. IsAcceptance p es own (outcomes.Accepted l) in
-    let settled = subst Settles c.emit.ensures.place (c.in_ok-settle.ensures.settled es (told.state es was)) in
-    subst Accepts (sym c.events.ensures) (acceptance_of p es events made own (told.own es was) (told.applied es was) settled)
+    let is = told.state es was in
+    let Settles : ℕ → Type 0 = λ q. SettlesTo q n c.args.moment es own made in
+    let Applies : ℕ → Type 0 = λ q. IsTrue (all_apply q [] (es ++ own)) in
+    let Accepts : List Event → Type 0 = λ l. IsAcceptance p n c.args.moment es c.args.command.now (outcomes.Accepted l) in
+    let settled = subst Settles c.emit.ensures.place (c.in_ok-settle.ensures.settled n c.args.moment es is) in
+    let applied = behind_apply p es own (subst Applies c.emit.ensures.place is.applied) in
+    let is_own = told.own n es was in
+    subst Accepts (sym c.events.ensures) (acceptance_of p n c.args.moment es own made c.args.command.now is_own applied (own_legal p n es c.args.moment c.args.command.now own applied is_own) settled)

@@ -1,16 +1,14 @@
-use Rattle.std.proofs.Common.{◌≡◌, ◌∙◌, ℕ, ◌<◌, ◌≤◌, ◌++◌, ◌∷◌, [], length, List, IsTrue, ◌↔◌, IfOk, Some, None, ap, sym, subst, inl, inr, arith, append_assoc, refl}
+use Rattle.std.proofs.Common.{◌≡◌, ◌∙◌, ℕ, ◌<◌, ◌≤◌, ◌++◌, ◌∷◌, [], length, List, IsTrue, Some, None, ap, sym, subst, inl, inr, arith, append_assoc, refl}
 use Rattle.std.proofs.Math.Logic.{∥∥₁_map}
 use Rattle.zb_model.specs.declared.record.Event.{Event}
-use Rattle.zb_tokens.specs.Board.{Board}
-use Rattle.zb_rules.specs.Shown.{board_of}
 use Rattle.zb_rules.specs.Settling.{full, HasQuietGame}
 use Rattle.zb_state.specs.State.{partition_of, IsStateOf}
 use Rattle.zb_step.specs.Settled.{IsTurn, SettlesTo}
-use Rattle.zb_step.proofs.TurnLemmas.{goes_on_start, goes_on_more, goes_on_end, full_is, on_ok, GoesOn}
+use Rattle.zb_step.proofs.TurnLemmas.{goes_on_start, goes_on_more, goes_on_end, full_is, GoesOn}
 use Rattle.zb_step.proofs.settling.settle.Goals as goal
 
-pub loop-state-init : goal.loop-state-init
-loop-state-init c = record {
+pub loop-alloc-init : goal.loop-alloc-init
+loop-alloc-init c = record {
   place = refl;
   reached = c.requires;
   goes_on = λ n moment before was. goes_on_start (partition_of c.args.state.now) n moment before c.args.out.now;
@@ -18,10 +16,40 @@ loop-state-init c = record {
 }
 
 pub put-requires : goal.put-requires
-put-requires c = ?
+put-requires c = ∥∥₁_map c.loop-alloc.invariant.reached (λ r. (r.0, r.1, (c.in_ok-event-in-Some.ensures 0 0 r.0 r.1).applied))
 
-pub loop-state-preserved : goal.loop-state-preserved
-loop-state-preserved c = ?
+pub loop-alloc-preserved : goal.loop-alloc-preserved
+loop-alloc-preserved c =
+    let at = c.loop-alloc in
+    let made = at.out in
+    let e = c.in_ok-event-in-Some.event in
+    let put = c.in_ok-put-in-Some.ensures.put in
+    let state = c.in_ok-put-in-Some.ensures.state in
+    let room : length made < full = rw full_is (omega (arith, c.loop-alloc-test.true, c.len.ensures)) in
+    let Is : List Event → Type 0 = λ l. IsStateOf l c.put.new.state in
+    record {
+      place = c.put.ensures.place ∙ at.invariant.place;
+      reached = ∥∥₁_map at.invariant.reached (λ r. (r.0 ++ e ∷ [], state r.0 r.1));
+      goes_on = λ n moment before was.
+          let p = partition_of c.args.state.now in
+          let GoesOnTo : List Event → Type 0 = λ l. GoesOn p n moment before c.args.out.now l in
+          let Turn : ℕ → Type 0 = λ q. IsTurn q n moment (before ++ made) e in
+          let next = subst Turn at.invariant.place (c.in_ok-event-in-Some.ensures n moment (before ++ made) (at.invariant.comes_to before was)) in
+          subst GoesOnTo (sym put) (goes_on_more p n moment before c.args.out.now made e (at.invariant.goes_on n moment before was) room next);
+      comes_to = λ before was.
+          subst Is (append_assoc before made (e ∷ []) ∙ ap (λ (l : List Event). before ++ l) (sym put)) (state (before ++ made) (at.invariant.comes_to before was));
+    }
+
+pub returns-in-None-clause-settled : goal.returns-in-None-clause-settled
+returns-in-None-clause-settled c = λ n moment before was.
+    let at = c.loop-alloc in
+    let is = at.invariant.comes_to before was in
+    let told = c.next_mover.ensures (before ++ at.out) at.state.game is is.game in
+    let quiet : HasQuietGame (before ++ at.out) = record { board = at.state.game; is = is.game; quiet = sym told ∙ c.in-None.is } in
+    goes_on_end (partition_of c.args.state.now) n moment before c.args.out.now at.out (at.invariant.goes_on n moment before was) (inl quiet)
 
 pub returns-clause-settled : goal.returns-clause-settled
-returns-clause-settled c = ?
+returns-clause-settled c = λ n moment before was.
+    let at = c.loop-alloc in
+    let filled : full ≤ length at.out = rw full_is (omega (arith, c.loop-alloc-test.false, c.len.ensures)) in
+    goes_on_end (partition_of c.args.state.now) n moment before c.args.out.now at.out (at.invariant.goes_on n moment before was) (inr filled)

@@ -5,13 +5,13 @@ use Rattle.zb_step.proofs.TurnLemmas.{GoesOn}
 use Rattle.zb_step.proofs.settling.settle.Given as goal
 
 -- the turns so far were taken in
-abbrev pub invariant-loop-state : goal.invariant-loop-state
-invariant-loop-state l = record {
+abbrev pub invariant-loop-alloc : goal.invariant-loop-alloc
+invariant-loop-alloc l = record {
   place : partition_of l.state ≡ partition_of l.initial.state;
   reached : IsReached l.state;
   goes_on : (n moment : ℕ) (before : List Event) → IsStateOf (before ++ l.initial.out) l.initial.state → GoesOn (partition_of l.initial.state) n moment before l.initial.out l.out;
   comes_to : (before : List Event) → IsStateOf (before ++ l.initial.out) l.initial.state → IsStateOf (before ++ l.out) l.state;
 }
 
-abbrev pub decreases-loop-state : goal.decreases-loop-state
-decreases-loop-state l = 1024 - length l.out
+abbrev pub decreases-loop-alloc : goal.decreases-loop-alloc
+decreases-loop-alloc l = 1024 - length l.out

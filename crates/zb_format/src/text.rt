@@ -1,0 +1,18 @@
+// Reading a text where it stands.
+ghost use Rattle.zb_format.specs.Reading.{ReadsAs, text_at};
+
+use crate::{Cursor, Format, ReadFault};
+use std::alloc::Global;
+
+/// The text at the front of the bytes, lent by them.
+#[tactic(auto, using(crate::proofs::TextLemmas::texts), unfolding(crate::specs::Layout::number, crate::specs::Reading::text_at))]
+pub fn read_str<'a>(alloc: Global, cursor: &mut Cursor<'a>) -> Result<&'a str, ReadFault>
+    ensures { ReadsAs (λ text. text.now) (text_at cursor.old) result cursor.new }
+{
+    let length = <u32 as Format>::read(alloc, cursor)?;
+    let front = cursor.front(length as usize)?;
+    match std::str::from_utf8(front) {
+        Ok(text) => Ok(text),
+        Err(_) => Err(ReadFault::NotSpelled),
+    }
+}
