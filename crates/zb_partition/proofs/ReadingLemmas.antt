@@ -6,8 +6,9 @@ use Rattle.zb_model.specs.Record.{bytes_of}
 use Rattle.zb_model.specs.RecordFits.{IsBatch}
 use Rattle.zb_codec.proofs.BatchLemmas.{one_spelling}
 use Rattle.zb_views.specs.View.{events_of, events_in}
+use Rattle.zb_views.specs.ViewLaws.{events_of_more, moment_of_last_more}
 use Rattle.zb_rules.specs.Applies.{applies, all_apply}
-use Rattle.zb_rules.specs.StepLaws.{all_apply_more, all_apply_on, events_of_more, moment_of_last_more}
+use Rattle.zb_rules.specs.StepLaws.{all_apply_more, all_apply_on}
 use Rattle.zb_state.specs.State.{partition_of, IsStateOf}
 use Rattle.zb_partition.specs.declared.opening.Known.{Known}
 use Rattle.zb_partition.specs.Log.{AreBatches, IsApplied, IsBadBody}

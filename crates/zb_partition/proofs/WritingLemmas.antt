@@ -19,7 +19,7 @@ use Rattle.zb_store.specs.declared.gate_log.GateLog.{GateLog}
 use Rattle.zb_store.specs.declared.fault.StoreFault.{StoreFault}
 use Rattle.zb_store.specs.declared.fault.StoreFault.TheVariants as store
 use Rattle.zb_views.specs.View.{events_of}
-use Rattle.zb_rules.specs.StepLaws.{moment_of_last_more}
+use Rattle.zb_views.specs.ViewLaws.{moment_of_last_more}
 use Rattle.zb_state.specs.State.{IsStateOf}
 use Rattle.zb_state.specs.declared.state.State.{State}
 use Rattle.zb_partition.specs.Log.{bodies_of}

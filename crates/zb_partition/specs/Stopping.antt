@@ -16,9 +16,9 @@ use Rattle.zb_store.specs.declared.fault.StoreFault.TheVariants as store
 use Rattle.zb_rules.specs.Step.{IsStep}
 use Rattle.zb_partition.specs.Log.{bodies_of}
 
--- at partition p the batch is the step of this command on the log
-pub record IsStepOf (p : ℕ) (log : List Batch) (at from : ℕ) (asked : Command) (batch : Batch) : Type 0 where
-  pub step : IsStep p log batch
+-- at partition p of n the batch is the step of this command on the log
+pub record IsStepOf (p n : ℕ) (log : List Batch) (at from : ℕ) (asked : Command) (batch : Batch) : Type 0 where
+  pub step : IsStep p n log batch
   pub moment : batch.moment ≡ at
   pub begin : batch.begin ≡ from
   pub command : batch.command ≡ asked
@@ -66,9 +66,9 @@ pub record IsUnwritten (tells tells_images takes_memory : Bool) (old new : DiskV
 -- a command stopped the partition
 pub record IsStopped (tells tells_images takes_memory : Bool) (old new : DiskView) (images : List ℕ → Type 0) (past since : ℕ → List ℕ → Type 0) (place limit : ℕ)
     (log : List Batch) (moment begin : ℕ) (command : Command) (in_writing : Option Batch) (stop : Stop) : Type 0 where
-  -- the batch that was made and isn't in the log, if there was one
+  -- the batch that was made and isn't in the log, if there was one; it is the step for any number of partitions
   pub refused : Option Batch
-  pub next : (batch : Batch) → refused ≡ Some batch → IsStepOf place log moment begin command batch
+  pub next : (n : ℕ) (batch : Batch) → refused ≡ Some batch → IsStepOf place n log moment begin command batch
   pub unwritten : IsUnwritten tells tells_images takes_memory old new images past since limit log refused in_writing stop
 
 -- the frame of the batch doesn't fit into a log of this length, or it does and there was no memory for it

@@ -13,7 +13,7 @@ ghost use Rattle.zb_views.specs.View.{moment_of_last, events_of};
 ghost use Rattle.zb_rules.specs.Due.{due_command};
 ghost use Rattle.zb_rules.specs.Own.{IsSupported};
 ghost use Rattle.zb_state.specs.State as states;
-ghost use Rattle.zb_state.specs.State.{IsStateOf};
+ghost use Rattle.zb_state.specs.State.{IsStateOf, IsReached};
 ghost use Rattle.zb_partition.specs.Fault.{IsDiskCause};
 ghost use Rattle.zb_partition.specs.Reading.{IsAtStart};
 ghost use Rattle.zb_partition.specs.Log.{bodies_of};
@@ -49,6 +49,7 @@ pub struct Partition<D: Disk> {
     ghost sound: { IsTrue live → IsTrue (gates.is_sound log) },
     ghost limited: { gates.limit_of_log log ≤ 2 ^ 32 },
     ghost resting: { IsTrue live → in_writing ≡ None },
+    ghost reached: { IsTrue live → IsReached state },
 }
 
 /// What is left of a partition.
@@ -145,8 +146,8 @@ impl<D: Disk> Partition<D> {
     ) -> Result<Batch, Stop>
         requires live { IsTrue (is_live self.old) }
         requires run { IsSupported command }
-        ensures step { (log : List Batch) → HasLog log self.old → moment_of_last log ≤ moment
-            → IfOk result (IsStepOf (partition_number_of self.old) log moment begin command) }
+        ensures step { (log : List Batch) (n : ℕ) → HasLog log self.old → moment_of_last log ≤ moment
+            → IfOk result (IsStepOf (partition_number_of self.old) n log moment begin command) }
         ensures log { (log : List Batch) → HasLog log self.old → IfOk result (λ batch. HasLog (log ++ batch ∷ []) self.new) }
         ensures fits { (log : List Batch) → HasLog log self.old
             → IfOk result (λ batch. extent (bodies_of (log ++ batch ∷ [])) ≤ limit_of self.old) }
@@ -267,10 +268,13 @@ impl<D: Disk> Partition<D> {
         begin: u64,
         command: Command,
     ) -> Result<Batch, Stop>
-        requires { IsSupported command }
-        ensures step { (log : List Batch) → HasLog log self.old → moment_of_last log ≤ moment
-            → IfOk result (IsStepOf (partition_number_of self.old) log moment begin command) }
+        requires run { IsSupported command }
+        requires reached { IsReached self.old.state }
+        requires stopped { IsFalse (is_live self.old) }
+        ensures step { (log : List Batch) (n : ℕ) → HasLog log self.old → moment_of_last log ≤ moment
+            → IfOk result (IsStepOf (partition_number_of self.old) n log moment begin command) }
         ensures ahead { (log : List Batch) → HasLog log self.old → IfOk result (λ batch. IsAhead log batch self.new) }
+        ensures reached { OnOk result (IsReached self.new.state) }
         ensures memory { OnErr result (result ≡ Err Stop.Memory) }
         ensures log { self.new.log ≡ self.old.log }
         ensures slots { slots_of self.new ≡ slots_of self.old }
@@ -294,6 +298,7 @@ impl<D: Disk> Partition<D> {
         requires sound { IsTrue (gates.is_sound self.old.log) }
         requires stopped { IsFalse (is_live self.old) }
         ensures same { IfOk result (λ stored. stored ≡ batch) }
+        ensures state { self.new.state ≡ self.old.state }
         ensures log { (log : List Batch) → IsAhead log batch self.old → OnOk result (HasLog (log ++ batch ∷ []) self.new) }
         ensures stopped { (log : List Batch) → IsAhead log batch self.old → in_writing self.old ≡ None
             → IfErr result (IsUnwritten D.tells D.tells_images D.takes_memory (D.view (disk_of self.old)) (D.view (disk_of self.new))

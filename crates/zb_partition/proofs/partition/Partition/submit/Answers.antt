@@ -1,10 +1,13 @@
-use Rattle.std.proofs.Common.{◌≡◌, ◌++◌, ◌∷◌, [], Some, None, sym, ◌∙◌, subst, refl, inl}
+use Rattle.std.proofs.Common.{◌≡◌, ◌≤◌, rules, ◌++◌, ◌∷◌, [], Some, None, sym, ◌∙◌, subst, refl, inl}
 use Rattle.zb_model.specs.declared.record.Batch.{Batch}
 use Rattle.zb_model.specs.declared.stop.Stop.{Stop}
 use Rattle.zb_model.specs.declared.stop.Stop.TheVariants as stops
+use Rattle.zb_state.specs.State.{IsReached}
 use Rattle.zb_store.specs.Calls.{LeavesOnly}
 use Rattle.zb_store.specs.GateLog as gates
+use Rattle.zb_store.specs.Log.{extent}
 use Rattle.zb_store.specs.declared.gate_log.GateLog.{GateLog}
+use Rattle.zb_partition.specs.Log.{bodies_of}
 use Rattle.zb_partition.specs.Partition.{disk_of, limit_of, partition_number_of, in_writing, HasLog}
 use Rattle.zb_partition.specs.Stopping.{IsUnwritten, IsStepOf, IsLogOrMore, IsStopCause}
 use Rattle.zb_partition.proofs.WritingLemmas.{file_stands, image_stands, unwritten_none, has_kept}
@@ -22,7 +25,7 @@ returns-in-Err-clause-stopped g c = λ log has in_time.
     subst (λ (s : Stop). IsStopCause faults faults (limit_of old) log None (in_writing new) s) (sym memory) (inl none, λ batch e. absurd (cc)) in
     record {
       refused = None;
-      next = λ batch e. absurd (cc);
+      next = λ n batch e. absurd (cc);
       unwritten =
           subst (λ (l : GateLog g.row.D.Denot D). IsUnwritten D.tells D.tells_images D.takes_memory (D.view (disk_of old)) (D.view (gates.disk_of_log l)) (D.images (gates.disk_of_log l)) (D.since (disk_of old)) (D.since (gates.disk_of_log l)) (limit_of old) log None (in_writing new) c.in-Err.stop) (sym c.in-Err.ensures.log)
           (unwritten_none D.tells D.tells_images D.takes_memory (D.view (disk_of old)) (D.images (disk_of old)) (D.since (disk_of old)) (limit_of old) log None (in_writing new) c.in-Err.stop none cause
@@ -30,9 +33,9 @@ returns-in-Err-clause-stopped g c = λ log has in_time.
     }
 
 pub returns-in-Ok-write-clause-step : goal.returns-in-Ok-write-clause-step
-returns-in-Ok-write-clause-step g c = λ log has in_time.
-    subst (λ (b : Batch). IsStepOf (partition_number_of c.args.self.now) log c.args.moment c.args.begin c.args.command b) (sym c.in-Ok-write.ensures.same)
-    (c.in-Ok.ensures.step log (has_kept log c.args.self.now _ refl refl refl refl has) in_time)
+returns-in-Ok-write-clause-step g c = λ log n has in_time.
+    subst (λ (b : Batch). IsStepOf (partition_number_of c.args.self.now) n log c.args.moment c.args.begin c.args.command b) (sym c.in-Ok-write.ensures.same)
+    (c.in-Ok.ensures.step log n (has_kept log c.args.self.now _ refl refl refl refl has) in_time)
 
 pub returns-in-Ok-write-clause-log : goal.returns-in-Ok-write-clause-log
 returns-in-Ok-write-clause-log g c = λ log has.
@@ -44,13 +47,12 @@ pub returns-in-Err-write-clause-stopped : goal.returns-in-Err-write-clause-stopp
 returns-in-Err-write-clause-stopped g c = λ log has in_time.
     let D = g.D.Disk in
     let held = has_kept log c.args.self.now _ refl refl refl refl has in
-    let step = c.in-Ok.ensures.step log held in_time in
     let ahead = c.in-Ok.ensures.ahead log held in
     let none : in_writing c.make.new.self ≡ None = c.in-Ok.ensures.in_writing ∙ has.resting in
     let left = c.in-Err-write.ensures.stopped log ahead none in
     record {
       refused = Some c.in-Ok.batch;
-      next = λ batch e. subst (λ (b : Batch). IsStepOf (partition_number_of c.args.self.now) log c.args.moment c.args.begin c.args.command b) (let same : c.in-Ok.batch ≡ batch = cc in same) step;
+      next = λ n batch e. subst (λ (b : Batch). IsStepOf (partition_number_of c.args.self.now) n log c.args.moment c.args.begin c.args.command b) (let same : c.in-Ok.batch ≡ batch = cc in same) (c.in-Ok.ensures.step log n held in_time);
       unwritten = subst (λ (l : GateLog g.row.D.Denot D). IsUnwritten D.tells D.tells_images D.takes_memory (D.view (gates.disk_of_log l)) (D.view (disk_of c.write.new.self)) (D.images (disk_of c.write.new.self)) (D.since (gates.disk_of_log l)) (D.since (disk_of c.write.new.self)) (gates.limit_of_log l) log (Some c.in-Ok.batch) (in_writing c.write.new.self) c.in-Err-write.stop) c.in-Ok.ensures.log left;
     }
 
@@ -62,3 +64,18 @@ returns-in-Ok-write-clause-time g c = λ t log has.
     let left : LeavesOnly (D.view (disk_of c.args.self.now)).moment (D.view new).moment (D.since (disk_of c.args.self.now)) (D.since new) (IsLogOrMore log c.in-Ok.batch) =
     subst (λ (l : GateLog g.row.D.Denot D). LeavesOnly (D.view (gates.disk_of_log l)).moment (D.view new).moment (D.since (gates.disk_of_log l)) (D.since new) (IsLogOrMore log c.in-Ok.batch)) c.in-Ok.ensures.log (c.in-Ok-write.ensures.time t log ahead) in
     subst (λ (b : Batch). LeavesOnly (D.view (disk_of c.args.self.now)).moment (D.view new).moment (D.since (disk_of c.args.self.now)) (D.since new) (IsLogOrMore log b)) (sym c.in-Ok-write.ensures.same) left
+
+pub invariant_of-self-in-Ok-write : goal.invariant_of-self-in-Ok-write
+invariant_of-self-in-Ok-write g c = record {
+  whole = search rules;
+  sound = search rules;
+  limited = search rules;
+  resting = λ live. c.in-Ok-write.ensures.resting ∙ (c.in-Ok.ensures.in_writing ∙ c.args.self.now.resting c.requires.live);
+  reached = λ live. subst IsReached (sym c.write.ensures.state) c.in-Ok.ensures.reached;
+}
+
+pub returns-in-Ok-write-clause-fits : goal.returns-in-Ok-write-clause-fits
+returns-in-Ok-write-clause-fits g c = λ log has.
+    let ahead = c.in-Ok.ensures.ahead log (has_kept log c.args.self.now _ refl refl refl refl has) in
+    let here = subst (λ (l : GateLog g.row.D.Denot g.D.Disk). extent (bodies_of (log ++ c.in-Ok.batch ∷ [])) ≤ gates.limit_of_log l) c.in-Ok.ensures.log (c.in-Ok-write.ensures.fits log ahead) in
+    subst (λ (b : Batch). extent (bodies_of (log ++ b ∷ [])) ≤ limit_of c.args.self.now) (sym c.in-Ok-write.ensures.same) here

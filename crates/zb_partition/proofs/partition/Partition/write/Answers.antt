@@ -32,6 +32,7 @@ invariant_of-self-in-Err-append g c = record {
   sound = λ live. absurd (false≢true (sym c.requires.stopped ∙ sym c.in-Ok.ensures.live ∙ live));
   limited = search rules;
   resting = λ live. absurd (false≢true (sym c.requires.stopped ∙ sym c.in-Ok.ensures.live ∙ live));
+  reached = λ live. absurd (false≢true (sym c.requires.stopped ∙ sym c.in-Ok.ensures.live ∙ live));
 }
 
 pub returns-in-Ok-append-clause-log : goal.returns-in-Ok-append-clause-log
