@@ -61,7 +61,7 @@ pub record IsNamed (told : Told) (limit : ℕ) (start : RunStart) (now : Now) (l
 
 -- a batch that isn't in the log is a step on it, and begins behind it
 abbrev pub IsLeftOver : List Batch → Batch → Type 0
-IsLeftOver log batch = IsStep 1 log batch × (batch.begin ≡ length log)
+IsLeftOver log batch = IsStep 1 1 log batch × (batch.begin ≡ length log)
 
 -- the first line that wasn't served made these batches and the one that isn't in the log, or memory ran out
 pub record IsFirst (hours : Hours) (log : List Batch) (served unserved : List (List ℕ)) (cause : Cause) (silent : List Batch) (unlogged : Option Batch) : Type 0 where

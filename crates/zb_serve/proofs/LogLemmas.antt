@@ -31,7 +31,7 @@ pub rose_since : (start old new : ℕ) → start ≤ old → Rose old new → Ro
 rose_since start old new later rose = λ below. let more : old < new = rose below in omega arith
 
 -- one batch more, with the next place
-pub made_more : (limit : ℕ) (opened made : List Batch) (places : List ℕ) (batch : Batch) → AreMadeBatches limit opened made places → IsStep 1 (opened ++ made) batch
+pub made_more : (limit : ℕ) (opened made : List Batch) (places : List ℕ) (batch : Batch) → AreMadeBatches limit opened made places → IsStep 1 1 (opened ++ made) batch
     → batch.begin ≡ length (opened ++ made) → extent (bodies_of ((opened ++ made) ++ batch ∷ [])) ≤ limit
     → AreBatches ((opened ++ made) ++ batch ∷ []) → AreMadeBatches limit opened (made ++ batch ∷ []) (places ++ length (opened ++ made) ∷ [])
 made_more limit opened made places batch old step begin fits fit = record {
@@ -41,7 +41,7 @@ made_more limit opened made places batch old step begin fits fit = record {
       rw (old.stamps) (ap (λ k. range_with_len (length opened) (length made) ++ k ∷ []) (length-append opened made)) in
       put ∙ sym (range_with_len_more (length opened) (length made)) ∙ ap (range_with_len (length opened)) (sym count);
   stamped = AllZip_more IsStamped places made (length (opened ++ made)) batch old.stamped begin;
-  steps = are_steps_more 1 opened made batch old.steps step;
+  steps = are_steps_more 1 1 opened made batch old.steps step;
   fit = subst AreBatches (append_assoc opened made (batch ∷ [])) fit;
   fits = inr (subst (λ (log : List Batch). extent (bodies_of log) ≤ limit) (append_assoc opened made (batch ∷ [])) fits);
 }
@@ -124,7 +124,7 @@ module _ (tells tells_images : Bool) (limit : ℕ) (old mid new : DiskView) (ima
       record {
         made = subst (λ (l : List Batch). AreMadeBatches limit opened l places') none held.made;
         refused = held.refused;
-        next = subst (λ (l : List Batch). (batch : Batch) → held.refused ≡ Some batch → IsStepOf 1 (opened ++ l) (max (moment_of_last (opened ++ l)) reading) (length (opened ++ l)) command batch) none held.next;
+        next = subst (λ (l : List Batch). (batch : Batch) → held.refused ≡ Some batch → IsStepOf 1 1 (opened ++ l) (max (moment_of_last (opened ++ l)) reading) (length (opened ++ l)) command batch) none held.next;
         cause = cause_then later log held.refused in_writing stop (subst (λ (l : List Batch). IsStopCause mid.faults new.faults limit (opened ++ l) held.refused in_writing stop) none held.cause);
         file = λ t. left new.contents (held.file t);
         crash = λ t image is. left image (held.crash t image is);
@@ -187,12 +187,12 @@ module _ {D : Type 0} {disks : Ghosts D} (limit : ℕ) (places : List ℕ) (open
       let faults = (disks.view (disk_of partition)).faults in
       let Left : List Batch → List ℕ → Type 0 = λ l file. IsLeft (IsHurt takes_memory faults new.faults) (opened ++ l) writing file in
       let log = opened ++ before in
-      let next : (batch : Batch) → stopped.refused ≡ Some batch → IsStepOf 1 log (max (moment_of_last log) reading) (length log) command batch =
-      λ batch is. subst (λ (m : ℕ). IsStepOf 1 log m (length log) command batch) is_at (subst (λ (b : ℕ). IsStepOf 1 log at b command batch) is_begin (stopped.next batch is)) in
+      let next : (batch : Batch) → stopped.refused ≡ Some batch → IsStepOf 1 1 log (max (moment_of_last log) reading) (length log) command batch =
+      λ batch is. subst (λ (m : ℕ). IsStepOf 1 1 log m (length log) command batch) is_at (subst (λ (b : ℕ). IsStepOf 1 1 log at b command batch) is_begin (stopped.next 1 batch is)) in
       record {
         made = subst (λ (l : List Batch). AreMadeBatches limit opened l places) (append_none before) made;
         refused = stopped.refused;
-        next = subst (λ (l : List Batch). (batch : Batch) → stopped.refused ≡ Some batch → IsStepOf 1 (opened ++ l) (max (moment_of_last (opened ++ l)) reading) (length (opened ++ l)) command batch) (append_none before) next;
+        next = subst (λ (l : List Batch). (batch : Batch) → stopped.refused ≡ Some batch → IsStepOf 1 1 (opened ++ l) (max (moment_of_last (opened ++ l)) reading) (length (opened ++ l)) command batch) (append_none before) next;
         cause = subst (λ (l : List Batch). IsStopCause faults new.faults limit (opened ++ l) stopped.refused writing stop) (append_none before) stopped.unwritten.cause;
         file = λ t. subst (λ (l : List Batch). Left l new.contents) (append_none before) (stopped.unwritten.file t);
         crash = λ t image is. subst (λ (l : List Batch). Left l image) (append_none before) (stopped.unwritten.crash t image is);

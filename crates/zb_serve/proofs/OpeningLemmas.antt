@@ -34,7 +34,7 @@ pub made_none : (limit : ℕ) (opened : List Batch) → AreBatches opened → Ar
 made_none limit opened fit = record {
   stamps = refl;
   stamped = tt;
-  steps = are_steps_none 1 opened;
+  steps = are_steps_none 1 1 opened;
   fit = subst AreBatches (append_none opened) fit;
   fits = inl refl;
 }

@@ -30,7 +30,7 @@ pub record IsStored (tells tells_images : Bool) (view : DiskView) (images : List
 pub record AreMadeBatches (limit : ℕ) (opened made : List Batch) (places : List ℕ) : Type 0 where
   pub stamps : places ≡ range_with_len (length opened) (length made)
   pub stamped : AllZip IsStamped places made
-  pub steps : AreStepsOn 1 opened made
+  pub steps : AreStepsOn 1 1 opened made
   pub fit : AreBatches (opened ++ made)
   pub fits : (made ≡ []) ⊎ (extent (bodies_of (opened ++ made)) ≤ limit)
 
@@ -55,7 +55,7 @@ pub record IsHeldUp (tells tells_images takes_memory : Bool) (limit : ℕ) (old 
     (places : List ℕ) (opened before more : List Batch) (reading : ℕ) (command : Command) (in_writing : Option Batch) (stop : Stop) : Type 0 where
   pub made : AreMadeBatches limit opened (before ++ more) places
   pub refused : Option Batch
-  pub next : (batch : Batch) → refused ≡ Some batch → IsStepOf 1 (opened ++ (before ++ more)) (max (moment_of_last (opened ++ (before ++ more))) reading) (length (opened ++ (before ++ more))) command batch
+  pub next : (batch : Batch) → refused ≡ Some batch → IsStepOf 1 1 (opened ++ (before ++ more)) (max (moment_of_last (opened ++ (before ++ more))) reading) (length (opened ++ (before ++ more))) command batch
   pub cause : IsStopCause old.faults new.faults limit (opened ++ (before ++ more)) refused in_writing stop
   pub file : IsTrue tells → IsLeft (IsHurt takes_memory old.faults new.faults) (opened ++ (before ++ more)) in_writing new.contents
   pub crash : IsTrue tells_images → (image : List ℕ) → images image → IsLeft (IsHurt takes_memory old.faults new.faults) (opened ++ (before ++ more)) in_writing image

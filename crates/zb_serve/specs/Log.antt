@@ -53,8 +53,8 @@ pub record IsLog (told : Told) (limit : ℕ) (cause : Cause) (unlogged : Option 
   pub by_first : IsTrue told.images → IsByFirstCall ends.disk.moment growth.opened_at
   -- its batches fit their spelling, so it is the one that its file stands for
   pub fit : AreBatches (whole_of growth)
-  -- each batch that was made is a step on those before it
-  pub steps : AreStepsOn number growth.opened growth.made
+  -- each batch that was made is a step on those before it, of the one partition
+  pub steps : AreStepsOn number 1 growth.opened growth.made
   -- the file stands for all of them
   pub contents : IsTrue told.disk → IsKept told ends cause unlogged (whole_of growth) ends.disk_after.contents
   -- the disk is named only where it failed, with the batch that was being written, for which the log had room
@@ -66,4 +66,4 @@ pub record IsLog (told : Told) (limit : ℕ) (cause : Cause) (unlogged : Option 
       → (length_told ≡ extent (bodies_of (whole_of growth))) × (most ≡ limit) × (most < length_told + frame)
       × ((batch : Batch) × (unlogged ≡ Some batch) × (frame ≡ frame_of batch))
   -- that batch is a step on the log, and begins behind it
-  pub next : (batch : Batch) → unlogged ≡ Some batch → IsStep number (whole_of growth) batch × (batch.begin ≡ length (whole_of growth))
+  pub next : (batch : Batch) → unlogged ≡ Some batch → IsStep number 1 (whole_of growth) batch × (batch.begin ≡ length (whole_of growth))

@@ -35,7 +35,7 @@ impl<D: Disk> Ledger<D> {
         requires known { (limit : ℕ) × (opened before : List Batch) × AreMadeBatches limit opened before self.old.stamps.items × IsOpen limit self.old.partition (opened ++ before) }
         requires run { IsSupported command }
         ensures step { (limit : ℕ) (opened before : List Batch) → AreMadeBatches limit opened before self.old.stamps.items → IsOpen limit self.old.partition (opened ++ before)
-            → IfOk result (IsStep 1 (opened ++ before)) }
+            → IfOk result (IsStep 1 1 (opened ++ before)) }
         ensures moment { (limit : ℕ) (opened before : List Batch) → AreMadeBatches limit opened before self.old.stamps.items → IsOpen limit self.old.partition (opened ++ before)
             → IfOk result (λ batch. batch.moment ≡ max (moment_of_last (opened ++ before)) reading) }
         ensures command { IfOk result (λ batch. batch.command ≡ command) }

@@ -12,7 +12,7 @@ pub put_reply-requires : goal.put_reply-requires
 put_reply-requires g c =
     let k = c.requires.known in
     let asks : command_of c.args.request ≡ Some c.in-Ok.batch.command = sym c.into_command.ensures ∙ c.in-Some.is ∙ ap Some (sym c.in-Ok.ensures.command) in
-    step_answered 1 (k.1 ++ k.2) c.in-Ok.batch c.args.request asks (c.in-Ok.ensures.step k.0 k.1 k.2 k.3 k.4)
+    step_answered 1 1 (k.1 ++ k.2) c.in-Ok.batch c.args.request asks (c.in-Ok.ensures.step k.0 k.1 k.2 k.3 k.4)
 
 pub returns-in-Ok-clause-done : goal.returns-in-Ok-clause-done
 returns-in-Ok-clause-done g c = λ limit opened before made is_open.

@@ -18,12 +18,12 @@ returns-in-Err-clause-held g c = λ limit opened before made is_open.
 pub returns-in-Ok-submit-clause-step : goal.returns-in-Ok-submit-clause-step
 returns-in-Ok-submit-clause-step g c = λ limit opened before made is_open.
     let in_time : moment_of_last (opened ++ before) ≤ c.later_of-moment.result = omega (arith, is_open.has.moment, c.last_moment.ensures, c.later_of-moment.ensures) in
-    subst (λ (p : ℕ). IsStep p (opened ++ before) c.in-Ok-submit.batch) is_open.place (c.in-Ok-submit.ensures.step (opened ++ before) is_open.has in_time).step
+    subst (λ (p : ℕ). IsStep p 1 (opened ++ before) c.in-Ok-submit.batch) is_open.place (c.in-Ok-submit.ensures.step (opened ++ before) 1 is_open.has in_time).step
 
 pub returns-in-Ok-submit-clause-moment : goal.returns-in-Ok-submit-clause-moment
 returns-in-Ok-submit-clause-moment g c = λ limit opened before made is_open.
     let in_time : moment_of_last (opened ++ before) ≤ c.later_of-moment.result = omega (arith, is_open.has.moment, c.last_moment.ensures, c.later_of-moment.ensures) in
-    let at = (c.in-Ok-submit.ensures.step (opened ++ before) is_open.has in_time).moment in
+    let at = (c.in-Ok-submit.ensures.step (opened ++ before) 1 is_open.has in_time).moment in
     omega (arith, at, is_open.has.moment, c.last_moment.ensures, c.later_of-moment.ensures)
 
 pub returns-in-Ok-submit-clause-command : goal.returns-in-Ok-submit-clause-command
@@ -31,15 +31,15 @@ returns-in-Ok-submit-clause-command g c =
     let log = c.requires.known.1 ++ c.requires.known.2 in
     let has = c.requires.known.4.has in
     let in_time : moment_of_last log ≤ c.later_of-moment.result = omega (arith, has.moment, c.last_moment.ensures, c.later_of-moment.ensures) in
-    (c.in-Ok-submit.ensures.step log has in_time).command
+    (c.in-Ok-submit.ensures.step log 1 has in_time).command
 
 pub returns-in-Ok-submit-clause-grown : goal.returns-in-Ok-submit-clause-grown
 returns-in-Ok-submit-clause-grown g c = λ limit opened before made is_open.
     let log = opened ++ before in
     let batch = c.in-Ok-submit.batch in
     let in_time : moment_of_last (opened ++ before) ≤ c.later_of-moment.result = omega (arith, is_open.has.moment, c.last_moment.ensures, c.later_of-moment.ensures) in
-    let is = c.in-Ok-submit.ensures.step log is_open.has in_time in
-    let step = subst (λ (p : ℕ). IsStep p (opened ++ before) c.in-Ok-submit.batch) is_open.place is.step in
+    let is = c.in-Ok-submit.ensures.step log 1 is_open.has in_time in
+    let step = subst (λ (p : ℕ). IsStep p 1 (opened ++ before) c.in-Ok-submit.batch) is_open.place is.step in
     let place = c.frames-begin.ensures ∙ is_open.has.count in
     let fits = subst (λ (most : ℕ). extent (bodies_of ((opened ++ before) ++ c.in-Ok-submit.batch ∷ [])) ≤ most) is_open.most (c.in-Ok-submit.ensures.fits log is_open.has) in
     let has = subst (λ (l : List Batch). HasLog l c.submit.new.self) (append_assoc opened before (c.in-Ok-submit.batch ∷ [])) (c.in-Ok-submit.ensures.log log is_open.has) in
