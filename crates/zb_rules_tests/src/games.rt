@@ -22,7 +22,10 @@ fn started(rt: &impl Abort, alloc: Global, last: NodeKind) -> Game {
 
 // Makes the forced move with this key, and says whether there was one.
 fn goes_on(rt: &impl Abort, alloc: Global, game: &mut Game, key: Key) -> bool {
-    match game.forced(alloc, key).expect(rt, "memory") {
+    let Some(mover) = game.next_mover() else {
+        return false;
+    };
+    match game.move_of(alloc, key, mover).expect(rt, "memory") {
         Some(m) => {
             assert!(rt; game.make(alloc, &m) == Ok(()));
             true
@@ -54,7 +57,7 @@ fn refuses_a_cell_that_is_not_there(rt: HostRuntime) {
     let alloc = rt.alloc();
     let mut game = started(&rt, alloc, NodeKind::EndEvent);
     let astray = Move::Finish(Key::new(7));
-    assert!(rt; !game.can(&astray));
+    assert!(rt; !game.fits(&astray));
     assert!(rt; game.make(alloc, &astray) == Err(GameFault::Illegal));
     assert!(rt; game.play(alloc, &astray) == Err(GameFault::Illegal));
     let copy = game.copy(alloc).expect(&rt, "memory");

@@ -9,8 +9,6 @@ mod games;
 #[cfg(test)]
 mod models;
 #[cfg(test)]
-mod settling;
-#[cfg(test)]
 mod states;
 #[cfg(test)]
 mod steps;

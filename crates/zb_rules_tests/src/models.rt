@@ -2,11 +2,9 @@
 use std::alloc::Global;
 use std::process::Abort;
 use zb_model::{
-    DeploymentCreated, ElementActivating, Event, Flow, Key, List, MessagePublish, MessagePublished,
-    Model, Moment, Node, NodeKind, ProcessCreated, ProcessInstanceCreationCreated, Role, Text,
-    Vars,
+    Event, Flow, Key, List, MessagePublish, MessagePublished, Model, Moment, Node, NodeKind,
+    ProcessInstanceCreationCreate, Text, Vars,
 };
-use zb_state::{Out, State};
 
 fn text(rt: &impl Abort, alloc: Global, text: &str) -> Text {
     Text::of(alloc, text).expect(rt, "memory")
@@ -66,48 +64,13 @@ pub fn straight(rt: &impl Abort, alloc: Global, last: NodeKind) -> Model {
     process(rt, alloc, nodes, flows)
 }
 
-// The root of an instance of `p`.
-fn root(rt: &impl Abort, alloc: Global, key: Key, definition: Key) -> Event {
-    Event::ElementActivating(ElementActivating {
-        key,
-        scope: Key::new(0),
-        definition,
-        node: text(rt, alloc, "p"),
-        role: Role::Plain,
-        via: Text::empty(alloc),
-        started: Text::empty(alloc),
-    })
-}
-
-/// Takes in an event.
-pub fn put(rt: &impl Abort, alloc: Global, state: &mut State, out: &mut Out, event: Event) {
-    out.put(alloc, state, event)
-        .expect(rt, "an event that applies");
-}
-
-/// Takes in that `p`, from a start event to an end event, is deployed, and that an instance of it begins: four
-/// events.
-pub fn begin(rt: &impl Abort, alloc: Global, state: &mut State, out: &mut Out) {
-    let definition = state.next_key();
-    let process = Event::ProcessCreated(ProcessCreated {
-        key: definition,
-        version: 1,
-        model: straight(rt, alloc, NodeKind::EndEvent),
-    });
-    put(rt, alloc, state, out, process);
-    let key = state.next_key();
-    let deployment = Event::DeploymentCreated(DeploymentCreated { key, definition });
-    put(rt, alloc, state, out, deployment);
-    let key = state.next_key();
-    let instance = ProcessInstanceCreationCreated { key, definition };
-    put(
-        rt,
-        alloc,
-        state,
-        out,
-        Event::ProcessInstanceCreationCreated(instance),
-    );
-    put(rt, alloc, state, out, root(rt, alloc, key, definition));
+/// The command that makes an instance of the latest version of `p`, without variables.
+pub fn begun(rt: &impl Abort, alloc: Global) -> ProcessInstanceCreationCreate {
+    ProcessInstanceCreationCreate {
+        process: text(rt, alloc, "p"),
+        version: 0,
+        variables: Vars::empty(alloc),
+    }
 }
 
 /// A message with this key and an id that waits until 1,000.

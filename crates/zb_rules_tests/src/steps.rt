@@ -1,7 +1,7 @@
-use crate::models::wanted;
+use crate::models::{begun, straight, wanted};
 use std::alloc::Global;
 use std::process::Abort;
-use zb_model::{Command, Moment, Outcome, PartitionId};
+use zb_model::{Command, Moment, NodeKind, Outcome, PartitionId};
 use zb_state::State;
 use zb_step::outcome_of;
 
@@ -30,4 +30,22 @@ fn a_message_is_published_once(rt: HostRuntime) {
     assert!(rt; has_events(&first, 1));
     let second = outcome_of(alloc, &mut state, Moment::new(0), &command).expect(&rt, "memory");
     assert!(rt; is_rejected(&second, "message paid o-1 x is buffered"));
+}
+
+#[test]
+fn an_instance_goes_on_by_itself(rt: HostRuntime) {
+    let alloc = rt.alloc();
+    let mut state = State::empty(alloc, PartitionId::new(1));
+    let model = straight(&rt, alloc, NodeKind::EndEvent);
+    let deploy = Command::DeploymentCreate(model);
+    let first = outcome_of(alloc, &mut state, Moment::new(0), &deploy).expect(&rt, "memory");
+    assert!(rt; has_events(&first, 2));
+    // Two events of its own, and twelve that are forced.
+    let create = Command::ProcessInstanceCreationCreate(begun(&rt, alloc));
+    let second = outcome_of(alloc, &mut state, Moment::new(0), &create).expect(&rt, "memory");
+    assert!(rt; has_events(&second, 14));
+    assert!(rt; state.quiet());
+    assert!(rt; state.greatest_version("p") == 1);
+    assert!(rt; state.definition_for("p", 0).is_some());
+    let _game = state.game(alloc).expect(&rt, "memory");
 }

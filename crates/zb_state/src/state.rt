@@ -54,12 +54,13 @@ pub struct State {
 }
 
 impl State {
-    ghost use Rattle.zb_state.specs.State.{partition_of, IsStateOf, IsSameBeside};
+    ghost use Rattle.zb_state.specs.State.{partition_of, IsStateOf, IsReached, IsSameBeside};
 
     /// The state of a log without events.
     pub fn empty(alloc: Global, place: PartitionId) -> State
         ensures place { partition_of result ≡ place }
         ensures state { IsStateOf [] result }
+        ensures reached { IsReached result }
     {
         State {
             place,

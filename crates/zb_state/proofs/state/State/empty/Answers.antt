@@ -1,0 +1,16 @@
+use Rattle.std.proofs.Common.{[], Some, refl, sym, ap}
+use Rattle.zb_tokens.specs.Board.{Board}
+use Rattle.zb_state.proofs.state.State.empty.Goals as goal
+
+pub returns-clause-reached : goal.returns-clause-reached
+returns-clause-reached c = ∣ (
+  [],
+  record {
+    applied = refl;
+    counter = refl;
+    messages = sym c.empty.ensures;
+    definitions = sym c.new.ensures.items;
+    begun = refl;
+    game = ap (λ (b : Board). Some b) (sym c.empty-2.ensures);
+  },
+) ∣₁
