@@ -1,5 +1,5 @@
 -- A state with an event more.
-use Rattle.std.proofs.Common.{◌≡◌, ℕ, ◌+◌, ◌<◌, ◌≤◌, ◌==◌, nat_le, max, Option, Some, None, is_some, option_map, Bool, true, false, ◌&&◌, if◌then◌else◌, Result, Ok, Err, OnOk, OnErr, List, [], ◌∷◌, ◌++◌, IsTrue, ◌↔◌, not, refl, sym, ap, subst, ◌∙◌, arith, append-nil}
+use Rattle.std.proofs.Common.{◌≡◌, ℕ, ◌+◌, ◌<◌, ◌≤◌, ◌==◌, nat_le, max, Option, Some, None, is_some, is_none, option_map, Bool, true, false, ◌&&◌, if◌then◌else◌, Result, Ok, Err, OnOk, OnErr, List, [], ◌∷◌, ◌++◌, IsTrue, ◌↔◌, not, refl, sym, ap, subst, ◌∙◌, arith, append-nil}
 use Rattle.std.specs.Prelude.{⊤}
 use Rattle.std.specs.List.{find, list_any}
 use Rattle.std.specs.Option.{option_map_or}
@@ -177,3 +177,11 @@ pub no_turn_told : (p n moment : ℕ) (es : List Event) (b game : Board) (mover 
 no_turn_told p n moment es b game mover key same drawn is_move =
     let told : move_of game moment (next_key p es) mover ≡ None = subst (λ (k : ℕ). move_of game moment k mover ≡ None) drawn (sym is_move) in
     rw (same, told) refl
+
+-- where nobody was forced, and an event shows no move, nobody is forced
+pub still_rests : (old new : Board) (move : Option Move) (shows : Bool) → IsTrue (is_none (next_mover old)) → shows ≡ is_some move → after_shown old move ≡ Some new → IsTrue (not shows)
+    → IsTrue (is_none (next_mover new))
+still_rests old new None shows rests told after silent =
+    let same : old ≡ new = cc in
+    subst (λ (b : Board). IsTrue (is_none (next_mover b))) same rests
+still_rests old new (Some move) shows rests told after silent = absurd (let no_more = rw told at silent in cc)

@@ -1,5 +1,5 @@
 // The moves that events show.
-ghost use Rattle.std.specs.Prelude.{◌≡◌, List, [], IsTrue, IsFalse, IsErrOf, IfOk, OnOk, Some};
+ghost use Rattle.std.specs.Prelude.{◌≡◌, List, [], IsTrue, IsFalse, IsErrOf, IfOk, OnOk, Some, is_some};
 ghost use Rattle.zb_model.specs.declared.record.Event.{Event};
 ghost use Rattle.zb_model.specs.declared.record.Event.TheVariants as events;
 ghost use Rattle.zb_rules.specs.Applies.{may_fit};
@@ -28,6 +28,22 @@ pub fn play(alloc: Global, event: &Event, game: &mut Game) -> Result<(), TableFa
         Some(step) => make(alloc, &step, game),
         None => Ok(()),
     }
+}
+
+/// Whether the event shows a move.
+pub fn shows_move(event: &Event) -> bool
+    ensures { (before : List Event) → result ≡ is_some (shown before event.now) }
+{
+    matches!(
+        event,
+        Event::ProcessCreated(_)
+            | Event::ElementActivating(_)
+            | Event::ElementActivated(_)
+            | Event::ElementCompleting(_)
+            | Event::ElementCompleted(_)
+            | Event::SequenceFlowTaken(_)
+            | Event::VariableCreated(_)
+    )
 }
 
 // Makes a move, and answers as a table does.

@@ -1,4 +1,4 @@
-ghost use Rattle.std.specs.Prelude.{◌≡◌, ◌↔◌, ◌==◌, nat_le, ◌&&◌, ◌<◌, ◌+◌, ◌^◌, max, false, ℕ, List, [], ◌∷◌, ◌++◌, IsTrue, IsFalse, IsErrOf, IfOk, OnOk, Some, is_some, option_map};
+ghost use Rattle.std.specs.Prelude.{◌≡◌, ◌↔◌, ◌==◌, nat_le, ◌&&◌, ◌<◌, ◌+◌, ◌^◌, max, false, ℕ, List, [], ◌∷◌, ◌++◌, IsTrue, IsFalse, IsErrOf, IfOk, OnOk, Some, is_none, is_some, option_map};
 ghost use Rattle.std.specs.List.{list_any};
 ghost use Rattle.std.specs.Option.{option_map_or};
 ghost use Rattle.zb_base.specs.Key.{key_of};
@@ -23,7 +23,7 @@ use crate::buffered::{self, Buffered};
 use crate::change::{Change, copied_change, moved_change};
 use crate::definitions;
 use crate::keys::greatest_counter_of;
-use crate::moves::{event_of, play};
+use crate::moves::{event_of, play, shows_move};
 use std::alloc::{AllocError, Global};
 use zb_check::{ModelFault, check};
 use zb_game::Game;
@@ -49,8 +49,11 @@ pub struct State {
     // The instance that the last event began, if it began one.
     begun: Option<Begun>,
     game: Game,
+    // Whether it is known that nobody is forced to move.
+    rests: bool,
     ghost drawn: { counter < 2 ^ 51 },
     ghost in_order: { IsTrue (are_below (λ m. m.key) (key_of place (counter + 1)) messages) },
+    ghost resting: { IsTrue rests → IsTrue (is_none (next_mover game)) },
 }
 
 impl State {
@@ -69,6 +72,7 @@ impl State {
             definitions: Vec::new(alloc),
             begun: None,
             game: Game::empty(alloc),
+            rests: false,
         }
     }
 
@@ -177,18 +181,26 @@ impl State {
         self.game.copy(alloc)
     }
 
-    /// Who moves next; `None` where the game is quiet. It goes through the cells and then the tokens.
-    pub fn next_mover(&self) -> Option<Mover>
-        ensures { (es : List Event) (b : Board) → IsStateOf es self.now → board_of es ≡ Some b → result ≡ next_mover b }
+    /// Who moves next; `None` where the game is quiet. It goes through the cells and then the tokens, and looks at
+    /// none of them where nobody was forced when it was last asked and no move was made since.
+    pub fn next_mover(&mut self) -> Option<Mover>
+        ensures mover { (es : List Event) (b : Board) → IsStateOf es self.new → board_of es ≡ Some b → result ≡ next_mover b }
+        ensures state { (es : List Event) → IsStateOf es self.old → IsStateOf es self.new }
+        ensures place { partition_of self.new ≡ partition_of self.old }
     {
-        self.game.next_mover()
+        if self.rests {
+            return None;
+        }
+        let mover = self.game.next_mover();
+        self.rests = mover.is_none();
+        mover
     }
 
-    /// Whether nobody is forced to move. It goes through the cells and then the tokens.
+    /// Whether nobody is forced to move. It goes through the cells and then the tokens, where that isn't known.
     pub fn quiet(&self) -> bool
         ensures { (es : List Event) → IsStateOf es self.now → IsTrue result ↔ HasQuietGame es }
     {
-        self.game.next_mover().is_none()
+        self.rests || self.game.next_mover().is_none()
     }
 
     /// The event of the move of a mover, if it has one. It goes through the cells.
@@ -316,7 +328,19 @@ impl State {
         if !self.meets_own(alloc, event)? {
             return Err(TableFault::NotApplicable);
         }
-        play(alloc, event, &mut self.game)
+        let rests = self.rests;
+        self.rests = false;
+        match play(alloc, event, &mut self.game) {
+            Ok(()) => {
+                self.rests = rests && !shows_move(event);
+                Ok(())
+            }
+            Err(TableFault::NotApplicable) => {
+                self.rests = rests;
+                Err(TableFault::NotApplicable)
+            }
+            Err(TableFault::Memory) => Err(TableFault::Memory),
+        }
     }
 
     // Takes in the greatest counter of an event, and what it changes beside the game. After a refusal the

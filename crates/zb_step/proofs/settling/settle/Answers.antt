@@ -16,7 +16,9 @@ loop-alloc-init c = record {
 }
 
 pub put-requires : goal.put-requires
-put-requires c = ∥∥₁_map c.loop-alloc.invariant.reached (λ r. (r.0, r.1, (c.in_ok-event-in-Some.ensures 0 0 r.0 r.1).applied))
+put-requires c = ∥∥₁_map c.loop-alloc.invariant.reached (λ r.
+    let is = c.next_mover.ensures.state r.0 r.1 in
+    (r.0, is, (c.in_ok-event-in-Some.ensures 0 0 r.0 is).applied))
 
 pub loop-alloc-preserved : goal.loop-alloc-preserved
 loop-alloc-preserved c =
@@ -25,27 +27,29 @@ loop-alloc-preserved c =
     let e = c.in_ok-event-in-Some.event in
     let put = c.in_ok-put-in-Some.ensures.put in
     let state = c.in_ok-put-in-Some.ensures.state in
+    let asked = c.next_mover.ensures.state in
+    let place = c.next_mover.ensures.place ∙ at.invariant.place in
     let room : length made < full = rw full_is (omega (arith, c.loop-alloc-test.true, c.len.ensures)) in
     let Is : List Event → Type 0 = λ l. IsStateOf l c.put.new.state in
     record {
-      place = c.put.ensures.place ∙ at.invariant.place;
-      reached = ∥∥₁_map at.invariant.reached (λ r. (r.0 ++ e ∷ [], state r.0 r.1));
+      place = c.put.ensures.place ∙ place;
+      reached = ∥∥₁_map at.invariant.reached (λ r. (r.0 ++ e ∷ [], state r.0 (asked r.0 r.1)));
       goes_on = λ n moment before was.
           let p = partition_of c.args.state.now in
           let GoesOnTo : List Event → Type 0 = λ l. GoesOn p n moment before c.args.out.now l in
           let Turn : ℕ → Type 0 = λ q. IsTurn q n moment (before ++ made) e in
-          let next = subst Turn at.invariant.place (c.in_ok-event-in-Some.ensures n moment (before ++ made) (at.invariant.comes_to before was)) in
+          let next = subst Turn place (c.in_ok-event-in-Some.ensures n moment (before ++ made) (asked (before ++ made) (at.invariant.comes_to before was))) in
           subst GoesOnTo (sym put) (goes_on_more p n moment before c.args.out.now made e (at.invariant.goes_on n moment before was) room next);
       comes_to = λ before was.
-          subst Is (append_assoc before made (e ∷ []) ∙ ap (λ (l : List Event). before ++ l) (sym put)) (state (before ++ made) (at.invariant.comes_to before was));
+          subst Is (append_assoc before made (e ∷ []) ∙ ap (λ (l : List Event). before ++ l) (sym put)) (state (before ++ made) (asked (before ++ made) (at.invariant.comes_to before was)));
     }
 
 pub returns-in-None-clause-settled : goal.returns-in-None-clause-settled
 returns-in-None-clause-settled c = λ n moment before was.
     let at = c.loop-alloc in
-    let is = at.invariant.comes_to before was in
-    let told = c.next_mover.ensures (before ++ at.out) at.state.game is is.game in
-    let quiet : HasQuietGame (before ++ at.out) = record { board = at.state.game; is = is.game; quiet = sym told ∙ c.in-None.is } in
+    let is = c.next_mover.ensures.state (before ++ at.out) (at.invariant.comes_to before was) in
+    let told = c.next_mover.ensures.mover (before ++ at.out) c.next_mover.new.self.game is is.game in
+    let quiet : HasQuietGame (before ++ at.out) = record { board = c.next_mover.new.self.game; is = is.game; quiet = sym told ∙ c.in-None.is } in
     goes_on_end (partition_of c.args.state.now) n moment before c.args.out.now at.out (at.invariant.goes_on n moment before was) (inl quiet)
 
 pub returns-clause-settled : goal.returns-clause-settled
@@ -53,3 +57,9 @@ returns-clause-settled c = λ n moment before was.
     let at = c.loop-alloc in
     let filled : full ≤ length at.out = rw full_is (omega (arith, c.loop-alloc-test.false, c.len.ensures)) in
     goes_on_end (partition_of c.args.state.now) n moment before c.args.out.now at.out (at.invariant.goes_on n moment before was) (inr filled)
+
+pub forced_event-requires-clause-reached : goal.forced_event-requires-clause-reached
+forced_event-requires-clause-reached c = ∥∥₁_map c.loop-alloc.invariant.reached (λ r. (r.0, c.next_mover.ensures.state r.0 r.1))
+
+pub returns-in-None-clause-reached : goal.returns-in-None-clause-reached
+returns-in-None-clause-reached c = ∥∥₁_map c.loop-alloc.invariant.reached (λ r. (r.0, c.next_mover.ensures.state r.0 r.1))

@@ -1,18 +1,36 @@
-use Rattle.std.proofs.Common.{◌≡◌, ◌∙◌, Bool, true, IsTrue, IsFalse, IsErrOf, OnOk, sym, subst, rules}
+use Rattle.std.proofs.Common.{◌≡◌, ◌∙◌, Bool, true, [], Err, IsTrue, IsFalse, IsErrOf, ap, sym, subst, rules}
 use Rattle.zb_model.specs.declared.stop.TableFault.TheVariants as stops
 use Rattle.zb_rules.specs.Applies.{holds_own}
+use Rattle.zb_rules.specs.Shown.{shown}
 use Rattle.zb_state.specs.State.{partition_of}
-use Rattle.zb_state.proofs.StateLemmas.{applies_by}
+use Rattle.zb_state.proofs.StateLemmas.{applies_by, still_rests}
 use Rattle.zb_state.proofs.state.State.admit.Goals as goal
+use Rattle.zb_state.proofs.state.State.admit.Goals.{then-rests, else-rests}
 
-pub returns-clause-applied : goal.returns-clause-applied
-returns-clause-applied c = λ es is.
+pub invariant_of-self : goal.invariant_of-self
+invariant_of-self c =
+    let s = c.args.self.now in
+    record {
+      drawn = s.drawn;
+      in_order = s.in_order;
+      resting = elim c.if-rests.branch [
+        | then-rests w ↦ λ rests. still_rests s.game c.play.new.game (shown [] c.args.event.now) w.shows_move.result (s.resting w.if-rests.true) (w.shows_move.ensures []) (c.in-Ok.ensures.played []) (rw w.self-is at rests)
+        | else-rests w ↦ λ rests. absurd (let none = rw w.self-is at rests in cc)
+      ];
+    }
+
+pub returns-after-rests-clause-applied : goal.returns-after-rests-clause-applied
+returns-after-rests-clause-applied c = λ es is.
     let told = c.in_ok-meets_own.ensures.own es is in
     let own : holds_own (partition_of c.args.self.now) es c.args.event.now ≡ true = sym told ∙ search rules in
-    subst (λ (t : Bool). OnOk c.play.result (IsTrue t)) (sym (applies_by (partition_of c.args.self.now) es c.args.event.now c.args.self.now.game own is.game)) (c.play.ensures.fit es)
+    subst (λ (t : Bool). IsTrue t) (sym (applies_by (partition_of c.args.self.now) es c.args.event.now c.args.self.now.game own is.game)) (c.in-Ok.ensures.fit es)
 
-pub returns-clause-refused : goal.returns-clause-refused
-returns-clause-refused c = λ es is.
+pub returns-after-rests-clause-played : goal.returns-after-rests-clause-played
+returns-after-rests-clause-played c = λ es. c.in-Ok.ensures.played es
+
+pub returns-in-Err-NotApplicable-clause-refused : goal.returns-in-Err-NotApplicable-clause-refused
+returns-in-Err-NotApplicable-clause-refused c = λ es is err.
+    let failed : IsErrOf c.play.result stops.NotApplicable = c.in-Err-NotApplicable.is ∙ ap Err c.in-Err-NotApplicable.field-0-is in
     let told = c.in_ok-meets_own.ensures.own es is in
     let own : holds_own (partition_of c.args.self.now) es c.args.event.now ≡ true = sym told ∙ search rules in
-    subst (λ (t : Bool). IsErrOf c.play.result stops.NotApplicable → IsFalse t) (sym (applies_by (partition_of c.args.self.now) es c.args.event.now c.args.self.now.game own is.game)) (c.play.ensures.illegal es)
+    subst (λ (t : Bool). IsFalse t) (sym (applies_by (partition_of c.args.self.now) es c.args.event.now c.args.self.now.game own is.game)) (c.play.ensures.illegal es failed)

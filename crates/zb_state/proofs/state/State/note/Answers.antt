@@ -8,6 +8,7 @@ invariant_of-self c =
     record {
       drawn = omega (arith, s.drawn, c.requires.small, c.max-self.ensures);
       in_order = below_kept s.place s.counter c.max-self.result s.messages (omega (arith, c.max-self.ensures)) s.in_order;
+      resting = s.resting;
     }
 
 pub invariant_of-self-in-Begun : goal.invariant_of-self-in-Begun
@@ -16,6 +17,7 @@ invariant_of-self-in-Begun c =
     record {
       drawn = omega (arith, s.drawn, c.requires.small, c.max-self.ensures);
       in_order = below_kept s.place s.counter c.max-self.result s.messages (omega (arith, c.max-self.ensures)) s.in_order;
+      resting = s.resting;
     }
 
 pub invariant_of-self-in-Nothing : goal.invariant_of-self-in-Nothing
@@ -24,6 +26,7 @@ invariant_of-self-in-Nothing c =
     record {
       drawn = omega (arith, s.drawn, c.requires.small, c.max-self.ensures);
       in_order = below_kept s.place s.counter c.max-self.result s.messages (omega (arith, c.max-self.ensures)) s.in_order;
+      resting = s.resting;
     }
 
 pub invariant_of-self-in-Published : goal.invariant_of-self-in-Published
@@ -33,6 +36,7 @@ invariant_of-self-in-Published c =
     record {
       drawn = omega (arith, s.drawn, c.requires.small, c.max-self.ensures);
       in_order = below_added s.place s.counter c.args.counter c.max-self.result s.messages c.in-Published.message c.max-self.ensures draws s.in_order c.add.new.self c.add.result (rw c.new.ensures at c.add.ensures.ok) c.add.ensures.err;
+      resting = s.resting;
     }
 
 pub invariant_of-self-in-Expired : goal.invariant_of-self-in-Expired
@@ -41,6 +45,7 @@ invariant_of-self-in-Expired c =
     record {
       drawn = omega (arith, s.drawn, c.requires.small, c.max-self.ensures);
       in_order = rw c.remove.ensures (below_expired s.place s.counter c.max-self.result c.in-Expired.key s.messages (omega (arith, c.max-self.ensures)) s.in_order);
+      resting = s.resting;
     }
 
 pub returns-in_ok-add-in-Published-clause-messages : goal.returns-in_ok-add-in-Published-clause-messages
