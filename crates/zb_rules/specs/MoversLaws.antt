@@ -52,6 +52,7 @@ token_made : (b : Board) (key : ℕ) (found : Option Token) (move : Move) → op
 token_made b key None move is = absurd (cc)
 token_made b key (Some t) move is = way_made key t (way_of b t) move is
 
+-- the move of a mover is one of those that somebody is forced to, under this key
 pub mover_made : (b : Board) (moment key : ℕ) (mover : Mover) (move : Move) → move_of b moment key mover ≡ Some move → IsMade key move
 mover_made b moment key (movers.Cell cell) move is = cell_made b key (cell_at b cell) move is
 mover_made b moment key (movers.Token place) move is = token_made b key (slice_get b.tokens place) move is
@@ -62,10 +63,12 @@ found_by : (low key : ℕ) (cells : List Cell) (x c : Cell) (t : Bool) → low �
 found_by low key cells x c true above same later is = grind (arith, nat_tests)
 found_by low key cells x c false above other later is = omega (arith, later is)
 
+-- a cell that is found by its key among cells that ascend from a bound has no lesser key
 pub found_key : (low key : ℕ) (cells : List Cell) (c : Cell) → CellsAscend low cells → find (λ x. x.key == key) cells ≡ Some c → low ≤ key
 found_key low key [] c up is = absurd (cc)
 found_key low key (x ∷ cells) c up is = found_by low key cells x c (x.key == key) up.0 refl (found_key (x.key + 1) key cells c up.1) is
 
+-- cells that ascend from 1 on ascend from 0 on
 pub from_none : (cells : List Cell) → CellsAscend 1 cells → CellsAscend 0 cells
 from_none [] up = tt
 from_none (c ∷ cells) up = (omega arith, up.1)

@@ -32,6 +32,7 @@ module _ {A B : Type 0} where
   mapped_from f None y is = absurd (cc)
   mapped_from f (Some x) y is = (x, refl, cc)
 
+  -- what a chain gives comes from a thing that is there
   pub chained_from : (f : A → Option B) (o : Option A) (y : B) → option_and_then f o ≡ Some y → (x : A) × (o ≡ Some x) × (f x ≡ Some y)
   chained_from f None y is = absurd (cc)
   chained_from f (Some x) y is = (x, refl, is)
@@ -56,10 +57,12 @@ module _ {A : Type 0} (keep : A → Bool) where
   nothing_kept [] none = refl
   nothing_kept (x ∷ xs) none = none_kept (keep x) x xs (nothing_kept xs) none
 
+  -- members behind a list that aren't kept change nothing of what is kept
   pub kept_with_more : (xs more : List A) → list_any keep more ≡ false → filter keep (xs ++ more) ≡ filter keep xs
   kept_with_more [] more none = nothing_kept more none
   kept_with_more (x ∷ xs) more none = ap (λ (fs : List A). cond (keep x) (x ∷ fs) fs) (kept_with_more xs more none)
 
+  -- a member behind a list that isn't kept changes nothing of what is kept
   pub kept_with_one : (xs : List A) (x : A) → keep x ≡ false → filter keep (xs ++ x ∷ []) ≡ filter keep xs
   kept_with_one xs x not_it = kept_with_more xs (x ∷ []) (rw not_it refl)
 
@@ -76,6 +79,7 @@ module _ {A : Type 0} (keep : A → Bool) where
         let r = mapped_from (λ (zs : List A). x ∷ zs) (edited passes edit xs) ys is in
         subst (λ (zs : List A). filter keep zs ≡ filter keep (x ∷ xs)) r.2 (ap (λ (fs : List A). cond (keep x) (x ∷ fs) fs) (later r.0 r.1))
 
+    -- an edit of a member that keeps whether it is kept, and is of none that is kept, leaves what is kept
     pub edited_keeps : (edit : A → A) → ((x : A) → keep (edit x) ≡ keep x) → (xs ys : List A) → edited passes edit xs ≡ Some ys → filter keep ys ≡ filter keep xs
     edited_keeps edit like [] ys is = absurd (cc)
     edited_keeps edit like (x ∷ xs) ys is = edited_by edit like (passes x) x xs ys refl (edited_keeps edit like xs) is
@@ -90,10 +94,12 @@ module _ {A : Type 0} (keep : A → Bool) where
         let r = mapped_from (λ (zs : List A). x ∷ zs) (removed passes xs) ys is in
         subst (λ (zs : List A). filter keep zs ≡ filter keep (x ∷ xs)) r.2 (ap (λ (fs : List A). cond (keep x) (x ∷ fs) fs) (later r.0 r.1))
 
+    -- removing a member that isn't kept leaves what is kept
     pub removed_keeps : (xs ys : List A) → removed passes xs ≡ Some ys → filter keep ys ≡ filter keep xs
     removed_keeps [] ys is = absurd (cc)
     removed_keeps (x ∷ xs) ys is = removed_by (passes x) x xs ys refl (removed_keeps xs) is
 
+-- the cell with a key isn't another one
 pub key_apart : (key : ℕ) (c : Cell) → (c.key == key) ≡ true → is_other key c ≡ false
 key_apart key c is = ap not is
 
@@ -130,6 +136,7 @@ enter_parts b after e is =
     let s = mapped_from (λ (tokens : List Token). record b { cells = b.cells ++ new_cell e.key e.scope r.0.definition e.node (is_none_of e.via) ∷ []; tokens = tokens }) (removed (comes_to e.scope e.node e.via) b.tokens) after r.2 in
     (r.0, r.1, subst (λ (x : Board). removed (comes_to e.scope e.node e.via) b.tokens ≡ Some x.tokens) s.2 s.1, ap (λ (x : Board). x.cells) (sym s.2), ap (λ (x : Board). x.models) (sym s.2))
 
+-- what opening a cell makes of the board, part by part (BPMN 2.0.2, 13.3.2)
 pub open_parts : (b after : Board) (key : ℕ) → played b (moves.Open key) ≡ Some after
     → (c : Cell) × (cell_at b key ≡ Some c) × (more : List Token) × (first_tokens b c ≡ Some more) × (after.tokens ≡ b.tokens ++ more) × (filter (is_other key) after.cells ≡ filter (is_other key) b.cells) × (after.models ≡ b.models)
 open_parts b after key is =
@@ -145,6 +152,7 @@ open_parts b after key is =
       ap (λ (x : Board). x.models) (sym u.2),
     )
 
+-- what taking a flow makes of the board, part by part (BPMN 2.0.2, 13.3.1)
 pub take_parts : (b after : Board) (key : ℕ) (flow : List ℕ) → played b (moves.Take (record { key = key; flow = flow })) ≡ Some after
     → (c : Cell) × (cell_at b key ≡ Some c) × (left : Board) × (leaving (rest_of c.owed) key b ≡ Some left) × (with_token c.scope flow left ≡ after)
 take_parts b after key flow is =

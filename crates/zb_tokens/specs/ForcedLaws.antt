@@ -27,13 +27,16 @@ use Rattle.zb_tokens.specs.Game.{fits, agrees}
 use Rattle.zb_tokens.specs.GameLaws.{mapped_some, both_left}
 use Rattle.zb_tokens.specs.Forced.{goes_on_in, is_forced, way_of, can_enter, greatest, next_mover, IsQuiet, take_first, move_in, entry_of, move_of}
 
+-- a text is the same as itself
 pub same_bytes : (xs : List ℕ) → bytes_eq xs xs ≡ true
 same_bytes xs = (bytes_eq-Decides xs xs).1 refl
 
+-- a list of ids is the same as itself
 pub ids_same : (ids : List (List ℕ)) → ids_eq ids ids ≡ true
 ids_same [] = refl
 ids_same (id ∷ ids) = rw (same_bytes id, ids_same ids) refl
 
+-- ids are among themselves, in order
 pub among_themselves : (ids : List (List ℕ)) → are_among ids ids ≡ true
 among_themselves [] = refl
 among_themselves (id ∷ ids) = rw (same_bytes id, among_themselves ids) refl
@@ -115,6 +118,7 @@ first_some : (key : ℕ) (owed : List (List ℕ)) → not (is_none_of owed) ≡ 
 first_some key [] some = absurd (cc)
 first_some key (flow ∷ owed) some = refl
 
+-- a cell that goes on by itself in a phase has a move there (BPMN 2.0.2, 13)
 pub cell_has_move : (b : Board) (c : Cell) (phase : Phase) → goes_on_in b c phase ≡ true → IsTrue (is_some (move_in b c phase))
 cell_has_move b c phases.Activating goes = refl
 cell_has_move b c phases.Active goes = refl
@@ -132,6 +136,7 @@ pub mover_has_move : (b : Board) (moment key : ℕ) (mover : Mover) → IsMover 
 mover_has_move b moment key (movers.Cell cell) known = rw known.1 (cell_has_move b known.0 known.0.phase (both_left (goes_on_in b known.0 known.0.phase) (not (is_doomed b known.0)) known.3))
 mover_has_move b moment key (movers.Token place) known = rw known.1 (mapped_some _ (way_of b known.0) (way_some _ (way_of b known.0) known.2))
 
+-- who is forced has a move, where the cells ascend (BPMN 2.0.2, 13)
 pub movers_move : (b : Board) (moment key : ℕ) (mover : Mover) → CellsAscend 0 b.cells → next_mover b ≡ Some mover → IsTrue (is_some (move_of b moment key mover))
 movers_move b moment key mover up is = mover_has_move b moment key mover (mover_known b mover up is)
 

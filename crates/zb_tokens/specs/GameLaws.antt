@@ -19,10 +19,12 @@ use Rattle.zb_tokens.specs.MoveAssign.{with_variable}
 use Rattle.zb_tokens.specs.Game.{fits, played}
 
 module _ {A B : Type 0} where
+  -- what is made of a thing that is there is there
   pub mapped_some : (g : A → B) (o : Option A) → IsTrue (is_some o) → IsTrue (is_some (option_map g o))
   mapped_some g None some = absurd (cc)
   mapped_some g (Some a) some = refl
 
+  -- what is made of a thing that is there is there, where each such thing makes one
   pub chained_some : (f : A → Option B) (o : Option A) → IsTrue (is_some o) → ((a : A) → IsTrue (is_some (f a))) → IsTrue (is_some (option_and_then f o))
   chained_some f None some each = absurd (cc)
   chained_some f (Some a) some each = each a
@@ -34,6 +36,7 @@ module _ {A : Type 0} (passes : A → Bool) where
   removed_test true x xs later some = refl
   removed_test false x xs later some = mapped_some (λ ys. x ∷ ys) (removed passes xs) (later some)
 
+  -- where a member passes, the list without the first such member is there
   pub removed_some : (xs : List A) → IsTrue (list_any passes xs) → IsTrue (is_some (removed passes xs))
   removed_some [] some = absurd (cc)
   removed_some (x ∷ xs) some = removed_test (passes x) x xs (removed_some xs) some
@@ -43,6 +46,7 @@ module _ {A : Type 0} (passes : A → Bool) where
   edited_test edit true x xs later some = refl
   edited_test edit false x xs later some = mapped_some (λ ys. x ∷ ys) (edited passes edit xs) (later some)
 
+  -- where a member passes, the list with the first such member edited is there
   pub edited_some : (edit : A → A) (xs : List A) → IsTrue (list_any passes xs) → IsTrue (is_some (edited passes edit xs))
   edited_some edit [] some = absurd (cc)
   edited_some edit (x ∷ xs) some = edited_test edit (passes x) x xs (edited_some edit xs) some
@@ -61,10 +65,12 @@ pub holds_some : {A : Type 0} (holds : A → Bool) (o : Option A) → IsTrue (op
 holds_some holds None is = absurd (cc)
 holds_some holds (Some a) is = refl
 
+-- of two tests that hold the first does
 pub both_left : (a b : Bool) → IsTrue (a && b) → IsTrue a
 both_left true b is = refl
 both_left false b is = absurd (cc)
 
+-- of two tests that hold the second does
 pub both_right : (a b : Bool) → IsTrue (a && b) → IsTrue b
 both_right true b is = is
 both_right false b is = absurd (cc)
