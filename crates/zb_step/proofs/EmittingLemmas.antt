@@ -1,29 +1,19 @@
 -- Events that apply, one after the other.
-use Rattle.std.proofs.Common.{◌≡◌, ℕ, Bool, true, false, ◌&&◌, List, [], ◌∷◌, ◌++◌, IsTrue, Result, Ok, Err, OnOk, arith}
+use Rattle.std.proofs.Common.{ℕ, List, [], ◌∷◌, ◌++◌, IsTrue, Result, Ok, Err, OnOk}
 use Rattle.zb_model.specs.declared.record.Event.{Event}
+use Rattle.zb_tokens.specs.GameLaws.{both_left, both_right}
 use Rattle.zb_rules.specs.Applies.{applies, all_apply}
 use Rattle.zb_rules.specs.StepLaws.{all_apply_on}
-
-both_first : (a b : Bool) → IsTrue (a && b) → IsTrue a
-both_first true b is = is_true
-  where
-    is_true : IsTrue true
-    is_true = grind arith
-both_first false b is = absurd (cc)
-
-both_second : (a b : Bool) → IsTrue (a && b) → IsTrue b
-both_second true b is = is
-both_second false b is = absurd (cc)
 
 -- of events that apply, the one behind some of them does, behind these
 pub next_applies : (p : ℕ) (es done : List Event) (e : Event) (rest : List Event) → IsTrue (all_apply p es (done ++ e ∷ rest)) → IsTrue (applies p (es ++ done) e)
 next_applies p es done e rest all =
-    both_first (applies p (es ++ done) e) (all_apply p ((es ++ done) ++ e ∷ []) rest)
-    (both_second (all_apply p es done) (all_apply p (es ++ done) (e ∷ rest)) (rw (all_apply_on p es done (e ∷ rest)) at all))
+    both_left (applies p (es ++ done) e) (all_apply p ((es ++ done) ++ e ∷ []) rest)
+    (both_right (all_apply p es done) (all_apply p (es ++ done) (e ∷ rest)) (rw (all_apply_on p es done (e ∷ rest)) at all))
 
 -- events that apply behind others apply to them
 pub behind_apply : (p : ℕ) (es more : List Event) → IsTrue (all_apply p [] (es ++ more)) → IsTrue (all_apply p es more)
-behind_apply p es more all = both_second (all_apply p [] es) (all_apply p es more) (rw (all_apply_on p [] es more) at all)
+behind_apply p es more all = both_right (all_apply p [] es) (all_apply p es more) (rw (all_apply_on p [] es more) at all)
 
 -- what follows from what holds at a success holds there too
 pub on_ok_then : {A E : Type 0} (r : Result A E) (P Q : Type 0) → (P → Q) → OnOk r P → OnOk r Q

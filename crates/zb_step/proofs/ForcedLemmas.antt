@@ -1,6 +1,5 @@
 -- The event of who is forced is the next turn.
-use Rattle.std.proofs.Common.{◌≡◌, ℕ, List, [], ◌∷◌, IsTrue, Some, None, refl, sym, ◌∙◌, ap, subst}
-use Rattle.std.specs.Prelude.{IfSome}
+use Rattle.std.proofs.Common.{◌≡◌, ℕ, List, [], ◌∷◌, IsTrue, Some, None, refl, sym, ◌∙◌, subst}
 use Rattle.zb_model.specs.declared.record.Event.{Event}
 use Rattle.zb_tokens.specs.declared.board.Move.{Move}
 use Rattle.zb_tokens.specs.declared.board.Mover.{Mover}
@@ -8,7 +7,7 @@ use Rattle.zb_tokens.specs.Board.{Board}
 use Rattle.zb_tokens.specs.Game.{agrees}
 use Rattle.zb_tokens.specs.Forced.{next_mover}
 use Rattle.zb_rules.specs.Shown.{shown, board_of}
-use Rattle.zb_rules.specs.Applies.{applies, all_apply}
+use Rattle.zb_rules.specs.Applies.{all_apply}
 use Rattle.zb_rules.specs.Settling.{turn, turn_of}
 use Rattle.zb_rules.specs.Sound.{HasKeys, IsForcedEvent}
 use Rattle.zb_rules.specs.ProgressLaws.{forced_event, made_legally}

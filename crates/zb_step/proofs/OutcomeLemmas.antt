@@ -1,5 +1,5 @@
 -- The outcome that own events and what they force come to.
-use Rattle.std.proofs.Common.{◌≡◌, ℕ, Bool, ◌&&◌, List, ◌++◌, IsTrue, Some, refl, ap, arith}
+use Rattle.std.proofs.Common.{◌≡◌, ℕ, List, ◌++◌, IsTrue, Some, ap}
 use Rattle.zb_model.specs.declared.record.Event.{Event}
 use Rattle.zb_model.specs.declared.record.Command.{Command}
 use Rattle.zb_model.specs.declared.record.Outcome.TheVariants as outcomes
@@ -9,15 +9,7 @@ use Rattle.zb_rules.specs.Legal.{AllLegal}
 use Rattle.zb_rules.specs.StepLaws.{all_apply_on}
 use Rattle.zb_rules.specs.Step.{IsAcceptance}
 use Rattle.zb_step.specs.Settled.{SettlesTo}
-use Rattle.zb_step.proofs.TurnLemmas.{all_legal_on}
-
--- two tests hold
-both : (a b : Bool) → IsTrue a → IsTrue b → IsTrue (a && b)
-both a b first second = rw (first, second) refl
-
--- one of two tests that hold
-pub second_of : (a b : Bool) → IsTrue (a && b) → IsTrue b
-second_of a b each = grind (arith)
+use Rattle.zb_step.proofs.TurnLemmas.{both, all_legal_on}
 
 -- own events that apply legally, and what they settle to
 pub acceptance_of : (p n moment : ℕ) (before events made : List Event) (command : Command)

@@ -1,11 +1,9 @@
 -- How settling goes on, turn by turn.
-use Rattle.std.proofs.Common.{◌≡◌, ℕ, ◌+◌, ◌<◌, ◌≤◌, ◌⊎◌, Bool, ◌&&◌, List, [], ◌∷◌, ◌++◌, length, IsTrue, Some, Result, Ok, Err, OnOk, refl, sym, ap, ◌∙◌, subst, inl, inr, arith, append-nil, append_assoc}
-use Rattle.std.specs.Prelude.{IfSome}
+use Rattle.std.proofs.Common.{◌≡◌, ℕ, ◌+◌, ◌<◌, ◌≤◌, ◌⊎◌, Bool, ◌&&◌, List, [], ◌∷◌, ◌++◌, length, IsTrue, Some, refl, sym, ap, ◌∙◌, subst, inl, inr, arith, append-nil, append_assoc}
 use Rattle.std.proofs.lemmas.List.{length-append}
 use Rattle.zb_model.specs.declared.record.Event.{Event}
-use Rattle.zb_rules.specs.Shown.{shown}
 use Rattle.zb_rules.specs.Applies.{applies, all_apply}
-use Rattle.zb_rules.specs.Legal.{IsMadeLegally, AllLegal}
+use Rattle.zb_rules.specs.Legal.{AllLegal}
 use Rattle.zb_rules.specs.Settling.{full, turn, AreTurns, joined, HasQuietGame}
 use Rattle.zb_rules.specs.StepLaws.{all_apply_more}
 use Rattle.zb_step.specs.Settled.{IsTurn, SettlesTo}
@@ -34,13 +32,8 @@ unfolding full
 full_is = refl
 
 -- two tests hold
-both : (a b : Bool) → IsTrue a → IsTrue b → IsTrue (a && b)
+pub both : (a b : Bool) → IsTrue a → IsTrue b → IsTrue (a && b)
 both a b first second = rw (first, second) refl
-
--- what holds anyway holds at a success
-pub on_ok : {A E : Type 0} (r : Result A E) (P : Type 0) → P → OnOk r P
-on_ok (Ok x) P holds = holds
-on_ok (Err e) P holds = tt
 
 -- legal moves, and those behind them
 pub all_legal_on : (moment : ℕ) (before es more : List Event) → AllLegal moment before es → AllLegal moment (before ++ es) more → AllLegal moment before (es ++ more)

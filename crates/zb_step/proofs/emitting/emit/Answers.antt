@@ -1,9 +1,9 @@
-use Rattle.std.proofs.Common.{◌≡◌, ◌∙◌, ℕ, List, ◌++◌, IsTrue, Some, ap, sym, arith}
+use Rattle.std.proofs.Common.{◌≡◌, ◌∙◌, List, ◌++◌, IsTrue, Some, ap, sym, arith}
 use Rattle.zb_model.specs.declared.record.Event.{Event}
 use Rattle.zb_rules.specs.Own.{own_events}
 use Rattle.zb_rules.specs.Sound.{HasKeys}
 use Rattle.zb_rules.specs.ProgressLaws.{own_apply}
-use Rattle.zb_state.specs.State.{partition_of, IsStateOf}
+use Rattle.zb_state.specs.State.{partition_of}
 use Rattle.zb_step.proofs.EmittingLemmas.{on_ok_then}
 use Rattle.zb_step.proofs.emitting.emit.Goals as goal
 

@@ -1,4 +1,4 @@
-use Rattle.std.proofs.Common.{◌≡◌, ◌++◌, ◌∷◌, [], ◌∙◌, List, length, ap, sym, subst, append_assoc, append-nil, IsTrue, ℕ, arith}
+use Rattle.std.proofs.Common.{◌≡◌, ◌++◌, ◌∷◌, [], ◌∙◌, List, length, ap, sym, subst, append_assoc, IsTrue, ℕ, arith}
 use Rattle.std.specs.Vec.Iter.{into_iter_items}
 use Rattle.std.proofs.Math.Logic.{∥∥₁_map}
 use Rattle.zb_model.specs.declared.record.Event.{Event}

@@ -1,7 +1,6 @@
-use Rattle.std.proofs.Common.{◌≡◌, ◌++◌, List, length, IsTrue}
+use Rattle.std.proofs.Common.{◌≡◌, ◌++◌, List, length}
 use Rattle.std.specs.Vec.Iter.{into_iter_items, into_iter_len}
 use Rattle.zb_model.specs.declared.record.Event.{Event}
-use Rattle.zb_rules.specs.Applies.{all_apply}
 use Rattle.zb_state.specs.State.{partition_of, IsStateOf}
 use Rattle.zb_step.proofs.emitting.put_all.Given as goal
 

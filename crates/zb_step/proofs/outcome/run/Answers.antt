@@ -1,10 +1,10 @@
-use Rattle.std.proofs.Common.{◌≡◌, ℕ, List, ◌++◌, [], IsTrue, sym, subst, ap}
+use Rattle.std.proofs.Common.{ℕ, List, ◌++◌, [], IsTrue, sym, subst}
 use Rattle.zb_model.specs.declared.record.Event.{Event}
 use Rattle.zb_model.specs.declared.record.Outcome.TheVariants as outcomes
 use Rattle.zb_rules.specs.Applies.{all_apply}
 use Rattle.zb_rules.specs.Step.{IsAcceptance}
 use Rattle.zb_rules.specs.ProgressLaws.{own_legal}
-use Rattle.zb_state.specs.State.{partition_of, IsStateOf}
+use Rattle.zb_state.specs.State.{partition_of}
 use Rattle.zb_step.specs.Settled.{SettlesTo}
 use Rattle.zb_step.proofs.EmittingLemmas.{behind_apply}
 use Rattle.zb_step.proofs.OutcomeLemmas.{acceptance_of}

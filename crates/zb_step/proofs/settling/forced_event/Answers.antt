@@ -1,10 +1,9 @@
-use Rattle.std.proofs.Common.{◌≡◌, ◌∷◌, [], ℕ, List, Some, None, IsTrue, Option, option_map, arith, refl}
+use Rattle.std.proofs.Common.{◌≡◌, ◌∷◌, [], Some, None, IsTrue, arith}
 use Rattle.std.proofs.Math.Logic.{∥∥₁_elim}
 use mathlib.Core.HLevel.{⊥_prop}
-use Rattle.zb_model.specs.declared.record.Event.{Event}
 use Rattle.zb_rules.specs.Settling.{turn_of}
 use Rattle.zb_rules.specs.Sound.{HasKeys}
-use Rattle.zb_state.specs.State.{partition_of, IsStateOf}
+use Rattle.zb_state.specs.State.{partition_of}
 use Rattle.zb_step.proofs.ForcedLemmas.{is_turn, has_turn}
 use Rattle.zb_step.proofs.settling.forced_event.Goals as goal
 

@@ -1,9 +1,9 @@
-use Rattle.std.proofs.Common.{◌≡◌, ◌∙◌, ℕ, ◌<◌, ◌≤◌, ◌++◌, ◌∷◌, [], length, List, IsTrue, Some, None, ap, sym, subst, inl, inr, arith, append_assoc, refl}
+use Rattle.std.proofs.Common.{◌∙◌, ℕ, ◌<◌, ◌≤◌, ◌++◌, ◌∷◌, [], length, List, ap, sym, subst, inl, inr, arith, append_assoc, refl}
 use Rattle.std.proofs.Math.Logic.{∥∥₁_map}
 use Rattle.zb_model.specs.declared.record.Event.{Event}
 use Rattle.zb_rules.specs.Settling.{full, HasQuietGame}
 use Rattle.zb_state.specs.State.{partition_of, IsStateOf}
-use Rattle.zb_step.specs.Settled.{IsTurn, SettlesTo}
+use Rattle.zb_step.specs.Settled.{IsTurn}
 use Rattle.zb_step.proofs.TurnLemmas.{goes_on_start, goes_on_more, goes_on_end, full_is, GoesOn}
 use Rattle.zb_step.proofs.settling.settle.Goals as goal
 
