@@ -1,5 +1,5 @@
 -- Reading a log frame by frame.
-use Rattle.std.proofs.Common.{OnOk, Result, Ok, Err, ◌≡◌, ◌∷◌, ◌++◌, List, [], ℕ, length, IsTrue, IsFalse, refl, sym, ◌∙◌, arith, append-nil, subst}
+use Rattle.std.proofs.Common.{◌≡◌, ◌∷◌, ◌++◌, List, [], ℕ, length, IsTrue, IsFalse, refl, sym, ◌∙◌, arith, append-nil, subst}
 use Rattle.zb_model.specs.declared.record.Event.{Event}
 use Rattle.zb_model.specs.declared.record.Batch.{Batch}
 use Rattle.zb_model.specs.Record.{bytes_of}
@@ -13,11 +13,6 @@ use Rattle.zb_state.specs.State.{partition_of, IsStateOf}
 use Rattle.zb_partition.specs.declared.opening.Known.{Known}
 use Rattle.zb_partition.specs.Log.{AreBatches, IsApplied, IsBadBody}
 use Rattle.zb_partition.specs.Reading.{IsKnown}
-
--- what follows where a call succeeds
-pub ok_gives : {T E : Type 0} (result : Result T E) (P Q : Type 0) → (P → Q) → OnOk result P → OnOk result Q
-ok_gives (Ok x) P Q so p = so p
-ok_gives (Err e) P Q so p = p
 
 -- each of some events and then one more applies
 pub apply_next : (p : ℕ) (es events : List Event) (e : Event) → IsTrue (all_apply p es events) → IsTrue (applies p (es ++ events) e) → IsTrue (all_apply p es (events ++ e ∷ []))

@@ -28,7 +28,7 @@ use Rattle.zb_tokens.specs.declared.board.Move.TheVariants as moves
 use Rattle.zb_tokens.specs.Edits.{edited}
 use Rattle.zb_tokens.specs.Board.{Board, cell_at, model_under, new_cell}
 use Rattle.zb_tokens.specs.MoveAssign.{with_variable}
-use Rattle.zb_tokens.specs.GameLaws.{holds_some}
+use Rattle.zb_tokens.specs.GameLaws.{holds_some, both_left, both_right}
 use Rattle.zb_rules.specs.Shown.{board_of}
 use Rattle.zb_rules.specs.Applies.{has_definition, holds_own, holds_of_game, applies, all_apply, is_process_of}
 use Rattle.zb_rules.specs.Sound.{HasKeys}
@@ -46,18 +46,13 @@ less_from Less is = refl
 less_from Equal is = absurd (cc)
 less_from Greater is = absurd (cc)
 
-both_of : (a b : Bool) → IsTrue (a && b) → IsTrue a × IsTrue b
-both_of true true is = (refl, refl)
-both_of true false is = absurd (cc)
-both_of false b is = absurd (cc)
-
 before_all : (v : Variable) (vs : List Variable) → IsTrue (is_ascending (v ∷ vs)) → All (λ (w : Variable). order_of v.name w.name ≡ Less) vs
 before_all v [] up = All-nil (λ (w : Variable). order_of v.name w.name ≡ Less)
 before_all v (w ∷ ws) up =
-    let parts = both_of (is_lt (order_of v.name w.name)) (is_ascending (w ∷ ws)) up in
-    let first = less_from (order_of v.name w.name) parts.0 in
+    let behind = both_right (is_lt (order_of v.name w.name)) (is_ascending (w ∷ ws)) up in
+    let first = less_from (order_of v.name w.name) (both_left (is_lt (order_of v.name w.name)) (is_ascending (w ∷ ws)) up) in
     All-cons (λ (x : Variable). order_of v.name x.name ≡ Less) w ws first
-    (All-weaker (λ (x : Variable). order_of w.name x.name ≡ Less) (λ (x : Variable). order_of v.name x.name ≡ Less) (λ x less. nat_list_cmp_total.trans v.name w.name x.name first less) ws (before_all w ws parts.1))
+    (All-weaker (λ (x : Variable). order_of w.name x.name ≡ Less) (λ (x : Variable). order_of v.name x.name ≡ Less) (λ x less. nat_list_cmp_total.trans v.name w.name x.name first less) ws (before_all w ws behind))
 
 -- no variable with one of these names is there
 abbrev AreNew : List Variable → List Variable → Type 0
@@ -86,7 +81,7 @@ assign_all p root (v ∷ vs) before b c is found new up =
     (edited (λ (y : Cell). y.key == root) (with_variable v.name v.value) b.cells) r.0
     (λ cells made. edited_found root (with_variable v.name v.value) c b.cells cells (λ y. refl) found made) r.1.leads in
     let later = assign_all p root vs (before ++ e ∷ []) r.0 (with_variable v.name v.value c) (board_behind p before b e r.0 r.1) now
-    (all_new v vs c.variables (before_all v vs up) others) (both_of (is_lt (order_at v.name vs)) (is_ascending vs) up).1 in
+    (all_new v vs c.variables (before_all v vs up) others) (both_right (is_lt (order_at v.name vs)) (is_ascending vs) up) in
     rw (first, later) refl
 
 -- the version that is found is one of the definitions, of this process
@@ -108,7 +103,7 @@ module _ (Q : Definition → Type 0) where
   version_holds process version (d ∷ ds) r all is =
       let P : Definition → Type 0 = λ d. IsTrue (bytes_eq d.process process) → Q d in
       version_by (bytes_eq d.process process && (d.version == version)) d (version_of process version ds) r
-      (λ both. All-head P d ds all (both_of (bytes_eq d.process process) (d.version == version) both).0) (λ x found. version_holds process version ds x (All-tail P d ds all) found) is
+      (λ both. All-head P d ds all (both_left (bytes_eq d.process process) (d.version == version) both)) (λ x found. version_holds process version ds x (All-tail P d ds all) found) is
 
 abbrev IsOf : List Event → List ℕ → Definition → Type 0
 IsOf es process d = Contains (definitions es) d × IsTrue (bytes_eq d.process process)

@@ -8,6 +8,7 @@ use Rattle.zb_model.specs.declared.record.Event.{Event}
 use Rattle.zb_model.specs.declared.record.Batch.{Batch}
 use Rattle.zb_rules.specs.Step.{IsStep, EachOn, AreStepsOn}
 use Rattle.zb_rules.specs.Applies.{applies, all_apply}
+use Rattle.zb_rules.specs.Legal.{AllLegal}
 
 -- each of no batches
 pub each_on_none : (R : List Batch → Batch → Type 0) (log : List Batch) → EachOn R log []
@@ -46,3 +47,9 @@ all_apply_more p before (x ∷ es) e = rw (all_apply_more p (before ++ x ∷ [])
 pub all_apply_on : (p : ℕ) (before es more : List Event) → all_apply p before (es ++ more) ≡ (all_apply p before es && all_apply p (before ++ es) more)
 all_apply_on p before [] more = rw (append-nil before) refl
 all_apply_on p before (x ∷ es) more = rw (all_apply_on p (before ++ x ∷ []) es more, append_assoc before (x ∷ []) es) (grind arith)
+
+-- legal moves, and those behind them
+pub all_legal_on : (moment : ℕ) (before es more : List Event) → AllLegal moment before es → AllLegal moment (before ++ es) more → AllLegal moment before (es ++ more)
+all_legal_on moment before [] more each behind = subst (λ (l : List Event). AllLegal moment l more) (append-nil before) behind
+all_legal_on moment before (e ∷ es) more each behind =
+    (each.0, all_legal_on moment (before ++ e ∷ []) es more each.1 (subst (λ (l : List Event). AllLegal moment l more) (sym (append_assoc before (e ∷ []) es)) behind))

@@ -1,6 +1,7 @@
 -- A state with an event more.
 use Rattle.std.proofs.Common.{◌≡◌, ℕ, ◌+◌, ◌<◌, ◌≤◌, ◌==◌, nat_le, max, Option, Some, None, is_some, is_none, option_map, Bool, true, false, ◌&&◌, if◌then◌else◌, Result, Ok, Err, OnOk, OnErr, List, [], ◌∷◌, ◌++◌, IsTrue, ◌↔◌, not, refl, sym, ap, subst, ◌∙◌, arith, append-nil}
 use Rattle.std.specs.Prelude.{⊤}
+use Rattle.std.specs.Cmp.Derive.{both_true}
 use Rattle.std.specs.List.{find, list_any}
 use Rattle.std.specs.Option.{option_map_or}
 use Rattle.std.specs.declared.alloc.AllocError.{AllocError}
@@ -125,15 +126,11 @@ pub record IsNoted (n : ℕ) (change : Change) (old new : State) : Type 0 where
   pub begun : new.begun ≡ instance_of_change change
   pub game : new.game ≡ old.game
 
--- two tests hold
-both : (a b : Bool) → IsTrue a → IsTrue b → IsTrue (a && b)
-both a b first second = rw (first, second) refl
-
 -- the state where each part grows
 pub state_more : {counter : ℕ} {change : Change} → (es : List Event) (e : Event) (old mid new : State) → IsStateOf es old → IsSameBeside old mid → IsTrue (applies old.place es e) → after_shown old.game (shown es e) ≡ Some mid.game
     → change ≡ change_told e → counter ≡ greatest_among mid.place (keys_in e) → IsNoted counter change mid new → IsStateOf (es ++ e ∷ []) new
 state_more es e old mid new is same applied played change counter noted = record {
-  applied = rw (noted.place, same.place, all_apply_more old.place [] es e) (both (all_apply old.place [] es) (applies old.place es e) is.applied applied);
+  applied = rw (noted.place, same.place, all_apply_more old.place [] es e) (both_true is.applied applied);
   counter = rw (noted.place, same.place, counter_more old.place es e, is.counter) (sym (rw (counter, same.counter, same.place) at noted.counter));
   messages = rw (messages_more es e, is.messages) (sym (rw (change, same.messages) at noted.messages));
   definitions = rw (definitions_more es e, is.definitions, definition_made e) (sym (rw (change, same.definitions) at noted.definitions));

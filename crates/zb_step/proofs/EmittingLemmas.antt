@@ -1,5 +1,5 @@
 -- Events that apply, one after the other.
-use Rattle.std.proofs.Common.{ℕ, List, [], ◌∷◌, ◌++◌, IsTrue, Result, Ok, Err, OnOk}
+use Rattle.std.proofs.Common.{ℕ, List, [], ◌∷◌, ◌++◌, IsTrue}
 use Rattle.zb_model.specs.declared.record.Event.{Event}
 use Rattle.zb_tokens.specs.GameLaws.{both_left, both_right}
 use Rattle.zb_rules.specs.Applies.{applies, all_apply}
@@ -14,8 +14,3 @@ next_applies p es done e rest all =
 -- events that apply behind others apply to them
 pub behind_apply : (p : ℕ) (es more : List Event) → IsTrue (all_apply p [] (es ++ more)) → IsTrue (all_apply p es more)
 behind_apply p es more all = both_right (all_apply p [] es) (all_apply p es more) (rw (all_apply_on p [] es more) at all)
-
--- what follows from what holds at a success holds there too
-pub on_ok_then : {A E : Type 0} (r : Result A E) (P Q : Type 0) → (P → Q) → OnOk r P → OnOk r Q
-on_ok_then (Ok x) P Q then holds = then holds
-on_ok_then (Err e) P Q then holds = tt

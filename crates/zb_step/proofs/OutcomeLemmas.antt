@@ -1,15 +1,15 @@
 -- The outcome that own events and what they force come to.
 use Rattle.std.proofs.Common.{◌≡◌, ℕ, List, ◌++◌, IsTrue, Some, ap}
+use Rattle.std.specs.Cmp.Derive.{both_true}
 use Rattle.zb_model.specs.declared.record.Event.{Event}
 use Rattle.zb_model.specs.declared.record.Command.{Command}
 use Rattle.zb_model.specs.declared.record.Outcome.TheVariants as outcomes
 use Rattle.zb_rules.specs.Own.{own_events}
 use Rattle.zb_rules.specs.Applies.{all_apply}
 use Rattle.zb_rules.specs.Legal.{AllLegal}
-use Rattle.zb_rules.specs.StepLaws.{all_apply_on}
+use Rattle.zb_rules.specs.StepLaws.{all_apply_on, all_legal_on}
 use Rattle.zb_rules.specs.Step.{IsAcceptance}
 use Rattle.zb_step.specs.Settled.{SettlesTo}
-use Rattle.zb_step.proofs.TurnLemmas.{both, all_legal_on}
 
 -- own events that apply legally, and what they settle to
 pub acceptance_of : (p n moment : ℕ) (before events made : List Event) (command : Command)
@@ -20,7 +20,7 @@ acceptance_of p n moment before events made command are_own applied legal settle
   rest = settled.rest;
   are_own = are_own;
   settles = settled.settles;
-  applied = rw (all_apply_on p before events settled.rest) (both (all_apply p before events) (all_apply p (before ++ events) settled.rest) applied settled.applied);
+  applied = rw (all_apply_on p before events settled.rest) (both_true applied settled.applied);
   legal = all_legal_on moment before events settled.rest legal settled.legal;
   accepted = ap outcomes.Accepted settled.is;
 }

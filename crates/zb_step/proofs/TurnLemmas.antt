@@ -1,11 +1,12 @@
 -- How settling goes on, turn by turn.
 use Rattle.std.proofs.Common.{◌≡◌, ℕ, ◌+◌, ◌<◌, ◌≤◌, ◌⊎◌, Bool, ◌&&◌, List, [], ◌∷◌, ◌++◌, length, IsTrue, Some, refl, sym, ap, ◌∙◌, subst, inl, inr, arith, append-nil, append_assoc}
+use Rattle.std.specs.Cmp.Derive.{both_true}
 use Rattle.std.proofs.lemmas.List.{length-append}
 use Rattle.zb_model.specs.declared.record.Event.{Event}
 use Rattle.zb_rules.specs.Applies.{applies, all_apply}
 use Rattle.zb_rules.specs.Legal.{AllLegal}
 use Rattle.zb_rules.specs.Settling.{full, turn, AreTurns, joined, HasQuietGame}
-use Rattle.zb_rules.specs.StepLaws.{all_apply_more}
+use Rattle.zb_rules.specs.StepLaws.{all_apply_more, all_legal_on}
 use Rattle.zb_step.specs.Settled.{IsTurn, SettlesTo}
 
 -- the events of some turns, and of one behind them
@@ -30,16 +31,6 @@ are_turns_more p n moment es count (first ∷ turns) made each room next =
 pub full_is : full ≡ 1024
 unfolding full
 full_is = refl
-
--- two tests hold
-pub both : (a b : Bool) → IsTrue a → IsTrue b → IsTrue (a && b)
-both a b first second = rw (first, second) refl
-
--- legal moves, and those behind them
-pub all_legal_on : (moment : ℕ) (before es more : List Event) → AllLegal moment before es → AllLegal moment (before ++ es) more → AllLegal moment before (es ++ more)
-all_legal_on moment before [] more each behind = subst (λ (l : List Event). AllLegal moment l more) (append-nil before) behind
-all_legal_on moment before (e ∷ es) more each behind =
-    (each.0, all_legal_on moment (before ++ e ∷ []) es more each.1 (subst (λ (l : List Event). AllLegal moment l more) (sym (append_assoc before (e ∷ []) es)) behind))
 
 -- behind own events, made on those before, came some turns; each of their events applies, and each of their moves is legal
 pub record GoesOn (p n moment : ℕ) (before own made : List Event) : Type 0 where
@@ -66,7 +57,7 @@ goes_on_more p n moment before own made e so_far room next =
       turns = turns ++ (e ∷ []) ∷ [];
       is = ap (λ (l : List Event). l ++ e ∷ []) so_far.is ∙ append_assoc own (joined turns) (e ∷ []) ∙ ap (λ (l : List Event). own ++ l) (sym more);
       each = are_turns_more p n moment (before ++ own) (length own) turns (e ∷ []) so_far.each (omega (arith, room, count)) this.forced;
-      applied = rw (more, all_apply_more p (before ++ own) (joined turns) e) (both (all_apply p (before ++ own) (joined turns)) (applies p ((before ++ own) ++ joined turns) e) so_far.applied this.applied);
+      applied = rw (more, all_apply_more p (before ++ own) (joined turns) e) (both_true so_far.applied this.applied);
       legal = subst (λ (l : List Event). AllLegal moment (before ++ own) l) (sym more) (all_legal_on moment (before ++ own) (joined turns) (e ∷ []) so_far.legal (this.legal, tt));
     }
 

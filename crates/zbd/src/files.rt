@@ -7,11 +7,11 @@ use std::rt::Files;
 use zb_disk::FileDisk;
 use zb_store::Volume;
 
-// The directory of the volumes.
-const DIRECTORY: &str = "zb";
+/// The directory of the volumes.
+pub const DIRECTORY: &str = "zb";
 
-// What the name of a log ends in.
-const LOG: &str = "log";
+/// What the name of a log ends in.
+pub const LOG: &str = "log";
 
 // What the name of the first slot for snapshots ends in.
 const SNAP_A: &str = "a";

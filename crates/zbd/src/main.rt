@@ -4,11 +4,13 @@
 
 ghost use Rattle.std.specs.Prelude.{◌≡◌, length, IfOk};
 
+mod ending;
 mod files;
 mod start_error;
 mod streams;
 
-use files::{open_volumes, report_faults};
+use ending::report;
+use files::open_volumes;
 use start_error::StartError;
 use std::env;
 use std::fs::File;
@@ -17,11 +19,8 @@ use std::process::ExitCode;
 use streams::hold_standard_streams;
 use zb_disk::FileDisk;
 use zb_outside::{OpenDoor, StdClock, StdSink, StdSource};
-use zb_serve::{Cause, Session, plan_for, serve};
+use zb_serve::{Session, plan_for, serve};
 use zb_store::Volume;
-
-// How the program is called, as it is told where other words were given.
-const USAGE: &str = "usage: zbd serve [--clock real|manual] [--limit n]";
 
 // A session over standard input and output.
 type Terminal = Session<StdSource<Stdin>, StdSink<Stdout>>;
@@ -102,17 +101,4 @@ fn words(rt: &HostRuntime) -> io::Result<Vec<String>> {
         Err(error) => return Err(error),
     }
     Ok(words)
-}
-
-// Tells on standard error why the run ended, unless it is done.
-fn report(rt: &HostRuntime, cause: &Cause, volumes: &[Volume<FileDisk>]) -> io::Result<()> {
-    match cause {
-        Cause::Done => Ok(()),
-        Cause::Usage => eprintln!(rt; "zbd: {cause}\n{USAGE}"),
-        Cause::DiskFault { .. } => {
-            eprintln!(rt; "zbd: {cause}")?;
-            report_faults(rt, volumes)
-        }
-        _ => eprintln!(rt; "zbd: {cause}"),
-    }
 }

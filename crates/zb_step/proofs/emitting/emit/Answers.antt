@@ -1,10 +1,10 @@
 use Rattle.std.proofs.Common.{◌≡◌, ◌∙◌, List, ◌++◌, IsTrue, Some, ap, sym, arith}
+use Rattle.std.proofs.lemmas.Result.{on_ok_weaker}
 use Rattle.zb_model.specs.declared.record.Event.{Event}
 use Rattle.zb_rules.specs.Own.{own_events}
 use Rattle.zb_rules.specs.Sound.{HasKeys}
 use Rattle.zb_rules.specs.ProgressLaws.{own_apply}
 use Rattle.zb_state.specs.State.{partition_of}
-use Rattle.zb_step.proofs.EmittingLemmas.{on_ok_then}
 use Rattle.zb_step.proofs.emitting.emit.Goals as goal
 
 pub put_all-requires-clause-applied : goal.put_all-requires-clause-applied
@@ -18,6 +18,6 @@ returns-clause-own c = λ n es is.
     let events = c.in_ok-events.events in
     let own = c.in_ok-events.ensures n es is in
     let start = c.requires.none in
-    on_ok_then c.put_all.result (c.put_all.new.out ≡ c.args.out.now ++ events) (own_events (partition_of c.args.state.now) n es c.args.moment c.args.command.now ≡ Some c.put_all.new.out)
+    on_ok_weaker c.put_all.result
     (λ put. own ∙ ap (λ (l : List Event). Some l) (sym (put ∙ ap (λ (l : List Event). l ++ events) start)))
     c.put_all.ensures.put

@@ -1,0 +1,54 @@
+// What is told on standard error when a run has ended.
+use crate::files::{DIRECTORY, LOG, report_faults};
+use std::io;
+use zb_disk::FileDisk;
+use zb_serve::Cause;
+use zb_store::Volume;
+
+// How the program is called, as it is told where other words were given.
+const USAGE: &str = "usage: zbd serve [--clock real|manual] [--limit n]";
+
+// What the client can't know where a run broke off.
+const IN_DOUBT: &str = "a request without a reply may be stored";
+
+/// Tells why the run ended, unless it is done, and then what that means for who started it.
+pub fn report(rt: &HostRuntime, cause: &Cause, volumes: &[Volume<FileDisk>]) -> io::Result<()> {
+    if let Cause::Done = cause {
+        return Ok(());
+    }
+    eprintln!(rt; "zbd: {cause}")?;
+    match cause {
+        Cause::DiskFault { .. } => {
+            report_faults(rt, volumes)?;
+            eprintln!(rt; "zbd: {IN_DOUBT}; look at the disk before you start again")
+        }
+        Cause::Usage => eprintln!(rt; "{USAGE}"),
+        _ => explain(rt, cause),
+    }
+}
+
+// What a cause that names no file of its own means, and what can be done.
+fn explain(rt: &HostRuntime, cause: &Cause) -> io::Result<()> {
+    match cause {
+        Cause::BadLog { partition, frame } => eprintln!(rt;
+            "zbd: {DIRECTORY}/{partition}.{LOG} can't be read from frame {frame} on, counted from 0; it was left as it is: put a copy in its place, or move it away to begin anew"
+        ),
+        Cause::LogFull {
+            partition,
+            length,
+            frame,
+            limit,
+        } => eprintln!(rt;
+            "zbd: {DIRECTORY}/{partition}.{LOG} has {length} bytes of {limit}, and the next frame has {frame}; start with a larger --limit"
+        ),
+        Cause::SourceFault { .. } => eprintln!(rt;
+            "zbd: standard input failed; what has a reply is stored"
+        ),
+        Cause::SinkFault { .. } => eprintln!(rt; "zbd: standard output failed; {IN_DOUBT}"),
+        Cause::Memory => eprintln!(rt; "zbd: there was no memory; {IN_DOUBT}"),
+        Cause::InputFull { .. } => eprintln!(rt;
+            "zbd: the session took all the bytes that one may; go on in another one"
+        ),
+        _ => Ok(()),
+    }
+}
