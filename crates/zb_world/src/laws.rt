@@ -46,8 +46,11 @@ pub fn logs_are_histories()
     ensures places { (p first : ℕ) (log : List Batch) → places_of p first (entries_of p log) ≡ range_with_len first (length log) }
 {}
 
-/// Entries of n partitions are the same where each partition has the same batches at the same places.
+/// Entries of n partitions are the same where each partition has the same batches at the same places; so are histories,
+/// whose entries are all of their partitions.
 pub fn entries_are_pinned()
-    ensures { (n first : ℕ) (a b : List Entry) → All (λ entry. IsPartitionOf n entry.partition) a → All (λ entry. IsPartitionOf n entry.partition) b
+    ensures entries { (n first : ℕ) (a b : List Entry) → All (λ entry. IsPartitionOf n entry.partition) a → All (λ entry. IsPartitionOf n entry.partition) b
+        → ((p : ℕ) → IsPartitionOf n p → (part_of p a ≡ part_of p b) × (places_of p first a ≡ places_of p first b)) → a ≡ b }
+    ensures histories { (n first : ℕ) (a b : List Entry) → IsHistory n a → IsHistory n b
         → ((p : ℕ) → IsPartitionOf n p → (part_of p a ≡ part_of p b) × (places_of p first a ≡ places_of p first b)) → a ≡ b }
 {}
