@@ -39,9 +39,9 @@ pub record IsStep (p n : ℕ) (log : List Batch) (batch : Batch) : Type 0 where
   -- the command is rejected exactly where there is a reason; else it is run, and its batch settles
   pub outcome : IsOutcomeOf p n batch.moment (events_of log) batch.command batch.outcome
 
--- each of these batches has this relation to the log and those before it
-abbrev pub EachOn : (List Batch → Batch → Type 0) → List Batch → List Batch → Type 0
-EachOn R log more = (k : ℕ) (batch : Batch) → slice_get more k ≡ Some batch → R (log ++ take k more) batch
+-- each of these has this relation to what was there first and those before it
+abbrev pub EachOn : {A : Type 0} → (List A → A → Type 0) → List A → List A → Type 0
+EachOn {A} R first more = (k : ℕ) (x : A) → slice_get more k ≡ Some x → R (first ++ take k more) x
 
 -- each of these batches is a step on the log and those before it, at partition p of n
 abbrev pub AreStepsOn : (p n : ℕ) → List Batch → List Batch → Type 0

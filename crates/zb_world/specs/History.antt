@@ -1,0 +1,32 @@
+-- Histories of the engine: the steps of all partitions in one list, by the order in which they were committed.
+use Rattle.std.specs.Prelude.{◌≡◌, ◌≤◌, ℕ, List, [], ◌++◌, length, take, All}
+use Rattle.zb_model.specs.declared.record.Batch.{Batch}
+use Rattle.zb_rules.specs.Step.{IsStep, EachOn}
+use Rattle.zb_world.specs.Entries.{Entry, IsPartitionOf, is_of, part_of, AtMostOne}
+
+-- the command of a batch rests on no more places than there are members before it (own)
+abbrev pub RestsOn : {A : Type 0} → List A → Batch → Type 0
+RestsOn before batch = batch.begin ≤ length before
+
+-- behind these entries of n partitions this may be the next one (own)
+pub record IsEntryOf (n : ℕ) (before : List Entry) (entry : Entry) : Type 0 where
+  -- its partition is one of them
+  pub partition : IsPartitionOf n entry.partition
+  -- its batch is a step of its partition on what that one has
+  pub step : IsStep entry.partition n (part_of entry.partition before) entry.batch
+  -- and rests on no more entries than there are
+  pub begin : RestsOn before entry.batch
+
+-- a history of n partitions: each entry may be the next one behind those before it (own)
+abbrev pub IsHistory : ℕ → List Entry → Type 0
+IsHistory n h = EachOn (IsEntryOf n) [] h
+
+-- a cut of h: its first few entries, and behind them of each partition at most one more, which knows of those alone (own)
+pub record IsCutAt (n at : ℕ) (h cut : List Entry) : Type 0 where
+  pub more : List Entry
+  pub within : at ≤ length h
+  pub is : cut ≡ take at h ++ more
+  -- of each partition at most one entry is added
+  pub once : (p : ℕ) → AtMostOne (is_of p) more
+  -- and each might have been the next one behind the first few
+  pub each : All (IsEntryOf n (take at h)) more

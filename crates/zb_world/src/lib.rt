@@ -1,0 +1,9 @@
+//! Histories of the engine: the steps of all partitions in one list, what happens at most once in it, and what a crash may leave of it; with their laws.
+#![tactic(auto)]
+
+mod laws;
+
+pub use laws::{
+    cuts_are_histories, entries_are_pinned, histories_go_on, logs_are_histories, once_in_a_history,
+    parts_are_logs_of_steps,
+};
