@@ -29,6 +29,7 @@ use Rattle.zb_serve.specs.Session.{SessionRun, IsSent, Answer, AreAnswers, batch
 use Rattle.zb_serve.specs.declared.run.Cause.{Cause}
 use Rattle.zb_serve.specs.declared.run.Cause.TheVariants as causes
 use Rattle.zb_serve.proofs.ListLemmas.{append_none}
+use Rattle.zb_serve.proofs.HistoryLemmas.{run_goes_on, cut_at_end}
 use Rattle.zb_serve.proofs.StreamLemmas.{IsStream}
 
 -- the file stands for the log, whatever a crash leaves, or the disk was hurt
@@ -221,6 +222,7 @@ over told setting start now before images since places cause served unserved at_
       each_once =
           let same : range_with_len (length (opened ++ [])) (length (made ++ [])) ≡ places ++ [] = rw (append-nil opened, append-nil made, append-nil places) (sym are_made.stamps) in
           subst (λ (l : List ℕ). IsPermutation (range_with_len (length (opened ++ [])) (length (made ++ []))) l) same (IsPermutation-refl (range_with_len (length (opened ++ [])) (length (made ++ []))));
+      history = run_goes_on setting.limit opened made places growth refl refl are_made;
       sessions = (
         record {
           takes = stream.takes;
@@ -244,6 +246,8 @@ over told setting start now before images since places cause served unserved at_
       undone = undone_of setting.hours run cause silent unlogged undone;
       crash_now = λ tells place listed ends image is_log is_ends left.
           at_place (log_ends start now) growth (λ e g. images image → IsKept told e cause unlogged (whole_of g) image) (held.crash tells image) place listed ends is_log is_ends left;
+      crash_cut = λ tells h is has kept one are.
+          cut_at_end told (log_ends start now) (λ place. images) cause unlogged (opened ++ made) growth places left refl (held.crash tells) h is has kept one are;
       crash_ever = λ tells place listed ends image is_log is_ends was.
           at_place (log_ends start now) growth (λ e g. since g.opened_at image → WasLeft told e cause unlogged g image) (ever tells image) place listed ends is_log is_ends was;
       crash_opening = λ tells place listed ends image is_log is_ends was.

@@ -5,6 +5,7 @@ pub mod ResultLemmas
 pub mod ListLemmas
 pub mod LogLemmas
 pub mod OpeningLemmas
+pub mod HistoryLemmas
 pub mod EndLemmas
 pub mod SingleLemmas
 pub mod StopLemmas

@@ -78,11 +78,13 @@ serves_fewer told setting streams first before more images fewer since later cau
   stamped = s.stamped;
   ascending = s.ascending;
   each_once = s.each_once;
+  history = s.history;
   sessions = s.sessions;
   in_turn = s.in_turn;
   batches = s.batches;
   undone = s.undone;
   crash_now = λ told place log ends image is_log is_ends left. s.crash_now told place log ends image is_log is_ends (less place image left);
+  crash_cut = λ told h is has kept one are. s.crash_cut told h is has kept one (λ place image at. less place image (are place image at));
   crash_ever = λ told place log ends image is_log is_ends was. s.crash_ever told place log ends image is_log is_ends (gone place log.opened_at image was);
   crash_opening = opening;
 }

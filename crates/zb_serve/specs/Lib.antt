@@ -5,6 +5,7 @@ pub mod Cause
 pub mod Ends
 pub mod Session
 pub mod Log
+pub mod History
 pub mod Served
 pub mod Ledger
 pub mod Serving

@@ -14,6 +14,9 @@ use Rattle.zb_partition.specs.Log.{IsBadAt}
 use Rattle.zb_serve.specs.Hours.{Hours, is_manual, IsReadingOf, RunSetting}
 use Rattle.zb_serve.specs.Made.{AreMadeFor, IsMadeNext}
 use Rattle.zb_serve.specs.Log.{Growth, whole_of, IsLog, IsKept, WasLeft}
+use Rattle.zb_world.specs.Entries.{Entry}
+use Rattle.zb_world.specs.History.{IsHistory}
+use Rattle.zb_serve.specs.History.{HaveOpened, HaveWhole, GoesOnWith, AreCut, AreImages}
 use Rattle.zb_store.specs.declared.volume.Volume.{Volume}
 use Rattle.zb_serve.specs.declared.run.Cause.{Cause}
 use Rattle.zb_serve.specs.declared.run.Cause.TheVariants as causes
@@ -103,6 +106,9 @@ pub record Serves (told : Told) (setting : RunSetting) (streams : List SessionEn
   pub stamped : AllZip (λ list growth. AllZip IsStamped list growth.made) stamps logs
   pub ascending : AllZip (λ list growth. IsStrictlyIncreasing list) stamps logs
   pub each_once : IsPermutation (range_with_len (length (all_opened logs)) (length (all_made logs))) (flat_map (λ list. list) stamps)
+  -- by these stamps the logs are one history of the engine, where they were one at opening: each batch a step of its
+  -- partition, and no message correlated twice with a process, no job ended twice
+  pub history : (base : List Entry) → IsHistory (length volumes) base → HaveOpened base stamps logs → GoesOnWith (length volumes) base stamps logs
   -- the lines that were served, and what each led to
   pub sessions : EachFrom (IsSession told setting.hours cause) 1 streams runs
   pub in_turn : AreInTurn (all_opened logs) runs
@@ -113,6 +119,9 @@ pub record Serves (told : Told) (setting : RunSetting) (streams : List SessionEn
   pub crash_now : IsTrue told.images → (place : ℕ) (growth : Growth) (ends : LogEnds) (image : List ℕ)
       → slice_get logs place ≡ Some growth → slice_get volumes place ≡ Some ends → images place image
       → IsKept told ends cause unlogged (whole_of growth) image
+  -- what it leaves of all logs is a cut of that history at its end: all of it, and of a partition at most one step more
+  pub crash_cut : IsTrue told.images → (h : List Entry) → IsHistory (length volumes) h → HaveWhole h stamps logs
+      → (kept : List (List ℕ)) → length kept ≡ length volumes → AreImages images kept → AreCut (length volumes) h kept logs
   -- and a crash at any moment since the log was opened left no more than that, or a front of the log
   pub crash_ever : IsTrue told.images → (place : ℕ) (growth : Growth) (ends : LogEnds) (image : List ℕ)
       → slice_get logs place ≡ Some growth → slice_get volumes place ≡ Some ends → since place growth.opened_at image

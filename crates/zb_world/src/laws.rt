@@ -37,11 +37,13 @@ pub fn once_in_a_history()
 {}
 
 /// A log of steps of one partition is a history, where each batch rests on no more than what is before it, and more of
-/// them behind a log go on with its entries. The partition has all of these entries, and every place.
+/// them behind a log go on with its entries. The partition has all of these entries, and every place. A history of one
+/// partition is that of its log.
 pub fn logs_are_histories()
     ensures history { (p n : ℕ) (log : List Batch) → IsPartitionOf n p → AreStepsOn p n [] log → EachOn RestsOn [] log → IsHistory n (entries_of p log) }
     ensures more { (p n : ℕ) (log more : List Batch) → IsPartitionOf n p → AreStepsOn p n log more → EachOn RestsOn log more
         → EachOn (IsEntryOf n) (entries_of p log) (entries_of p more) }
+    ensures alone { (h : List Entry) → IsHistory 1 h → h ≡ entries_of 1 (part_of 1 h) }
     ensures part { (p : ℕ) (log : List Batch) → part_of p (entries_of p log) ≡ log }
     ensures places { (p first : ℕ) (log : List Batch) → places_of p first (entries_of p log) ≡ range_with_len first (length log) }
 {}

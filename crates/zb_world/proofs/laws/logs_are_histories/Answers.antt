@@ -1,5 +1,5 @@
 use Rattle.zb_world.specs.EntryLaws.{part_of_entries, places_of_entries}
-use Rattle.zb_world.specs.HistoryLaws.{log_is_history, log_goes_on}
+use Rattle.zb_world.specs.HistoryLaws.{log_is_history, log_goes_on, history_of_one}
 use Rattle.zb_world.proofs.laws.logs_are_histories.Goals as goal
 
 pub returns-clause-history : goal.returns-clause-history
@@ -7,6 +7,9 @@ returns-clause-history c = log_is_history
 
 pub returns-clause-more : goal.returns-clause-more
 returns-clause-more c = log_goes_on
+
+pub returns-clause-alone : goal.returns-clause-alone
+returns-clause-alone c = history_of_one
 
 pub returns-clause-part : goal.returns-clause-part
 returns-clause-part c = part_of_entries
