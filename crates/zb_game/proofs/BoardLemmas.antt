@@ -1,17 +1,21 @@
 -- What moves make of a board, from what was changed on it.
-use Rattle.std.proofs.Common.{◌≡◌, ℕ, ◌==◌, List, [], ◌∷◌, ◌++◌, length, true, false, Option, Some, None, is_some, IsTrue, Result, Ok, Err, OnOk, refl, ap, sym, ◌∙◌, subst}
-use Rattle.zb_tokens.specs.Edits.{edited, removed}
+use Rattle.std.proofs.Common.{◌≡◌, ℕ, ◌==◌, List, [], ◌∷◌, ◌++◌, length, true, false, position, remove, Option, Some, None, option_map, option_and_then, is_some, IsTrue, Result, Ok, Err, OnOk, refl, ap, sym, ◌∙◌, subst}
+use Rattle.zb_tokens.specs.Edits.{edited, removed, is_none_of}
 use Rattle.zb_tokens.specs.declared.board.Cell.{Cell}
 use Rattle.zb_tokens.specs.declared.board.Token.{Token}
-use Rattle.zb_tokens.specs.declared.board.Deployed.{Deployed}
+use Rattle.zb_tokens.specs.declared.board.Enter.{Enter}
 use Rattle.zb_tokens.specs.declared.board.Move.{Move}
 use Rattle.zb_tokens.specs.declared.board.Phase.TheVariants as phases
-use Rattle.zb_tokens.specs.Board.{Board, cell_at, in_phase}
+use Rattle.zb_tokens.specs.Board.{Board, cell_at, in_phase, new_cell}
+use Rattle.zb_tokens.specs.MoveEnter.{comes_to, play_enter}
+use Rattle.zb_tokens.specs.EffectLaws.{mapped_from}
 use Rattle.zb_tokens.specs.MoveOpen.{first_tokens, play_open}
 use Rattle.zb_tokens.specs.MoveLeave.{leaving}
 use Rattle.zb_tokens.specs.Game.{fits, played}
 use Rattle.zb_tokens.specs.GameLaws.{fitting_is_played}
 use Rattle.zb_game.proofs.FlowLemmas.{suc_not}
+use Rattle.zb_game.proofs.EditLemmas.{removed_at, removed_none}
+use Rattle.std.proofs.lemmas.List.{append-nil}
 
 -- what follows where a call succeeded
 pub on_ok : {T E : Type 0} (r : Result T E) (P Q : Type 0) → (P → Q) → OnOk r P → OnOk r Q
@@ -26,31 +30,55 @@ none_some (Some b) some none = cc
 pub never_illegal : (b : Board) (move : Move) → IsTrue (fits b move) → played b move ≡ None → ⊥
 never_illegal b move fit none = none_some (played b move) (fitting_is_played b move fit) none
 
-module _ (b : Board) (ms : List Deployed) (cs : List Cell) (ts : List Token) (view : record { models = ms; cells = cs; tokens = ts } ≡ b) where
+module _ (b : Board) (key : ℕ) where
+  -- the board with other cells
+  abbrev pub with_cells : List Cell → Board
+  with_cells cells = record b { cells = cells }
+
   -- a cell that owes nothing is gone
-  pub left_gone : (owed : List (List ℕ)) (key : ℕ) (cs' : List Cell) → (length owed == 0) ≡ true → removed (λ c. c.key == key) cs ≡ Some cs'
-      → leaving owed key b ≡ Some (record { models = ms; cells = cs'; tokens = ts })
-  left_gone [] key cs' none gone = rw (sym view, gone) refl
-  left_gone (flow ∷ owed) key cs' none gone = let some = suc_not (length owed) in cc
+  pub left_gone : (owed : List (List ℕ)) (after : Option Board) → (length owed == 0) ≡ true → option_map with_cells (removed (λ c. c.key == key) b.cells) ≡ after → leaving owed key b ≡ after
+  left_gone [] after none gone = gone
+  left_gone (flow ∷ owed) after none gone = let some = suc_not (length owed) in absurd (cc)
 
   -- and else it leaves
-  pub left_owing : (owed : List (List ℕ)) (key : ℕ) (cs' : List Cell) → (length owed == 0) ≡ false
-      → edited (λ c. c.key == key) (in_phase phases.Leaving owed) cs ≡ Some cs'
-      → leaving owed key b ≡ Some (record { models = ms; cells = cs'; tokens = ts })
-  left_owing [] key cs' some put = absurd (cc)
-  left_owing (flow ∷ owed) key cs' some put = rw (sym view, put) refl
-
-  -- nothing is there to leave
-  pub left_none : (owed : List (List ℕ)) (key : ℕ) → removed (λ c. c.key == key) cs ≡ None → (length owed == 0) ≡ true → leaving owed key b ≡ None
-  left_none [] key gone none = rw (sym view, gone) refl
-  left_none (flow ∷ owed) key gone none = let some = suc_not (length owed) in cc
+  pub left_owing : (owed : List (List ℕ)) (after : Option Board) → (length owed == 0) ≡ false → option_map with_cells (edited (λ c. c.key == key) (in_phase phases.Leaving owed) b.cells) ≡ after → leaving owed key b ≡ after
+  left_owing [] after some put = absurd (cc)
+  left_owing (flow ∷ owed) after some put = put
 
   -- a cell is active, and its tokens are there
-  pub opened : (key : ℕ) (c : Cell) (cs' : List Cell) (ts' more : List Token) (owed : List (List ℕ))
-      → cell_at b key ≡ Some c
-      → first_tokens b c ≡ Some more → ts' ≡ ts ++ more → owed ≡ []
-      → edited (λ x. x.key == key) (in_phase phases.Active owed) cs ≡ Some cs'
-      → play_open b key ≡ Some (record { models = ms; cells = cs'; tokens = ts' })
-  opened key c cs' ts' more owed cell tokens added is_owed cells =
-      let cells' : edited (λ x. x.key == key) (in_phase phases.Active []) b.cells ≡ Some cs' = subst (λ (o : List (List ℕ)). edited (λ x. x.key == key) (in_phase phases.Active o) b.cells ≡ Some cs') is_owed (ap (λ (x : Board). edited (λ x. x.key == key) (in_phase phases.Active owed) x.cells) (sym view) ∙ cells) in
-      rw (cell, cells', tokens, sym view, added) refl
+  pub opened : (mid : Board) (c : Cell) (more : List Token) (owed : List (List ℕ)) → cell_at b key ≡ Some c → first_tokens b c ≡ Some more → owed ≡ []
+      → option_map with_cells (edited (λ x. x.key == key) (in_phase phases.Active owed) b.cells) ≡ Some mid
+      → play_open b key ≡ Some (record mid { tokens = mid.tokens ++ more })
+  opened mid c more owed cell tokens is_owed put =
+      let put' : option_map with_cells (edited (λ x. x.key == key) (in_phase phases.Active []) b.cells) ≡ Some mid = subst (λ (o : List (List ℕ)). option_map with_cells (edited (λ x. x.key == key) (in_phase phases.Active o) b.cells) ≡ Some mid) is_owed put in
+      let r = mapped_from with_cells (edited (λ x. x.key == key) (in_phase phases.Active []) b.cells) mid put' in
+      let cells = r.1 in
+      rw (cell, tokens, cells) (ap (λ (x : Board). Some (record x { tokens = x.tokens ++ more })) r.2)
+
+  -- a cell that gets no token is active
+  pub opened_alone : (mid : Board) (c : Cell) (owed : List (List ℕ)) → cell_at b key ≡ Some c → first_tokens b c ≡ Some [] → owed ≡ []
+      → option_map with_cells (edited (λ x. x.key == key) (in_phase phases.Active owed) b.cells) ≡ Some mid → play_open b key ≡ Some mid
+  opened_alone mid c owed cell tokens is_owed put =
+      opened mid c [] owed cell tokens is_owed put ∙ ap (λ (ts : List Token). Some (record mid { tokens = ts })) (append-nil mid.tokens)
+
+module _ (b : Board) (e : Enter) where
+  -- a token has entered, and a new cell is there
+  pub entered : (definition place : ℕ) (cell : Cell) (mid after : Board) → Some definition ≡ option_map (λ c. c.definition) (cell_at b e.scope) → Some place ≡ position (comes_to e.scope e.node e.via) b.tokens
+      → cell ≡ new_cell e.key e.scope definition e.node (is_none_of e.via) → mid ≡ record b { cells = b.cells ++ cell ∷ [] } → after ≡ record mid { tokens = remove mid.tokens place } → play_enter b e ≡ Some after
+  entered definition place cell mid after its_definition its_place is_cell is_mid is_after =
+      let r = mapped_from (λ (c : Cell). c.definition) (cell_at b e.scope) definition (sym its_definition) in
+      let there = r.1 in
+      let gone = removed_at (comes_to e.scope e.node e.via) b.tokens place (sym its_place) in
+      let its = r.2 in
+      rw (there, gone, its, is_after, is_mid, is_cell) refl
+
+  -- no token comes
+  pub entered_by_none : None ≡ position (comes_to e.scope e.node e.via) b.tokens → play_enter b e ≡ None
+  entered_by_none nowhere = by_found (cell_at b e.scope)
+    where
+      gone : removed (comes_to e.scope e.node e.via) b.tokens ≡ None
+      gone = removed_none (comes_to e.scope e.node e.via) b.tokens (sym nowhere)
+
+      by_found : (found : Option Cell) → option_and_then (λ (c : Cell). option_map (λ tokens. record b { cells = b.cells ++ new_cell e.key e.scope c.definition e.node (is_none_of e.via) ∷ []; tokens = tokens }) (removed (comes_to e.scope e.node e.via) b.tokens)) found ≡ None
+      by_found None = refl
+      by_found (Some c) = rw gone refl

@@ -1,5 +1,5 @@
 -- Edits at the first member that passes a test.
-use Rattle.std.proofs.Common.{◌≡◌, ℕ, suc, ◌+◌, ◌≤◌, ◌<◌, List, [], ◌∷◌, length, Bool, true, false, not, cond, if◌then◌else◌, Option, Some, None, option_map, slice_get, slice_set, get_or, remove, refl, ap, sym, ◌∙◌, arith}
+use Rattle.std.proofs.Common.{◌≡◌, ℕ, suc, ◌+◌, ◌≤◌, ◌<◌, List, [], ◌∷◌, length, Bool, true, false, not, cond, if◌then◌else◌, Some, None, option_map, slice_get, slice_set, get_or, remove, refl, ap, sym, ◌∙◌, arith}
 use Rattle.std.specs.List.{position, position_or_len}
 use Rattle.std.proofs.lemmas.Grind.{common_steps}
 use Rattle.std.proofs.lemmas.Option.{slice_get_read}
@@ -72,7 +72,3 @@ module _ {A : Type 0} (passes : A → Bool) where
 
   pub removed_none : (xs : List A) → position passes xs ≡ None → removed passes xs ≡ None
   removed_none xs is = removed_nowhere xs (no_place xs is)
-
-  -- the place that was found
-  pub placed : (xs ys : List A) (o r : Option ℕ) → xs ≡ ys → o ≡ position passes xs → o ≡ r → position passes ys ≡ r
-  placed xs ys o r same is found = sym (ap (position passes) same) ∙ (sym is ∙ found)

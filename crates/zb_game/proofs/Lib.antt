@@ -4,3 +4,6 @@ pub mod EntryLemmas
 pub mod FlowLemmas
 pub mod BoardLemmas
 pub mod NewestLemmas
+pub mod InsideLemmas
+pub mod IndexedLemmas
+pub mod ReadyLemmas

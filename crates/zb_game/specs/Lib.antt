@@ -1,2 +1,4 @@
 pub mod BoardCode
+pub mod Inside
+pub mod Indexed
 pub mod Searches

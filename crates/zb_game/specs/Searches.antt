@@ -14,6 +14,10 @@ use Rattle.zb_tokens.specs.Forced.{greatest, is_forced}
 abbrev pub key_in : Option Cell → Option ℕ
 key_in found = option_map (λ c. c.key) found
 
+-- the cell with a key is there, and is forced
+abbrev pub is_forced_at : Board → ℕ → Bool
+is_forced_at b key = option_map_or (is_forced b) (cell_at b key) false
+
 -- the greatest key of the cells that are forced
 abbrev pub newest_key : Board → Option ℕ
 newest_key b = greatest (map (λ c. c.key) (filter (is_forced b) b.cells))

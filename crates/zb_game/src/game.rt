@@ -6,6 +6,7 @@ ghost use Rattle.zb_tokens.specs.Game.{empty_board, fits, played};
 ghost use Rattle.zb_game.specs.declared.game.GameFault.TheVariants as faults;
 
 mod assign;
+mod changes;
 mod doom;
 mod enter;
 mod finish;
@@ -13,16 +14,18 @@ mod forced;
 mod leave;
 mod moves;
 mod open;
+mod rest;
 mod stand;
 mod start;
 mod take;
 
 use crate::edits::copy_of;
-use crate::lookups::{cell_among, deployed_among};
+use crate::inside::Inside;
 use std::alloc::{AllocError, AllocFailed, Global};
 use std::marker::Model;
 use zb_base::{Key, TryCopy};
 use zb_process::Model as ProcessModel;
+use zb_table::{Table, row_among};
 use zb_tokens::{Cell, Deployed, Move, Token};
 
 /// Why a move was not made.
@@ -55,6 +58,13 @@ pub struct Game {
     models: Vec<Deployed>,
     cells: Vec<Cell>,
     tokens: Vec<Token>,
+    // Whether the keys of the models and of the cells ascend, and what is kept below is right. Where it isn't set,
+    // things are searched for.
+    ascends: bool,
+    // How many cells and tokens are in each scope.
+    inside: Table<Inside>,
+    // The keys of the cells that may go on by themselves.
+    ready: Table<Key>,
 }
 
 impl Model for Game {
@@ -73,6 +83,15 @@ impl Model for Game {
       cells = g.cells.items;
       tokens = g.tokens.items;
     } };
+
+    ghost use Rattle.std.specs.Prelude.{IsTrue};
+    ghost use Rattle.zb_game.specs.Indexed.{IsIndexed};
+
+    ghost invariant = { λ g. IsTrue g.ascends → IsIndexed (record {
+      models = g.models.items;
+      cells = g.cells.items;
+      tokens = g.tokens.items;
+    }) g.inside g.ready };
 }
 
 impl TryCopy for Game {
@@ -81,6 +100,9 @@ impl TryCopy for Game {
             models: copy_of(alloc, &self.models)?.into_vec(),
             cells: copy_of(alloc, &self.cells)?.into_vec(),
             tokens: copy_of(alloc, &self.tokens)?.into_vec(),
+            ascends: self.ascends,
+            inside: self.inside.copy(alloc)?,
+            ready: self.ready.copy(alloc)?,
         })
     }
 }
@@ -94,11 +116,16 @@ impl Game {
             models: Vec::new(alloc),
             cells: Vec::new(alloc),
             tokens: Vec::new(alloc),
+            ascends: true,
+            inside: Table::empty(alloc),
+            ready: Table::empty(alloc),
         }
     }
 
-    /// Whether a move fits the board. It goes through the lists that the move looks at; for an entry, through the
-    /// cells once for each cell above the token.
+    /// Whether a move fits the board. Where the keys of the models and of the cells ascend, a cell or a model costs
+    /// the logarithm of how many there are, and what is in a cell that of how many scopes there are; where they
+    /// don't, each is searched for from the front. An entry goes through the tokens up to the first that has come,
+    /// and up the scopes. What concerns a node goes through the nodes and the flows of its model.
     pub fn fits(&self, m: &Move) -> bool
         ensures { result ≡ fits self.now m.now }
     {
@@ -116,7 +143,8 @@ impl Game {
 
     /// Plays a move, whether it fits or not. `Illegal` says that its effect names a cell, a token or a model that isn't
     /// there, and nothing has changed; where all are there, only `Memory` is answered for a fault. After `Memory`
-    /// the game is only dropped. It goes through the lists that the move looks at or changes.
+    /// the game is only dropped. What a move names is found as `fits` does. A new cell, model or token takes constant
+    /// time; those behind a cell or a token that goes move up.
     pub fn play(&mut self, alloc: Global, m: &Move) -> Result<(), GameFault>
         ensures played { OnOk result (played self.old m.now ≡ Some self.new) }
         ensures illegal { IsErrOf result GameFault.Illegal → played self.old m.now ≡ None }
@@ -135,7 +163,7 @@ impl Game {
     }
 
     /// Makes a move that fits. At `Illegal`, exactly where it doesn't, nothing has changed; after `Memory` the game
-    /// is only dropped. It goes through the lists that the move looks at or changes.
+    /// is only dropped. It costs what `fits` and `play` do.
     pub fn make(&mut self, alloc: Global, m: &Move) -> Result<(), GameFault>
         ensures fit { OnOk result (IsTrue (fits self.old m.now)) }
         ensures played { OnOk result (played self.old m.now ≡ Some self.new) }
@@ -149,7 +177,7 @@ impl Game {
         }
     }
 
-    /// The definition of a cell. It goes through the cells.
+    /// The definition of a cell. It takes the logarithm of how many cells there are, where their keys ascend.
     pub fn definition_of(&self, cell: Key) -> Option<Key>
         ensures { result ≡ option_map (λ c. c.definition) (cell_at self.now cell) }
     {
@@ -159,7 +187,8 @@ impl Game {
         }
     }
 
-    /// Whether the process of a definition has this id. It goes through the models.
+    /// Whether the process of a definition has this id. It takes the logarithm of how many models there are, where
+    /// their keys ascend.
     pub fn is_process_of(&self, definition: Key, id: &str) -> bool
         ensures { result ≡ option_map_or (λ m. bytes_eq m.process id.now) (model_under self.now definition) false }
     {
@@ -169,18 +198,18 @@ impl Game {
         }
     }
 
-    // The cell with a key.
+    // The cell with a key, found by halves where the keys ascend.
     fn cell(&self, key: Key) -> Option<&Cell>
         ensures { option_copied result ≡ cell_at self.now key }
     {
-        cell_among(key, &self.cells)
+        row_among(key, &self.cells, self.ascends)
     }
 
-    // The model of a definition.
+    // The model of a definition, found by halves where the keys ascend.
     fn model(&self, definition: Key) -> Option<&ProcessModel>
         ensures { option_copied result ≡ model_under self.now definition }
     {
-        match deployed_among(definition, &self.models) {
+        match row_among(definition, &self.models, self.ascends) {
             Some(deployed) => Some(&deployed.model),
             None => None,
         }

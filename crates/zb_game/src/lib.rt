@@ -5,6 +5,7 @@
 mod edits;
 mod flows;
 mod game;
+mod inside;
 mod lookups;
 mod places;
 

@@ -9,21 +9,7 @@ ghost use Rattle.zb_tokens.specs.MoveEnter.{comes_to};
 
 use zb_base::Key;
 use zb_process::{Flow, Model, Node, NodeKind};
-use zb_tokens::{Cell, Deployed, Spot, Token};
-
-/// The first cell with this key. It goes through all before it.
-pub fn cell_among(key: Key, cells: &[Cell]) -> Option<&Cell>
-    ensures { option_copied result ≡ find (λ c. c.key == key) cells.now }
-{
-    cells.iter().find(|cell| cell.key == key)
-}
-
-/// The first model of this definition. It goes through all before it.
-pub fn deployed_among(definition: Key, models: &[Deployed]) -> Option<&Deployed>
-    ensures { option_copied result ≡ find (λ d. d.key == definition) models.now }
-{
-    models.iter().find(|deployed| deployed.key == definition)
-}
+use zb_tokens::{Cell, Spot, Token};
 
 /// The flow of a model with this id. It goes through all before it.
 pub fn flow_in<'a>(model: &'a Model, id: &str) -> Option<&'a Flow>

@@ -1,17 +1,9 @@
 // Where things are on a board.
-ghost use Rattle.std.specs.Prelude.{◌≡◌, ◌==◌, position};
+ghost use Rattle.std.specs.Prelude.{◌≡◌, position};
 ghost use Rattle.zb_tokens.specs.MoveEnter.{comes_to};
 
 use crate::lookups::comes_to;
-use zb_base::Key;
-use zb_tokens::{Cell, Enter, Token};
-
-/// Where the first cell with this key is. It goes through all before it.
-pub fn place_of_cell(key: Key, cells: &[Cell]) -> Option<usize>
-    ensures { result ≡ position (λ c. c.key == key) cells.now }
-{
-    cells.iter().position(|cell| cell.key == key)
-}
+use zb_tokens::{Enter, Token};
 
 /// Where the first token is that enters. It goes through all before it.
 pub fn place_of_token(e: &Enter, tokens: &[Token]) -> Option<usize>

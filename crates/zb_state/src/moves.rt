@@ -17,7 +17,7 @@ use zb_tokens::{Assigned, Deployed, Enter, Leave, Move, Start, Take};
 
 /// Makes the move that the event shows, if it shows one. At `NotApplicable`, exactly where it doesn't fit,
 /// nothing has changed; after `Memory` the game is only dropped. It costs a copy of the event's texts, its
-/// model and its value, and a walk over the lists that the move looks at or changes.
+/// model and its value, and what `Game::make` does.
 pub fn play(alloc: Global, event: &Event, game: &mut Game) -> Result<(), TableFault>
     ensures fit { (before : List Event) → OnOk result (IsTrue (may_fit (shown before event.now) game.old)) }
     ensures played { (before : List Event) → OnOk result (after_shown game.old (shown before event.now) ≡ Some game.new) }
@@ -131,7 +131,8 @@ fn assign_of(alloc: Global, variable: &VariableCreated) -> Result<Move, AllocErr
     }))
 }
 
-/// The event that shows a forced move; `None` of a move that is never forced. It goes through the cells.
+/// The event that shows a forced move; `None` of a move that is never forced. It costs what
+/// `Game::definition_of` does.
 pub fn event_of(alloc: Global, shown: Move, game: &Game) -> Option<Event>
     ensures { result ≡ event_of game.now shown }
 {

@@ -78,8 +78,8 @@ impl State {
 
     /// Takes in an event that applies to those before it. At `NotApplicable`, exactly where it doesn't,
     /// nothing has changed; after `Memory` the state is only dropped. A message costs its copy; one that
-    /// expires costs the logarithm of how many are buffered, on average. An event of the game costs a walk over
-    /// the cells, the tokens and one model; a model costs its check and its copies.
+    /// expires costs the logarithm of how many are buffered, on average. An event of the game costs what
+    /// `Game::make` does; a model costs its check and its copies.
     pub fn apply(&mut self, alloc: Global, event: &Event) -> Result<(), TableFault>
         ensures place { partition_of self.new ≡ partition_of self.old }
         ensures applied { (es : List Event) → IsStateOf es self.old → OnOk result (IsTrue (applies (partition_of self.old) es event.now)) }
@@ -181,8 +181,8 @@ impl State {
         self.game.copy(alloc)
     }
 
-    /// Who moves next; `None` where the game is quiet. It goes through the cells and then the tokens, and looks at
-    /// none of them where nobody was forced when it was last asked and no move was made since.
+    /// Who moves next; `None` where the game is quiet. It costs what `Game::next_mover` does, and nothing where nobody
+    /// was forced when it was last asked and no move was made since.
     pub fn next_mover(&mut self) -> Option<Mover>
         ensures mover { (es : List Event) (b : Board) → IsStateOf es self.new → board_of es ≡ Some b → result ≡ next_mover b }
         ensures state { (es : List Event) → IsStateOf es self.old → IsStateOf es self.new }
@@ -196,14 +196,14 @@ impl State {
         mover
     }
 
-    /// Whether nobody is forced to move. It goes through the cells and then the tokens, where that isn't known.
+    /// Whether nobody is forced to move. It costs what `Game::next_mover` does, where that isn't known.
     pub fn quiet(&self) -> bool
         ensures { (es : List Event) → IsStateOf es self.now → IsTrue result ↔ HasQuietGame es }
     {
         self.rests || self.game.next_mover().is_none()
     }
 
-    /// The event of the move of a mover, if it has one. It goes through the cells.
+    /// The event of the move of a mover, if it has one. It costs what `Game::move_of` does.
     pub fn event_of(&self, alloc: Global, mover: Mover) -> Result<Option<Event>, AllocError>
         ensures { (n moment : ℕ) (es : List Event) (b : Board) → IsStateOf es self.now → board_of es ≡ Some b
             → IfOk result (λ event. turn_of (partition_of self.now) n moment es b mover ≡ option_map (λ e. e ∷ []) event) }

@@ -17,8 +17,8 @@ use zb_tokens::Mover;
 const FULL: usize = 1024;
 
 /// Makes the forced moves behind the events that a command has made so far, one after the other, until the
-/// game is quiet or the batch is full. Tells whether the game is quiet. Each move costs a walk over the cells
-/// and the tokens. Where no key is left it is answered as want of memory. After a refusal the state and the
+/// game is quiet or the batch is full. Tells whether the game is quiet. Each move costs what
+/// `State::next_mover` and `State::take_in` do. Where no key is left it is answered as want of memory. After a refusal the state and the
 /// events are only dropped.
 pub fn settle(alloc: Global, state: &mut State, out: &mut Out) -> Result<bool, AllocError>
     requires { IsReached state.old }

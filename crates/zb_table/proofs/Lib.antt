@@ -2,3 +2,5 @@ pub mod Finding
 pub mod Changing
 pub mod Scanning
 pub mod Growing
+pub mod Backwards
+pub mod InOrder

@@ -1,10 +1,16 @@
 -- Rows in the order of their keys.
 use Rattle.std.specs.Prelude.{ℕ, ◌+◌, ◌≤◌, ◌==◌, nat_lt, List, [], ◌∷◌, filter, Bool, true, ◌&&◌, not, if◌then◌else◌, Option, Some, None}
+use Rattle.std.specs.Option.{option_or}
 
 -- the first member that passes
 abbrev pub first_passing : {A : Type 0} → (A → Bool) → List A → Option A
 first_passing passes [] = None
 first_passing passes (x ∷ xs) = if passes x then Some x else first_passing passes xs
+
+-- the last member that passes (own)
+abbrev pub last_passing : {A : Type 0} → (A → Bool) → List A → Option A
+last_passing passes [] = None
+last_passing passes (x ∷ xs) = option_or (last_passing passes xs) (if passes x then Some x else None)
 
 module _ {A : Type 0} (key : A → ℕ) where
   -- the keys ascend, from `low` on

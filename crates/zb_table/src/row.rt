@@ -1,6 +1,7 @@
-ghost use Rattle.std.specs.Prelude.{◌≡◌, ℕ, Bool, Option};
+ghost use Rattle.std.specs.Prelude.{◌≡◌, ℕ, Bool, Option, IfOk};
 
-use zb_base::{Key, Moment};
+use std::alloc::{AllocError, Global};
+use zb_base::{Key, Moment, TryCopy};
 
 /// What stands in a table, under its key.
 pub trait Row: Drop {
@@ -8,6 +9,15 @@ pub trait Row: Drop {
 
     fn key(&self) -> Key
         ensures { result ≡ key_in self.now };
+}
+
+/// A key alone is a row too.
+impl Row for Key {
+    ghost key_in = { λ k. k };
+
+    fn key(&self) -> Key {
+        *self
+    }
 }
 
 /// A row that may wait for a moment.
@@ -31,4 +41,20 @@ pub trait Query<R> {
 pub struct Place<R: Drop> {
     pub key: Key,
     pub row: Option<R>,
+}
+
+/// A copy of these places. It takes a step for each part of them.
+pub fn copies_of<R: Row + TryCopy>(
+    alloc: Global,
+    places: &[Place<R>],
+) -> Result<Vec<Place<R>>, AllocError>
+    ensures { IfOk result (λ copies. copies.items ≡ places.now) }
+{
+    let mut copies = Vec::new(alloc);
+    for place in places {
+        let key = place.key;
+        let row = place.row.copy(alloc)?;
+        copies.push(Place { key, row })?;
+    }
+    Ok(copies)
 }

@@ -1,8 +1,9 @@
 // Finding a place by its key.
-ghost use Rattle.std.specs.Prelude.{◌≡◌, IfOk, IfErr, false};
+ghost use Rattle.std.specs.Prelude.{◌≡◌, IfOk, IfErr, false, [], option_map};
 ghost use Rattle.std.specs.List.{list_any};
 ghost use Rattle.std.specs.Option.{option_map_or};
-ghost use Rattle.zb_table.specs.Places.{rows_in, AreOrdered, count_below, HasKey, IsFree};
+ghost use Rattle.zb_table.specs.Rows.{last_passing};
+ghost use Rattle.zb_table.specs.Places.{held, rows_in, AreOrdered, count_below, HasKey, IsFree};
 
 use crate::row::Place;
 use crate::{Query, Row};
@@ -62,6 +63,28 @@ pub fn any<R: Row, Q: Query<R>>(query: &Q, places: &[Place<R>]) -> bool
         }
     }
     false
+}
+
+/// The key of the last row that passes. It goes from the last place back to it.
+pub fn last_key<R: Row, Q: Query<R>>(query: &Q, places: &[Place<R>]) -> Option<Key>
+    ensures { result ≡ option_map R.key_in (last_passing (Q.passes query.now) (rows_in places.now)) }
+{
+    for i in (0..places.len()).rev() {
+        if let Some(key) = passing_key(query, &places[i]) {
+            return Some(key);
+        }
+    }
+    None
+}
+
+// The key of the row that is there, if it passes.
+fn passing_key<R: Row, Q: Query<R>>(query: &Q, place: &Place<R>) -> Option<Key>
+    ensures { result ≡ option_map R.key_in (last_passing (Q.passes query.now) (held place.now.row [])) }
+{
+    match &place.row {
+        Some(row) if query.passes(row) => Some(row.key()),
+        _ => None,
+    }
 }
 
 // Whether there is a row that passes.

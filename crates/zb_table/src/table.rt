@@ -2,15 +2,15 @@ ghost use Rattle.std.specs.Prelude.{◌≡◌, [], None, OnOk, OnErr, is_some, o
 ghost use Rattle.std.specs.List.{list_any};
 ghost use Rattle.std.specs.Option.{option_copied};
 ghost use Rattle.zb_table.specs.Earliest.{first_due};
-ghost use Rattle.zb_table.specs.Rows.{Ascend, row_at, with_row, without};
+ghost use Rattle.zb_table.specs.Rows.{Ascend, last_passing, row_at, with_row, without};
 ghost use Rattle.zb_table.specs.Places.{rows_in, AreOrdered};
 
 use crate::row::Place;
 use crate::search::find;
-use crate::{Query, Row, Timed, due, search};
+use crate::{Query, Row, Timed, due, row, search};
 use std::alloc::{AllocError, Global};
 use std::marker::Model;
-use zb_base::{Key, Moment};
+use zb_base::{Key, Moment, TryCopy};
 
 /// Rows in the order of their keys. Contracts see the list of them.
 #[derive(Drop)]
@@ -68,6 +68,14 @@ impl<R: Row> Table<R> {
         search::any(query, &self.places)
     }
 
+    /// The key of the last row that passes. It goes from the last one back to it.
+    pub fn last_key<Q: Query<R>>(&self, query: &Q) -> Option<Key>
+        ensures key { result ≡ option_map R.key_in (last_passing (Q.passes query.now) self.now) }
+        ensures order { Ascend R.key_in 0 self.now }
+    {
+        search::last_key(query, &self.places)
+    }
+
     /// Adds a row, in the place of one with its key if there is one. After a refusal nothing has changed. It
     /// takes constant time where its key is greater than all; else a step for each row behind it.
     pub fn add(&mut self, row: R) -> Result<(), AllocError>
@@ -108,6 +116,15 @@ impl<R: Row> Table<R> {
             self.places.retain(|place| place.row.is_some());
             self.empty = 0;
         }
+    }
+}
+
+impl<R: Row + TryCopy> TryCopy for Table<R> {
+    fn copy(&self, alloc: Global) -> Result<Table<R>, AllocError> {
+        Ok(Table {
+            places: row::copies_of(alloc, &self.places)?,
+            empty: self.empty,
+        })
     }
 }
 

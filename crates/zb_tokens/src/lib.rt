@@ -4,6 +4,7 @@
 
 mod board;
 mod copies;
+mod keys;
 mod laws;
 
 pub use board::{

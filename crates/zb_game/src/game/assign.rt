@@ -1,7 +1,6 @@
 ghost use Rattle.std.specs.Prelude.{◌≡◌, Some, None, OnOk, IsErrOf};
 ghost use Rattle.zb_tokens.specs.MoveAssign.{fits_assign, play_assign};
 
-use crate::edits::put_variable;
 use crate::{Game, GameFault};
 use std::alloc::Global;
 use zb_base::TryCopy;
@@ -26,6 +25,6 @@ impl Game {
     {
         let name = a.name.copy(alloc)?;
         let value = a.value.copy(alloc)?;
-        put_variable(&mut self.cells, a.scope, name, value)
+        self.put_variable(a.scope, name, value)
     }
 }

@@ -3,9 +3,10 @@ ghost use Rattle.zb_tokens.specs.Edits.{is_none_of};
 ghost use Rattle.zb_tokens.specs.MoveEnter.{arrives, fits_enter, has_way, may_enter, play_enter};
 ghost use Rattle.zb_game.specs.Searches.{lets_in};
 
-use crate::edits::{new_cell, take_token};
+use crate::edits::new_cell;
 use crate::flows::leads_to;
 use crate::lookups::{has_coming, node_in};
+use crate::places::place_of_token;
 use crate::{Game, GameFault};
 use std::alloc::Global;
 use zb_base::{Key, TryCopy};
@@ -56,10 +57,13 @@ impl Game {
         let Some(definition) = self.definition_of(e.scope) else {
             return Err(GameFault::Illegal);
         };
-        take_token(&mut self.tokens, e)?;
+        let Some(place) = place_of_token(e, &self.tokens) else {
+            return Err(GameFault::Illegal);
+        };
         let node = e.node.copy(alloc)?;
         let cell = new_cell(alloc, e.key, e.scope, definition, node, comes_by_none(e));
-        self.cells.push(cell)?;
+        self.add_cell(cell)?;
+        self.take_token(place)?;
         Ok(())
     }
 }

@@ -1,9 +1,9 @@
-ghost use Rattle.std.specs.Prelude.{◌≡◌, Some, None, false, OnOk, IsErrOf};
-ghost use Rattle.std.specs.Option.{option_map_or};
-ghost use Rattle.zb_tokens.specs.Board.{is_empty, node_with};
+ghost use Rattle.std.specs.Prelude.{◌≡◌, Some, None, OnOk, IsErrOf};
+ghost use Rattle.zb_tokens.specs.Board.{is_empty};
 ghost use Rattle.zb_tokens.specs.MoveFinish.{fits_finish, node_goes_on, is_done, play_finish, waits_for_nothing};
+ghost use Rattle.zb_game.specs.Indexed.{goes_on_at};
 
-use crate::edits::put_in_phase;
+use crate::inside::counted_in;
 use crate::lookups::{has_cell_in, has_token_in, node_in};
 use crate::{Game, GameFault};
 use std::alloc::Global;
@@ -43,11 +43,15 @@ impl Game {
         }
     }
 
-    // Whether nothing runs in a cell, and no token is in it.
-    fn is_empty(&self, key: Key) -> bool
+    // Whether nothing runs in a cell, and no token is in it. Where the keys ascend, the number of what is in it is kept.
+    pub(super) fn is_empty(&self, key: Key) -> bool
         ensures { result ≡ is_empty self.now key }
     {
-        !has_cell_in(key, &self.cells) && !has_token_in(key, &self.tokens)
+        if self.ascends {
+            counted_in(&self.inside, key) == 0
+        } else {
+            !has_cell_in(key, &self.cells) && !has_token_in(key, &self.tokens)
+        }
     }
 
     // Plays that a cell begins to complete.
@@ -56,13 +60,13 @@ impl Game {
         ensures illegal { IsErrOf result GameFault.Illegal → play_finish self.old key ≡ None }
         ensures kept { IsErrOf result GameFault.Illegal → self.new ≡ self.old }
     {
-        put_in_phase(&mut self.cells, key, Phase::Completing, List::empty(alloc))
+        self.put_in_phase(key, Phase::Completing, List::empty(alloc))
     }
 }
 
 // Whether the node with an id is there, and waits for nothing.
-fn goes_on_at(model: &Model, id: &str) -> bool
-    ensures { result ≡ option_map_or (λ n. waits_for_nothing n.kind) (node_with model.now id.now) false }
+pub(super) fn goes_on_at(model: &Model, id: &str) -> bool
+    ensures { result ≡ goes_on_at model.now id.now }
 {
     match node_in(model, id) {
         Some(node) => waits_for_nothing(node.kind),

@@ -1,22 +1,25 @@
 ghost use Rattle.std.specs.Prelude.{◌≡◌, position};
 ghost use Rattle.std.specs.Option.{option_copied};
 ghost use Rattle.zb_tokens.specs.Forced.{can_enter, entry_at, goes_on_in, is_forced, next_mover};
-ghost use Rattle.zb_game.specs.Searches.{enters_by, is_newer, key_in, newest_key};
+ghost use Rattle.zb_game.specs.Searches.{enters_by, is_forced_at, is_newer, key_in, newest_key};
 
 use crate::Game;
 use crate::lookups::flow_in;
+use zb_base::Key;
 use zb_process::Model;
+use zb_table::Query;
 use zb_tokens::{Cell, Mover, Phase, Spot, Token};
 
 impl Game {
-    /// Who is forced to move next; `None` where the game is quiet. It goes through the cells from the last one on,
-    /// and then through the tokens. To see whether one of them moves it goes through the lists that the move looks
-    /// at, and through the cells once for each one above it. Nothing is copied.
+    /// Who is forced to move next; `None` where the game is quiet. Where the keys ascend, it goes through the cells
+    /// that may go on by themselves, from the greatest key down to the first that is forced, and through no others;
+    /// where they don't, through all. Where no cell is forced it goes through the tokens up to the first that can
+    /// enter. To see whether a cell or a token moves costs what `fits` does. Nothing is copied.
     pub fn next_mover(&self) -> Option<Mover>
         ensures { result ≡ next_mover self.now }
     {
-        match self.newest_forced() {
-            Some(cell) => Some(Mover::Cell(cell.key)),
+        match self.newest_key() {
+            Some(key) => Some(Mover::Cell(key)),
             None => match self.first_entering() {
                 Some(place) => Some(Mover::Token(place)),
                 None => None,
@@ -24,7 +27,30 @@ impl Game {
         }
     }
 
-    // The cell with the greatest key of those that are forced.
+    // The greatest key of the cells that are forced. Where the keys ascend, it is among the ready ones.
+    fn newest_key(&self) -> Option<Key>
+        ensures { result ≡ newest_key self.now }
+    {
+        if self.ascends {
+            return self.ready.last_key(&Forced { game: self });
+        }
+        match self.newest_forced() {
+            Some(cell) => Some(cell.key),
+            None => None,
+        }
+    }
+
+    // Whether the cell with a key is there, and is forced.
+    fn is_forced_at(&self, key: Key) -> bool
+        ensures { result ≡ is_forced_at self.now key }
+    {
+        match self.cell(key) {
+            Some(cell) => self.is_forced(cell),
+            None => false,
+        }
+    }
+
+    // The cell with the greatest key of those that are forced, among all.
     fn newest_forced(&self) -> Option<&Cell>
         ensures { key_in (option_copied result) ≡ newest_key self.now }
     {
@@ -90,6 +116,21 @@ impl Game {
                 None => false,
             },
         }
+    }
+}
+
+// Whether the cell with a key is forced in a game.
+#[derive(Drop)]
+struct Forced<'a> {
+    game: &'a Game,
+}
+
+impl<'a> Query<Key> for Forced<'a> {
+    ghost passes = { λ forced key. is_forced_at forced.game.now key };
+
+    fn passes(&self, key: &Key) -> bool {
+        let game = self.game;
+        game.is_forced_at(*key)
     }
 }
 

@@ -1,7 +1,7 @@
 ghost use Rattle.std.specs.Prelude.{◌≡◌, Some, None, IfOk, OnOk, IsErrOf};
 ghost use Rattle.zb_tokens.specs.MoveLeave.{are_among, fits_leave, flows_of, leaving, owed_by, play_leave};
 
-use crate::edits::{copy_of, put_in_phase, take_away};
+use crate::edits::copy_of;
 use crate::flows::{are_among_flows, flows_out};
 use crate::{Game, GameFault};
 use std::alloc::{AllocError, Global};
@@ -63,9 +63,9 @@ impl Game {
         ensures kept { IsErrOf result GameFault.Illegal → self.new ≡ self.old }
     {
         if owed.as_slice().is_empty() {
-            take_away(&mut self.cells, key)
+            self.take_away(key)
         } else {
-            put_in_phase(&mut self.cells, key, Phase::Leaving, owed)
+            self.put_in_phase(key, Phase::Leaving, owed)
         }
     }
 }

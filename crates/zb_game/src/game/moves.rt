@@ -11,7 +11,7 @@ use zb_tokens::{Cell, Enter, Leave, Move, Mover, Phase, Spot, Take, Token};
 
 impl Game {
     /// The move of a mover, where a cell that begins gets this key; `None` where the mover isn't there or does
-    /// nothing. It goes through the cells or the tokens once, and through the flows of a model; the texts of the
+    /// nothing. A cell or a model is found as in `fits`; it goes through the flows of a model, and the texts of the
     /// move are copied.
     pub fn move_of(&self, alloc: Global, key: Key, mover: Mover) -> Result<Option<Move>, AllocError>
         ensures { (moment : ℕ) → IfOk result (λ move. move ≡ move_of self.now moment key mover) }

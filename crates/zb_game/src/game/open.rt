@@ -2,7 +2,6 @@ ghost use Rattle.std.specs.Prelude.{◌≡◌, ◌∷◌, [], Some, None, IfOk, 
 ghost use Rattle.std.specs.Option.{option_map_or};
 ghost use Rattle.zb_tokens.specs.MoveOpen.{fits_open, first_tokens, opens, play_open};
 
-use crate::edits::{add_token, put_in_phase};
 use crate::lookups::start_in;
 use crate::{Game, GameFault};
 use std::alloc::Global;
@@ -41,9 +40,14 @@ impl Game {
             return Err(GameFault::Illegal);
         };
         let token = self.first_token(alloc, cell)?;
-        put_in_phase(&mut self.cells, key, Phase::Active, List::empty(alloc))?;
-        add_token(&mut self.tokens, token)?;
-        Ok(())
+        self.put_in_phase(key, Phase::Active, List::empty(alloc))?;
+        match token {
+            Some(token) => {
+                self.add_token(token)?;
+                Ok(())
+            }
+            None => Ok(()),
+        }
     }
 
     // The token that this cell gets as it opens, if it gets one.

@@ -20,7 +20,7 @@ impl Game {
         ensures illegal { IsErrOf result GameFault.Illegal → play_stand self.old d.now ≡ None }
         ensures kept { IsErrOf result GameFault.Illegal → self.new ≡ self.old }
     {
-        self.models.push(d.copy(alloc)?)?;
+        self.add_model(d.copy(alloc)?)?;
         Ok(())
     }
 }

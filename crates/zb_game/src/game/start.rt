@@ -26,7 +26,7 @@ impl Game {
         };
         let node = model.process.copy(alloc)?;
         let cell = new_cell(alloc, s.key, Key::new(0), s.definition, node, false);
-        self.cells.push(cell)?;
+        self.add_cell(cell)?;
         Ok(())
     }
 }

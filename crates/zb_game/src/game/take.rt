@@ -32,7 +32,7 @@ impl Game {
         let owed = rest_of(alloc, cell.owed.as_slice())?;
         let flow = t.flow.copy(alloc)?;
         self.leaving(t.key, owed)?;
-        self.tokens.push(Token {
+        self.add_token(Token {
             scope,
             spot: Spot::OnFlow(flow),
         })?;

@@ -1,7 +1,14 @@
-use Rattle.std.proofs.Common.{sym}
-use Rattle.zb_game.proofs.BoardLemmas.{opened}
+use Rattle.std.proofs.Common.{◌≡◌, ◌∷◌, [], Some, ap, sym, ◌∙◌}
+use Rattle.zb_tokens.specs.MoveOpen.{first_tokens}
+use Rattle.zb_game.proofs.BoardLemmas.{opened, opened_alone}
 use Rattle.zb_game.proofs.game.Game.open.Goals as goal
 
-pub returns-clause-played : goal.returns-clause-played
-returns-clause-played c = opened c.args.self.now _ _ _ c.self.view_is c.args.key _ _ _ _ _
-    (sym c.in-Some.ensures) c.in_ok-token.ensures.known c.in_ok-add_token.ensures c.empty.ensures c.in_ok-put_in_phase.ensures.put
+pub returns-in_ok-add_token-in-Some-token-clause-played : goal.returns-in_ok-add_token-in-Some-token-clause-played
+returns-in_ok-add_token-in-Some-token-clause-played c =
+    let gets : first_tokens c.args.self.now c.in-Some.cell.now ≡ Some (c.in-Some-token.token ∷ []) = rw c.in-Some-token.is at c.in_ok-token.ensures.known in
+    opened c.args.self.now c.args.key _ _ _ _ (sym c.in-Some.ensures) gets c.empty.ensures c.in_ok-put_in_phase.ensures.put ∙ ap Some (sym c.in_ok-add_token-in-Some-token.ensures)
+
+pub returns-in-None-clause-played : goal.returns-in-None-clause-played
+returns-in-None-clause-played c =
+    let gets : first_tokens c.args.self.now c.in-Some.cell.now ≡ Some [] = rw c.in-None.is at c.in_ok-token.ensures.known in
+    opened_alone c.args.self.now c.args.key _ _ _ (sym c.in-Some.ensures) gets c.empty.ensures c.in_ok-put_in_phase.ensures.put
