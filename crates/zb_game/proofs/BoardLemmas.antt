@@ -1,5 +1,5 @@
 -- What moves make of a board, from what was changed on it.
-use Rattle.std.proofs.Common.{◌≡◌, ℕ, ◌==◌, List, [], ◌∷◌, ◌++◌, length, true, false, position, remove, Option, Some, None, option_map, option_and_then, is_some, IsTrue, Result, Ok, Err, OnOk, refl, ap, sym, ◌∙◌, subst}
+use Rattle.std.proofs.Common.{◌≡◌, ℕ, ◌==◌, List, [], ◌∷◌, ◌++◌, position, remove, Option, Some, None, option_map, option_and_then, is_some, IsTrue, Result, Ok, Err, OnOk, refl, ap, sym, ◌∙◌, subst}
 use Rattle.zb_tokens.specs.Edits.{edited, removed, is_none_of}
 use Rattle.zb_tokens.specs.declared.board.Cell.{Cell}
 use Rattle.zb_tokens.specs.declared.board.Token.{Token}
@@ -10,10 +10,8 @@ use Rattle.zb_tokens.specs.Board.{Board, cell_at, in_phase, new_cell}
 use Rattle.zb_tokens.specs.MoveEnter.{comes_to, play_enter}
 use Rattle.zb_tokens.specs.EffectLaws.{mapped_from}
 use Rattle.zb_tokens.specs.MoveOpen.{first_tokens, play_open}
-use Rattle.zb_tokens.specs.MoveLeave.{leaving}
 use Rattle.zb_tokens.specs.Game.{fits, played}
 use Rattle.zb_tokens.specs.GameLaws.{fitting_is_played}
-use Rattle.zb_game.proofs.FlowLemmas.{suc_not}
 use Rattle.zb_game.proofs.EditLemmas.{removed_at, removed_none}
 use Rattle.std.proofs.lemmas.List.{append-nil}
 
@@ -34,16 +32,6 @@ module _ (b : Board) (key : ℕ) where
   -- the board with other cells
   abbrev pub with_cells : List Cell → Board
   with_cells cells = record b { cells = cells }
-
-  -- a cell that owes nothing is gone
-  pub left_gone : (owed : List (List ℕ)) (after : Option Board) → (length owed == 0) ≡ true → option_map with_cells (removed (λ c. c.key == key) b.cells) ≡ after → leaving owed key b ≡ after
-  left_gone [] after none gone = gone
-  left_gone (flow ∷ owed) after none gone = let some = suc_not (length owed) in absurd (cc)
-
-  -- and else it leaves
-  pub left_owing : (owed : List (List ℕ)) (after : Option Board) → (length owed == 0) ≡ false → option_map with_cells (edited (λ c. c.key == key) (in_phase phases.Leaving owed) b.cells) ≡ after → leaving owed key b ≡ after
-  left_owing [] after some put = absurd (cc)
-  left_owing (flow ∷ owed) after some put = put
 
   -- a cell is active, and its tokens are there
   pub opened : (mid : Board) (c : Cell) (more : List Token) (owed : List (List ℕ)) → cell_at b key ≡ Some c → first_tokens b c ≡ Some more → owed ≡ []

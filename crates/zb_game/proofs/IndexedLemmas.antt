@@ -208,30 +208,40 @@ module _ (b : Board) (inside : List Inside) (ready : List ℕ) (kept : IsIndexed
       }
 
   -- a cell that was seen is seen where its scope alone has one less in it, and is put among the ready ones
-  seen_of : (after : Board) (scope : ℕ) (ready' : List ℕ) → ((k : ℕ) → number_in b k ≡ number_in after k + (if scope == k then 1 else 0)) → ready' ≡ with_row own scope ready
+  seen_of : (after : Board) (scope : ℕ) (ready' : List ℕ) → ((k : ℕ) → number_in b k ≡ number_in after k + (if scope == k then 1 else 0)) → ((k : ℕ) → is_ready ready k ≡ true → is_ready ready' k ≡ true)
+      → (number_in after scope ≡ 0 → is_ready ready' scope ≡ true)
       → ((m : Model) (key : ℕ) → model_under b key ≡ Some m → model_under after key ≡ Some m) → (x : Cell) → IsSeen b ready x → IsSeen after ready' x
-  seen_of after scope ready' numbers put models x seen moves = by_scope (scope == x.key) refl (numbers x.key)
+  seen_of after scope ready' numbers still woken models x seen moves = by_scope (scope == x.key) refl (numbers x.key)
     where
+      by_left : (t : Bool) → (number_in after x.key == 0) ≡ t → scope ≡ x.key → is_ready ready' x.key ≡ true
+      by_left true none is =
+          let nothing : number_in after x.key ≡ 0 = grind (arith, nat_tests) in
+          subst (λ (k : ℕ). is_ready ready' k ≡ true) is (woken (subst (λ (k : ℕ). number_in after k ≡ 0) (sym is) nothing))
+      by_left false some is =
+          let full : is_empty after x.key ≡ false = empty_counted after x.key ∙ some in
+          still x.key (seen (back _ _ (rests_on b after x x.phase (λ m is. models m x.definition is) (λ _. full)) moves))
+
       by_scope : (t : Bool) → (scope == x.key) ≡ t → number_in b x.key ≡ number_in after x.key + (if t then 1 else 0) → is_ready ready' x.key ≡ true
       by_scope true same number =
           let is : scope ≡ x.key = grind (arith, nat_tests) in
-          rw put (subst (λ (k : ℕ). is_ready (with_row own scope ready) k ≡ true) is (put_ready scope ready))
+          by_left (number_in after x.key == 0) refl is
       by_scope false other number =
           let was : is_ready ready x.key ≡ true = seen (back _ _ (rests_on b after x x.phase (λ m is. models m x.definition is) (full_on b after x.key (omega (arith, number)))) moves) in
-          rw put (still_ready scope ready x.key was)
+          still x.key was
 
   -- a cell fewer, and its scope seen
   pub kept_away : (i : ℕ) (c : Cell) (inside' : List Inside) (ready' : List ℕ) → i < length b.cells → c ≡ get_or b.cells i c
-      → ((k : ℕ) → counted_in inside k ≡ counted_in inside' k + (if c.scope == k then 1 else 0)) → ready' ≡ with_row own c.scope ready
+      → ((k : ℕ) → counted_in inside k ≡ counted_in inside' k + (if c.scope == k then 1 else 0)) → ((k : ℕ) → is_ready ready k ≡ true → is_ready ready' k ≡ true) → (counted_in inside' c.scope ≡ 0 → is_ready ready' c.scope ≡ true)
       → IsIndexed (record b { cells = remove b.cells i }) inside' ready'
-  kept_away i c inside' ready' within at fewer put =
+  kept_away i c inside' ready' within at fewer still woken =
       let after : Board = record b { cells = remove b.cells i } in
       let numbers : (k : ℕ) → number_in b k ≡ number_in after k + (if c.scope == k then 1 else 0) = λ k. omega (arith, passing_fewer (λ (x : Cell). x.scope == k) b.cells i c within at) in
-      let seen_after = All-weaker (IsSeen b ready) (IsSeen after ready') (seen_of after c.scope ready' numbers put (λ m key is. is)) b.cells kept.awake in
+      let counts : (k : ℕ) → counted_in inside' k ≡ number_in after k = λ k. omega (arith, fewer k, kept.counted k, numbers k) in
+      let seen_after = All-weaker (IsSeen b ready) (IsSeen after ready') (seen_of after c.scope ready' numbers still (λ none. woken (counts c.scope ∙ none)) (λ m key is. is)) b.cells kept.awake in
       record {
         models_ascend = kept.models_ascend;
         cells_ascend = ascend_remove (λ (x : Cell). x.key) 0 b.cells i kept.cells_ascend;
-        counted = λ k. omega (arith, fewer k, kept.counted k, numbers k);
+        counted = counts;
         awake = All-append (IsSeen after ready') (take i b.cells) (drop (suc i) b.cells) (All-take (IsSeen after ready') i b.cells seen_after) (All-drop (IsSeen after ready') (suc i) b.cells seen_after);
       }
 
@@ -251,16 +261,17 @@ module _ (b : Board) (inside : List Inside) (ready : List ℕ) (kept : IsIndexed
 
   -- a token fewer, and its scope seen
   pub kept_taken : (i : ℕ) (t : Token) (inside' : List Inside) (ready' : List ℕ) → i < length b.tokens → t ≡ get_or b.tokens i t
-      → ((k : ℕ) → counted_in inside k ≡ counted_in inside' k + (if t.scope == k then 1 else 0)) → ready' ≡ with_row own t.scope ready
+      → ((k : ℕ) → counted_in inside k ≡ counted_in inside' k + (if t.scope == k then 1 else 0)) → ((k : ℕ) → is_ready ready k ≡ true → is_ready ready' k ≡ true) → (counted_in inside' t.scope ≡ 0 → is_ready ready' t.scope ≡ true)
       → IsIndexed (record b { tokens = remove b.tokens i }) inside' ready'
-  kept_taken i t inside' ready' within at fewer put =
+  kept_taken i t inside' ready' within at fewer still woken =
       let after : Board = record b { tokens = remove b.tokens i } in
       let numbers : (k : ℕ) → number_in b k ≡ number_in after k + (if t.scope == k then 1 else 0) = λ k. omega (arith, passing_fewer (λ (x : Token). x.scope == k) b.tokens i t within at) in
+      let counts : (k : ℕ) → counted_in inside' k ≡ number_in after k = λ k. omega (arith, fewer k, kept.counted k, numbers k) in
       record {
         models_ascend = kept.models_ascend;
         cells_ascend = kept.cells_ascend;
-        counted = λ k. omega (arith, fewer k, kept.counted k, numbers k);
-        awake = All-weaker (IsSeen b ready) (IsSeen after ready') (seen_of after t.scope ready' numbers put (λ m key is. is)) b.cells kept.awake;
+        counted = counts;
+        awake = All-weaker (IsSeen b ready) (IsSeen after ready') (seen_of after t.scope ready' numbers still (λ none. woken (counts t.scope ∙ none)) (λ m key is. is)) b.cells kept.awake;
       }
 
   -- a cell that was looked at, and rests or isn't there

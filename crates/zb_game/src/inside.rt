@@ -1,5 +1,5 @@
 // How many cells and tokens are in each scope.
-ghost use Rattle.std.specs.Prelude.{◌≡◌, ℕ, ◌+◌, ◌==◌, OnOk, if◌then◌else◌};
+ghost use Rattle.std.specs.Prelude.{◌≡◌, ℕ, ◌+◌, ◌==◌, IfOk, OnOk, if◌then◌else◌};
 ghost use Rattle.zb_game.specs.Inside.{counted_in};
 
 use std::alloc::{AllocError, Global};
@@ -50,17 +50,21 @@ pub fn one_more(inside: &mut Table<Inside>, scope: Key) -> Result<(), AllocError
     }
 }
 
-/// Counts one less in a scope. It costs what `Table::add` and `Table::remove` do.
-pub fn one_less(inside: &mut Table<Inside>, scope: Key) -> Result<(), AllocError>
-    ensures { OnOk result ((key : ℕ) → counted_in inside.old key ≡ counted_in inside.new key + (if scope == key then 1 else 0)) }
+/// Counts one less in a scope, and gives how many are left. It costs what `Table::add` and `Table::remove` do.
+pub fn one_less(inside: &mut Table<Inside>, scope: Key) -> Result<usize, AllocError>
+    ensures left { IfOk result (λ left. counted_in inside.new scope ≡ left) }
+    ensures numbers { OnOk result ((key : ℕ) → counted_in inside.old key ≡ counted_in inside.new key + (if scope == key then 1 else 0)) }
 {
     match counted_in(inside, scope).checked_sub(1) {
-        Some(number) => put(inside, scope, number),
+        Some(left) => {
+            put(inside, scope, left)?;
+            Ok(left)
+        }
         None => Err(AllocError),
     }
 }
 
-// Keeps this number for a scope; nothing is kept where it is 0.
+// Keeps this number for a scope. Nothing is kept where it is 0.
 fn put(inside: &mut Table<Inside>, scope: Key, number: usize) -> Result<(), AllocError>
     ensures { OnOk result ((key : ℕ) → counted_in inside.new key ≡ (if scope == key then number else counted_in inside.old key)) }
 {

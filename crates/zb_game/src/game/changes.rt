@@ -1,16 +1,17 @@
 // What changes on the board, and with it what is kept beside the board. Where memory runs out halfway, what is kept
 // counts no more.
-ghost use Rattle.std.specs.Prelude.{◌≡◌, ◌==◌, ◌<◌, ◌++◌, ◌∷◌, [], Some, None, OnOk, IsErrOf, length, option_map};
+ghost use Rattle.std.specs.Prelude.{◌≡◌, ℕ, true, ◌==◌, ◌<◌, ◌++◌, ◌∷◌, [], Some, None, OnOk, IsErrOf, length, option_map};
 ghost use Rattle.std.specs.List.{remove};
 ghost use Rattle.zb_tokens.specs.Board.{in_phase};
 ghost use Rattle.zb_tokens.specs.Edits.{edited, removed};
 ghost use Rattle.zb_tokens.specs.MoveAssign.{with_variable};
+ghost use Rattle.zb_game.specs.Indexed.{is_ready};
 
 use crate::inside::{one_less, one_more};
 use crate::{Game, GameFault};
 use std::alloc::AllocError;
 use zb_base::{Key, List, Text, Value};
-use zb_table::{comes_last, place_among};
+use zb_table::{Table, comes_last, place_among};
 use zb_tokens::{Cell, Deployed, Phase, Token};
 
 impl Game {
@@ -40,7 +41,7 @@ impl Game {
         Ok(())
     }
 
-    // Puts a cell in another phase, owing these flows.
+    // Puts a cell in another phase, owing these flows. It may go on by itself.
     pub(super) fn put_in_phase(
         &mut self,
         key: Key,
@@ -58,7 +59,6 @@ impl Game {
         let cell = &mut self.cells[place];
         cell.phase = phase;
         cell.owed = owed;
-        self.look_at(key);
         Ok(())
     }
 
@@ -95,8 +95,8 @@ impl Game {
         let around = self.cells[place].scope;
         let ascends = self.ascends;
         self.ascends = false;
-        self.ready.add(around)?;
-        one_less(&mut self.inside, around)?;
+        let left = one_less(&mut self.inside, around)?;
+        wake(&mut self.ready, around, left)?;
         self.cells.remove(place);
         self.ascends = ascends;
         self.look_at(key);
@@ -126,11 +126,18 @@ impl Game {
         let scope = self.tokens[place].scope;
         let ascends = self.ascends;
         self.ascends = false;
-        self.ready.add(scope)?;
-        one_less(&mut self.inside, scope)?;
+        let left = one_less(&mut self.inside, scope)?;
+        wake(&mut self.ready, scope, left)?;
         self.tokens.remove(place);
         self.ascends = ascends;
-        self.look_at(scope);
         Ok(())
     }
+}
+
+// Puts a scope among the ready cells where nothing is left in it.
+fn wake(ready: &mut Table<Key>, scope: Key, left: usize) -> Result<(), AllocError>
+    ensures still { OnOk result ((key : ℕ) → is_ready ready.old key ≡ true → is_ready ready.new key ≡ true) }
+    ensures woken { OnOk result (left ≡ 0 → is_ready ready.new scope ≡ true) }
+{
+    if left == 0 { ready.add(scope) } else { Ok(()) }
 }

@@ -46,7 +46,10 @@ impl Game {
                 self.add_token(token)?;
                 Ok(())
             }
-            None => Ok(()),
+            None => {
+                self.look_at(key);
+                Ok(())
+            }
         }
     }
 

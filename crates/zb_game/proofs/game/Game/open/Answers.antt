@@ -11,4 +11,4 @@ returns-in_ok-add_token-in-Some-token-clause-played c =
 pub returns-in-None-clause-played : goal.returns-in-None-clause-played
 returns-in-None-clause-played c =
     let gets : first_tokens c.args.self.now c.in-Some.cell.now ≡ Some [] = rw c.in-None.is at c.in_ok-token.ensures.known in
-    opened_alone c.args.self.now c.args.key _ _ _ (sym c.in-Some.ensures) gets c.empty.ensures c.in_ok-put_in_phase.ensures.put
+    opened_alone c.args.self.now c.args.key _ _ _ (sym c.in-Some.ensures) gets c.empty.ensures c.in_ok-put_in_phase.ensures.put ∙ ap Some (sym c.look_at.ensures)

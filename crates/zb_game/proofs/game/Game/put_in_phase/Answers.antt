@@ -33,4 +33,4 @@ returns-clause-put c =
     let cells = c.self.inside.cells.items in
     let place : position (λ (x : Cell). x.key == c.args.key) cells ≡ Some c.in-Some.place = search rules in
     let put : edited (λ (x : Cell). x.key == c.args.key) (in_phase c.args.phase c.args.owed) cells ≡ Some (slice_set cells c.in-Some.place (in_phase c.args.phase c.args.owed cell)) = edited_at (λ (x : Cell). x.key == c.args.key) (in_phase c.args.phase c.args.owed) cells c.in-Some.place cell place c.index_mut-cell.ensures.value in
-    rw (c.look_at.ensures, ← c.self.view_is, put) refl
+    rw (← c.self.view_is, put) refl

@@ -1,6 +1,6 @@
-use Rattle.std.proofs.Common.{◌≡◌, ℕ, ◌+◌, ◌==◌, get_or, position, remove, Some, None, if◌then◌else◌, refl, rules}
+use Rattle.std.proofs.Common.{◌≡◌, ℕ, ◌+◌, ◌==◌, get_or, position, remove, Some, None, true, if◌then◌else◌, sym, ◌∙◌, refl, rules}
 use Rattle.std.proofs.lemmas.List.Quantifiers.{position-Some}
-use Rattle.zb_table.specs.Rows.{with_row}
+use Rattle.zb_game.specs.Indexed.{is_ready}
 use Rattle.zb_tokens.specs.declared.board.Cell.{Cell}
 use Rattle.zb_tokens.specs.Edits.{removed}
 use Rattle.zb_game.specs.Inside.{counted_in}
@@ -21,8 +21,9 @@ invariant_of-self-2 c = λ ascends.
     let found = position-Some (λ (x : Cell). x.key == c.args.key) cells c.in-Some.place cell place in
     let at : cell ≡ get_or cells c.in-Some.place cell = c.index.ensures in
     let fewer : (k : ℕ) → counted_in c.self.inside.inside k ≡ counted_in c.one_less.new.inside k + (if cell.scope == k then 1 else 0) = search rules in
-    let put : c.add.new.self ≡ with_row (λ (k : ℕ). k) cell.scope c.self.inside.ready = search rules in
-    rw c.remove.ensures.items (kept_away _ _ _ (c.self.invariant ascends) c.in-Some.place cell _ _ found.0 at fewer put)
+    let still : (k : ℕ) → is_ready c.self.inside.ready k ≡ true → is_ready c.wake.new.ready k ≡ true = c.in_ok-wake.ensures.still in
+    let woken : counted_in c.one_less.new.inside cell.scope ≡ 0 → is_ready c.wake.new.ready cell.scope ≡ true = λ none. c.in_ok-wake.ensures.woken (sym c.in_ok-left.ensures.left ∙ none) in
+    rw c.remove.ensures.items (kept_away _ _ _ (c.self.invariant ascends) c.in-Some.place cell _ _ found.0 at fewer still woken)
 
 pub returns-clause-gone : goal.returns-clause-gone
 returns-clause-gone c =
