@@ -41,6 +41,7 @@ impl Skip for Text {
 // Variables are made where there are any, for their names are judged.
 #[tactic(auto, unfolding(crate::specs::Layout::variables, crate::specs::Layout::variable, crate::specs::Layout::number, crate::specs::Reading::counted_at))]
 impl Skip for Vars {
+    #[inline]
     fn skip(alloc: Global, cursor: &mut Cursor<'_>) -> Result<(), ReadFault> {
         match <u32 as Format>::read(alloc, cursor)? {
             0 => Ok(()),

@@ -64,7 +64,8 @@ impl Format for Vars {
     }
 }
 
-/// Reads so many variables.
+/// Reads so many variables. It stands apart, so that a caller that finds none stays small.
+#[inline(never)]
 #[tactic(auto, unfolding(crate::specs::Layout::variable))]
 pub fn read_vars(alloc: Global, count: u32, cursor: &mut Cursor<'_>) -> Result<Vars, ReadFault>
     ensures { Reads (chosen_at (passed is_ascending) (many_at layouts.variable.reading count) cursor.old) result cursor.new }
