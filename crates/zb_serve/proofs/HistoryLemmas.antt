@@ -47,7 +47,7 @@ run_goes_on limit opened made places growth was came are base is has =
     let whole : base ≡ entries_of 1 opened = history_of_one base is ∙ ap (entries_of 1) part in
     let run : List Entry = entries_of 1 made in
     let next : EachOn (IsEntryOf 1) base run = subst (λ (b : List Entry). EachOn (IsEntryOf 1) b run) (sym whole)
-        (log_goes_on 1 1 opened made (omega arith, omega arith) are.steps (rest_on opened made places are.stamps are.stamped)) in
+    (log_goes_on 1 1 opened made (omega arith, omega arith) are.steps (rest_on opened made places are.stamps are.stamped)) in
     let long : length base ≡ length opened = ap length whole ∙ length-map opened (as_entry 1) in
     let at : places_of 1 (length base) run ≡ places = places_of_entries 1 (length base) made ∙ (ap (λ (n : ℕ). range_with_len n (length made)) long ∙ sym are.stamps) in
     let history : IsHistory 1 (base ++ run) = history_joined 1 base run is next in

@@ -132,11 +132,11 @@ pub history_of_one : (h : List Entry) → IsHistory 1 h → h ≡ entries_of 1 (
 history_of_one h is =
     each_on_all (IsEntryOf 1) [] (λ (h : List Entry). h ≡ entries_of 1 (part_of 1 h))
     (λ (front : List Entry) (e : Entry) before same entry.
-      let its : e.partition ≡ 1 = omega (arith, entry.partition.0, entry.partition.1) in
-      let part : part_of 1 (front ++ e ∷ []) ≡ part_of 1 front ++ e.batch ∷ [] = part_of_joined 1 front (e ∷ []) ∙ ap (λ (rest : List Batch). part_of 1 front ++ rest) (part_of_its 1 e [] its) in
-      let whole : e ≡ as_entry 1 e.batch = ap (λ (q : ℕ). as_entry q e.batch) its in
-      let split : entries_of 1 (part_of 1 front ++ e.batch ∷ []) ≡ entries_of 1 (part_of 1 front) ++ as_entry 1 e.batch ∷ [] = map-append (as_entry 1) (part_of 1 front) (e.batch ∷ []) in
-      let first : front ++ e ∷ [] ≡ entries_of 1 (part_of 1 front) ++ e ∷ [] = ap (λ (l : List Entry). l ++ e ∷ []) same in
-      let second : entries_of 1 (part_of 1 front) ++ e ∷ [] ≡ entries_of 1 (part_of 1 front) ++ as_entry 1 e.batch ∷ [] = ap (λ (x : Entry). entries_of 1 (part_of 1 front) ++ x ∷ []) whole in
-      first ∙ (second ∙ (sym split ∙ ap (entries_of 1) (sym part))))
+    let its : e.partition ≡ 1 = omega (arith, entry.partition.0, entry.partition.1) in
+    let part : part_of 1 (front ++ e ∷ []) ≡ part_of 1 front ++ e.batch ∷ [] = part_of_joined 1 front (e ∷ []) ∙ ap (λ (rest : List Batch). part_of 1 front ++ rest) (part_of_its 1 e [] its) in
+    let whole : e ≡ as_entry 1 e.batch = ap (λ (q : ℕ). as_entry q e.batch) its in
+    let split : entries_of 1 (part_of 1 front ++ e.batch ∷ []) ≡ entries_of 1 (part_of 1 front) ++ as_entry 1 e.batch ∷ [] = map-append (as_entry 1) (part_of 1 front) (e.batch ∷ []) in
+    let first : front ++ e ∷ [] ≡ entries_of 1 (part_of 1 front) ++ e ∷ [] = ap (λ (l : List Entry). l ++ e ∷ []) same in
+    let second : entries_of 1 (part_of 1 front) ++ e ∷ [] ≡ entries_of 1 (part_of 1 front) ++ as_entry 1 e.batch ∷ [] = ap (λ (x : Entry). entries_of 1 (part_of 1 front) ++ x ∷ []) whole in
+    first ∙ (second ∙ (sym split ∙ ap (entries_of 1) (sym part))))
     refl h is
