@@ -1,5 +1,5 @@
-ghost use Rattle.std.specs.Prelude.{◌≡◌, [], None, OnOk, OnErr, is_some, option_map};
-ghost use Rattle.std.specs.List.{list_any};
+ghost use Rattle.std.specs.Prelude.{◌≡◌, ◌≤◌, [], None, OnOk, OnErr, is_some, length, option_map};
+ghost use Rattle.std.specs.List.{insert, list_any};
 ghost use Rattle.std.specs.Option.{option_copied};
 ghost use Rattle.zb_table.specs.Earliest.{first_due};
 ghost use Rattle.zb_table.specs.Rows.{Ascend, row_at, with_row, without};
@@ -82,7 +82,7 @@ impl<R: Row> Table<R> {
             }
             Err(place) => {
                 let row = Some(row);
-                self.places.insert(place, Place { key, row })?;
+                put_at(place, Place { key, row }, &mut self.places)?;
                 Ok(())
             }
         }
@@ -119,4 +119,22 @@ impl<R: Timed> Table<R> {
     {
         due::first_due(now, &self.places)
     }
+}
+
+// Puts a place at this index. Where it is the last one it is pushed, which takes fewer steps than an insertion.
+fn put_at<R: Row>(
+    index: usize,
+    place: Place<R>,
+    places: &mut Vec<Place<R>>,
+) -> Result<(), AllocError>
+    requires { index ≤ length places.old.items }
+    ensures ok { OnOk result (places.new.items ≡ insert places.old.items index place) }
+    ensures err { OnErr result (places.new.items ≡ places.old.items) }
+{
+    if index < places.len() {
+        places.insert(index, place)?;
+        return Ok(());
+    }
+    places.push(place)?;
+    Ok(())
 }

@@ -21,8 +21,8 @@ returns-in-Ok-clause-ok g c =
     (refilled g.R.Row.key_in 0 ps c.in-Ok.place has.0 (record { key = c.index_mut.result.now.key; row = Some c.args.row }) c.args.row c.self.invariant has.1 (sym c.key-key.ensures ∙ sym has.2) refl).1
     ∙ ap (λ rows. with_row g.R.Row.key_in c.args.row rows) c.self.view_is
 
-pub insert-requires : goal.insert-requires
-insert-requires g c =
+pub put_at-requires : goal.put_at-requires
+put_at-requires g c =
     let within = count_within c.key-key.result c.deref.result.now in
     omega (arith, within, c.in-Err.ensures.free.0, c.deref.ensures.len)
 
@@ -31,12 +31,12 @@ invariant_of-self-in-Err g c =
     let ps = c.self.inside.places.items in
     let free = rw c.deref.ensures.value at c.in-Err.ensures.free in
     let added : Place _ = record { key = c.key-key.result; row = Some c.args.row } in
-    rw (c.in_ok-insert-in-Err.ensures.items, free.0) (inserted g.R.Row.key_in 0 ps added c.args.row c.self.invariant (omega arith) (sym c.key-key.ensures) refl (rw free.0 at free.1)).1
+    rw (c.in_ok-put_at-in-Err.ensures.ok, free.0) (inserted g.R.Row.key_in 0 ps added c.args.row c.self.invariant (omega arith) (sym c.key-key.ensures) refl (rw free.0 at free.1)).1
 
-pub returns-in_ok-insert-in-Err-clause-ok : goal.returns-in_ok-insert-in-Err-clause-ok
-returns-in_ok-insert-in-Err-clause-ok g c =
+pub returns-in_ok-put_at-in-Err-clause-ok : goal.returns-in_ok-put_at-in-Err-clause-ok
+returns-in_ok-put_at-in-Err-clause-ok g c =
     let ps = c.self.inside.places.items in
     let free = rw c.deref.ensures.value at c.in-Err.ensures.free in
     let added : Place _ = record { key = c.key-key.result; row = Some c.args.row } in
-    rw (c.in_ok-insert-in-Err.ensures.items, free.0) (inserted g.R.Row.key_in 0 ps added c.args.row c.self.invariant (omega arith) (sym c.key-key.ensures) refl (rw free.0 at free.1)).0
+    rw (c.in_ok-put_at-in-Err.ensures.ok, free.0) (inserted g.R.Row.key_in 0 ps added c.args.row c.self.invariant (omega arith) (sym c.key-key.ensures) refl (rw free.0 at free.1)).0
     ∙ ap (λ rows. with_row g.R.Row.key_in c.args.row rows) c.self.view_is
