@@ -10,6 +10,9 @@ pub fn read_str<'a>(alloc: Global, cursor: &mut Cursor<'a>) -> Result<&'a str, R
     ensures { ReadsAs (λ text. text.now) (text_at cursor.old) result cursor.new }
 {
     let length = <u32 as Format>::read(alloc, cursor)?;
+    if length == 0 {
+        return Ok("");
+    }
     let front = cursor.front(length as usize)?;
     match std::str::from_utf8(front) {
         Ok(text) => Ok(text),
