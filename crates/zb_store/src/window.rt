@@ -89,7 +89,9 @@ impl Window {
         Ok(step_at(&self.bytes[from..self.filled], at, self.end))
     }
 
-    // Has so many bytes from this place on, or all that there are.
+    // Has so many bytes from this place on, or all that there are. Most often they were read, so the reading stands
+    // apart.
+    #[inline]
     fn hold<D: Disk>(&mut self, disk: &mut D, at: u64, size: u64) -> Result<(), StoreFault>
         requires at { at < self.old.end }
         requires size { 0 < size }
@@ -121,6 +123,8 @@ impl Window {
     }
 
     // Reads a piece from this place on, and so many bytes at least. The window is empty where that fails.
+    #[cold]
+    #[inline(never)]
     fn read<D: Disk>(&mut self, disk: &mut D, at: u64, size: u64) -> Result<(), StoreFault>
         requires at { at < self.old.end }
         requires size { 0 < size }
