@@ -23,6 +23,7 @@ use crate::fault::OpenFault;
 use crate::opening::read_frames;
 use crate::record::put_frame;
 use std::alloc::{AllocError, Global};
+use std::mem;
 use zb_disk::Disk;
 use zb_model::{Batch, Command, Moment, PartitionId, Stop};
 use zb_state::State;
@@ -193,7 +194,9 @@ impl<D: Disk> Partition<D> {
         self.state.due(now).map(Command::MessageExpire)
     }
 
-    /// Its files, and the batch that it was writing when it stopped, if it did.
+    /// Its files, and the batch that it was writing when it stopped, if it did. The memory of its state isn't given
+    /// back: its process ends with it, and the system takes that back as a whole, where freeing it would touch every
+    /// message once more.
     pub fn stopped(self) -> Stopped<D>
         ensures log { result.volume.log ≡ disk_of self }
         ensures slots { (result.volume.snap_a, result.volume.snap_b) ≡ slots_of self }
@@ -204,8 +207,10 @@ impl<D: Disk> Partition<D> {
             snap_a,
             snap_b,
             in_writing,
+            state,
             ..
         } = self;
+        mem::forget(state);
         Stopped {
             volume: Volume {
                 log: log.into_disk(),
