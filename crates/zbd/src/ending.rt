@@ -17,19 +17,18 @@ pub fn report(rt: &HostRuntime, cause: &Cause, volumes: &[Volume<FileDisk>]) -> 
         return Ok(());
     }
     eprintln!(rt; "zbd: {cause}")?;
+    explain(rt, cause, volumes)
+}
+
+// What a cause means, and what can be done.
+fn explain(rt: &HostRuntime, cause: &Cause, volumes: &[Volume<FileDisk>]) -> io::Result<()> {
     match cause {
+        Cause::Done => Ok(()),
+        Cause::Usage => eprintln!(rt; "{USAGE}"),
         Cause::DiskFault { .. } => {
             report_faults(rt, volumes)?;
             eprintln!(rt; "zbd: {IN_DOUBT}; look at the disk before you start again")
         }
-        Cause::Usage => eprintln!(rt; "{USAGE}"),
-        _ => explain(rt, cause),
-    }
-}
-
-// What a cause that names no file of its own means, and what can be done.
-fn explain(rt: &HostRuntime, cause: &Cause) -> io::Result<()> {
-    match cause {
         Cause::BadLog { partition, frame } => eprintln!(rt;
             "zbd: {DIRECTORY}/{partition}.{LOG} can't be read from frame {frame} on, counted from 0; it was left as it is: put a copy in its place, or move it away to begin anew"
         ),
@@ -49,6 +48,5 @@ fn explain(rt: &HostRuntime, cause: &Cause) -> io::Result<()> {
         Cause::InputFull { .. } => eprintln!(rt;
             "zbd: the session took all the bytes that one may; go on in another one"
         ),
-        _ => Ok(()),
     }
 }
