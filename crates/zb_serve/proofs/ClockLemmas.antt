@@ -7,35 +7,32 @@ use Rattle.zb_wire.specs.declared.request.LineFault.{LineFault}
 use Rattle.zb_wire.specs.Request.{request_of}
 use Rattle.zb_words.specs.declared.plan.ClockKind.{ClockKind}
 use Rattle.zb_words.specs.declared.plan.ClockKind.TheVariants as kinds
-use Rattle.zb_serve.specs.Hours.{Hours, manual, real, is_manual, moved_by, advance_of, clock_after, IsReadingOf, hours_of}
+use Rattle.zb_serve.specs.Hours.{Hours, manual, real, is_manual, moved_by, clock_after, IsReadingOf, hours_of}
 use Rattle.zb_serve.specs.Serving.{Clocks, clocks_of, dial_of, AreAt}
 
 -- there is a clock that is moved by hand where the run goes by it
-pub kind_at : (hours : Hours) (lines : List (List ℕ)) (clocks : Clocks) → AreAt hours lines clocks → is_some clocks.dial ≡ is_manual hours
-kind_at manual lines clocks at = ap is_some at
-kind_at (real tells moments) lines clocks at = ap is_some at.0
+pub kind_at : (hours : Hours) (found : List (Result Request LineFault)) (clocks : Clocks) → AreAt hours found clocks → is_some clocks.dial ≡ is_manual hours
+kind_at manual found clocks at = ap is_some at
+kind_at (real tells moments) found clocks at = ap is_some at.0
 
 -- what a line was found to be
-pub found_at : (hours : Hours) (lines : List (List ℕ)) (clocks : Clocks) (by_hand : Bool) (line shown : List ℕ) (found : Result Request LineFault) → AreAt hours lines clocks → by_hand ≡ is_some clocks.dial
-    → request_of (is_manual hours) shown ≡ request_of (is_manual hours) line → request_of by_hand shown ≡ found → request_of (is_manual hours) line ≡ found
-found_at hours lines clocks by_hand line shown found at is same was =
-    sym same ∙ ap (λ (b : Bool). request_of b shown) (sym (is ∙ kind_at hours lines clocks at)) ∙ was
+pub found_at : (hours : Hours) (found : List (Result Request LineFault)) (clocks : Clocks) (by_hand : Bool) (line shown : List ℕ) (is_found : Result Request LineFault) → AreAt hours found clocks → by_hand ≡ is_some clocks.dial
+    → request_of (is_manual hours) shown ≡ request_of (is_manual hours) line → request_of by_hand shown ≡ is_found → request_of (is_manual hours) line ≡ is_found
+found_at hours found clocks by_hand line shown is_found at is same was =
+    sym same ∙ ap (λ (b : Bool). request_of b shown) (sym (is ∙ kind_at hours found clocks at)) ∙ was
 
 -- a line moves the clock on
-pub moved : (lines : List (List ℕ)) (line : List ℕ) (found : Result Request LineFault) → request_of true line ≡ found
-    → clock_after (lines ++ line ∷ []) ≡ min (clock_after lines + moved_by found) last_moment
-moved lines line found is =
-    let step : advance_of line ≡ moved_by found = ap moved_by is in
-    omega (arith, sum_by_push advance_of lines line, step)
+pub moved : (found : List (Result Request LineFault)) (last : Result Request LineFault) → clock_after (found ++ last ∷ []) ≡ min (clock_after found + moved_by last) last_moment
+moved found last = omega (arith, sum_by_push moved_by found last)
 
 -- the clocks stand so behind a line that moved the one that is moved by hand as far
-pub at_moved : (hours : Hours) (lines : List (List ℕ)) (line : List ℕ) (found : Result Request LineFault) (dial dial' : Option ℕ) (tells : Bool) (moments moments' : List ℕ)
-    → AreAt hours lines (clocks_of dial tells moments) → request_of (is_manual hours) line ≡ found
-    → ((now : ℕ) → dial ≡ Some now → now ≤ last_moment → dial' ≡ Some (min (now + moved_by found) last_moment)) → (dial ≡ None → dial' ≡ None) → moments' ≡ moments
-    → AreAt hours (lines ++ line ∷ []) (clocks_of dial' tells moments')
-at_moved manual lines line found dial dial' tells moments moments' at is some none same =
-    some (clock_after lines) at (omega arith) ∙ ap Some (sym (moved lines line found is))
-at_moved (real told listed) lines line found dial dial' tells moments moments' at is some none same = (none at.0, at.1, at.2 ∙ sym same)
+pub at_moved : (hours : Hours) (found : List (Result Request LineFault)) (last : Result Request LineFault) (dial dial' : Option ℕ) (tells : Bool) (moments moments' : List ℕ)
+    → AreAt hours found (clocks_of dial tells moments)
+    → ((now : ℕ) → dial ≡ Some now → now ≤ last_moment → dial' ≡ Some (min (now + moved_by last) last_moment)) → (dial ≡ None → dial' ≡ None) → moments' ≡ moments
+    → AreAt hours (found ++ last ∷ []) (clocks_of dial' tells moments')
+at_moved manual found last dial dial' tells moments moments' at some none same =
+    some (clock_after found) at (omega arith) ∙ ap Some (sym (moved found last))
+at_moved (real told listed) found last dial dial' tells moments moments' at some none same = (none at.0, at.1, at.2 ∙ sym same)
 
 -- nothing but an advance moves it
 pub unmoved : (dial : Option ℕ) (by : ℕ) → by ≡ 0 → (now : ℕ) → dial ≡ Some now → now ≤ last_moment → dial ≡ Some (min (now + by) last_moment)
@@ -44,16 +41,15 @@ unmoved dial by none now is within =
     is ∙ ap Some same
 
 -- what is read where the clocks stand is a reading for the last line
-pub reading_at : (hours : Hours) (lines : List (List ℕ)) (dial : Option ℕ) (tells : Bool) (moments : List ℕ) (reading : ℕ) → AreAt hours lines (clocks_of dial tells moments)
-    → ((now : ℕ) → dial ≡ Some now → reading ≡ now) → ((lines : List (List ℕ)) → dial ≡ None → IsReadingOf (real tells moments) lines reading) → IsReadingOf hours lines reading
-reading_at manual lines dial tells moments reading at shown read = shown (clock_after lines) at
-reading_at (real told listed) lines dial tells moments reading at shown read =
-    subst (λ (b : Bool). IsReadingOf (real b listed) lines reading) (sym at.1) (subst (λ (l : List ℕ). IsReadingOf (real tells l) lines reading) (sym at.2) (read lines at.0))
+pub reading_at : (hours : Hours) (found : List (Result Request LineFault)) (dial : Option ℕ) (tells : Bool) (moments : List ℕ) (reading : ℕ) → AreAt hours found (clocks_of dial tells moments)
+    → ((now : ℕ) → dial ≡ Some now → reading ≡ now) → ((found : List (Result Request LineFault)) → dial ≡ None → IsReadingOf (real tells moments) found reading) → IsReadingOf hours found reading
+reading_at manual found dial tells moments reading at shown read = shown (clock_after found) at
+reading_at (real told listed) found dial tells moments reading at shown read =
+    subst (λ (b : Bool). IsReadingOf (real b listed) found reading) (sym at.1) (subst (λ (l : List ℕ). IsReadingOf (real tells l) found reading) (sym at.2) (read found at.0))
 
 -- a line that is no request leaves the clocks as they are
-pub at_fault : (hours : Hours) (lines : List (List ℕ)) (line : List ℕ) (fault : LineFault) (clocks : Clocks) → AreAt hours lines clocks → request_of (is_manual hours) line ≡ Err fault
-    → AreAt hours (lines ++ line ∷ []) clocks
-at_fault hours lines line fault clocks at is = at_moved hours lines line (Err fault) clocks.dial clocks.dial clocks.tells clocks.moments clocks.moments at is (unmoved clocks.dial 0 refl) (λ none. none) refl
+pub at_fault : (hours : Hours) (found : List (Result Request LineFault)) (fault : LineFault) (clocks : Clocks) → AreAt hours found clocks → AreAt hours (found ++ Err fault ∷ []) clocks
+at_fault hours found fault clocks at = at_moved hours found (Err fault) clocks.dial clocks.dial clocks.tells clocks.moments clocks.moments at (unmoved clocks.dial 0 refl) (λ none. none) refl
 
 -- the clocks as a run begins
 pub at_first : (kind : ClockKind) (tells : Bool) (moments : List ℕ) → AreAt (hours_of kind tells moments) [] (clocks_of (dial_of kind) tells moments)

@@ -1,34 +1,37 @@
 -- How a run ends.
-use Rattle.std.proofs.Common.{◌≡◌, ◌⊎◌, ℕ, zero, suc, ◌+◌, ◌-◌, ◌<◌, ◌≤◌, List, [], ◌∷◌, ◌++◌, length, nat_lt, Bool, true, false, IsTrue, IsFalse, Option, Some, None, Ok, refl, sym, ◌∙◌, ap, subst, inl, inr, arith}
+use Rattle.std.proofs.Common.{◌≡◌, ◌⊎◌, ℕ, zero, suc, ◌+◌, ◌-◌, ◌<◌, ◌≤◌, List, [], ◌∷◌, ◌++◌, length, nat_lt, Bool, true, false, All, IsTrue, IsFalse, Option, Some, None, option_map, Ok, refl, sym, ◌∙◌, ap, subst, inl, inr, ⊎_elim, arith}
+use Rattle.std.proofs.lemmas.Bool.{false≢true}
 use Rattle.std.proofs.lemmas.Bool.Decides.{nat_tests}
-use Rattle.std.proofs.lemmas.List.{append-nil}
-use Rattle.std.proofs.lemmas.List.Sorted.{IsPermutation-refl}
-use Rattle.std.proofs.lemmas.List.FromFn.{get_or-range_with_len, length-range_with_len}
+use Rattle.std.proofs.lemmas.List.Elements.{All-nil, All-cons}
 use Rattle.std.specs.List.{range_with_len, slice_get}
-use Rattle.std.specs.List.Sorted.{IsPermutation, IsStrictlyIncreasing}
 use Rattle.zb_disk.specs.Cause.{Rose}
 use Rattle.zb_model.specs.declared.record.Batch.{Batch}
-use Rattle.zb_rules.specs.Step.{IsStep}
+use Rattle.zb_rules.specs.Step.{IsStep, AreStepsOn}
+use Rattle.zb_world.specs.Entries.{Entry, IsPartitionOf, as_entry, entries_of, part_of}
+use Rattle.zb_world.specs.EntryLaws.{part_of_entries, places_of_entries}
 use Rattle.zb_store.specs.Calls.{IsByFirstCall}
 use Rattle.zb_store.specs.Log.{extent}
 use Rattle.zb_store.specs.Stands.{Stands}
-use Rattle.zb_partition.specs.Log.{bodies_of, IsApplied}
+use Rattle.zb_partition.specs.Log.{bodies_of, AreBatches, IsApplied}
 use Rattle.zb_partition.specs.Stopping.{frame_of, HasRoomFor}
-use Rattle.zb_serve.specs.Ends.{Told, LogEnds, OfNumber}
+use Rattle.zb_serve.specs.Ends.{Told, LogEnds, OfNumber, EachFrom}
 use Rattle.zb_serve.specs.Ledger.{IsStored, AreMadeBatches}
 use Rattle.zb_wire.specs.declared.request.Request.{Request}
 use Rattle.zb_wire.specs.Request.{request_of}
 use Rattle.zb_serve.specs.Hours.{Hours, is_manual, IsReadingOf, RunSetting}
-use Rattle.zb_serve.specs.Made.{AreMadeFor, IsMadeNext}
-use Rattle.zb_serve.specs.Log.{Growth, whole_of, IsKept, WasLeft}
-use Rattle.zb_serve.specs.Served.{MayEnd, IsWhyUndone, IsUndone}
+use Rattle.zb_serve.specs.Reply.{Answer, IsAnswer}
+use Rattle.zb_serve.specs.Serial.{place_behind, IsNextEntry, AreMadeFor, found_in, entries_made, AreSerial}
+use Rattle.zb_serve.specs.Log.{Course, course_of, OpenedLog, log_in, batch_of, IsKept, IsFront, IsLeftOf, IsLog}
+use Rattle.zb_serve.specs.History.{stamps_of}
+use Rattle.zb_serve.specs.Served.{MayEnd, IsWhyUndone, IsUndone, answers_of}
 use Rattle.zb_serve.specs.Cause.{rank_of, comes_before}
 use Rattle.zb_serve.specs.Order.{HasFailed, WasMet}
-use Rattle.zb_serve.specs.Serving.{RunStart, Now, IsOver, session_ends, log_ends}
-use Rattle.zb_serve.specs.Session.{SessionRun, IsSent, Answer, AreAnswers, batches_of, most_taken}
+use Rattle.zb_serve.specs.Serving.{RunStart, Now, IsOver, session_ends, log_ends, ends_alone, crashes_alone}
+use Rattle.zb_serve.specs.Session.{SessionRun, IsSent, most_taken}
 use Rattle.zb_serve.specs.declared.run.Cause.{Cause}
 use Rattle.zb_serve.specs.declared.run.Cause.TheVariants as causes
 use Rattle.zb_serve.proofs.ListLemmas.{append_none}
+use Rattle.zb_serve.proofs.SerialLemmas.{place_none}
 use Rattle.zb_serve.proofs.HistoryLemmas.{run_goes_on, cut_at_end}
 use Rattle.zb_serve.proofs.StreamLemmas.{IsStream}
 
@@ -60,51 +63,66 @@ pub record IsNamed (told : Told) (limit : ℕ) (start : RunStart) (now : Now) (l
   pub no_sink_fault : 5 < rank_of cause → IsTrue told.sink_counts → now.sink.faults ≡ start.sink.faults
   pub not_full : 6 < rank_of cause → at_end ≡ true
 
+-- a run that wasn't cut off, of whose streams none failed and whose session isn't full, served every line
+whole_served : (told : Told) (limit : ℕ) (start : RunStart) (now : Now) (log : List Batch) (unlogged : Option Batch) (unserved : List (List ℕ)) (at_end : Bool) (cause : Cause)
+    → IsNamed told limit start now log unlogged unserved at_end cause → IsFalse (comes_before cause (causes.SourceFault 1)) → (Rose start.source.faults now.source.faults → ⊥)
+    → (Rose start.sink.faults now.sink.faults → ⊥) → now.source.given < start.source.given + most_taken → IsTrue at_end × (unserved ≡ [])
+whole_served told limit start now log unlogged unserved at_end causes.Done named uncut source sink few = named.done refl
+whole_served told limit start now log unlogged unserved at_end (causes.SourceFault session) named uncut source sink few =
+    let one : session ≡ 1 = omega (arith, named.status.0, named.status.1) in
+    absurd (source (named.source_fault (ap causes.SourceFault one)).0)
+whole_served told limit start now log unlogged unserved at_end (causes.SinkFault session) named uncut source sink few =
+    let one : session ≡ 1 = omega (arith, named.status.0, named.status.1) in
+    absurd (sink (named.sink_fault (ap causes.SinkFault one)))
+whole_served told limit start now log unlogged unserved at_end (causes.InputFull session) named uncut source sink few =
+    let one : session ≡ 1 = omega (arith, named.status.0, named.status.1) in
+    let full = named.input_full (ap causes.InputFull one) in
+    absurd (omega (arith, few, full.0))
+whole_served told limit start now log unlogged unserved at_end causes.Memory named uncut source sink few = absurd (false≢true (sym uncut))
+whole_served told limit start now log unlogged unserved at_end (causes.DiskFault partition batch) named uncut source sink few = absurd (false≢true (sym uncut))
+whole_served told limit start now log unlogged unserved at_end (causes.LogFull partition length_told frame most) named uncut source sink few = absurd (false≢true (sym uncut))
+whole_served told limit start now log unlogged unserved at_end causes.Usage named uncut source sink few = absurd (false≢true (sym uncut))
+whole_served told limit start now log unlogged unserved at_end (causes.BadLog partition frame) named uncut source sink few = absurd (false≢true (sym uncut))
+
 -- a batch that isn't in the log is a step on it, and begins behind it
 abbrev pub IsLeftOver : List Batch → Batch → Type 0
 IsLeftOver log batch = IsStep 1 1 log batch × (batch.begin ≡ length log)
 
 -- the first line that wasn't served made these batches and the one that isn't in the log, or memory ran out
-pub record IsFirst (hours : Hours) (log : List Batch) (served unserved : List (List ℕ)) (cause : Cause) (silent : List Batch) (unlogged : Option Batch) : Type 0 where
+pub record IsFirst (hours : Hours) (opened : List Batch) (answers : List Answer) (unserved : List (List ℕ)) (cause : Cause) (silent : List Batch) (unlogged : Option Batch) : Type 0 where
   pub line : List ℕ
   pub lines : List (List ℕ)
   pub first : unserved ≡ line ∷ lines
   pub request : Request
   pub asks : request_of (is_manual hours) line ≡ Ok request
   pub reading : ℕ
-  pub read : IsReadingOf hours (served ++ line ∷ []) reading
-  pub made : AreMadeFor request reading log silent
-  pub next : (batch : Batch) → unlogged ≡ Some batch → IsMadeNext request reading log silent batch
+  pub read : IsReadingOf hours (found_in answers ++ Ok request ∷ []) reading
+  pub made : AreMadeFor (opened ∷ []) request reading (entries_made answers) (entries_of 1 silent)
+  pub next : (batch : Batch) → unlogged ≡ Some batch → IsNextEntry (opened ∷ []) request reading (entries_made answers) (entries_of 1 silent) (as_entry 1 batch)
   pub why : IsWhyUndone cause unlogged
 
 -- nothing was left undone, or the first line that wasn't served
-abbrev pub IsLeftUndone : Hours → List Batch → List (List ℕ) → List (List ℕ) → Cause → List Batch → Option Batch → Type 0
-IsLeftUndone hours log served unserved cause silent unlogged = ((silent ≡ []) × (unlogged ≡ None)) ⊎ IsFirst hours log served unserved cause silent unlogged
-
-increasing : (a n : ℕ) → IsStrictlyIncreasing (range_with_len a n)
-increasing a n = λ k within.
-    let bound : k + 1 < n = subst (λ (m : ℕ). k + 1 < m) (length-range_with_len a n) within in
-    omega (arith, get_or-range_with_len a n k 0 (omega arith), get_or-range_with_len a n (k + 1) 0 bound)
+abbrev pub IsLeftUndone : Hours → List Batch → List Answer → List (List ℕ) → Cause → List Batch → Option Batch → Type 0
+IsLeftUndone hours opened answers unserved cause silent unlogged = ((silent ≡ []) × (unlogged ≡ None)) ⊎ IsFirst hours opened answers unserved cause silent unlogged
 
 some_same : {A : Type 0} (x y : A) → Some x ≡ Some y → x ≡ y
 some_same x y e = cc
 
--- what holds of the one log and its ends, at any place
-at_place : (first : LogEnds) (growth : Growth) (P : LogEnds → Growth → Type 0) → P first growth → (place : ℕ) (listed : Growth) (ends : LogEnds)
-    → slice_get (growth ∷ []) place ≡ Some listed → slice_get (first ∷ []) place ≡ Some ends → P ends listed
-at_place first growth P holds zero listed ends is_log is_ends =
-    let same_log : growth ≡ listed = some_same _ _ is_log in
-    let same_ends : first ≡ ends = some_same _ _ is_ends in
-    subst (λ (g : Growth). P ends g) same_log (subst (λ (e : LogEnds). P e growth) same_ends holds)
-at_place first growth P holds (suc place) listed ends is_log is_ends = absurd (cc)
-
 -- the one member is the one that has a number
-of_one : {A : Type 0} (member : A) (number : ℕ) (P : A → Type 0) → OfNumber (member ∷ []) number P → P member
+pub of_one : {A : Type 0} (member : A) (number : ℕ) (P : A → Type 0) → OfNumber (member ∷ []) number P → P member
 of_one member number P is = by_place (number - 1) is.2
   where
     by_place : (place : ℕ) → slice_get (member ∷ []) place ≡ Some is.0 → P member
     by_place zero at = subst P (sym (some_same _ _ at)) is.3
     by_place (suc place) at = absurd (cc)
+
+-- which is 1
+number_of_one : {A : Type 0} (member : A) (number : ℕ) (P : A → Type 0) → OfNumber (member ∷ []) number P → number ≡ 1
+number_of_one member number P is = by_place (number - 1) refl is.2
+  where
+    by_place : (place : ℕ) → place ≡ number - 1 → slice_get (member ∷ []) place ≡ Some is.0 → number ≡ 1
+    by_place zero here at = omega (arith, is.1, here)
+    by_place (suc place) here at = absurd (cc)
 
 -- an order that doesn't hold isn't told
 not_told : (a b : ℕ) → (a < b → ⊥) → (test : Bool) → nat_lt a b ≡ test → IsFalse (nat_lt a b)
@@ -115,141 +133,224 @@ not_told a b never true is = absurd (never (grind (arith, nat_tests)))
 no_failure : (counts : Bool) (before after : ℕ) → HasFailed counts before after → (IsTrue counts → after ≡ before) → ⊥
 no_failure counts before after failed same = absurd (omega (arith, same failed.0, failed.1))
 
--- of the causes that were met none comes before the one that is told
-none_first : (told : Told) (limit : ℕ) (start : RunStart) (now : Now) (run : SessionRun) (growth : Growth) (unlogged : Option Batch) (unserved : List (List ℕ)) (cause : Cause)
-    → IsNamed told limit start now (whole_of growth) unlogged unserved run.ended cause → (other : Cause)
-    → WasMet told limit (session_ends start now ∷ []) (log_ends start now ∷ []) (run ∷ []) (growth ∷ []) unlogged other → IsFalse (comes_before other cause)
-none_first told limit start now run growth unlogged unserved cause named (causes.DiskFault partition batch) met =
-    not_told _ _ (λ before. no_failure told.disk_counts start.disk.faults now.disk.faults (of_one (log_ends start now) partition _ met) (named.no_disk_fault before)) _ refl
-none_first told limit start now run growth unlogged unserved cause named (causes.LogFull partition length_told frame most) met =
-    not_told 2 (rank_of cause) (λ (before : 2 < rank_of cause). let full = of_one growth partition _ met.2 in absurd (omega (arith, full, named.room before met.0 met.1))) _ refl
-none_first told limit start now run growth unlogged unserved cause named (causes.SourceFault session) met =
-    not_told _ _ (λ before. no_failure told.source_counts start.source.faults now.source.faults (of_one (session_ends start now) session _ met) (named.no_source_fault before)) _ refl
-none_first told limit start now run growth unlogged unserved cause named (causes.SinkFault session) met =
-    not_told _ _ (λ before. no_failure told.sink_counts start.sink.faults now.sink.faults (of_one (session_ends start now) session _ met) (named.no_sink_fault before)) _ refl
-none_first told limit start now run growth unlogged unserved cause named (causes.InputFull session) met =
-    let full = of_one run session _ met in
-    not_told _ _ (λ before. let ended = named.not_full before in let more = full.1 in absurd (cc)) _ refl
-none_first told limit start now run growth unlogged unserved cause named causes.Done met = last cause
-  where
-    last : (cause : Cause) → IsFalse (comes_before causes.Done cause)
-    last causes.Done = refl
-    last causes.Usage = refl
-    last (causes.SourceFault session) = refl
-    last (causes.DiskFault partition batch) = refl
-    last (causes.BadLog partition frame) = refl
-    last (causes.SinkFault session) = refl
-    last causes.Memory = refl
-    last (causes.LogFull partition length_told frame limit) = refl
-    last (causes.InputFull session) = refl
-none_first told limit start now run growth unlogged unserved cause named causes.Memory met = absurd met
-none_first told limit start now run growth unlogged unserved cause named causes.Usage met = absurd met
-none_first told limit start now run growth unlogged unserved cause named (causes.BadLog partition frame) met = absurd met
+-- the run of one session over one log, in which a batch was made last and isn't in the log
+module _ (told : Told) (setting : RunSetting) (start : RunStart) (now : Now) (cause : Cause) (opened made : List Batch) (unlogged : Option Batch) (opened_at : ℕ) where
+  abbrev entries : List Entry
+  entries = entries_of 1 made
 
-undone_of : (hours : Hours) (run : SessionRun) (cause : Cause) (silent : List Batch) (unlogged : Option Batch)
-    → IsLeftUndone hours (run.log ++ batches_of run.answers) run.served run.unserved cause silent unlogged → IsUndone hours (run ∷ []) cause silent unlogged
-undone_of hours run cause silent unlogged (inl none) = inl none
-undone_of hours run cause silent unlogged (inr first) = inr (record {
-  place = 0;
-  run = run;
-  is = refl;
-  line = first.line;
-  lines = first.lines;
-  unserved = first.first;
-  request = first.request;
-  asks = first.asks;
-  reading = first.reading;
-  read = first.read;
-  made = first.made;
-  next = first.next;
-  why = first.why;
-})
+  abbrev course : Course
+  course = course_of told setting 1 entries (option_map (as_entry 1) unlogged) cause
+
+  abbrev opening : OpenedLog
+  opening = record { batches = opened; moment = opened_at }
+
+  abbrev ends : LogEnds
+  ends = log_ends start now
+
+  -- its part is what was made
+  part : part_of 1 entries ≡ made
+  part = part_of_entries 1 made
+
+  log : log_in course 1 opening ≡ opened ++ made
+  log = ap (λ (l : List Batch). opened ++ l) part
+
+  -- and the batch is of it
+  batch_alone : (unlogged : Option Batch) → batch_of 1 (option_map (as_entry 1) unlogged) ≡ unlogged
+  batch_alone None = refl
+  batch_alone (Some batch) = refl
+
+  kept : (file : List ℕ) → IsKept told ends cause unlogged (opened ++ made) file → IsLeftOf course 1 ends opening file
+  kept file is =
+      subst (λ (l : List Batch). IsKept told ends cause (batch_of 1 (option_map (as_entry 1) unlogged)) l file) (sym log)
+      (subst (λ (u : Option Batch). IsKept told ends cause u (opened ++ made) file) (sym (batch_alone unlogged)) is)
+
+  -- of the causes that were met none comes before the one that is told
+  none_first : (run : SessionRun) (unserved : List (List ℕ)) → IsNamed told setting.limit start now (opened ++ made) unlogged unserved run.ended cause → (other : Cause)
+      → WasMet course (ends_alone start now) (run ∷ []) (opening ∷ []) other → IsFalse (comes_before other cause)
+  none_first run unserved named (causes.DiskFault partition batch) met =
+      not_told _ _ (λ before. no_failure told.disk_counts start.disk.faults now.disk.faults (of_one ends partition _ met) (named.no_disk_fault before)) _ refl
+  none_first run unserved named (causes.LogFull partition length_told frame most) met =
+      let one : partition ≡ 1 = number_of_one opening partition _ met.2 in
+      let mine : batch_of 1 course.unlogged ≡ Some met.0 = subst (λ (p : ℕ). batch_of p course.unlogged ≡ Some met.0) one met.1 in
+      let over_it : setting.limit < extent (bodies_of (log_in course 1 opening ++ met.0 ∷ [])) =
+      subst (λ (p : ℕ). setting.limit < extent (bodies_of (log_in course p opening ++ met.0 ∷ []))) one (of_one opening partition _ met.2) in
+      let full : setting.limit < extent (bodies_of ((opened ++ made) ++ met.0 ∷ [])) = subst (λ (l : List Batch). setting.limit < extent (bodies_of (l ++ met.0 ∷ []))) log over_it in
+      not_told 2 (rank_of cause) (λ (before : 2 < rank_of cause). absurd (omega (arith, full, named.room before met.0 (sym (batch_alone unlogged) ∙ mine)))) _ refl
+  none_first run unserved named (causes.SourceFault session) met =
+      not_told _ _ (λ before. no_failure told.source_counts start.source.faults now.source.faults (of_one (session_ends start now) session _ met) (named.no_source_fault before)) _ refl
+  none_first run unserved named (causes.SinkFault session) met =
+      not_told _ _ (λ before. no_failure told.sink_counts start.sink.faults now.sink.faults (of_one (session_ends start now) session _ met) (named.no_sink_fault before)) _ refl
+  none_first run unserved named (causes.InputFull session) met =
+      let full = of_one run session _ met in
+      not_told _ _ (λ before. let ended = named.not_full before in let more = full.1 in absurd (cc)) _ refl
+  none_first run unserved named causes.Done met = last cause
+    where
+      last : (cause : Cause) → IsFalse (comes_before causes.Done cause)
+      last causes.Done = refl
+      last causes.Usage = refl
+      last (causes.SourceFault session) = refl
+      last (causes.DiskFault partition batch) = refl
+      last (causes.BadLog partition frame) = refl
+      last (causes.SinkFault session) = refl
+      last causes.Memory = refl
+      last (causes.LogFull partition length_told frame limit) = refl
+      last (causes.InputFull session) = refl
+  none_first run unserved named causes.Memory met = absurd met
+  none_first run unserved named causes.Usage met = absurd met
+  none_first run unserved named (causes.BadLog partition frame) met = absurd met
+
+  -- its entries are of the one partition, and have their places
+  within : (made : List Batch) → All (λ entry. IsPartitionOf 1 entry.partition) (entries_of 1 made)
+  within [] = All-nil (λ entry. IsPartitionOf 1 entry.partition)
+  within (batch ∷ made) = All-cons (λ entry. IsPartitionOf 1 entry.partition) (as_entry 1 batch) (entries_of 1 made) (omega arith, omega arith) (within made)
+
+  stamped : (places : List ℕ) → AreMadeBatches setting.limit opened made places → places ∷ [] ≡ stamps_of 1 (place_behind (opened ∷ []) []) entries
+  stamped places are =
+      let first : length opened ≡ place_behind (opened ∷ []) [] = sym (place_none opened) in
+      ap (λ (l : List ℕ). l ∷ []) (are.stamps ∙ (ap (λ (n : ℕ). range_with_len n (length made)) first ∙ sym (places_of_entries 1 (place_behind (opened ∷ []) []) made)))
+
+  -- its log
+  is_log : (before images : List ℕ → Type 0) (since : ℕ → List ℕ → Type 0) (places : List ℕ) (unserved : List (List ℕ)) (at_end : Bool)
+      → (IsTrue told.images → IsByFirstCall start.disk.moment opened_at)
+      → (IsTrue told.disk → Stands start.disk.contents (bodies_of opened)) → IsApplied 1 opened → AreMadeBatches setting.limit opened made places
+      → IsHeld told ends images cause unlogged (opened ++ made)
+      → (IsTrue told.images → (image : List ℕ) → since opened_at image → IsFront opened made image ⊎ IsKept told ends cause unlogged (opened ++ made) image)
+      → (IsTrue told.images → (image : List ℕ) → since start.disk.moment image → before image ⊎ since opened_at image)
+      → IsNamed told setting.limit start now (opened ++ made) unlogged unserved at_end cause
+      → ((batch : Batch) → unlogged ≡ Some batch → IsLeftOver (opened ++ made) batch)
+      → IsLog course (crashes_alone before images since) 1 ends opening
+  is_log before images since places unserved at_end by_first stood applied are held ever earlier named left = record {
+    stood = stood;
+    applied = applied;
+    by_first = by_first;
+    fit = subst AreBatches (sym log) are.fit;
+    steps = subst (λ (l : List Batch). AreStepsOn 1 1 opened l) (sym part) are.steps;
+    next = λ batch is. subst (λ (l : List Batch). IsStep 1 1 l batch) (sym log) (left batch (sym (batch_alone unlogged) ∙ is)).0;
+    contents = λ t. kept now.disk.contents (held.file t);
+    disk_fault = λ batch e.
+        let f = named.disk_fault batch e in
+        (f.0, f.1 ∙ sym (batch_alone unlogged), subst (λ (l : List Batch). HasRoomFor setting.limit l batch) (sym log) f.2);
+    fits = ⊎_elim (λ none. inl (part ∙ none)) (λ fit. inr (subst (λ (l : List Batch). extent (bodies_of l) ≤ setting.limit) (sym log) fit)) are.fits;
+    log_full = λ n frame most e.
+        let f = named.log_full n frame most e in
+        (f.0 ∙ ap (λ (l : List Batch). extent (bodies_of l)) (sym log), f.1, f.2, (f.3.0, batch_alone unlogged ∙ f.3.1, f.3.2));
+    crash_now = λ t image may. kept image (held.crash t image may);
+    crash_ever = λ t image was. ⊎_elim (λ front. inl (subst (λ (l : List Batch). IsFront opened l image) (sym part) front)) (λ is. inr (kept image is)) (ever t image was);
+    crash_opening = earlier;
+  }
+
+  -- what it left undone
+  why_alone : (cause : Cause) (unlogged : Option Batch) → IsWhyUndone cause unlogged → IsWhyUndone cause (option_map (as_entry 1) unlogged)
+  why_alone (causes.DiskFault partition batch) None why = why
+  why_alone (causes.DiskFault partition batch) (Some last) why = refl
+  why_alone (causes.LogFull partition length_told frame limit) None why = why
+  why_alone (causes.LogFull partition length_told frame limit) (Some last) why = refl
+  why_alone causes.Memory unlogged why = tt
+  why_alone causes.Done unlogged why = absurd why
+  why_alone causes.Usage unlogged why = absurd why
+  why_alone (causes.SourceFault session) unlogged why = absurd why
+  why_alone (causes.BadLog partition frame) unlogged why = absurd why
+  why_alone (causes.SinkFault session) unlogged why = absurd why
+  why_alone (causes.InputFull session) unlogged why = absurd why
+
+  next_entry : (P : Entry → Type 0) (unlogged : Option Batch) → ((batch : Batch) → unlogged ≡ Some batch → P (as_entry 1 batch)) → (entry : Entry) → option_map (as_entry 1) unlogged ≡ Some entry → P entry
+  next_entry P None next entry is = absurd (cc)
+  next_entry P (Some batch) next entry is = let same : as_entry 1 batch ≡ entry = cc in subst P same (next batch refl)
+
+  undone_of : (run : SessionRun) (silent : List Batch) → IsLeftUndone setting.hours opened run.answers run.unserved cause silent unlogged → IsUndone course (opened ∷ []) (run ∷ []) (entries_of 1 silent)
+  undone_of run silent (inl (silent_none, none)) = inl (ap (entries_of 1) silent_none, ap (option_map (as_entry 1)) none)
+  undone_of run silent (inr first) =
+      let alone : run.answers ≡ answers_of (run ∷ []) = append_none run.answers in
+      let logs : List (List Batch) = opened ∷ [] in
+      inr (
+        1,
+        (
+          run,
+          omega arith,
+          refl,
+          record {
+            line = first.line;
+            lines = first.lines;
+            first = first.first;
+            request = first.request;
+            asks = first.asks;
+            reading = first.reading;
+            read = subst (λ (answers : List Answer). IsReadingOf setting.hours (found_in answers ++ Ok first.request ∷ []) first.reading) alone first.read;
+            made = subst (λ (answers : List Answer). AreMadeFor logs first.request first.reading (entries_made answers) (entries_of 1 silent)) alone first.made;
+            next = next_entry (λ entry. IsNextEntry logs first.request first.reading (entries_made (answers_of (run ∷ []))) (entries_of 1 silent) entry) unlogged
+                (λ batch is. subst (λ (answers : List Answer). IsNextEntry logs first.request first.reading (entries_made answers) (entries_of 1 silent) (as_entry 1 batch)) alone (first.next batch is));
+            why = why_alone cause unlogged first.why;
+          },
+        ),
+      )
 
 -- a run is over
 pub over : (told : Told) (setting : RunSetting) (start : RunStart) (now : Now) (before images : List ℕ → Type 0) (since : ℕ → List ℕ → Type 0) (places : List ℕ) (cause : Cause)
     (served unserved : List (List ℕ)) (at_end : Bool) (answers : List Answer) (opened made silent : List Batch) (unlogged : Option Batch) (opened_at : ℕ)
     → (IsTrue told.images → IsByFirstCall start.disk.moment opened_at)
-    → made ≡ batches_of answers ++ silent
+    → entries_made answers ++ entries_of 1 silent ≡ entries_of 1 made
     → IsStream told.source start.source now.source served unserved at_end
-    → AreAnswers setting.hours opened [] served answers
+    → EachFrom (IsAnswer (is_manual setting.hours)) 1 served answers
+    → AreSerial setting.hours (opened ∷ []) answers
     → (IsTrue told.sink → IsSent told 1 (session_ends start now) cause answers)
     → (IsTrue told.disk → Stands start.disk.contents (bodies_of opened))
     → IsApplied 1 opened
     → AreMadeBatches setting.limit opened made places
     → IsHeld told (log_ends start now) images cause unlogged (opened ++ made)
-    → (IsTrue told.images → (image : List ℕ) → since opened_at image → WasLeft told (log_ends start now) cause unlogged (record { opened = opened; made = made; opened_at = opened_at }) image)
+    → (IsTrue told.images → (image : List ℕ) → since opened_at image → IsFront opened made image ⊎ IsKept told (log_ends start now) cause unlogged (opened ++ made) image)
     → (IsTrue told.images → (image : List ℕ) → since start.disk.moment image → before image ⊎ since opened_at image)
     → IsNamed told setting.limit start now (opened ++ made) unlogged unserved at_end cause
-    → IsLeftUndone setting.hours (opened ++ batches_of answers) served unserved cause silent unlogged
+    → IsLeftUndone setting.hours opened answers unserved cause silent unlogged
     → ((batch : Batch) → unlogged ≡ Some batch → IsLeftOver (opened ++ made) batch)
     → IsOver told setting start now before images since places cause
-over told setting start now before images since places cause served unserved at_end answers opened made silent unlogged opened_at by_first split stream are sent stood applied are_made held ever opening named undone left =
-    let growth : Growth = record { opened = opened; made = made; opened_at = opened_at } in
+over told setting start now before images since places cause served unserved at_end answers opened made silent unlogged opened_at by_first split stream replied serial sent stood applied are_made held ever earlier named undone left =
     let run : SessionRun = record {
       taken = stream.taken;
       lines = stream.lines;
       rest = stream.rest;
       ended = at_end;
-      log = opened;
       served = served;
       answers = answers;
       unserved = unserved;
     } in
-    record {
-      runs = run ∷ [];
-      logs = growth ∷ [];
-      silent = silent;
-      unlogged = unlogged;
-      status = named.status;
-      first_met = none_first told setting.limit start now run growth unlogged unserved cause named;
-      are_logs = (
-        record {
-          opened = stood;
-          applied = applied;
-          by_first = by_first;
-          fit = are_made.fit;
-          steps = are_made.steps;
-          contents = held.file;
-          disk_fault = named.disk_fault;
-          fits = are_made.fits;
-          log_full = named.log_full;
-          next = left;
-        },
-        tt,
-      );
-      stamped = (are_made.stamped, tt);
-      ascending = (subst IsStrictlyIncreasing (sym are_made.stamps) (increasing (length opened) (length made)), tt);
-      each_once =
-          let same : range_with_len (length (opened ++ [])) (length (made ++ [])) ≡ places ++ [] = rw (append-nil opened, append-nil made, append-nil places) (sym are_made.stamps) in
-          subst (λ (l : List ℕ). IsPermutation (range_with_len (length (opened ++ [])) (length (made ++ []))) l) same (IsPermutation-refl (range_with_len (length (opened ++ [])) (length (made ++ []))));
-      history = run_goes_on setting.limit opened made places growth refl refl are_made;
-      sessions = (
-        record {
-          takes = stream.takes;
-          lines = stream.are;
-          within = stream.within;
-          to_end = stream.to_end;
-          first = stream.first;
-          answers = are;
-          sent = sent;
-          done = named.done;
-          source_fault = named.source_fault;
-          sink_fault = named.sink_fault;
-          input_full = λ e.
-              let full = named.input_full e in
-              (omega (arith, full.0, stream.takes.given), full.1, full.2);
-        },
-        tt,
-      );
-      in_turn = (append_none opened, tt);
-      batches = append-nil made ∙ split ∙ ap (λ bs. bs ++ silent) (sym (append-nil (batches_of answers)));
-      undone = undone_of setting.hours run cause silent unlogged undone;
-      crash_now = λ tells place listed ends image is_log is_ends left.
-          at_place (log_ends start now) growth (λ e g. images image → IsKept told e cause unlogged (whole_of g) image) (held.crash tells image) place listed ends is_log is_ends left;
-      crash_cut = λ tells h is has kept one are.
-          cut_at_end told (log_ends start now) (λ place. images) cause unlogged (opened ++ made) growth places left refl (held.crash tells) h is has kept one are;
-      crash_ever = λ tells place listed ends image is_log is_ends was.
-          at_place (log_ends start now) growth (λ e g. since g.opened_at image → WasLeft told e cause unlogged g image) (ever tells image) place listed ends is_log is_ends was;
-      crash_opening = λ tells place listed ends image is_log is_ends was.
-          at_place (log_ends start now) growth (λ e g. since e.disk.moment image → before image ⊎ since g.opened_at image) (opening tells image) place listed ends is_log is_ends was;
-    }
+    let alone : answers ≡ answers_of (run ∷ []) = append_none answers in
+    let goes_on = run_goes_on setting.limit opened made places are_made in (
+      entries_of 1 made,
+      option_map (as_entry 1) unlogged,
+      record {
+        logs = opening told setting start now cause opened made unlogged opened_at ∷ [];
+        runs = run ∷ [];
+        rest = entries_of 1 silent;
+        status = named.status;
+        first_met = none_first told setting start now cause opened made unlogged opened_at run unserved named;
+        within = within told setting start now cause opened made unlogged opened_at made;
+        stamped = stamped told setting start now cause opened made unlogged opened_at places are_made;
+        are_logs = (is_log told setting start now cause opened made unlogged opened_at before images since places unserved at_end by_first stood applied are_made held ever earlier named left, tt);
+        history = goes_on;
+        sessions = (
+          record {
+            takes = stream.takes;
+            lines = stream.are;
+            within = stream.within;
+            to_end = stream.to_end;
+            first = stream.first;
+            answers = replied;
+            sent = sent;
+            done = named.done;
+            whole = λ uncut source sink few.
+                whole_served told setting.limit start now (opened ++ made) unlogged unserved at_end cause named uncut source sink (omega (arith, few, stream.takes.given));
+            source_fault = named.source_fault;
+            sink_fault = named.sink_fault;
+            input_full = λ e.
+                let full = named.input_full e in
+                (omega (arith, full.0, stream.takes.given), full.1, full.2);
+          },
+          tt,
+        );
+        all = sym split ∙ ap (λ (given : List Answer). entries_made given ++ entries_of 1 silent) alone;
+        serial = subst (AreSerial setting.hours (opened ∷ [])) alone serial;
+        undone = undone_of told setting start now cause opened made unlogged opened_at run silent undone;
+        crash_cut = λ tells base is has kept one are.
+            cut_at_end told (log_ends start now) (λ number. images) cause unlogged opened made left (held.crash tells) base has (goes_on base is has).0 kept one are;
+      },
+    )

@@ -8,16 +8,15 @@ use Rattle.zb_model.specs.declared.record.Batch.{Batch}
 use Rattle.zb_store.specs.Stands.{Stands}
 use Rattle.zb_rules.specs.Step.{IsStep, EachOn}
 use Rattle.zb_partition.specs.Log.{bodies_of}
-use Rattle.zb_world.specs.Entries.{Entry, is_of, as_entry, entries_of, part_of, places_of, AtMostOne}
+use Rattle.zb_world.specs.Entries.{Entry, is_of, as_entry, entries_of, part_of, AtMostOne}
 use Rattle.zb_world.specs.History.{RestsOn, IsEntryOf, IsHistory, IsCutAt}
-use Rattle.zb_world.specs.EntryLaws.{part_of_entries, part_of_joined, places_of_entries}
+use Rattle.zb_world.specs.EntryLaws.{part_of_entries, part_of_joined}
 use Rattle.zb_world.specs.HistoryLaws.{history_of_one, history_joined, log_goes_on, whole_is_cut}
 use Rattle.zb_world.specs.OnceLaws.{happens_once}
 use Rattle.zb_serve.specs.Ends.{Told, LogEnds}
-use Rattle.zb_serve.specs.Ledger.{AreMadeBatches}
-use Rattle.zb_serve.specs.Log.{Growth, IsKept}
-use Rattle.zb_serve.specs.History.{HaveOpened, HaveWhole, GoesOnWith, AreCut, AreImages}
-use Rattle.zb_serve.specs.Served.{IsStamped}
+use Rattle.zb_serve.specs.Ledger.{IsStamped, AreMadeBatches}
+use Rattle.zb_serve.specs.Log.{IsKept}
+use Rattle.zb_serve.specs.History.{parts_of, GoesOnWith, AreCut, AreImages}
 use Rattle.zb_serve.specs.declared.run.Cause.{Cause}
 
 -- of batches that begin at numbers one after the other, the one at a place
@@ -39,24 +38,23 @@ rest_on opened made places are stamped k batch at =
     let begin : batch.begin ≡ length opened + k = begins_at (length opened) made k batch stamps at in
     omega (arith, begin, length-append opened (take k made), length-take k made, slice_get_within made k batch at)
 
+heads : {A : Type 0} (x y : A) (xs ys : List A) → x ∷ xs ≡ y ∷ ys → x ≡ y
+heads x y xs ys same = cc
+
+-- of one partition there is one part
+part_alone : (base : List Entry) (opened : List Batch) → parts_of 1 base ≡ opened ∷ [] → part_of 1 base ≡ opened
+part_alone base opened same = heads (part_of 1 base) opened [] [] same
+
 -- the batches that were made go on with every history of the opened log
-pub run_goes_on : (limit : ℕ) (opened made : List Batch) (places : List ℕ) (growth : Growth) → growth.opened ≡ opened → growth.made ≡ made → AreMadeBatches limit opened made places
-    → (base : List Entry) → IsHistory 1 base → HaveOpened base (places ∷ []) (growth ∷ []) → GoesOnWith 1 base (places ∷ []) (growth ∷ [])
-run_goes_on limit opened made places growth was came are base is has =
-    let part : part_of 1 base ≡ opened = has.0 ∙ was in
+pub run_goes_on : (limit : ℕ) (opened made : List Batch) (places : List ℕ) → AreMadeBatches limit opened made places → GoesOnWith 1 (opened ∷ []) (entries_of 1 made)
+run_goes_on limit opened made places are = λ base is has.
+    let part : part_of 1 base ≡ opened = part_alone base opened has in
     let whole : base ≡ entries_of 1 opened = history_of_one base is ∙ ap (entries_of 1) part in
     let run : List Entry = entries_of 1 made in
     let next : EachOn (IsEntryOf 1) base run = subst (λ (b : List Entry). EachOn (IsEntryOf 1) b run) (sym whole)
     (log_goes_on 1 1 opened made (omega arith, omega arith) are.steps (rest_on opened made places are.stamps are.stamped)) in
-    let long : length base ≡ length opened = ap length whole ∙ length-map opened (as_entry 1) in
-    let at : places_of 1 (length base) run ≡ places = places_of_entries 1 (length base) made ∙ (ap (λ (n : ℕ). range_with_len n (length made)) long ∙ sym are.stamps) in
     let history : IsHistory 1 (base ++ run) = history_joined 1 base run is next in
-    record {
-      run = run;
-      are = ((part_of_entries 1 made ∙ sym came, at), tt);
-      history = history;
-      once = happens_once 1 (base ++ run) history;
-    }
+    (history, happens_once 1 (base ++ run) history)
 
 -- one entry is at most one
 only_one : (p : ℕ) (e : Entry) → AtMostOne (is_of p) (e ∷ [])
@@ -82,15 +80,15 @@ one_more_is_cut h log batch part step begin is =
     }
 
 -- what a crash leaves of the one log is a cut of every history of it
-kept_is_cut : (told : Told) (ends : LogEnds) (cause : Cause) (unlogged : Option Batch) (log : List Batch) (growth : Growth) (image : List ℕ)
+kept_is_cut : (told : Told) (ends : LogEnds) (cause : Cause) (unlogged : Option Batch) (log : List Batch) (image : List ℕ)
     → ((batch : Batch) → unlogged ≡ Some batch → IsStep 1 1 log batch × (batch.begin ≡ length log))
-    → (h : List Entry) → IsHistory 1 h → part_of 1 h ≡ log → IsKept told ends cause unlogged log image → AreCut 1 h (image ∷ []) (growth ∷ [])
-kept_is_cut told ends cause unlogged log growth image left h is part (inl stands) = record {
+    → (h : List Entry) → IsHistory 1 h → part_of 1 h ≡ log → IsKept told ends cause unlogged log image → AreCut 1 h (image ∷ [])
+kept_is_cut told ends cause unlogged log image left h is part (inl stands) = record {
   cut = h;
   is = whole_is_cut 1 h;
   stand = (subst (λ (l : List Batch). Stands image (bodies_of l)) (sym part) stands, tt);
 }
-kept_is_cut told ends cause unlogged log growth image left h is part (inr kept) =
+kept_is_cut told ends cause unlogged log image left h is part (inr kept) =
     let batch : Batch = kept.0.0 in
     let next = left batch kept.0.1 in
     let e : Entry = as_entry 1 batch in
@@ -102,12 +100,13 @@ kept_is_cut told ends cause unlogged log growth image left h is part (inr kept) 
     }
 
 -- the same for the list of the one image
-pub cut_at_end : (told : Told) (ends : LogEnds) (images : ℕ → List ℕ → Type 0) (cause : Cause) (unlogged : Option Batch) (log : List Batch) (growth : Growth) (places : List ℕ)
-    → ((batch : Batch) → unlogged ≡ Some batch → IsStep 1 1 log batch × (batch.begin ≡ length log))
-    → growth.opened ++ growth.made ≡ log
-    → ((image : List ℕ) → images 0 image → IsKept told ends cause unlogged log image)
-    → (h : List Entry) → IsHistory 1 h → HaveWhole h (places ∷ []) (growth ∷ []) → (kept : List (List ℕ)) → length kept ≡ 1 → AreImages images kept → AreCut 1 h kept (growth ∷ [])
-cut_at_end told ends images cause unlogged log growth places left whole may h is has [] one are = absurd (omega (arith, one))
-cut_at_end told ends images cause unlogged log growth places left whole may h is has (image ∷ []) one are =
-    kept_is_cut told ends cause unlogged log growth image left h is (has.0 ∙ whole) (may image (are 0 image refl))
-cut_at_end told ends images cause unlogged log growth places left whole may h is has (image ∷ other ∷ kept) one are = absurd (omega (arith, one))
+pub cut_at_end : (told : Told) (ends : LogEnds) (images : ℕ → List ℕ → Type 0) (cause : Cause) (unlogged : Option Batch) (opened made : List Batch)
+    → ((batch : Batch) → unlogged ≡ Some batch → IsStep 1 1 (opened ++ made) batch × (batch.begin ≡ length (opened ++ made)))
+    → ((image : List ℕ) → images 1 image → IsKept told ends cause unlogged (opened ++ made) image)
+    → (base : List Entry) → parts_of 1 base ≡ opened ∷ [] → IsHistory 1 (base ++ entries_of 1 made)
+    → (kept : List (List ℕ)) → length kept ≡ 1 → AreImages images kept → AreCut 1 (base ++ entries_of 1 made) kept
+cut_at_end told ends images cause unlogged opened made left may base has is [] one are = absurd (omega (arith, one))
+cut_at_end told ends images cause unlogged opened made left may base has is (image ∷ []) one are =
+    let part : part_of 1 (base ++ entries_of 1 made) ≡ opened ++ made = part_of_joined 1 base (entries_of 1 made) ∙ rw (part_alone base opened has, part_of_entries 1 made) refl in
+    kept_is_cut told ends cause unlogged (opened ++ made) image left (base ++ entries_of 1 made) is part (may image (are 0 image refl))
+cut_at_end told ends images cause unlogged opened made left may base has is (image ∷ other ∷ kept) one are = absurd (omega (arith, one))

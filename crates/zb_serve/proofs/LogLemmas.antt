@@ -22,8 +22,7 @@ use Rattle.zb_partition.specs.Partition.{disk_of, in_writing, HasLog}
 use Rattle.zb_partition.specs.Stopping.{IsLeft, IsHurt, IsStepOf, IsStopCause, IsStopped, IsLogOrMore}
 use Rattle.zb_partition.specs.declared.partition.Partition.{Partition}
 use Rattle.zb_serve.specs.Log.{IsFront}
-use Rattle.zb_serve.specs.Ledger.{AreMadeBatches, IsOpen, IsStored, IsGrown, IsHeldUp}
-use Rattle.zb_serve.specs.Served.{IsStamped}
+use Rattle.zb_serve.specs.Ledger.{IsStamped, AreMadeBatches, IsOpen, IsStored, IsGrown, IsHeldUp}
 use Rattle.zb_serve.proofs.ListLemmas.{range_with_len_more, AllZip_more, append_none}
 
 -- a count that rose later rose

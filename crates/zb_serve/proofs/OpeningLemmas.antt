@@ -5,7 +5,7 @@ use Rattle.zb_disk.specs.Disk.{DiskView}
 use Rattle.zb_disk.specs.declared.disk.Disk.{Ghosts}
 use Rattle.zb_lines.specs.TakenLaws.{takes_nothing}
 use Rattle.zb_model.specs.declared.record.Batch.{Batch}
-use Rattle.zb_rules.specs.StepLaws.{are_steps_none}
+use Rattle.zb_rules.specs.StepLaws.{are_steps_none, each_on_none}
 use Rattle.zb_store.specs.Calls.{OnlyOpens, LeftByOpening, IsByFirstCall, Settles}
 use Rattle.zb_store.specs.Stands.{Stands}
 use Rattle.zb_partition.specs.Log.{bodies_of, AreBatches, IsApplied, IsBadAt}
@@ -17,6 +17,7 @@ use Rattle.zb_serve.specs.Ledger.{AreMadeBatches, IsStored}
 use Rattle.zb_serve.specs.Served.{FailsToOpen}
 use Rattle.zb_serve.specs.Hours.{RunSetting}
 use Rattle.zb_serve.specs.Serving.{RunStart, now_of, Clocks, AreAt, IsServing, open_cause_of}
+use Rattle.zb_serve.specs.Serial.{IsServed}
 use Rattle.zb_serve.specs.Session.{most_taken}
 use Rattle.zb_serve.proofs.ListLemmas.{append_none}
 
@@ -71,13 +72,16 @@ serving_first told setting start disk before images since Has clocks opened has 
       taken = [];
       lines = [];
       answers = [];
+      batches = [];
       takes = takes_nothing told.source start.source;
       spent = refl;
       whole = refl;
       each = tt;
       count = refl;
       clock = at;
-      are = tt;
+      replied = tt;
+      serial = each_on_none (IsServed setting.hours (opened ∷ [])) [];
+      entries = refl;
       sent = λ t. append_none start.sink.written;
       stood = stood;
       applied = applied;

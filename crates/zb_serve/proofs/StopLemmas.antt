@@ -15,23 +15,30 @@ use Rattle.zb_lines.specs.Taken.{TakesBytes}
 use Rattle.zb_lines.specs.Line.{IsOneLine, ended, Comes, IsAtEnd}
 use Rattle.zb_lines.specs.declared.reader.Next.{Next}
 use Rattle.zb_lines.specs.declared.reader.Next.TheVariants as nexts
-use Rattle.zb_serve.specs.Ends.{Told}
+use Rattle.zb_serve.specs.Ends.{Told, EachFrom}
+use Rattle.zb_wire.specs.declared.request.Request.{Request}
+use Rattle.std.proofs.lemmas.List.{map-append}
 use Rattle.zb_wire.specs.Request.{request_of}
 use Rattle.zb_serve.specs.Hours.{is_manual, RunSetting}
 use Rattle.zb_serve.specs.Ledger.{IsGrown}
-use Rattle.zb_serve.specs.Log.{IsFront, IsKept, WasLeft}
+use Rattle.zb_serve.specs.Log.{IsFront, IsKept}
 use Rattle.zb_serve.specs.Serving.{RunStart, Now, now_of, Clocks, session_ends, log_ends, IsSteady, IsServing, ComesNext, IsReplied, IsUnsent, IsUnanswered, IsForgotten, IsHalted, IsSinkEnd, IsLineEnd, IsOver, GoesOn, cause_of, goes_on, source_end_of}
-use Rattle.zb_serve.specs.Session.{Answer, IsAnswer, AreAnswers, IsSent, batches_of, replies_of, most_taken}
+use Rattle.zb_model.specs.declared.record.Command.{Command}
+use Rattle.zb_world.specs.Entries.{Entry, as_entry, entries_of}
+use Rattle.zb_serve.specs.Reply.{Answer, IsAnswer}
+use Rattle.zb_serve.specs.Serial.{entries_made, IsNextEntry, AreMadeFor, IsServed, AreSerial}
+use Rattle.zb_serve.specs.Session.{IsSent, replies_of, most_taken}
+use Rattle.zb_serve.proofs.SerialLemmas.{at_one, next_alone}
 use Rattle.zb_serve.specs.declared.run.Cause.{Cause}
 use Rattle.zb_serve.specs.declared.run.Cause.TheVariants as causes
 use Rattle.zb_serve.specs.declared.run.End.{End}
 use Rattle.zb_serve.specs.declared.run.End.TheVariants as ends
 use Rattle.zb_serve.proofs.ListLemmas.{append_none}
 use Rattle.zb_serve.proofs.LogLemmas.{rose_since, front_grows, front_behind}
-use Rattle.zb_serve.proofs.StreamLemmas.{IsStream, IsBehind, length-lines, splits, stream_cut, stream_within, stream_end, stream_last, stream_line, stream_on, batches_of_more, replies_of_more}
+use Rattle.zb_serve.proofs.StreamLemmas.{IsStream, IsBehind, length-lines, splits, stream_cut, stream_within, stream_end, stream_last, stream_line, stream_on, replies_of_more}
 use Rattle.zb_serve.proofs.EndLemmas.{IsNamed, IsLeftOver, IsLeftUndone, held_stored, over}
 use Rattle.zb_serve.proofs.HaltLemmas.{kept_by, halted_held, halted_named, halted_why}
-use Rattle.zb_serve.proofs.TurnLemmas.{past_of, behind, answered, IsLater, turn_on, ever_more, opening_more, no_more, named_memory, named_done, named_source, named_full, named_sink, short}
+use Rattle.zb_serve.proofs.TurnLemmas.{past_of, behind, replied_more, serial_more, entries_then, IsLater, turn_on, ever_more, opening_more, no_more, named_memory, named_done, named_source, named_full, named_sink, short}
 
 none_left : (log : List Batch) (batch : Batch) → None ≡ Some batch → IsLeftOver log batch
 none_left log batch e = absurd (cc)
@@ -52,7 +59,7 @@ module _ (told : Told) (setting : RunSetting) (start : RunStart) (before : List 
   mid = now_of source old.sink old.disk
 
   abbrev log : List Batch
-  log = s.opened ++ batches_of s.answers
+  log = s.opened ++ s.batches
 
   was : IsBehind told.source start.source source s.lines (held ++ more)
   was = behind told setting start before old images gone Has places clocks held budget number s left source more takes spends
@@ -60,8 +67,8 @@ module _ (told : Told) (setting : RunSetting) (start : RunStart) (before : List 
   ends_by : (cause : Cause) (unserved : List (List ℕ)) (at_end : Bool) → IsStream told.source start.source source s.lines unserved at_end → IsNamed told setting.limit start mid log None unserved at_end cause
       → IsOver told setting start mid before images gone places cause
   ends_by cause unserved at_end stream named =
-      over told setting start mid before images gone places cause s.lines unserved at_end s.answers s.opened (batches_of s.answers) [] None s.opened_at s.by_first (append_none (batches_of s.answers))
-      stream s.are (λ t. inl (s.sent t)) s.stood s.applied s.made (held_stored told (log_ends start mid) images cause None log s.stored)
+      over told setting start mid before images gone places cause s.lines unserved at_end s.answers s.opened s.batches [] None s.opened_at s.by_first (sym (append_none (entries_made s.answers)) ∙ s.entries)
+      stream s.replied s.serial (λ t. inl (s.sent t)) s.stood s.applied s.made (held_stored told (log_ends start mid) images cause None log s.stored)
       (λ t image was. inl (s.ever t image was)) s.opening
       named (inl (refl, refl)) (none_left log)
 
@@ -127,18 +134,27 @@ module _ (told : Told) (setting : RunSetting) (start : RunStart) (before : List 
   abbrev new : Now
   new = now_of source sink disk
 
-  abbrev made : List Batch
-  made = batches_of s.answers
+  -- the lines with one more, and its answer
+  with_reply : (answer : Answer) → IsAnswer (is_manual setting.hours) number line answer → EachFrom (IsAnswer (is_manual setting.hours)) 1 (s.lines ++ line ∷ []) (s.answers ++ answer ∷ [])
+  with_reply answer is = replied_more told setting start before old images gone Has places clocks held budget number s line answer is
 
-  -- the answers with one more
-  with_answer : (answer : Answer) → IsAnswer setting.hours (s.opened ++ made) s.lines line answer → AreAnswers setting.hours s.opened [] (s.lines ++ line ∷ []) (s.answers ++ answer ∷ [])
-  with_answer answer is = answered told setting start before old images gone Has places clocks held budget number s line answer is
+  with_answer : (answer : Answer) → IsServed setting.hours (s.opened ∷ []) s.answers answer → AreSerial setting.hours (s.opened ∷ []) (s.answers ++ answer ∷ [])
+  with_answer answer served = serial_more told setting start before old images gone Has places clocks held budget number s answer served
+
+  -- its entries are the batches that were made
+  with_entries : (answer : Answer) (batches : List Batch) → answer.entries ≡ entries_of 1 batches → entries_made (s.answers ++ answer ∷ []) ++ [] ≡ entries_of 1 (s.batches ++ batches)
+  with_entries answer batches made = sym (append_none (entries_made (s.answers ++ answer ∷ []))) ∙ entries_then told setting start before old images gone Has places clocks held budget number s answer batches made
+
+  -- and behind them those of a line that was not answered
+  entries_behind : (batches : List Batch) → entries_made s.answers ++ entries_of 1 batches ≡ entries_of 1 (s.batches ++ batches)
+  entries_behind batches = ap (λ (es : List Entry). es ++ entries_of 1 batches) s.entries ∙ sym (map-append (as_entry 1) s.batches batches)
 
   -- what a crash might have left, once the log has grown
-  ever_grown : (cause : Cause) (unlogged : Option Batch) (batches : List Batch) → (IsTrue told.images → LeavesOnly old.disk.moment disk.moment gone since (IsFront (s.opened ++ made) batches))
-      → IsTrue told.images → (image : List ℕ) → since s.opened_at image → WasLeft told (log_ends start new) cause unlogged (record { opened = s.opened; made = made ++ batches; opened_at = s.opened_at }) image
+  ever_grown : (cause : Cause) (unlogged : Option Batch) (batches : List Batch) → (IsTrue told.images → LeavesOnly old.disk.moment disk.moment gone since (IsFront (s.opened ++ s.batches) batches))
+      → IsTrue told.images → (image : List ℕ) → since s.opened_at image
+      → IsFront s.opened (s.batches ++ batches) image ⊎ IsKept told (log_ends start new) cause unlogged (s.opened ++ (s.batches ++ batches)) image
   ever_grown cause unlogged batches time t image was =
-      inl (ever_more s.opened made batches s.opened_at old.disk.moment disk.moment gone since (s.later t) (s.ever t) (time t) image was)
+      inl (ever_more s.opened s.batches batches s.opened_at old.disk.moment disk.moment gone since (s.later t) (s.ever t) (time t) image was)
 
   -- and since the run began
   opening_then : (P : List ℕ → Type 0) → (IsTrue told.images → LeavesOnly old.disk.moment disk.moment gone since P)
@@ -154,15 +170,14 @@ module _ (told : Told) (setting : RunSetting) (start : RunStart) (before : List 
   source_then t = source_steady t ∙ s.steady.source t
 
   -- the line was answered, and its reply was not written whole
-  stops_unsent : (in_writing : Option Batch) (end : End) → IsUnsent told setting (past_of s.lines s.opened s.answers) line middle new images' gone since Has' places' clocks' end
+  stops_unsent : (in_writing : Option Batch) (end : End) → IsUnsent told setting (past_of number s.answers s.opened s.batches) line middle new images' gone since Has' places' clocks' end
       → (IsTrue told.disk_counts → disk.faults ≡ old.disk.faults) → IsOver told setting start new before images' since places' (cause_of in_writing end)
   stops_unsent in_writing end unsent steady =
       let a = unsent.answered in
-      let answer : Answer = record { reading = a.reading; batches = a.batches; reply = unsent.reply } in
-      let split : made ++ a.batches ≡ batches_of (s.answers ++ answer ∷ []) ++ [] = sym (batches_of_more s.answers answer) ∙ append_none (batches_of (s.answers ++ answer ∷ [])) in
-      over told setting start new before images' since places' (cause_of in_writing end) (s.lines ++ line ∷ []) unserved at_end (s.answers ++ answer ∷ []) s.opened (made ++ a.batches) [] None s.opened_at s.by_first split
+      let answer = a.answer in
+      over told setting start new before images' since places' (cause_of in_writing end) (s.lines ++ line ∷ []) unserved at_end (s.answers ++ answer ∷ []) s.opened (s.batches ++ a.batches) [] None s.opened_at s.by_first (with_entries answer a.batches a.made)
       (stream_on told.source start.source source s.lines line unserved at_end stream)
-      (with_answer answer a.is)
+      (with_reply answer a.is) (with_answer answer a.served)
       (λ t.
       let n = (unsent.sent t).0 in
       inr (
@@ -170,36 +185,41 @@ module _ (told : Told) (setting : RunSetting) (start : RunStart) (before : List 
         answer,
         n,
         refl,
-        (unsent.sent t).1 ∙ ap (λ bs. bs ++ take n answer.reply) (s.sent t) ∙ append_assoc start.sink.written (replies_of s.answers) (take n answer.reply),
+        (unsent.sent t).1 ∙ ap (λ reply. old.sink.written ++ take n reply) (sym a.written) ∙ ap (λ bs. bs ++ take n answer.reply) (s.sent t) ∙ append_assoc start.sink.written (replies_of s.answers) (take n answer.reply),
         short told start new old.sink in_writing end unsent.named s.sink_later,
       ))
       s.stood s.applied a.grown.made
-      (held_stored told (log_ends start new) images' (cause_of in_writing end) None (s.opened ++ (made ++ a.batches)) a.grown.stored)
+      (held_stored told (log_ends start new) images' (cause_of in_writing end) None (s.opened ++ (s.batches ++ a.batches)) a.grown.stored)
       (ever_grown (cause_of in_writing end) None a.batches a.grown.time)
       (opening_then _ a.grown.time)
-      (named_sink told setting.limit start middle new (s.opened ++ (made ++ a.batches)) unserved at_end in_writing end unsent.named s.sink_later (disk_then steady) source_then)
+      (named_sink told setting.limit start middle new (s.opened ++ (s.batches ++ a.batches)) unserved at_end in_writing end unsent.named s.sink_later (disk_then steady) source_then)
       (inl (refl, refl))
-      (none_left (s.opened ++ (made ++ a.batches)))
+      (none_left (s.opened ++ (s.batches ++ a.batches)))
 
   -- nothing more was written
   silent : (cause : Cause) → sink ≡ old.sink → IsTrue told.sink → IsSent told 1 (session_ends start new) cause s.answers
   silent cause same t = inl (ap (λ (v : SinkView). v.written) same ∙ s.sent t)
 
   -- memory ran out, and the line's batches are in the log
-  stops_grown : sink ≡ old.sink → (IsTrue told.disk_counts → disk.faults ≡ old.disk.faults) → (batches : List Batch) → IsGrown told.disk told.images setting.limit old.disk disk images' gone since Has' places' s.opened made batches
-      → IsLeftUndone setting.hours (s.opened ++ made) s.lines (line ∷ unserved) causes.Memory batches None → IsOver told setting start new before images' since places' causes.Memory
+  stops_grown : sink ≡ old.sink → (IsTrue told.disk_counts → disk.faults ≡ old.disk.faults) → (batches : List Batch) → IsGrown told.disk told.images setting.limit old.disk disk images' gone since Has' places' s.opened s.batches batches
+      → IsLeftUndone setting.hours s.opened s.answers (line ∷ unserved) causes.Memory batches None → IsOver told setting start new before images' since places' causes.Memory
   stops_grown same steady batches grown undone =
-      over told setting start new before images' since places' causes.Memory s.lines (line ∷ unserved) at_end s.answers s.opened (made ++ batches) batches None s.opened_at s.by_first refl
-      stream s.are (silent causes.Memory same) s.stood s.applied grown.made
-      (held_stored told (log_ends start new) images' causes.Memory None (s.opened ++ (made ++ batches)) grown.stored)
+      over told setting start new before images' since places' causes.Memory s.lines (line ∷ unserved) at_end s.answers s.opened (s.batches ++ batches) batches None s.opened_at s.by_first (entries_behind batches)
+      stream s.replied s.serial (silent causes.Memory same) s.stood s.applied grown.made
+      (held_stored told (log_ends start new) images' causes.Memory None (s.opened ++ (s.batches ++ batches)) grown.stored)
       (ever_grown causes.Memory None batches grown.time)
       (opening_then _ grown.time)
-      (named_memory told setting.limit start new (s.opened ++ (made ++ batches)) None (line ∷ unserved) at_end (disk_then steady) (no_more setting.limit (s.opened ++ (made ++ batches))))
+      (named_memory told setting.limit start new (s.opened ++ (s.batches ++ batches)) None (line ∷ unserved) at_end (disk_then steady) (no_more setting.limit (s.opened ++ (s.batches ++ batches))))
       undone
-      (none_left (s.opened ++ (made ++ batches)))
+      (none_left (s.opened ++ (s.batches ++ batches)))
+
+  -- what a request made behind the batches that had been made, it made behind the answers
+  behind_answers : (request : Request) (reading : ℕ) (batches : List Batch) → AreMadeFor (s.opened ∷ []) request reading (entries_of 1 s.batches) (entries_of 1 batches)
+      → AreMadeFor (s.opened ∷ []) request reading (entries_made s.answers) (entries_of 1 batches)
+  behind_answers request reading batches are = subst (λ (earlier : List Entry). AreMadeFor (s.opened ∷ []) request reading earlier (entries_of 1 batches)) (sym s.entries) are
 
   -- memory ran out while the line was answered
-  stops_forgotten : sink ≡ old.sink → (IsTrue told.disk_counts → disk.faults ≡ old.disk.faults) → IsForgotten told.disk told.images setting (past_of s.lines s.opened s.answers) line old.disk disk images' gone since Has' places'
+  stops_forgotten : sink ≡ old.sink → (IsTrue told.disk_counts → disk.faults ≡ old.disk.faults) → IsForgotten told.disk told.images setting (past_of number s.answers s.opened s.batches) line old.disk disk images' gone since Has' places'
       → IsOver told setting start new before images' since places' causes.Memory
   stops_forgotten same steady (inl grown) = stops_grown same steady [] grown (inl (refl, refl))
   stops_forgotten same steady (inr (asks, dropped)) = stops_grown same steady dropped.batches dropped.grown (inr (record {
@@ -210,27 +230,27 @@ module _ (told : Told) (setting : RunSetting) (start : RunStart) (before : List 
     asks = asks.is;
     reading = asks.reading;
     read = asks.read;
-    made = dropped.each;
+    made = behind_answers asks.request asks.reading dropped.batches dropped.each;
     next = λ batch e. absurd (cc);
     why = tt;
   }))
 
   -- it stopped the partition
-  stops_halted : (in_writing : Option Batch) (stop : Stop) → sink ≡ old.sink → IsHalted told.disk told.images told.disk_memory setting (past_of s.lines s.opened s.answers) line old.disk disk images' gone since places' in_writing stop
+  stops_halted : (in_writing : Option Batch) (stop : Stop) → sink ≡ old.sink → IsHalted told.disk told.images told.disk_memory setting (past_of number s.answers s.opened s.batches) line old.disk disk images' gone since places' in_writing stop
       → (IsTrue told.disk_counts → (stop ≡ stops.DiskFault → ⊥) → disk.faults ≡ old.disk.faults) → IsOver told setting start new before images' since places' (cause_of in_writing (ends.Stopped stop))
   stops_halted in_writing stop same (asks, cut) steady =
       let cause = cause_of in_writing (ends.Stopped stop) in
       let h = cut.held in
-      let log = s.opened ++ (made ++ cut.more) in
+      let log = s.opened ++ (s.batches ++ cut.more) in
       let Left : List ℕ → Type 0 = IsLeft (IsHurt told.disk_memory old.disk.faults disk.faults) log in_writing in
       let kept : (image : List ℕ) → Left image → IsKept told (log_ends start new) cause h.refused log image =
       kept_by told setting.limit start middle new images' log h.refused in_writing s.disk_later in_writing refl stop h.cause in
-      over told setting start new before images' since places' cause s.lines (line ∷ unserved) at_end s.answers s.opened (made ++ cut.more) cut.more h.refused s.opened_at s.by_first refl
-      stream s.are (silent cause same) s.stood s.applied h.made
+      over told setting start new before images' since places' cause s.lines (line ∷ unserved) at_end s.answers s.opened (s.batches ++ cut.more) cut.more h.refused s.opened_at s.by_first (entries_behind cut.more)
+      stream s.replied s.serial (silent cause same) s.stood s.applied h.made
       (halted_held told setting.limit start middle new images' log h.refused in_writing s.disk_later stop h.cause h.file h.crash)
       (λ t image was. ⊎_elim
-      (λ earlier. inl (front_grows s.opened made cut.more image (s.ever t image earlier)))
-      (λ later. ⊎_elim (λ front. inl (front_behind s.opened made cut.more image front)) (λ left. inr (kept image left)) later)
+      (λ earlier. inl (front_grows s.opened s.batches cut.more image (s.ever t image earlier)))
+      (λ later. ⊎_elim (λ front. inl (front_behind s.opened s.batches cut.more image front)) (λ left. inr (kept image left)) later)
       ((h.time t).nothing_else s.opened_at image (s.later t) was))
       (opening_then _ h.time)
       (halted_named told setting.limit start middle new images' log h.refused in_writing s.disk_later (line ∷ unserved) at_end stop h.cause (λ t other. steady t other ∙ s.steady.disk t))
@@ -242,15 +262,16 @@ module _ (told : Told) (setting : RunSetting) (start : RunStart) (before : List 
         asks = asks.is;
         reading = asks.reading;
         read = asks.read;
-        made = cut.each;
+        made = behind_answers asks.request asks.reading cut.more cut.each;
         next = λ batch is.
             let next = h.next batch is in
-            record { command = cut.next ∙ ap Some (sym next.command); moment = next.moment ∙ ap (λ (l : List Batch). max (moment_of_last l) asks.reading) (sym (append_assoc s.opened made cut.more)) };
+            subst (λ (earlier : List Entry). IsNextEntry (s.opened ∷ []) asks.request asks.reading earlier (entries_of 1 cut.more) (as_entry 1 batch)) (sym s.entries)
+            (next_alone s.opened s.batches cut.more asks.request asks.reading batch (cut.next ∙ ap (λ (c : Command). Some (at_one c)) (sym next.command)) next.moment next.begin);
         why = halted_why told setting.limit start middle new images' log h.refused in_writing s.disk_later stop h.cause;
       }))
       (λ batch is. let next = h.next batch is in (next.step, next.begin))
 
-  stops_unanswered : (in_writing : Option Batch) (end : End) → sink ≡ old.sink → IsUnanswered told.disk told.images told.disk_memory setting (past_of s.lines s.opened s.answers) line old.disk disk images' gone since Has' places' in_writing end
+  stops_unanswered : (in_writing : Option Batch) (end : End) → sink ≡ old.sink → IsUnanswered told.disk told.images told.disk_memory setting (past_of number s.answers s.opened s.batches) line old.disk disk images' gone since Has' places' in_writing end
       → IsSteadyBut told old.disk disk end → IsOver told setting start new before images' since places' (cause_of in_writing end)
   stops_unanswered in_writing ends.Memory same why steady = stops_forgotten same (λ t. steady t (λ e. absurd (cc))) why
   stops_unanswered in_writing (ends.Stopped stop) same why steady = stops_halted in_writing stop same why (λ t other. steady t (λ e. other (cc)))
@@ -260,35 +281,34 @@ module _ (told : Told) (setting : RunSetting) (start : RunStart) (before : List 
   stops_unanswered in_writing ends.InputFull same why steady = absurd why
 
   -- a line ended the run
-  pub stops_line : (in_writing : Option Batch) (end : End) → IsLineEnd told setting (past_of s.lines s.opened s.answers) line middle new images' gone since Has' places' clocks' in_writing end
+  pub stops_line : (in_writing : Option Batch) (end : End) → IsLineEnd told setting (past_of number s.answers s.opened s.batches) line middle new images' gone since Has' places' clocks' in_writing end
       → IsSteadyBut told old.disk disk end → IsOver told setting start new before images' since places' (cause_of in_writing end)
   stops_line in_writing end (inl unsent) steady = stops_unsent in_writing end unsent (λ t. steady t (sink_not_disk told middle.sink new.sink end unsent.named))
   stops_line in_writing end (inr (same, why)) steady = stops_unanswered in_writing end same why steady
 
   -- the last line was served
-  pub stops_served : unserved ≡ [] → at_end ≡ true → IsReplied told setting (past_of s.lines s.opened s.answers) line middle new images' gone since Has' places' clocks'
+  pub stops_served : unserved ≡ [] → at_end ≡ true → IsReplied told setting (past_of number s.answers s.opened s.batches) line middle new images' gone since Has' places' clocks'
       → IsLater told old source sink disk → IsOver told setting start new before images' since places' causes.Done
   stops_served none end replied later =
       let a = replied.answered in
-      let answer : Answer = record { reading = a.reading; batches = a.batches; reply = replied.reply } in
-      let split : made ++ a.batches ≡ batches_of (s.answers ++ answer ∷ []) ++ [] = sym (batches_of_more s.answers answer) ∙ append_none (batches_of (s.answers ++ answer ∷ [])) in
+      let answer = a.answer in
       let last : IsStream told.source start.source source (s.lines ++ line ∷ []) [] true =
       subst (λ (b : Bool). IsStream told.source start.source source (s.lines ++ line ∷ []) [] b) end
       (subst (λ (more : List (List ℕ)). IsStream told.source start.source source (s.lines ++ line ∷ []) more at_end) none (stream_on told.source start.source source s.lines line unserved at_end stream)) in
-      over told setting start new before images' since places' causes.Done (s.lines ++ line ∷ []) [] true (s.answers ++ answer ∷ []) s.opened (made ++ a.batches) [] None s.opened_at s.by_first split last
-      (with_answer answer a.is)
-      (λ t. inl (replied.sent t ∙ ap (λ bs. bs ++ answer.reply) (s.sent t) ∙ append_assoc start.sink.written (replies_of s.answers) answer.reply ∙ ap (λ bs. start.sink.written ++ bs) (sym (replies_of_more s.answers answer))))
+      over told setting start new before images' since places' causes.Done (s.lines ++ line ∷ []) [] true (s.answers ++ answer ∷ []) s.opened (s.batches ++ a.batches) [] None s.opened_at s.by_first (with_entries answer a.batches a.made) last
+      (with_reply answer a.is) (with_answer answer a.served)
+      (λ t. inl (replied.sent t ∙ ap (λ reply. old.sink.written ++ reply) (sym a.written) ∙ ap (λ bs. bs ++ answer.reply) (s.sent t) ∙ append_assoc start.sink.written (replies_of s.answers) answer.reply ∙ ap (λ bs. start.sink.written ++ bs) (sym (replies_of_more s.answers answer))))
       s.stood s.applied a.grown.made
-      (held_stored told (log_ends start new) images' causes.Done None (s.opened ++ (made ++ a.batches)) a.grown.stored)
+      (held_stored told (log_ends start new) images' causes.Done None (s.opened ++ (s.batches ++ a.batches)) a.grown.stored)
       (ever_grown causes.Done None a.batches a.grown.time)
       (opening_then _ a.grown.time)
-      (named_done told setting.limit start new (s.opened ++ (made ++ a.batches)) (record {
+      (named_done told setting.limit start new (s.opened ++ (s.batches ++ a.batches)) (record {
         source = λ t. later.source_steady t ∙ s.steady.source t;
         sink = λ t. later.sink_steady t ∙ s.steady.sink t;
         disk = λ t. later.disk_steady t ∙ s.steady.disk t;
       }))
       (inl (refl, refl))
-      (none_left (s.opened ++ (made ++ a.batches)))
+      (none_left (s.opened ++ (s.batches ++ a.batches)))
 
 -- the line that came next, where one did: the first one, or the last one without a newline
 abbrev pub line_in : (held more : List ℕ) (most : ℕ) (next : Next) (left shown : List ℕ) → Comes most (Ok next) (held ++ more) left shown → List ℕ
@@ -309,10 +329,11 @@ shown_in held more most nexts.Full left shown came other some = absurd (some ref
 pub comes_next : (told : Told) (setting : RunSetting) (start : RunStart) (now : Now) (before images : List ℕ → Type 0) (since : ℕ → List ℕ → Type 0) (Has : List Batch → Type 0) (places : List ℕ) (clocks : Clocks) (held : List ℕ) (budget number : ℕ)
     → (s : IsServing told setting start now before images since Has places clocks held budget number) → (most : ℕ) (more left shown : List ℕ) (next : Next) → next ≢ nexts.End → next ≢ nexts.Full → (came : Comes most (Ok next) (held ++ more) left shown)
     → ((line : List ℕ) → request_of (is_manual setting.hours) (take most line) ≡ request_of (is_manual setting.hours) line)
-    → ComesNext setting (past_of s.lines s.opened s.answers) Has places clocks number (line_in held more most next left shown came) shown
+    → ComesNext setting (past_of number s.answers s.opened s.batches) Has places clocks number (line_in held more most next left shown came) shown
 comes_next told setting start now before images since Has places clocks held budget number s most more left shown next other some came decides = record {
-  count = s.count;
+  count = refl;
   clock = s.clock;
+  entries = s.entries;
   made = s.made;
   has = s.has;
   same = ap (request_of (is_manual setting.hours)) (shown_in held more most next left shown came other some) ∙ decides (line_in held more most next left shown came);
@@ -334,7 +355,7 @@ module _ (told : Told) (setting : RunSetting) (start : RunStart) (before : List 
 
   -- and served
   pub turn_served : (in_writing : Option Batch) (next : Next) → next ≢ nexts.End → next ≢ nexts.Full → (came : Comes most (Ok next) (held ++ more) left shown) → (IsAtEnd (Ok next) → IsTrue told.source → source.left ≡ [])
-      → IsReplied told setting (past_of s.lines s.opened s.answers) (line_in held more most next left shown came) at_line then images' gone since Has' places' clocks'
+      → IsReplied told setting (past_of number s.answers s.opened s.batches) (line_in held more most next left shown came) at_line then images' gone since Has' places' clocks'
       → IsLater told old source sink disk
       → GoesOn told setting start then before images' since Has' places' clocks' left budget' number in_writing (Ok (goes_on next))
   turn_served in_writing nexts.Line other some came end replied later =
@@ -348,7 +369,7 @@ module _ (told : Told) (setting : RunSetting) (start : RunStart) (before : List 
 
   -- and ended the run
   pub turn_stopped : (in_writing : Option Batch) (next : Next) → next ≢ nexts.End → next ≢ nexts.Full → (came : Comes most (Ok next) (held ++ more) left shown) → (IsAtEnd (Ok next) → IsTrue told.source → source.left ≡ []) → (end : End)
-      → IsLineEnd told setting (past_of s.lines s.opened s.answers) (line_in held more most next left shown came) at_line then images' gone since Has' places' clocks' in_writing end
+      → IsLineEnd told setting (past_of number s.answers s.opened s.batches) (line_in held more most next left shown came) at_line then images' gone since Has' places' clocks' in_writing end
       → (IsTrue told.source_counts → source.faults ≡ old.source.faults) → IsSteadyBut told old.disk disk end
       → IsOver told setting start then before images' since places' (cause_of in_writing end)
   turn_stopped in_writing nexts.Line other some came at_end end ended source_steady steady =

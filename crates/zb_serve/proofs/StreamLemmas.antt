@@ -7,9 +7,8 @@ use Rattle.std.specs.List.{flat_map, AllByRecursion}
 use Rattle.zb_outside.specs.Stream.{SourceView}
 use Rattle.zb_lines.specs.Taken.{TakesBytes}
 use Rattle.zb_lines.specs.Line.{newline, IsOneLine, ended, AreLines}
-use Rattle.zb_model.specs.declared.record.Batch.{Batch}
-use Rattle.zb_serve.specs.Hours.{Hours}
-use Rattle.zb_serve.specs.Session.{Answer, IsAnswer, AreAnswers, batches_of, replies_of, last_line, most_taken}
+use Rattle.zb_serve.specs.Reply.{Answer}
+use Rattle.zb_serve.specs.Session.{replies_of, last_line, most_taken}
 
 -- the lines of some bytes
 pub record Splits (bytes : List ℕ) : Type 0 where
@@ -55,26 +54,7 @@ pub AllByRecursion-append : {A : Type 0} (P : A → Type 0) (xs ys : List A) →
 AllByRecursion-append P [] ys all more = more
 AllByRecursion-append P (x ∷ xs) ys all more = (all.0, AllByRecursion-append P xs ys all.1 more)
 
--- one line and its answer more
-pub are_answers_more : (hours : Hours) (log : List Batch) (before lines : List (List ℕ)) (answers : List Answer) (line : List ℕ) (answer : Answer)
-    → AreAnswers hours log before lines answers → IsAnswer hours (log ++ batches_of answers) (before ++ lines) line answer → AreAnswers hours log before (lines ++ line ∷ []) (answers ++ answer ∷ [])
-are_answers_more hours log before [] [] line answer are is =
-    (subst (λ (b : List (List ℕ)). IsAnswer hours log b line answer) (append-nil before) (subst (λ (l : List Batch). IsAnswer hours l (before ++ []) line answer) (append-nil log) is), tt)
-are_answers_more hours log before (first ∷ lines) (given ∷ answers) line answer are is =
-    let same_log : log ++ (given.batches ++ batches_of answers) ≡ (log ++ given.batches) ++ batches_of answers = sym (append_assoc log given.batches (batches_of answers)) in
-    let same_lines : before ++ (first ∷ lines) ≡ (before ++ first ∷ []) ++ lines = sym (append_assoc before (first ∷ []) lines) in (
-      are.0,
-      are_answers_more hours (log ++ given.batches) (before ++ first ∷ []) lines answers line answer are.1
-          (subst (λ (b : List (List ℕ)). IsAnswer hours ((log ++ given.batches) ++ batches_of answers) b line answer) same_lines
-          (subst (λ (l : List Batch). IsAnswer hours l (before ++ (first ∷ lines)) line answer) same_log is)),
-    )
-are_answers_more hours log before [] (given ∷ answers) line answer are is = absurd are
-are_answers_more hours log before (first ∷ lines) [] line answer are is = absurd are
-
--- the batches and the replies of one answer more
-pub batches_of_more : (answers : List Answer) (answer : Answer) → batches_of (answers ++ answer ∷ []) ≡ batches_of answers ++ answer.batches
-batches_of_more answers answer = flat_map-append (λ (a : Answer). a.batches) answers (answer ∷ []) ∙ ap (λ bs. batches_of answers ++ bs) (append-nil answer.batches)
-
+-- the replies of one answer more
 pub replies_of_more : (answers : List Answer) (answer : Answer) → replies_of (answers ++ answer ∷ []) ≡ replies_of answers ++ answer.reply
 replies_of_more answers answer = flat_map-append (λ (a : Answer). a.reply) answers (answer ∷ []) ∙ ap (λ bs. replies_of answers ++ bs) (append-nil answer.reply)
 

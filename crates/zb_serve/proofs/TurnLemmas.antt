@@ -2,7 +2,7 @@
 use Rattle.std.proofs.Common.{◌≡◌, ◌⊎◌, ℕ, ◌+◌, ◌≤◌, List, [], ◌∷◌, ◌++◌, length, Bool, true, false, IsTrue, Option, Some, None, refl, sym, ap, ◌∙◌, subst, inl, inr, ⊎_elim, append_assoc, arith, length-append}
 use Rattle.std.specs.List.{flat_map}
 use Rattle.std.proofs.lemmas.Grind.{flat_map-append}
-use Rattle.std.proofs.lemmas.List.{append-nil}
+use Rattle.std.proofs.lemmas.List.{append-nil, map-append}
 use Rattle.zb_disk.specs.Cause.{Rose}
 use Rattle.zb_disk.specs.Disk.{DiskView}
 use Rattle.zb_outside.specs.Stream.{SourceView, SinkView}
@@ -13,18 +13,24 @@ use Rattle.zb_partition.specs.Log.{bodies_of}
 use Rattle.zb_lines.specs.Taken.{TakesBytes}
 use Rattle.zb_lines.specs.TakenLaws.{takes_on}
 use Rattle.zb_lines.specs.Line.{IsOneLine, ended}
-use Rattle.zb_serve.specs.Ends.{Told}
-use Rattle.zb_serve.specs.Hours.{RunSetting}
+use Rattle.zb_serve.specs.Ends.{Told, EachFrom}
+use Rattle.zb_serve.specs.Hours.{is_manual, RunSetting}
 use Rattle.zb_serve.specs.Ledger.{AreMadeBatches, IsStored}
 use Rattle.zb_serve.specs.Log.{IsFront}
 use Rattle.zb_serve.specs.Serving.{RunStart, Now, now_of, Clocks, Past, IsSteady, IsServing, IsReplied, IsSinkEnd, session_ends, cause_of}
-use Rattle.zb_serve.specs.Session.{Answer, IsAnswer, AreAnswers, IsCutShort, batches_of, replies_of, most_taken}
+use Rattle.zb_rules.specs.StepLaws.{each_on_more}
+use Rattle.zb_world.specs.Entries.{Entry, as_entry, entries_of}
+use Rattle.zb_serve.specs.Reply.{Answer, IsAnswer}
+use Rattle.zb_serve.specs.Serial.{entries_made, IsServed, AreSerial}
+use Rattle.zb_serve.specs.Session.{IsCutShort, replies_of, most_taken}
 use Rattle.zb_serve.specs.declared.run.Cause.TheVariants as causes
 use Rattle.zb_serve.specs.declared.run.End.{End}
 use Rattle.zb_serve.specs.declared.run.End.TheVariants as ends
 use Rattle.zb_serve.proofs.LogLemmas.{rose_since, front_grows, front_behind}
-use Rattle.zb_serve.proofs.StreamLemmas.{IsBehind, AllByRecursion-append, are_answers_more, batches_of_more, replies_of_more}
+use Rattle.zb_serve.proofs.StreamLemmas.{IsBehind, AllByRecursion-append, replies_of_more}
 use Rattle.zb_serve.proofs.EndLemmas.{IsNamed}
+use Rattle.zb_serve.proofs.ListLemmas.{EachFrom_more}
+use Rattle.zb_serve.proofs.SerialLemmas.{entries_more}
 
 -- what a crash might have left since the log was opened, once it has grown
 pub ever_more : (opened made more : List Batch) (at old new : ℕ) (gone since : ℕ → List ℕ → Type 0) → at ≤ old
@@ -50,8 +56,8 @@ pub record IsLater (told : Told) (old : Now) (source : SourceView) (sink : SinkV
   pub disk_steady : IsTrue told.disk_counts → disk.faults ≡ old.disk.faults
 
 -- what lies behind the line that comes next
-abbrev pub past_of : List (List ℕ) → List Batch → List Answer → Past
-past_of lines opened answers = record { lines = lines; opened = opened; made = batches_of answers }
+abbrev pub past_of : ℕ → List Answer → (opened made : List Batch) → Past
+past_of number answers opened made = record { number = number; answers = answers; opened = opened; made = made }
 
 module _ (told : Told) (setting : RunSetting) (start : RunStart) (before : List ℕ → Type 0) (old : Now) (images : List ℕ → Type 0) (gone : ℕ → List ℕ → Type 0) (Has : List Batch → Type 0)
     (places : List ℕ) (clocks : Clocks) (held : List ℕ) (budget number : ℕ) (s : IsServing told setting start old before images gone Has places clocks held budget number) where
@@ -66,46 +72,56 @@ module _ (told : Told) (setting : RunSetting) (start : RunStart) (before : List 
     each = s.each;
   }
 
-  -- the answers with one more
-  pub answered : (line : List ℕ) (answer : Answer) → IsAnswer setting.hours (s.opened ++ batches_of s.answers) s.lines line answer
-      → AreAnswers setting.hours s.opened [] (s.lines ++ line ∷ []) (s.answers ++ answer ∷ [])
-  answered line answer is = are_answers_more setting.hours s.opened [] s.lines s.answers line answer s.are is
+  -- the lines with one more, and its answer
+  pub replied_more : (line : List ℕ) (answer : Answer) → IsAnswer (is_manual setting.hours) number line answer → EachFrom (IsAnswer (is_manual setting.hours)) 1 (s.lines ++ line ∷ []) (s.answers ++ answer ∷ [])
+  replied_more line answer is =
+      let here : number ≡ 1 + length s.lines = omega (arith, s.count) in
+      EachFrom_more (IsAnswer (is_manual setting.hours)) 1 s.lines s.answers line answer s.replied (subst (λ (k : ℕ). IsAnswer (is_manual setting.hours) k line answer) here is)
+
+  pub serial_more : (answer : Answer) → IsServed setting.hours (s.opened ∷ []) s.answers answer → AreSerial setting.hours (s.opened ∷ []) (s.answers ++ answer ∷ [])
+  serial_more answer served = each_on_more (IsServed setting.hours (s.opened ∷ [])) [] s.answers answer s.serial served
+
+  -- with its entries
+  pub entries_then : (answer : Answer) (batches : List Batch) → answer.entries ≡ entries_of 1 batches → entries_made (s.answers ++ answer ∷ []) ≡ entries_of 1 (s.batches ++ batches)
+  entries_then answer batches made = entries_more s.answers answer
+      ∙ ap (λ (es : List Entry). es ++ answer.entries) s.entries ∙ ap (λ (es : List Entry). entries_of 1 s.batches ++ es) made ∙ sym (map-append (as_entry 1) s.batches batches)
 
   -- a line was served: the session goes on behind it
   pub turn_on : (images' : List ℕ → Type 0) (since : ℕ → List ℕ → Type 0) (Has' : List Batch → Type 0) (places' : List ℕ) (clocks' : Clocks) (budget' : ℕ)
       (source : SourceView) (sink : SinkView) (disk : DiskView) (more line left : List ℕ)
       → TakesBytes told.source old.source source more → budget ≡ budget' + length more → IsOneLine line → held ++ more ≡ ended line ++ left
-      → IsReplied told setting (past_of s.lines s.opened s.answers) line (now_of source old.sink old.disk) (now_of source sink disk) images' gone since Has' places' clocks'
+      → IsReplied told setting (past_of number s.answers s.opened s.batches) line (now_of source old.sink old.disk) (now_of source sink disk) images' gone since Has' places' clocks'
       → IsLater told old source sink disk
       → IsServing told setting start (now_of source sink disk) before images' since Has' places' clocks' left budget' (number + 1)
   turn_on images' since Has' places' clocks' budget' source sink disk more line left takes spends one bytes replied later =
       let b = behind budget' source more takes spends in
       let a = replied.answered in
-      let answer : Answer = record { reading = a.reading; batches = a.batches; reply = replied.reply } in
-      let log : batches_of (s.answers ++ answer ∷ []) ≡ batches_of s.answers ++ a.batches = batches_of_more s.answers answer in
+      let answer = a.answer in
       record {
         opened = s.opened;
         taken = b.taken;
         lines = s.lines ++ line ∷ [];
         answers = s.answers ++ answer ∷ [];
+        batches = s.batches ++ a.batches;
         takes = b.takes;
         spent = omega (arith, s.spent, spends, length-append s.taken more);
         whole = b.whole ∙ ap (λ bs. flat_map ended s.lines ++ bs) bytes ∙ rw (flat_map-append ended s.lines (line ∷ []), append-nil (ended line)) (sym (append_assoc (flat_map ended s.lines) (ended line) left));
         each = AllByRecursion-append IsOneLine s.lines (line ∷ []) s.each (one, tt);
         count = omega (arith, s.count, length-append s.lines (line ∷ []));
         clock = a.clock;
-        are = answered line answer a.is;
-        sent = λ t. replied.sent t ∙ ap (λ bs. bs ++ answer.reply) (s.sent t) ∙ append_assoc start.sink.written (replies_of s.answers) answer.reply ∙ ap (λ bs. start.sink.written ++ bs) (sym (replies_of_more s.answers answer));
+        replied = replied_more line answer a.is;
+        serial = serial_more answer a.served;
+        entries = entries_then answer a.batches a.made;
+        sent = λ t. replied.sent t ∙ ap (λ bs. bs ++ replied.reply) (s.sent t) ∙ ap (λ bs. (start.sink.written ++ replies_of s.answers) ++ bs) (sym a.written) ∙ append_assoc start.sink.written (replies_of s.answers) answer.reply ∙ ap (λ bs. start.sink.written ++ bs) (sym (replies_of_more s.answers answer));
         stood = s.stood;
         applied = s.applied;
-        made = subst (λ (l : List Batch). AreMadeBatches setting.limit s.opened l places') (sym log) a.grown.made;
-        has = subst (λ (l : List Batch). Has' (s.opened ++ l)) (sym log) a.grown.has;
-        stored = subst (λ (l : List Batch). IsStored told.disk told.images disk images' (s.opened ++ l)) (sym log) a.grown.stored;
+        made = a.grown.made;
+        has = a.grown.has;
+        stored = a.grown.stored;
         opened_at = s.opened_at;
         by_first = s.by_first;
         later = λ t. omega (arith, s.later t, (a.grown.time t).later);
-        ever = λ t image was. subst (λ (l : List Batch). IsFront s.opened l image) (sym log)
-            (ever_more s.opened (batches_of s.answers) a.batches s.opened_at old.disk.moment disk.moment gone since (s.later t) (s.ever t) (a.grown.time t) image was);
+        ever = λ t image was. ever_more s.opened s.batches a.batches s.opened_at old.disk.moment disk.moment gone since (s.later t) (s.ever t) (a.grown.time t) image was;
         opening = λ t image was.
             opening_more before start.disk.moment s.opened_at old.disk.moment disk.moment gone since _ (s.by_first t).0 (s.later t) (s.opening t) (a.grown.time t) image was;
         source_later = omega (arith, s.source_later, later.source_later);

@@ -7,7 +7,7 @@ use Rattle.zb_store.specs.declared.volume.Volume.{Volume}
 use Rattle.zb_words.specs.declared.plan.Plan.{Plan}
 use Rattle.zb_serve.specs.Hours.{setting_of}
 use Rattle.zb_serve.specs.Words.{IsPlanned}
-use Rattle.zb_serve.specs.Ends.{Told, sessions_ends, logs_ends, images_at, since_at, IsSafe}
+use Rattle.zb_serve.specs.Ends.{Told, sessions_ends, logs_ends, crashes_of, IsSafe}
 use Rattle.zb_serve.specs.Cause.{status_of}
 use Rattle.zb_serve.specs.Served.{IsRun, slots_of_all}
 use Rattle.zb_serve.specs.declared.run.Session.{Session}
@@ -36,6 +36,5 @@ pub record Closes {S K D : Type 0} (told : Told) (source : S → SourceView) (si
   pub units : closed.units ≡ 0
   -- what the run is, by the plan of the words: its causes, its logs, its sessions, and what a crash leaves, now and ever
   pub run : closed.cause ≢ causes.Usage → (plan : Plan) × IsPlanned words (length sessions) (length volumes) plan
-      × IsRun told (setting_of plan tells moments) (sessions_ends source sink sessions closed.sessions.items) (logs_ends disk volumes closed.volumes.items)
-      (images_at images volumes) (images_at images closed.volumes.items) (since_at since closed.volumes.items)
-      closed.cause (map (λ list. list.items) closed.stamps.items)
+      × IsRun told (setting_of plan tells moments) (record { sessions = sessions_ends source sink sessions closed.sessions.items; logs = logs_ends disk volumes closed.volumes.items })
+      (crashes_of images since volumes closed.volumes.items) closed.cause (map (λ list. list.items) closed.stamps.items)

@@ -18,6 +18,11 @@ pub record LogEnds : Type 0 where
   pub disk : DiskView
   pub disk_after : DiskView
 
+-- the ends of a run: of each session's streams, and of each volume's log
+pub record RunEnds : Type 0 where
+  pub sessions : List SessionEnds
+  pub logs : List LogEnds
+
 -- what the types handed in tell, which of their calls may want memory, and which of them count nothing but failures
 pub record Told : Type 0 where
   pub source : Bool
@@ -61,14 +66,6 @@ logs_ends view (old ∷ olds) (new ∷ news) = record { disk = view old.log; dis
 logs_ends view [] news = []
 logs_ends view (old ∷ olds) [] = []
 
--- a crash now may leave this of the log of the volume at a place, counted from 0
-abbrev pub images_at : {D : Type 0} → (D → List ℕ → Type 0) → List (Volume D) → ℕ → List ℕ → Type 0
-images_at {D} images volumes place image = (volume : Volume D) × (slice_get volumes place ≡ Some volume) × images volume.log image
-
--- a crash at some moment since this one might have left this of the log of the volume at a place
-abbrev pub since_at : {D : Type 0} → (D → ℕ → List ℕ → Type 0) → List (Volume D) → (place moment : ℕ) → List ℕ → Type 0
-since_at {D} since volumes place moment image = (volume : Volume D) × (slice_get volumes place ≡ Some volume) × since volume.log moment image
-
 -- the log of a volume was not put at risk: a crash now, or at any moment since the run began, leaves no more of it than
 -- what one before might have left, or an opening
 pub record IsSafe {D : Type 0} (view : D → DiskView) (images : D → List ℕ → Type 0) (since : D → ℕ → List ℕ → Type 0) (old new : Volume D) : Type 0 where
@@ -85,3 +82,26 @@ EachFrom R n (x ∷ xs) [] = ⊥
 -- the member with this number, from 1, has P
 abbrev pub OfNumber : {A : Type 0} → List A → ℕ → (A → Type 0) → Type 0
 OfNumber {A} members number P = (member : A) × (1 ≤ number) × (slice_get members (number - 1) ≡ Some member) × P member
+
+-- what crashes may leave of the log of each partition, by its number: as the run began, now, and what one might have left
+-- at some moment since one
+pub record Crashes : Type 1 where
+  pub before : (number : ℕ) → List ℕ → Type 0
+  pub now : (number : ℕ) → List ℕ → Type 0
+  pub since : (number moment : ℕ) → List ℕ → Type 0
+
+-- a crash now may leave this of the log of the volume with this number
+abbrev pub images_of : {D : Type 0} → (D → List ℕ → Type 0) → List (Volume D) → (number : ℕ) → List ℕ → Type 0
+images_of {D} images volumes number image = OfNumber volumes number (λ volume. images volume.log image)
+
+-- a crash at some moment since this one might have left this of the log of the volume with this number
+abbrev pub since_of : {D : Type 0} → (D → ℕ → List ℕ → Type 0) → List (Volume D) → (number moment : ℕ) → List ℕ → Type 0
+since_of {D} since volumes number moment image = OfNumber volumes number (λ volume. since volume.log moment image)
+
+-- what crashes may leave of the logs of these volumes, as they were at first and as they are
+abbrev pub crashes_of : {D : Type 0} → (D → List ℕ → Type 0) → (D → ℕ → List ℕ → Type 0) → (before now : List (Volume D)) → Crashes
+crashes_of images since before now = record {
+  before = images_of images before;
+  now = images_of images now;
+  since = since_of since now;
+}

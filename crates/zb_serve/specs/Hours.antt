@@ -4,7 +4,6 @@ use Rattle.zb_base.specs.Moment.{last_moment}
 use Rattle.zb_wire.specs.declared.request.Request.{Request}
 use Rattle.zb_wire.specs.declared.request.Request.TheVariants as requests
 use Rattle.zb_wire.specs.declared.request.LineFault.{LineFault}
-use Rattle.zb_wire.specs.Request.{request_of}
 use Rattle.zb_words.specs.declared.plan.ClockKind.{ClockKind}
 use Rattle.zb_words.specs.declared.plan.ClockKind.TheVariants as kinds
 use Rattle.zb_words.specs.declared.plan.Plan.{Plan}
@@ -24,19 +23,15 @@ abbrev pub moved_by : Result Request LineFault → ℕ
 moved_by (Ok (requests.Advance ms)) = ms
 moved_by _ = 0
 
--- how far a line moves the clock that is moved by hand
-abbrev pub advance_of : List ℕ → ℕ
-advance_of line = moved_by (request_of true line)
+-- the clock that is moved by hand stands at 0 at first, and behind lines that were found to be these at the sum of their
+-- advances, at most at the last moment
+abbrev pub clock_after : List (Result Request LineFault) → ℕ
+clock_after found = min (sum_by moved_by found) last_moment
 
--- the clock that is moved by hand stands at 0 at first, and behind these lines at the sum of their advances, at most
--- at the last moment
-abbrev pub clock_after : List (List ℕ) → ℕ
-clock_after lines = min (sum_by advance_of lines) last_moment
-
--- a reading of the clock for the last one of these lines
-abbrev pub IsReadingOf : Hours → List (List ℕ) → ℕ → Type 0
-IsReadingOf manual lines reading = reading ≡ clock_after lines
-IsReadingOf (real tells moments) lines reading = (reading ≤ last_moment)
+-- a reading of the clock for the last one of the lines that were found to be these
+abbrev pub IsReadingOf : Hours → List (Result Request LineFault) → ℕ → Type 0
+IsReadingOf manual found reading = reading ≡ clock_after found
+IsReadingOf (real tells moments) found reading = (reading ≤ last_moment)
     × (IsTrue tells → (moment : ℕ) × Contains moments moment × (reading ≡ min moment last_moment))
 
 -- what a run goes by: its clock, and how many bytes a log may have

@@ -18,13 +18,17 @@ use Rattle.zb_partition.specs.Partition.{partition_number_of, limit_of, is_live,
 use Rattle.zb_partition.specs.Stopping.{IsLeft, IsHurt, IsStepOf, IsStopCause}
 use Rattle.zb_partition.specs.declared.partition.Partition.{Partition}
 use Rattle.zb_serve.specs.Log.{IsFront}
-use Rattle.zb_serve.specs.Made.{asked, AreMadeFor}
-use Rattle.zb_serve.specs.Served.{IsStamped}
+use Rattle.zb_world.specs.Entries.{entries_of}
+use Rattle.zb_serve.specs.Serial.{next_of, AreMadeFor, IsCarriedOut}
 
 -- the file stands for the log, whatever a crash leaves
 pub record IsStored (tells tells_images : Bool) (view : DiskView) (images : List ℕ → Type 0) (log : List Batch) : Type 0 where
   pub file : IsTrue tells → Stands view.contents (bodies_of log)
   pub crash : IsTrue tells_images → (image : List ℕ) → images image → Stands image (bodies_of log)
+
+-- a batch has this number as its begin
+abbrev pub IsStamped : ℕ → Batch → Type 0
+IsStamped stamp batch = batch.begin ≡ stamp
 
 -- these batches were made on an opened log of at most so many bytes, and have these places; all fit their spelling
 pub record AreMadeBatches (limit : ℕ) (opened made : List Batch) (places : List ℕ) : Type 0 where
@@ -68,6 +72,7 @@ pub record IsAdded (tells tells_images : Bool) (limit reading : ℕ) (command : 
   pub batch : Batch
   pub is : batch.command ≡ command
   pub moment : batch.moment ≡ max (moment_of_last (opened ++ before)) reading
+  pub begin : batch.begin ≡ length (opened ++ before)
   pub grown : IsGrown tells tells_images limit old new images past since Has places opened before (batch ∷ [])
 
 -- a tick was served at a reading: it made so many batches, and no more are due, or it may make no more
@@ -75,15 +80,14 @@ pub record IsTicked (tells tells_images : Bool) (limit reading : ℕ) (opened be
     (past since : ℕ → List ℕ → Type 0) (Has : List Batch → Type 0) (places : List ℕ) (due : ℕ) : Type 0 where
   pub more : List Batch
   pub count : due ≡ length more
-  pub each : AreMadeFor requests.Tick reading (opened ++ before) more
-  pub all : asked requests.Tick reading (opened ++ before) more ≡ None
+  pub done : IsCarriedOut (opened ∷ []) requests.Tick reading (entries_of 1 before) (entries_of 1 more)
   pub grown : IsGrown tells tells_images limit old new images past since Has places opened before more
 
 -- a request stopped the partition, once it had made these batches and asked for this command
 pub record IsCut (tells tells_images takes_memory : Bool) (limit : ℕ) (request : Request) (reading : ℕ) (opened before : List Batch) (old new : DiskView) (images : List ℕ → Type 0)
     (past since : ℕ → List ℕ → Type 0) (places : List ℕ) (in_writing : Option Batch) (stop : Stop) : Type 0 where
   pub more : List Batch
-  pub each : AreMadeFor request reading (opened ++ before) more
+  pub each : AreMadeFor (opened ∷ []) request reading (entries_of 1 before) (entries_of 1 more)
   pub command : Command
-  pub next : asked request reading (opened ++ before) more ≡ Some command
+  pub next : next_of (opened ∷ []) request reading (entries_of 1 before) (entries_of 1 more) ≡ Some (1, command)
   pub held : IsHeldUp tells tells_images takes_memory limit old new images past since places opened before more reading command in_writing stop

@@ -1,6 +1,7 @@
 pub mod Words
 pub mod Hours
-pub mod Made
+pub mod Reply
+pub mod Serial
 pub mod Cause
 pub mod Ends
 pub mod Session

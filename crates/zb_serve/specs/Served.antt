@@ -1,61 +1,48 @@
 -- What a run of the server is.
-use Rattle.std.specs.Prelude.{◌≡◌, ◌⊎◌, ◌<◌, ◌≤◌, ℕ, List, [], ◌∷◌, ◌++◌, length, slice_get, IsTrue, IsFalse, IsSome, Option, Some, None, Ok}
-use Rattle.std.specs.List.{flat_map, AllByRecursion, AllZip, range_with_len}
-use Rattle.std.specs.List.Sorted.{IsPermutation, IsStrictlyIncreasing}
+use Rattle.std.specs.Prelude.{◌≡◌, ◌⊎◌, ◌<◌, ◌≤◌, ℕ, List, [], ◌∷◌, ◌++◌, length, map, All, IsTrue, IsFalse, IsSome, Option, Some, None, Ok}
+use Rattle.std.specs.List.{flat_map, AllByRecursion}
 use Rattle.zb_disk.specs.Cause.{Rose}
 use Rattle.zb_model.specs.declared.record.Batch.{Batch}
+use Rattle.zb_world.specs.Entries.{Entry, IsPartitionOf}
+use Rattle.zb_world.specs.History.{IsHistory}
 use Rattle.zb_wire.specs.declared.request.Request.{Request}
 use Rattle.zb_wire.specs.Request.{request_of}
-use Rattle.zb_serve.specs.Ends.{SessionEnds, LogEnds, Told, EachFrom, OfNumber}
+use Rattle.zb_partition.specs.Log.{IsBadAt}
+use Rattle.zb_store.specs.declared.volume.Volume.{Volume}
+use Rattle.zb_serve.specs.Ends.{RunEnds, LogEnds, Told, Crashes, EachFrom, OfNumber}
 use Rattle.zb_serve.specs.Cause.{comes_before}
 use Rattle.zb_serve.specs.Order.{WasMet}
-use Rattle.zb_serve.specs.Session.{SessionRun, IsSession, batches_of}
-use Rattle.zb_partition.specs.Log.{IsBadAt}
-use Rattle.zb_serve.specs.Hours.{Hours, is_manual, IsReadingOf, RunSetting}
-use Rattle.zb_serve.specs.Made.{AreMadeFor, IsMadeNext}
-use Rattle.zb_serve.specs.Log.{Growth, whole_of, IsLog, IsKept, WasLeft}
-use Rattle.zb_world.specs.Entries.{Entry}
-use Rattle.zb_world.specs.History.{IsHistory}
-use Rattle.zb_serve.specs.History.{HaveOpened, HaveWhole, GoesOnWith, AreCut, AreImages}
-use Rattle.zb_store.specs.declared.volume.Volume.{Volume}
+use Rattle.zb_serve.specs.Hours.{is_manual, IsReadingOf, RunSetting}
+use Rattle.zb_serve.specs.Reply.{Answer}
+use Rattle.zb_serve.specs.Serial.{place_behind, found_in, entries_made, IsNextEntry, AreMadeFor, AreSerial}
+use Rattle.zb_serve.specs.Session.{SessionRun, IsSession}
+use Rattle.zb_serve.specs.Log.{Course, course_of, OpenedLog, IsLog}
+use Rattle.zb_serve.specs.History.{parts_of, stamps_of, GoesOnWith, AreCut, AreImages}
 use Rattle.zb_serve.specs.declared.run.Cause.{Cause}
 use Rattle.zb_serve.specs.declared.run.Cause.TheVariants as causes
-
--- a number from 1 to n
-abbrev pub IsOneOf : ℕ → ℕ → Type 0
-IsOneOf n number = (1 ≤ number) × (number ≤ n)
 
 -- a run with so many sessions and partitions may end so once its logs are open
 abbrev pub MayEnd : ℕ → ℕ → Cause → Type 0
 MayEnd sessions partitions causes.Done = Unit {0}
 MayEnd sessions partitions causes.Usage = ⊥
-MayEnd sessions partitions (causes.SourceFault session) = IsOneOf sessions session
-MayEnd sessions partitions (causes.DiskFault partition batch) = IsOneOf partitions partition
+MayEnd sessions partitions (causes.SourceFault session) = (1 ≤ session) × (session ≤ sessions)
+MayEnd sessions partitions (causes.DiskFault partition batch) = IsPartitionOf partitions partition
 MayEnd sessions partitions (causes.BadLog partition frame) = ⊥
-MayEnd sessions partitions (causes.SinkFault session) = IsOneOf sessions session
+MayEnd sessions partitions (causes.SinkFault session) = (1 ≤ session) × (session ≤ sessions)
 MayEnd sessions partitions causes.Memory = Unit {0}
-MayEnd sessions partitions (causes.LogFull partition length_told frame limit) = IsOneOf partitions partition
-MayEnd sessions partitions (causes.InputFull session) = IsOneOf sessions session
+MayEnd sessions partitions (causes.LogFull partition length_told frame limit) = IsPartitionOf partitions partition
+MayEnd sessions partitions (causes.InputFull session) = (1 ≤ session) × (session ≤ sessions)
 
--- a batch has this number as its begin
-abbrev pub IsStamped : ℕ → Batch → Type 0
-IsStamped stamp batch = batch.begin ≡ stamp
+-- the batches that each of the logs had at opening
+abbrev pub batches_of : List OpenedLog → List (List Batch)
+batches_of logs = map (λ log. log.batches) logs
 
--- the batches that all logs had at opening, and those that were made
-abbrev pub all_opened : List Growth → List Batch
-all_opened growths = flat_map (λ growth. growth.opened) growths
+-- all answers of a run, one session's behind the other's
+abbrev pub answers_of : List SessionRun → List Answer
+answers_of runs = flat_map (λ run. run.answers) runs
 
--- the batches that the run made, in all logs
-abbrev pub all_made : List Growth → List Batch
-all_made growths = flat_map (λ growth. growth.made) growths
-
--- the log as each session began: all batches that were there at opening, and those of the sessions before it
-abbrev pub AreInTurn : List Batch → List SessionRun → Type 0
-AreInTurn log [] = Unit {0}
-AreInTurn log (run ∷ runs) = (run.log ≡ log) × AreInTurn (log ++ batches_of run.answers) runs
-
--- what may leave a line undone: the disk failed or the log was full at a batch that was made for it, or memory ran out
-abbrev pub IsWhyUndone : Cause → Option Batch → Type 0
+-- what may leave a line undone: the disk failed or the log was full at what was made for it, or memory ran out
+abbrev pub IsWhyUndone : {A : Type 0} → Cause → Option A → Type 0
 IsWhyUndone (causes.DiskFault partition batch) unlogged = IsSome unlogged
 IsWhyUndone (causes.LogFull partition length_told frame limit) unlogged = IsSome unlogged
 IsWhyUndone causes.Memory unlogged = Unit {0}
@@ -66,70 +53,53 @@ IsWhyUndone (causes.BadLog partition frame) unlogged = ⊥
 IsWhyUndone (causes.SinkFault session) unlogged = ⊥
 IsWhyUndone (causes.InputFull session) unlogged = ⊥
 
--- a line was read and not answered, the first one that a session has not served: its request, at a reading of the
--- clock, made the silent batches, and the one that isn't in its log, if there is one
-pub record IsUnfinished (hours : Hours) (runs : List SessionRun) (cause : Cause) (silent : List Batch) (unlogged : Option Batch) : Type 0 where
-  pub place : ℕ
-  pub run : SessionRun
-  pub is : slice_get runs place ≡ Some run
+-- a line was read and not answered, the first one that its session has not served: its request, at a reading of the
+-- clock, made these entries behind those of all answers, and the one that isn't in its log, if there is one
+pub record IsUnfinished (course : Course) (logs : List (List Batch)) (answers : List Answer) (rest : List Entry) (unserved : List (List ℕ)) : Type 0 where
   pub line : List ℕ
   pub lines : List (List ℕ)
-  pub unserved : run.unserved ≡ line ∷ lines
+  pub first : unserved ≡ line ∷ lines
   pub request : Request
-  pub asks : request_of (is_manual hours) line ≡ Ok request
+  pub asks : request_of (is_manual course.setting.hours) line ≡ Ok request
   pub reading : ℕ
-  pub read : IsReadingOf hours (run.served ++ line ∷ []) reading
-  pub made : AreMadeFor request reading (run.log ++ batches_of run.answers) silent
-  pub next : (batch : Batch) → unlogged ≡ Some batch → IsMadeNext request reading (run.log ++ batches_of run.answers) silent batch
-  pub why : IsWhyUndone cause unlogged
+  pub read : IsReadingOf course.setting.hours (found_in answers ++ Ok request ∷ []) reading
+  pub made : AreMadeFor logs request reading (entries_made answers) rest
+  pub next : (entry : Entry) → course.unlogged ≡ Some entry → IsNextEntry logs request reading (entries_made answers) rest entry
+  pub why : IsWhyUndone course.cause course.unlogged
 
--- nothing was left undone, or one line
-abbrev pub IsUndone : Hours → List SessionRun → Cause → List Batch → Option Batch → Type 0
-IsUndone hours runs cause silent unlogged = ((silent ≡ []) × (unlogged ≡ None)) ⊎ IsUnfinished hours runs cause silent unlogged
+-- nothing was left undone, or the first unserved line of one of the sessions
+abbrev pub IsUndone : Course → List (List Batch) → List SessionRun → List Entry → Type 0
+IsUndone course logs runs rest = ((rest ≡ []) × (course.unlogged ≡ None))
+    ⊎ ((number : ℕ) × OfNumber runs number (λ run. IsUnfinished course logs (answers_of runs) rest run.unserved))
 
--- a run whose logs were opened: its sessions, its logs, and its cause, and what a crash might have left of each log
--- before the run, may leave now, and might have left at some moment since the run began
-pub record Serves (told : Told) (setting : RunSetting) (streams : List SessionEnds) (volumes : List LogEnds) (before images : ℕ → List ℕ → Type 0) (since : (place moment : ℕ) → List ℕ → Type 0)
-    (cause : Cause) (stamps : List (List ℕ)) : Type 0 where
-  -- each session's part, the batches of each partition, the batches of a line that was not answered, and the batch
-  -- that was made last and isn't in its log
+-- a run whose logs were opened, with these ends, what crashes leave of its logs, and its stamps
+pub record Serves (course : Course) (ends : RunEnds) (crashes : Crashes) (stamps : List (List ℕ)) : Type 0 where
+  -- the logs as they were opened, each session's part, and the entries of a line that was not answered
+  pub logs : List OpenedLog
   pub runs : List SessionRun
-  pub logs : List Growth
-  pub silent : List Batch
-  pub unlogged : Option Batch
+  pub rest : List Entry
   -- the causes that there are, and no cause that is told before it was met
-  pub status : MayEnd (length streams) (length volumes) cause
-  pub first_met : (other : Cause) → WasMet told setting.limit streams volumes runs logs unlogged other → IsFalse (comes_before other cause)
-  -- each log has as many new batches as stamps; the stamps are the numbers from the count of all opened batches on,
-  -- each once, and ascend in each log
-  pub are_logs : EachFrom (IsLog told setting.limit cause unlogged) 1 volumes logs
-  pub stamped : AllZip (λ list growth. AllZip IsStamped list growth.made) stamps logs
-  pub ascending : AllZip (λ list growth. IsStrictlyIncreasing list) stamps logs
-  pub each_once : IsPermutation (range_with_len (length (all_opened logs)) (length (all_made logs))) (flat_map (λ list. list) stamps)
-  -- by these stamps the logs are one history of the engine, where they were one at opening: each batch a step of its
-  -- partition, and no message correlated twice with a process, no job ended twice
-  pub history : (base : List Entry) → IsHistory (length volumes) base → HaveOpened base stamps logs → GoesOnWith (length volumes) base stamps logs
-  -- the lines that were served, and what each led to
-  pub sessions : EachFrom (IsSession told setting.hours cause) 1 streams runs
-  pub in_turn : AreInTurn (all_opened logs) runs
-  -- the new batches are those of the served lines, and of one that was not answered, and no others
-  pub batches : all_made logs ≡ flat_map (λ run. batches_of run.answers) runs ++ silent
-  pub undone : IsUndone setting.hours runs cause silent unlogged
-  -- what a crash now leaves stands for the log
-  pub crash_now : IsTrue told.images → (place : ℕ) (growth : Growth) (ends : LogEnds) (image : List ℕ)
-      → slice_get logs place ≡ Some growth → slice_get volumes place ≡ Some ends → images place image
-      → IsKept told ends cause unlogged (whole_of growth) image
-  -- what it leaves of all logs is a cut of that history at its end: all of it, and of a partition at most one step more
-  pub crash_cut : IsTrue told.images → (h : List Entry) → IsHistory (length volumes) h → HaveWhole h stamps logs
-      → (kept : List (List ℕ)) → length kept ≡ length volumes → AreImages images kept → AreCut (length volumes) h kept logs
-  -- and a crash at any moment since the log was opened left no more than that, or a front of the log
-  pub crash_ever : IsTrue told.images → (place : ℕ) (growth : Growth) (ends : LogEnds) (image : List ℕ)
-      → slice_get logs place ≡ Some growth → slice_get volumes place ≡ Some ends → since place growth.opened_at image
-      → WasLeft told ends cause unlogged growth image
-  -- one before, since the run began, left what one before the run might have left
-  pub crash_opening : IsTrue told.images → (place : ℕ) (growth : Growth) (ends : LogEnds) (image : List ℕ)
-      → slice_get logs place ≡ Some growth → slice_get volumes place ≡ Some ends → since place ends.disk.moment image
-      → before place image ⊎ since place growth.opened_at image
+  pub status : MayEnd (length ends.sessions) course.partitions course.cause
+  pub first_met : (other : Cause) → WasMet course ends runs logs other → IsFalse (comes_before other course.cause)
+  -- the entries are of the partitions, which have their places as stamps, from the count of all opened batches on
+  pub within : All (λ entry. IsPartitionOf course.partitions entry.partition) course.entries
+  pub stamped : stamps ≡ stamps_of course.partitions (place_behind (batches_of logs) []) course.entries
+  -- each log has what it had at opening, and behind it the batches of its partition's entries
+  pub are_logs : EachFrom (IsLog course crashes) 1 ends.logs logs
+  -- they are one history of the engine, where they were one at opening: each entry a step of its partition, and no
+  -- message correlated twice with a process, no job ended twice
+  pub history : GoesOnWith course.partitions (batches_of logs) course.entries
+  -- the lines that were served, and the reply to each, by its entries
+  pub sessions : EachFrom (IsSession course) 1 ends.sessions runs
+  -- the entries are those of the served lines, and of one that was not answered, and no others
+  pub all : course.entries ≡ entries_made (answers_of runs) ++ rest
+  -- they are those of the serial run
+  pub serial : AreSerial course.setting.hours (batches_of logs) (answers_of runs)
+  pub undone : IsUndone course (batches_of logs) runs rest
+  -- what a crash now leaves of all logs is a cut of the history at its end: all of it, and of a partition at most one
+  -- step more
+  pub crash_cut : IsTrue course.told.images → (base : List Entry) → IsHistory course.partitions base → parts_of course.partitions base ≡ batches_of logs
+      → (kept : List (List ℕ)) → length kept ≡ course.partitions → AreImages crashes.now kept → AreCut course.partitions (base ++ course.entries) kept
 
 -- no call of a log's disk failed, as its count tells
 abbrev pub IsUntroubled : Told → LogEnds → Type 0
@@ -153,10 +123,15 @@ abbrev pub IsSpared : Told → LogEnds → Type 0
 IsSpared told ends = IsTrue told.disk → (1 < length ends.disk.contents → ends.disk_after.contents ≡ ends.disk.contents)
     × (length ends.disk.contents ≤ 1 → length ends.disk_after.contents ≤ 1)
 
+-- a run whose logs were opened came to its end by this cause, and with these stamps
+abbrev pub HasRun : Told → RunSetting → RunEnds → Crashes → Cause → List (List ℕ) → Type 0
+HasRun told setting ends crashes cause stamps = (entries : List Entry) × (unlogged : Option Entry)
+    × Serves (course_of told setting (length ends.logs) entries unlogged cause) ends crashes stamps
+
 -- a run of planned words: its logs were opened, and then it has stamps for each of them, or they weren't
-abbrev pub IsRun : Told → RunSetting → List SessionEnds → List LogEnds → (before images : ℕ → List ℕ → Type 0) → (since : (place moment : ℕ) → List ℕ → Type 0) → Cause → List (List ℕ) → Type 0
-IsRun told setting streams volumes before images since cause [] = FailsToOpen told volumes cause × AllByRecursion (IsSpared told) volumes
-IsRun told setting streams volumes before images since cause (first ∷ more) = Serves told setting streams volumes before images since cause (first ∷ more)
+abbrev pub IsRun : Told → RunSetting → RunEnds → Crashes → Cause → List (List ℕ) → Type 0
+IsRun told setting ends crashes cause [] = FailsToOpen told ends.logs cause × AllByRecursion (IsSpared told) ends.logs
+IsRun told setting ends crashes cause (first ∷ more) = HasRun told setting ends crashes cause (first ∷ more)
 
 -- the slots for snapshots of a volume, and of each one
 abbrev pub slots_in : {D : Type 0} → Volume D → D × D

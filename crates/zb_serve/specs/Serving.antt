@@ -16,19 +16,22 @@ use Rattle.zb_lines.specs.Line.{IsOneLine, ended}
 use Rattle.zb_lines.specs.declared.reader.Next.{Next}
 use Rattle.zb_lines.specs.declared.reader.Next.TheVariants as nexts
 use Rattle.zb_wire.specs.declared.request.Request.{Request}
+use Rattle.zb_wire.specs.declared.request.LineFault.{LineFault}
 use Rattle.zb_wire.specs.Request.{request_of}
 use Rattle.zb_partition.specs.Log.{bodies_of, IsApplied}
 use Rattle.zb_partition.specs.declared.fault.OpenFault.{OpenFault}
 use Rattle.zb_partition.specs.declared.fault.OpenFault.TheVariants as faults
 use Rattle.zb_words.specs.declared.plan.ClockKind.{ClockKind}
 use Rattle.zb_words.specs.declared.plan.ClockKind.TheVariants as kinds
-use Rattle.zb_serve.specs.Ends.{Told, SessionEnds, LogEnds}
+use Rattle.zb_serve.specs.Ends.{Told, SessionEnds, LogEnds, RunEnds, Crashes, EachFrom}
+use Rattle.zb_world.specs.Entries.{entries_of}
 use Rattle.zb_serve.specs.Hours.{Hours, manual, real, is_manual, clock_after, IsReadingOf, RunSetting}
-use Rattle.zb_serve.specs.Made.{AreMadeFor, IsServed}
+use Rattle.zb_serve.specs.Reply.{Answer, IsAnswer, IsReplyTo}
+use Rattle.zb_serve.specs.Serial.{AreMadeFor, IsCarriedOut, found_in, entries_made, IsServed, AreSerial}
 use Rattle.zb_serve.specs.Log.{IsFront}
-use Rattle.zb_serve.specs.Session.{Answer, IsAnswer, AreAnswers, batches_of, replies_of, most_taken}
+use Rattle.zb_serve.specs.Session.{replies_of, most_taken}
 use Rattle.zb_serve.specs.Ledger.{IsStored, AreMadeBatches, IsGrown, IsCut}
-use Rattle.zb_serve.specs.Served.{Serves}
+use Rattle.zb_serve.specs.Served.{HasRun}
 use Rattle.zb_serve.specs.declared.run.Cause.{Cause}
 use Rattle.zb_serve.specs.declared.run.Cause.TheVariants as causes
 use Rattle.zb_serve.specs.declared.run.End.{End}
@@ -69,10 +72,10 @@ pub record Clocks : Type 0 where
 abbrev pub clocks_of : Option ℕ → Bool → List ℕ → Clocks
 clocks_of dial tells moments = record { dial = dial; tells = tells; moments = moments }
 
--- the clocks stand so behind these lines
-abbrev pub AreAt : Hours → List (List ℕ) → Clocks → Type 0
-AreAt manual lines clocks = clocks.dial ≡ Some (clock_after lines)
-AreAt (real tells moments) lines clocks = (clocks.dial ≡ None) × (tells ≡ clocks.tells) × (moments ≡ clocks.moments)
+-- the clocks stand so behind lines that were found to be these
+abbrev pub AreAt : Hours → List (Result Request LineFault) → Clocks → Type 0
+AreAt manual found clocks = clocks.dial ≡ Some (clock_after found)
+AreAt (real tells moments) found clocks = (clocks.dial ≡ None) × (tells ≡ clocks.tells) × (moments ≡ clocks.moments)
 
 -- no device has failed since the run began, as its count tells where it counts nothing but failures
 pub record IsSteady (told : Told) (start : RunStart) (now : Now) : Type 0 where
@@ -89,33 +92,38 @@ pub record IsServing (told : Told) (setting : RunSetting) (start : RunStart) (no
   pub taken : List ℕ
   pub lines : List (List ℕ)
   pub answers : List Answer
+  pub batches : List Batch
   pub takes : TakesBytes told.source start.source now.source taken
   pub spent : length taken + budget ≡ most_taken
   pub whole : taken ≡ flat_map ended lines ++ held
   pub each : AllByRecursion IsOneLine lines
   pub count : number ≡ length lines + 1
-  pub clock : AreAt setting.hours lines clocks
-  pub are : AreAnswers setting.hours opened [] lines answers
+  pub clock : AreAt setting.hours (found_in answers) clocks
+  pub replied : EachFrom (IsAnswer (is_manual setting.hours)) 1 lines answers
+  pub serial : AreSerial setting.hours (opened ∷ []) answers
+  pub entries : entries_made answers ≡ entries_of 1 batches
   pub sent : IsTrue told.sink → now.sink.written ≡ start.sink.written ++ replies_of answers
   pub stood : IsTrue told.disk → Stands start.disk.contents (bodies_of opened)
   pub applied : IsApplied 1 opened
-  pub made : AreMadeBatches setting.limit opened (batches_of answers) places
-  pub has : Has (opened ++ batches_of answers)
-  pub stored : IsStored told.disk told.images now.disk images (opened ++ batches_of answers)
+  pub made : AreMadeBatches setting.limit opened batches places
+  pub has : Has (opened ++ batches)
+  pub stored : IsStored told.disk told.images now.disk images (opened ++ batches)
   -- when the log was open: a crash since then left a front of it, and one before what one before the run might have left
   pub opened_at : ℕ
   pub by_first : IsTrue told.images → IsByFirstCall start.disk.moment opened_at
   pub later : IsTrue told.images → opened_at ≤ now.disk.moment
-  pub ever : IsTrue told.images → (image : List ℕ) → since opened_at image → IsFront opened (batches_of answers) image
+  pub ever : IsTrue told.images → (image : List ℕ) → since opened_at image → IsFront opened batches image
   pub opening : IsTrue told.images → (image : List ℕ) → since start.disk.moment image → before image ⊎ since opened_at image
   pub source_later : start.source.faults ≤ now.source.faults
   pub sink_later : start.sink.faults ≤ now.sink.faults
   pub disk_later : start.disk.faults ≤ now.disk.faults
   pub steady : IsSteady told start now
 
--- what lies behind a line: the lines before it, the batches that the log had at opening, and those that were made since
+-- what lies behind the line with this number: the answers before it, the batches that the log had at opening, and those
+-- that were made since
 pub record Past : Type 0 where
-  pub lines : List (List ℕ)
+  pub number : ℕ
+  pub answers : List Answer
   pub opened : List Batch
   pub made : List Batch
 
@@ -125,8 +133,9 @@ log_of past = past.opened ++ past.made
 
 -- a line comes next, of which as much was kept as shows its request
 pub record ComesNext (setting : RunSetting) (past : Past) (Has : List Batch → Type 0) (places : List ℕ) (clocks : Clocks) (number : ℕ) (line shown : List ℕ) : Type 0 where
-  pub count : number ≡ length past.lines + 1
-  pub clock : AreAt setting.hours past.lines clocks
+  pub count : number ≡ past.number
+  pub clock : AreAt setting.hours (found_in past.answers) clocks
+  pub entries : entries_made past.answers ≡ entries_of 1 past.made
   pub made : AreMadeBatches setting.limit past.opened past.made places
   pub has : Has (log_of past)
   pub same : request_of (is_manual setting.hours) shown ≡ request_of (is_manual setting.hours) line
@@ -134,24 +143,28 @@ pub record ComesNext (setting : RunSetting) (past : Past) (Has : List Batch → 
 -- the line was answered, and its batches are in the log
 pub record IsAnswered (tells tells_images : Bool) (setting : RunSetting) (past : Past) (line reply : List ℕ) (old new : DiskView) (images : List ℕ → Type 0) (gone since : ℕ → List ℕ → Type 0)
     (Has : List Batch → Type 0) (places : List ℕ) (clocks : Clocks) : Type 0 where
-  pub reading : ℕ
+  pub answer : Answer
   pub batches : List Batch
-  pub is : IsAnswer setting.hours (log_of past) past.lines line (record { reading = reading; batches = batches; reply = reply })
+  pub written : answer.reply ≡ reply
+  pub made : answer.entries ≡ entries_of 1 batches
+  pub is : IsAnswer (is_manual setting.hours) past.number line answer
+  pub served : IsServed setting.hours (past.opened ∷ []) past.answers answer
   pub grown : IsGrown tells tells_images setting.limit old new images gone since Has places past.opened past.made batches
-  pub clock : AreAt setting.hours (past.lines ++ line ∷ []) clocks
+  pub clock : AreAt setting.hours (found_in (past.answers ++ answer ∷ [])) clocks
 
 -- a request was served at a reading of the clock, and its batches are in the log
 pub record IsDone (tells tells_images : Bool) (limit : ℕ) (request : Request) (reading : ℕ) (opened before : List Batch) (reply : List ℕ) (old new : DiskView) (images : List ℕ → Type 0)
     (gone since : ℕ → List ℕ → Type 0) (Has : List Batch → Type 0) (places : List ℕ) : Type 0 where
   pub batches : List Batch
-  pub served : IsServed request reading (opened ++ before) batches reply
+  pub done : IsCarriedOut (opened ∷ []) request reading (entries_of 1 before) (entries_of 1 batches)
+  pub replied : IsReplyTo request reading (entries_of 1 batches) reply
   pub grown : IsGrown tells tells_images limit old new images gone since Has places opened before batches
 
 -- memory ran out once a request had made these batches
 pub record IsDropped (tells tells_images : Bool) (limit : ℕ) (request : Request) (reading : ℕ) (opened before : List Batch) (old new : DiskView) (images : List ℕ → Type 0)
     (gone since : ℕ → List ℕ → Type 0) (Has : List Batch → Type 0) (places : List ℕ) : Type 0 where
   pub batches : List Batch
-  pub each : AreMadeFor request reading (opened ++ before) batches
+  pub each : AreMadeFor (opened ∷ []) request reading (entries_of 1 before) (entries_of 1 batches)
   pub grown : IsGrown tells tells_images limit old new images gone since Has places opened before batches
 
 -- why a request was not served
@@ -193,7 +206,7 @@ pub record Asks (hours : Hours) (past : Past) (line : List ℕ) : Type 0 where
   pub request : Request
   pub is : request_of (is_manual hours) line ≡ Ok request
   pub reading : ℕ
-  pub read : IsReadingOf hours (past.lines ++ line ∷ []) reading
+  pub read : IsReadingOf hours (found_in past.answers ++ Ok request ∷ []) reading
 
 -- memory ran out while a line was answered: before it was known for a request, or once that had made these batches
 abbrev pub IsForgotten : (tells tells_images : Bool) → RunSetting → Past → List ℕ → DiskView → DiskView → (List ℕ → Type 0) → (gone since : ℕ → List ℕ → Type 0)
@@ -241,10 +254,17 @@ cause_of in_writing (ends.Stopped stops.Memory) = causes.Memory
 cause_of in_writing (ends.Stopped stops.DiskFault) = causes.DiskFault 1 in_writing
 cause_of in_writing (ends.Stopped (stops.LogFull length_told frame limit)) = causes.LogFull 1 length_told frame limit
 
+-- what crashes leave of the one log
+abbrev pub crashes_alone : (before images : List ℕ → Type 0) → (since : ℕ → List ℕ → Type 0) → Crashes
+crashes_alone before images since = record { before = λ number. before; now = λ number. images; since = λ number. since }
+
+-- the ends of the one session's streams, and of the one log
+abbrev pub ends_alone : RunStart → Now → RunEnds
+ends_alone start now = record { sessions = session_ends start now ∷ []; logs = log_ends start now ∷ [] }
+
 -- the run is over
 abbrev pub IsOver : Told → RunSetting → RunStart → Now → (before images : List ℕ → Type 0) → (since : ℕ → List ℕ → Type 0) → List ℕ → Cause → Type 0
-IsOver told setting start now before images since places cause = Serves told setting
-    (session_ends start now ∷ []) (log_ends start now ∷ []) (λ place. before) (λ place. images) (λ place. since) cause (places ∷ [])
+IsOver told setting start now before images since places cause = HasRun told setting (ends_alone start now) (crashes_alone before images since) cause (places ∷ [])
 
 -- how a run goes on: to the line behind the one with this number, or to its end
 abbrev pub GoesOn : Told → RunSetting → RunStart → Now → (before images : List ℕ → Type 0) → (since : ℕ → List ℕ → Type 0) → (List Batch → Type 0) → List ℕ → Clocks → List ℕ → ℕ → ℕ → Option Batch → Result Bool End → Type 0

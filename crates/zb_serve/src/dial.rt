@@ -1,7 +1,8 @@
-ghost use Rattle.std.specs.Prelude.{◌≡◌, ◌≤◌, ◌+◌, ◌++◌, ◌∷◌, ℕ, List, [], min, Some, None, IsTrue, is_some, Ok};
+ghost use Rattle.std.specs.Prelude.{◌≡◌, ◌≤◌, ◌+◌, ◌++◌, ◌∷◌, ℕ, List, [], min, Some, None, IsTrue, is_some, Result, Ok};
 ghost use Rattle.zb_base.specs.Moment.{last_moment};
-ghost use Rattle.zb_wire.specs.Request.{request_of};
-ghost use Rattle.zb_serve.specs.Hours.{Hours, real, is_manual, moved_by, IsReadingOf};
+ghost use Rattle.zb_wire.specs.declared.request.Request.{Request};
+ghost use Rattle.zb_wire.specs.declared.request.LineFault.{LineFault};
+ghost use Rattle.zb_serve.specs.Hours.{Hours, real, moved_by, IsReadingOf};
 ghost use Rattle.zb_serve.specs.Serving.{dial_of, clocks_of, AreAt};
 
 use std::marker::Model;
@@ -73,7 +74,7 @@ impl Dial {
     // What it stands at, or else a reading of the real clock, at most the last moment.
     fn read<C: Clock>(&self, clock: &mut C) -> Moment
         ensures shown { (now : ℕ) → self.now ≡ Some now → result ≡ now }
-        ensures read { (lines : List (List ℕ)) → self.now ≡ None → IsReadingOf (real C.tells (C.moments clock.old)) lines result }
+        ensures read { (found : List (Result Request LineFault)) → self.now ≡ None → IsReadingOf (real C.tells (C.moments clock.old)) found result }
         ensures moments { C.moments clock.new ≡ C.moments clock.old }
         ensures untouched { IsTrue (is_some self.now) → clock.new ≡ clock.old }
     {
@@ -87,10 +88,10 @@ impl Dial {
 /// A reading of the clock for a request, which is read once. An advance moves the clock that is moved by hand
 /// before.
 pub fn read_for<C: Clock>(request: &Request, dial: &mut Dial, clock: &mut C) -> Moment
-    ensures reading { (hours : Hours) (lines : List (List ℕ)) (line : List ℕ) → AreAt hours lines (clocks_of dial.old C.tells (C.moments clock.old))
-        → request_of (is_manual hours) line ≡ Ok request.now → IsReadingOf hours (lines ++ line ∷ []) result }
-    ensures at { (hours : Hours) (lines : List (List ℕ)) (line : List ℕ) → AreAt hours lines (clocks_of dial.old C.tells (C.moments clock.old))
-        → request_of (is_manual hours) line ≡ Ok request.now → AreAt hours (lines ++ line ∷ []) (clocks_of dial.new C.tells (C.moments clock.new)) }
+    ensures reading { (hours : Hours) (found : List (Result Request LineFault)) → AreAt hours found (clocks_of dial.old C.tells (C.moments clock.old))
+        → IsReadingOf hours (found ++ Ok request.now ∷ []) result }
+    ensures at { (hours : Hours) (found : List (Result Request LineFault)) → AreAt hours found (clocks_of dial.old C.tells (C.moments clock.old))
+        → AreAt hours (found ++ Ok request.now ∷ []) (clocks_of dial.new C.tells (C.moments clock.new)) }
     ensures kind { is_some dial.new ≡ is_some dial.old }
     ensures moments { C.moments clock.new ≡ C.moments clock.old }
     ensures untouched { IsTrue (is_some dial.old) → clock.new ≡ clock.old }

@@ -1,4 +1,4 @@
-ghost use Rattle.std.specs.Prelude.{◌≡◌, ◌≤◌, ◌++◌, ◌∷◌, ℕ, List, [], max, IfErr, IfOk, OnOk, IsErrOf, IsTrue};
+ghost use Rattle.std.specs.Prelude.{◌≡◌, ◌≤◌, ◌++◌, ◌∷◌, ℕ, List, [], length, max, IfErr, IfOk, OnOk, IsErrOf, IsTrue};
 ghost use Rattle.zb_model.specs.declared.record.Batch.{Batch};
 ghost use Rattle.zb_views.specs.View.{moment_of_last};
 ghost use Rattle.zb_rules.specs.Step.{IsStep};
@@ -38,6 +38,8 @@ impl<D: Disk> Ledger<D> {
             → IfOk result (IsStep 1 1 (opened ++ before)) }
         ensures moment { (limit : ℕ) (opened before : List Batch) → AreMadeBatches limit opened before self.old.stamps.items → IsOpen limit self.old.partition (opened ++ before)
             → IfOk result (λ batch. batch.moment ≡ max (moment_of_last (opened ++ before)) reading) }
+        ensures begin { (limit : ℕ) (opened before : List Batch) → AreMadeBatches limit opened before self.old.stamps.items → IsOpen limit self.old.partition (opened ++ before)
+            → IfOk result (λ batch. batch.begin ≡ length (opened ++ before)) }
         ensures command { IfOk result (λ batch. batch.command ≡ command) }
         ensures grown { (limit : ℕ) (opened before : List Batch) → AreMadeBatches limit opened before self.old.stamps.items → IsOpen limit self.old.partition (opened ++ before)
             → IfOk result (λ batch. IsGrown D.tells D.tells_images limit (D.view (disk_of self.old.partition)) (D.view (disk_of self.new.partition))

@@ -9,7 +9,7 @@ ghost use Rattle.zb_serve.specs.Hours.{setting_of};
 ghost use Rattle.zb_serve.specs.Ledger.{IsOpen};
 ghost use Rattle.zb_serve.specs.Ends.{told, IsSafe};
 ghost use Rattle.zb_serve.specs.Served.{IsRun, slots_in};
-ghost use Rattle.zb_serve.specs.Serving.{now_of, start_of, session_ends, log_ends, cause_of, open_cause_of};
+ghost use Rattle.zb_serve.specs.Serving.{now_of, start_of, ends_alone, crashes_alone, cause_of, open_cause_of};
 
 use crate::dial::Dial;
 use crate::ledger::Ledger;
@@ -46,13 +46,10 @@ pub fn run<S: Source, K: Sink, D: Disk, C: Clock>(
     ensures spared { result.stamps.items ≡ [] → IsTrue D.tells_images → IsSafe D.view D.images D.since volume result.volume }
     ensures run { IsRun
         (told S.tells K.tells D.tells D.tells_images K.takes_memory D.takes_memory S.counts_failures K.counts_failures D.counts_failures) (setting_of plan C.tells (C.moments clock.old))
-        (session_ends
+        (ends_alone
         (start_of (S.view session.old.source) (K.view session.old.sink) (D.view volume.log))
-        (now_of (S.view session.new.source) (K.view session.new.sink) (D.view result.volume.log)) ∷ [])
-        (log_ends
-        (start_of (S.view session.old.source) (K.view session.old.sink) (D.view volume.log))
-        (now_of (S.view session.new.source) (K.view session.new.sink) (D.view result.volume.log)) ∷ [])
-        (λ place. D.images volume.log) (λ place. D.images result.volume.log) (λ place. D.since result.volume.log)
+        (now_of (S.view session.new.source) (K.view session.new.sink) (D.view result.volume.log)))
+        (crashes_alone (D.images volume.log) (D.images result.volume.log) (D.since result.volume.log))
         result.cause (map (λ list. list.items) result.stamps.items) }
     ensures untouched { plan.clock ≡ kinds.Manual → clock.new ≡ clock.old }
     ensures moments { C.moments clock.new ≡ C.moments clock.old }
@@ -100,13 +97,10 @@ fn serve_partition<S: Source, K: Sink, D: Disk, C: Clock>(
         → (IsTrue D.counts_failures → (D.view (disk_of partition)).faults ≡ (D.view disk).faults)
         → IsRun
         (told S.tells K.tells D.tells D.tells_images K.takes_memory D.takes_memory S.counts_failures K.counts_failures D.counts_failures) (setting_of plan C.tells (C.moments clock.old))
-        (session_ends
+        (ends_alone
         (start_of (S.view session.old.source) (K.view session.old.sink) (D.view disk))
-        (now_of (S.view session.new.source) (K.view session.new.sink) (D.view result.volume.log)) ∷ [])
-        (log_ends
-        (start_of (S.view session.old.source) (K.view session.old.sink) (D.view disk))
-        (now_of (S.view session.new.source) (K.view session.new.sink) (D.view result.volume.log)) ∷ [])
-        (λ place. D.images disk) (λ place. D.images result.volume.log) (λ place. D.since result.volume.log)
+        (now_of (S.view session.new.source) (K.view session.new.sink) (D.view result.volume.log)))
+        (crashes_alone (D.images disk) (D.images result.volume.log) (D.since result.volume.log))
         result.cause (map (λ list. list.items) result.stamps.items) }
     ensures untouched { plan.clock ≡ kinds.Manual → clock.new ≡ clock.old }
     ensures moments { C.moments clock.new ≡ C.moments clock.old }

@@ -1,8 +1,16 @@
-use Rattle.std.proofs.Common.{◌≡◌, [], Ok, Err, inl, rules}
+use Rattle.std.proofs.Common.{◌≡◌, List, [], ◌∷◌, Result, Ok, Err, refl, sym, subst, inl, rules}
 use Rattle.std.proofs.lemmas.Result.{on_ok_weaker}
 use Rattle.zb_wire.specs.RequestLaws.{Tells-fault}
 use Rattle.zb_wire.specs.declared.request.LineFault.TheVariants as faults
-use Rattle.zb_serve.proofs.AnswerLemmas.{fault_answered, request_answered, unanswered_memory, unserved_unanswered}
+use Rattle.zb_world.specs.Entries.{entries_of}
+use Rattle.zb_wire.specs.declared.request.Request.{Request}
+use Rattle.zb_wire.specs.declared.request.LineFault.{LineFault}
+use Rattle.zb_serve.specs.Hours.{is_manual}
+use Rattle.zb_serve.specs.Reply.{Answer}
+use Rattle.zb_serve.specs.Serial.{found_in}
+use Rattle.zb_serve.specs.Serving.{AreAt, clocks_of}
+use Rattle.zb_serve.proofs.AnswerLemmas.{fault_answered, unanswered_memory, unserved_unanswered}
+use Rattle.zb_serve.proofs.SerialLemmas.{carried_on, found_more}
 use Rattle.zb_serve.proofs.ClockLemmas.{found_at, at_fault}
 use Rattle.zb_serve.proofs.ResultLemmas.{if_err_as}
 use Rattle.zb_serve.proofs.LogLemmas.{grown_none}
@@ -17,23 +25,30 @@ answer_request-requires-clause-known g c =
 
 pub returns-in-Ok-clause-answered : goal.returns-in-Ok-clause-answered
 returns-in-Ok-clause-answered g c = λ setting past line next.
-    let is = found_at setting.hours past.lines _ _ line _ (Ok c.in-Ok.request) next.clock c.is_manual.ensures next.same c.in-Ok.ensures.found in
-    on_ok_weaker c.answer_request.result (λ done. record {
-      reading = c.read_for-reading.result;
+    let found = found_in past.answers in
+    let is = found_at setting.hours found _ _ line _ (Ok c.in-Ok.request) next.clock c.is_manual.ensures next.same c.in-Ok.ensures.found in
+    on_ok_weaker c.answer_request.result (λ done.
+    let answer : Answer = record { asked = Ok c.in-Ok.request; reading = c.read_for-reading.result; entries = entries_of 1 done.batches; reply = c.answer_request.new.reply.items } in
+    record {
+      answer = answer;
       batches = done.batches;
-      is = request_answered setting.hours _ past.lines line _ c.in-Ok.request _ done.batches is (c.read_for-reading.ensures.reading setting.hours past.lines line next.clock is) done.served;
+      written = refl;
+      made = refl;
+      is = record { found = is; replied = done.replied };
+      served = (c.read_for-reading.ensures.reading setting.hours found next.clock, carried_on _ _ _ _ _ _ next.entries done.done);
       grown = done.grown;
-      clock = c.read_for-reading.ensures.at setting.hours past.lines line next.clock is;
+      clock = subst (λ (f : List (Result Request LineFault)). AreAt setting.hours f (clocks_of c.answer_request.new.dial g.C.Clock.tells (g.C.Clock.moments c.answer_request.new.clock))) (sym (found_more past.answers answer)) (c.read_for-reading.ensures.at setting.hours found next.clock);
     }) (c.answer_request.ensures.done setting.limit past.opened past.made next.made next.has)
 
 pub returns-in-Ok-clause-unanswered : goal.returns-in-Ok-clause-unanswered
 returns-in-Ok-clause-unanswered g c = λ setting past line next.
-    let is = found_at setting.hours past.lines _ _ line _ (Ok c.in-Ok.request) next.clock c.is_manual.ensures next.same c.in-Ok.ensures.found in
+    let found = found_in past.answers in
+    let is = found_at setting.hours found _ _ line _ (Ok c.in-Ok.request) next.clock c.is_manual.ensures next.same c.in-Ok.ensures.found in
     if_err_as c.answer_request.result _ _ (λ end why. unserved_unanswered _ _ _ setting past line _ _ _ _ _ _ _ _ (record {
       request = c.in-Ok.request;
       is = is;
       reading = c.read_for-reading.result;
-      read = c.read_for-reading.ensures.reading setting.hours past.lines line next.clock is;
+      read = c.read_for-reading.ensures.reading setting.hours found next.clock;
     }) end why) (c.answer_request.ensures.unserved setting.limit past.opened past.made next.made next.has)
 
 pub returns-in-Err-Memory-clause-unanswered : goal.returns-in-Err-Memory-clause-unanswered
@@ -45,13 +60,19 @@ pub returns-in-Err-clause-answered : goal.returns-in-Err-clause-answered
 returns-in-Err-clause-answered g c = λ setting past line next.
     let spoken : ¬ (c.in-Err.fault ≡ faults.Memory) = search rules in
     let told = Tells-fault c.in-Err.fault _ c.in-Err.ensures.found spoken in
-    let is = found_at setting.hours past.lines _ _ line _ (Err c.in-Err.fault) next.clock c.is_manual.ensures next.same told in
-    on_ok_weaker c.put.result (λ put. record {
-      reading = 0;
+    let found = found_in past.answers in
+    let is = found_at setting.hours found _ _ line _ (Err c.in-Err.fault) next.clock c.is_manual.ensures next.same told in
+    on_ok_weaker c.put.result (λ put.
+    let answer : Answer = record { asked = Err c.in-Err.fault; reading = 0; entries = []; reply = c.put.new.reply.items } in
+    record {
+      answer = answer;
       batches = [];
-      is = fault_answered setting.hours _ past.lines c.args.number line _ _ c.in-Err.fault next.count is c.clear.ensures.items put;
+      written = refl;
+      made = refl;
+      is = fault_answered (is_manual setting.hours) past.number c.args.number line _ _ c.in-Err.fault next.count is c.clear.ensures.items put;
+      served = refl;
       grown = grown_none setting.limit _ past.opened past.made c.args.ledger.now.partition g.met.D.Disk.images_told next.made next.has;
-      clock = at_fault setting.hours past.lines line c.in-Err.fault _ next.clock is;
+      clock = subst (λ (f : List (Result Request LineFault)). AreAt setting.hours f (clocks_of c.args.dial.now g.C.Clock.tells (g.C.Clock.moments c.args.clock.now))) (sym (found_more past.answers answer)) (at_fault setting.hours found c.in-Err.fault _ next.clock);
     }) c.put.ensures.put
 
 pub returns-in-Err-clause-unanswered : goal.returns-in-Err-clause-unanswered

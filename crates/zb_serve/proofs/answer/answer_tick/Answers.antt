@@ -1,5 +1,6 @@
 use Rattle.std.proofs.lemmas.Result.{on_ok_weaker}
-use Rattle.zb_serve.proofs.AnswerLemmas.{tick_served, unserved_memory}
+use Rattle.zb_serve.proofs.AnswerLemmas.{unserved_memory}
+use Rattle.zb_serve.proofs.SerialLemmas.{tick_replied}
 use Rattle.zb_serve.proofs.ResultLemmas.{if_err_as}
 use Rattle.zb_serve.proofs.answer.answer_tick.Goals as goal
 
@@ -8,7 +9,8 @@ returns-in-Ok-clause-done g c = λ limit opened before made is_open.
     let t = c.in-Ok.ensures.ticked limit opened before made is_open in
     on_ok_weaker c.put.result (λ put. record {
       batches = t.more;
-      served = tick_served _ _ _ t.more _ _ t.each t.all t.count c.requires.empty put;
+      done = t.done;
+      replied = tick_replied _ _ t.more _ _ t.count c.requires.empty put;
       grown = t.grown;
     }) c.put.ensures.put
 
@@ -17,7 +19,7 @@ returns-in-Ok-clause-unserved g c = λ limit opened before made is_open.
     let t = c.in-Ok.ensures.ticked limit opened before made is_open in
     if_err_as c.put.result _ _ (λ end memory. unserved_memory _ _ _ limit _ _ opened before _ _ _ _ _ _ _ _ end memory (record {
       batches = t.more;
-      each = t.each;
+      each = t.done.made;
       grown = t.grown;
     })) c.put.ensures.memory
 

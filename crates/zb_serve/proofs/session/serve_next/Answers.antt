@@ -40,7 +40,7 @@ serve_line-requires g c =
     record {
       known = (
         k.0,
-        past_of s.lines s.opened s.answers,
+        past_of c.args.number s.answers s.opened s.batches,
         line_in c.args.desk.now.reader read.0 c.longest_shown.result c.in-Ok.next c.next.new.self c.deref.result.now came,
         comes_next _ k.0 k.1 _ _ _ _ _ _ _ _ _ _ s c.longest_shown.result read.0 c.next.new.self _ c.in-Ok.next not_end not_full came (c.longest_shown.ensures.decides (is_manual k.0.hours)),
       );

@@ -26,6 +26,11 @@ returns-in-Ok-submit-clause-moment g c = λ limit opened before made is_open.
     let at = (c.in-Ok-submit.ensures.step (opened ++ before) 1 is_open.has in_time).moment in
     omega (arith, at, is_open.has.moment, c.last_moment.ensures, c.later_of-moment.ensures)
 
+pub returns-in-Ok-submit-clause-begin : goal.returns-in-Ok-submit-clause-begin
+returns-in-Ok-submit-clause-begin g c = λ limit opened before made is_open.
+    let in_time : moment_of_last (opened ++ before) ≤ c.later_of-moment.result = omega (arith, is_open.has.moment, c.last_moment.ensures, c.later_of-moment.ensures) in
+    (c.in-Ok-submit.ensures.step (opened ++ before) 1 is_open.has in_time).begin ∙ c.frames-begin.ensures ∙ is_open.has.count
+
 pub returns-in-Ok-submit-clause-command : goal.returns-in-Ok-submit-clause-command
 returns-in-Ok-submit-clause-command g c =
     let log = c.requires.known.1 ++ c.requires.known.2 in

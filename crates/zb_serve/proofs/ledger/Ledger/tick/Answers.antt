@@ -1,7 +1,7 @@
 use Rattle.std.proofs.Common.{◌≡◌, ◌<◌, ◌++◌, ℕ, refl, sym, ◌∙◌, arith}
 use Rattle.zb_views.specs.View.{events_of}
 use Rattle.zb_rules.specs.DueLaws.{due_command_is_run}
-use Rattle.zb_serve.specs.Made.{most_due}
+use Rattle.zb_serve.specs.Serial.{most_due}
 use Rattle.zb_serve.proofs.LogLemmas.{grown_none}
 use Rattle.zb_serve.proofs.TickLemmas.{ticking_none, ticking_more, ticked_all, ticked_full, ticking_cut}
 use Rattle.zb_serve.proofs.ledger.Ledger.tick.Goals as goal
@@ -46,7 +46,7 @@ loop-done-preserved g c = (
       let t = c.loop-done.invariant.0 limit opened before made is_open in
       let a = c.in-Ok.ensures.added limit opened (before ++ t.more) t.grown.made t.grown.has in
       ticking_more _ _ limit _ opened before _ _ _ _ _ _ _ _ t (fewer c.loop-done.done most_due refl c.loop-done-test.true) _ _ _ _ _ c.in-Some.command a.batch
-      (sym c.in-Some.is ∙ c.due.ensures (opened ++ (before ++ t.more)) t.grown.has.has) a.is a.moment a.grown,
+      (sym c.in-Some.is ∙ c.due.ensures (opened ++ (before ++ t.more)) t.grown.has.has) a.is a.moment a.begin a.grown,
   c.in-Ok.ensures.slots ∙ c.loop-done.invariant.1,
   omega (arith, c.loop-done.invariant.2, c.in-Ok.ensures.later),
   λ t. c.in-Ok.ensures.steady t (λ e. absurd (cc)) ∙ c.loop-done.invariant.3 t,

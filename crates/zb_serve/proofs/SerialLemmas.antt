@@ -1,0 +1,171 @@
+-- The serial run over one log.
+use Rattle.std.proofs.Common.{◌≡◌, ◌<◌, ◌≤◌, ◌+◌, max, nat_lt, ℕ, List, [], ◌∷◌, ◌++◌, length, map, Bool, true, false, Option, Some, None, option_map, refl, sym, ◌∙◌, ap, subst, arith}
+use Rattle.std.specs.Option.{option_or}
+use Rattle.std.specs.List.{sum_by}
+use Rattle.std.proofs.lemmas.Bool.Decides.{nat_tests}
+use Rattle.std.proofs.lemmas.Grind.{flat_map-append}
+use Rattle.std.proofs.lemmas.List.{map-append, length-map, length-append, append-nil}
+use Rattle.zb_model.specs.declared.record.Batch.{Batch}
+use Rattle.zb_model.specs.declared.record.Command.{Command}
+use Rattle.zb_views.specs.View.{events_of, moment_of_last}
+use Rattle.zb_rules.specs.Due.{due_command}
+use Rattle.zb_rules.specs.StepLaws.{each_on_none, each_on_more}
+use Rattle.zb_world.specs.Entries.{Entry, as_entry, entries_of, part_of}
+use Rattle.zb_world.specs.EntryLaws.{part_of_entries, part_of_joined}
+use Rattle.zb_wire.specs.Asked.{command_of}
+use Rattle.zb_wire.specs.declared.request.Request.{Request}
+use Rattle.zb_wire.specs.declared.request.Request.TheVariants as requests
+use Rattle.zb_reply.specs.Reply.{answer_of, line_of}
+use Rattle.zb_reply.specs.declared.reply.Reply.{Reply}
+use Rattle.zb_reply.specs.declared.reply.Reply.TheVariants as replies
+use Rattle.zb_serve.specs.Reply.{Answer, reply_to, IsReplyTo}
+use Rattle.zb_serve.specs.Serial.{most_due, log_behind, place_behind, due_in_logs, next_of, IsNextEntry, AreMadeFor, IsCarriedOut, entries_made, found_in}
+
+-- the test of an order
+lt_is : (a b : ℕ) → a < b → nat_lt a b ≡ true
+lt_is a b lt = grind (arith, nat_tests)
+
+not_lt : (a b : ℕ) → b ≤ a → nat_lt a b ≡ false
+not_lt a b ge = grind (arith, nat_tests)
+
+or_none : {A : Type 0} (o : Option A) → option_or o None ≡ o
+or_none None = refl
+or_none (Some x) = refl
+
+-- the first partition, and a command at it
+abbrev pub at_one : Command → ℕ × Command
+at_one command = (1, command)
+
+-- the first place behind the one log
+pub place_none : (opened : List Batch) → place_behind (opened ∷ []) [] ≡ length opened
+place_none opened = let all : sum_by length (opened ∷ []) ≡ length opened = refl in omega (arith, all)
+
+-- behind entries of the one partition
+module _ (opened before done : List Batch) where
+  abbrev pub behind : List Entry
+  behind = entries_of 1 before ++ entries_of 1 done
+
+  -- stands this log
+  pub log_alone : log_behind 1 opened behind ≡ opened ++ (before ++ done)
+  log_alone = ap (λ (l : List Batch). opened ++ l) (part_of_joined 1 (entries_of 1 before) (entries_of 1 done) ∙ rw (part_of_entries 1 before, part_of_entries 1 done) refl)
+
+  -- of as many frames as places
+  pub place_alone : place_behind (opened ∷ []) behind ≡ length (opened ++ (before ++ done))
+  place_alone =
+      let all : sum_by length (opened ∷ []) ≡ length opened = refl in
+      omega (arith, all, length-append opened (before ++ done), length-append before done, length-append (entries_of 1 before) (entries_of 1 done), length-map before (as_entry 1), length-map done (as_entry 1))
+
+  -- a tick asks for what is due in it, until it made the most
+  pub tick_asks : (reading : ℕ) → length done < most_due → next_of (opened ∷ []) requests.Tick reading (entries_of 1 before) (entries_of 1 done) ≡ option_map at_one (due_command reading (events_of (opened ++ (before ++ done))))
+  tick_asks reading few =
+      let test : nat_lt (length (entries_of 1 done)) most_due ≡ true = lt_is (length (entries_of 1 done)) most_due (omega (arith, few, length-map done (as_entry 1))) in
+      rw test (or_none (option_map at_one (due_command reading (events_of (log_behind 1 opened behind)))) ∙ ap (λ (l : List Batch). option_map at_one (due_command reading (events_of l))) log_alone)
+
+  pub tick_full : (reading : ℕ) → length done ≡ most_due → next_of (opened ∷ []) requests.Tick reading (entries_of 1 before) (entries_of 1 done) ≡ None
+  tick_full reading full =
+      let test : nat_lt (length (entries_of 1 done)) most_due ≡ false = not_lt (length (entries_of 1 done)) most_due (omega (arith, full, length-map done (as_entry 1))) in
+      rw test refl
+
+  -- the batch of the command that is asked for next is the next entry
+  pub next_alone : (request : Request) (reading : ℕ) (batch : Batch) → next_of (opened ∷ []) request reading (entries_of 1 before) (entries_of 1 done) ≡ Some (1, batch.command)
+      → batch.moment ≡ max (moment_of_last (opened ++ (before ++ done))) reading → batch.begin ≡ length (opened ++ (before ++ done))
+      → IsNextEntry (opened ∷ []) request reading (entries_of 1 before) (entries_of 1 done) (as_entry 1 batch)
+  next_alone request reading batch asked moment begin = record {
+    command = asked;
+    moment = (opened, omega arith, refl, moment ∙ ap (λ (l : List Batch). max (moment_of_last l) reading) (sym log_alone));
+    begin = begin ∙ sym place_alone;
+  }
+
+  -- and is made behind those that were made
+  pub made_for_more : (request : Request) (reading : ℕ) (batch : Batch) → AreMadeFor (opened ∷ []) request reading (entries_of 1 before) (entries_of 1 done)
+      → IsNextEntry (opened ∷ []) request reading (entries_of 1 before) (entries_of 1 done) (as_entry 1 batch) → AreMadeFor (opened ∷ []) request reading (entries_of 1 before) (entries_of 1 (done ++ batch ∷ []))
+  made_for_more request reading batch are next =
+      subst (AreMadeFor (opened ∷ []) request reading (entries_of 1 before)) (sym (map-append (as_entry 1) done (batch ∷ [])))
+      (each_on_more (IsNextEntry (opened ∷ []) request reading (entries_of 1 before)) [] (entries_of 1 done) (as_entry 1 batch) are next)
+
+-- nothing was made for a request
+pub made_for_none : (logs : List (List Batch)) (request : Request) (reading : ℕ) (earlier : List Entry) → AreMadeFor logs request reading earlier []
+made_for_none logs request reading earlier = each_on_none (IsNextEntry logs request reading earlier) []
+
+-- a request that asks for a command asks for it first
+pub asks_first : (logs : List (List Batch)) (request : Request) (reading : ℕ) (earlier : List Entry) (command : Command) → command_of request ≡ Some command → next_of logs request reading earlier [] ≡ Some (1, command)
+asks_first logs (requests.Deploy m) reading earlier command is = ap (option_map at_one) is
+asks_first logs (requests.Create c) reading earlier command is = ap (option_map at_one) is
+asks_first logs (requests.Publish c) reading earlier command is = ap (option_map at_one) is
+asks_first logs requests.Tick reading earlier command is = absurd (cc)
+asks_first logs (requests.Advance ms) reading earlier command is = absurd (cc)
+
+-- and for no more
+asks_once : (logs : List (List Batch)) (request : Request) (reading : ℕ) (earlier : List Entry) (command : Command) (entry : Entry) → command_of request ≡ Some command → next_of logs request reading earlier (entry ∷ []) ≡ None
+asks_once logs (requests.Deploy m) reading earlier command entry is = refl
+asks_once logs (requests.Create c) reading earlier command entry is = refl
+asks_once logs (requests.Publish c) reading earlier command entry is = refl
+asks_once logs requests.Tick reading earlier command entry is = absurd (cc)
+asks_once logs (requests.Advance ms) reading earlier command entry is = absurd (cc)
+
+-- its reply is that of its batch
+replies_once : (request : Request) (reading : ℕ) (command : Command) (entry : Entry) → command_of request ≡ Some command → reply_to request reading (entry ∷ []) ≡ answer_of entry.batch
+replies_once (requests.Deploy m) reading command entry is = refl
+replies_once (requests.Create c) reading command entry is = refl
+replies_once (requests.Publish c) reading command entry is = refl
+replies_once requests.Tick reading command entry is = absurd (cc)
+replies_once (requests.Advance ms) reading command entry is = absurd (cc)
+
+-- the batch of a client's request
+pub made_for_one : (request : Request) (reading : ℕ) (opened before : List Batch) (batch : Batch) → command_of request ≡ Some batch.command → batch.moment ≡ max (moment_of_last (opened ++ before)) reading
+    → batch.begin ≡ length (opened ++ before) → AreMadeFor (opened ∷ []) request reading (entries_of 1 before) (entries_of 1 (batch ∷ []))
+made_for_one request reading opened before batch asks moment begin =
+    let none : before ≡ before ++ [] = sym (append-nil before) in
+    made_for_more opened before [] request reading batch (made_for_none (opened ∷ []) request reading (entries_of 1 before))
+    (next_alone opened before [] request reading batch (asks_first (opened ∷ []) request reading (entries_of 1 before) batch.command asks)
+    (subst (λ (l : List Batch). batch.moment ≡ max (moment_of_last (opened ++ l)) reading) none moment) (subst (λ (l : List Batch). batch.begin ≡ length (opened ++ l)) none begin))
+
+-- carries it out
+pub command_done : (request : Request) (reading : ℕ) (opened before : List Batch) (batch : Batch) → command_of request ≡ Some batch.command → batch.moment ≡ max (moment_of_last (opened ++ before)) reading
+    → batch.begin ≡ length (opened ++ before) → IsCarriedOut (opened ∷ []) request reading (entries_of 1 before) (entries_of 1 (batch ∷ []))
+command_done request reading opened before batch asks moment begin = record {
+  made = made_for_one request reading opened before batch asks moment begin;
+  all = asks_once (opened ∷ []) request reading (entries_of 1 before) batch.command (as_entry 1 batch) asks;
+}
+
+-- and is what it is answered by
+pub command_replied : (request : Request) (reading : ℕ) (batch : Batch) (answer : Reply) (old line : List ℕ) → command_of request ≡ Some batch.command → answer_of batch ≡ Some answer → old ≡ []
+    → line ≡ old ++ line_of answer (Some 0) → IsReplyTo request reading (entries_of 1 (batch ∷ [])) line
+command_replied request reading batch answer old line asks answered none put = record {
+  reply = answer;
+  told = replies_once request reading batch.command (as_entry 1 batch) asks ∙ answered;
+  written = put ∙ ap (λ bs. bs ++ line_of answer (Some 0)) none;
+}
+
+-- a tick is answered by how many batches it made
+pub tick_replied : (reading due : ℕ) (batches : List Batch) (old line : List ℕ) → due ≡ length batches → old ≡ [] → line ≡ old ++ line_of (replies.Tick due) (Some 0)
+    → IsReplyTo requests.Tick reading (entries_of 1 batches) line
+tick_replied reading due batches old line count none put = record {
+  reply = replies.Tick due;
+  told = ap (λ (n : ℕ). Some (replies.Tick n)) (length-map batches (as_entry 1) ∙ sym count);
+  written = put ∙ ap (λ bs. bs ++ line_of (replies.Tick due) (Some 0)) none;
+}
+
+-- an advance is carried out by nothing
+pub advance_done : (logs : List (List Batch)) (ms reading : ℕ) (earlier : List Entry) → IsCarriedOut logs (requests.Advance ms) reading earlier []
+advance_done logs ms reading earlier = record { made = made_for_none logs (requests.Advance ms) reading earlier; all = refl }
+
+-- and answered by the reading
+pub advance_replied : (ms reading : ℕ) (old line : List ℕ) → old ≡ [] → line ≡ old ++ line_of (replies.Advance reading) (Some 0) → IsReplyTo (requests.Advance ms) reading [] line
+advance_replied ms reading old line none put = record {
+  reply = replies.Advance reading;
+  told = refl;
+  written = put ∙ ap (λ bs. bs ++ line_of (replies.Advance reading) (Some 0)) none;
+}
+
+-- what was carried out behind some entries was so behind the same
+pub carried_on : (logs : List (List Batch)) (request : Request) (reading : ℕ) (earlier before entries : List Entry) → earlier ≡ before → IsCarriedOut logs request reading before entries
+    → IsCarriedOut logs request reading earlier entries
+carried_on logs request reading earlier before entries same done = subst (λ (e : List Entry). IsCarriedOut logs request reading e entries) (sym same) done
+
+-- one answer more
+pub found_more : (answers : List Answer) (answer : Answer) → found_in (answers ++ answer ∷ []) ≡ found_in answers ++ answer.asked ∷ []
+found_more answers answer = map-append (λ (a : Answer). a.asked) answers (answer ∷ [])
+
+pub entries_more : (answers : List Answer) (answer : Answer) → entries_made (answers ++ answer ∷ []) ≡ entries_made answers ++ answer.entries
+entries_more answers answer = flat_map-append (λ (a : Answer). a.entries) answers (answer ∷ []) ∙ ap (λ es. entries_made answers ++ es) (append-nil answer.entries)

@@ -1,0 +1,42 @@
+-- What a line is answered, by its entries alone.
+use Rattle.std.specs.Prelude.{◌≡◌, ℕ, List, [], ◌∷◌, length, Bool, Option, Some, None, Result, Ok, Err}
+use Rattle.zb_world.specs.Entries.{Entry}
+use Rattle.zb_wire.specs.declared.request.Request.{Request}
+use Rattle.zb_wire.specs.declared.request.Request.TheVariants as requests
+use Rattle.zb_wire.specs.declared.request.LineFault.{LineFault}
+use Rattle.zb_wire.specs.Request.{request_of}
+use Rattle.zb_reply.specs.declared.reply.Reply.{Reply}
+use Rattle.zb_reply.specs.declared.reply.Reply.TheVariants as replies
+use Rattle.zb_reply.specs.Reply.{answer_of, line_of}
+
+-- what a line led to: what it was found to be, the reading of the clock that its request was served at, the entries that
+-- it made, and the line of its reply
+pub record Answer : Type 0 where
+  pub asked : Result Request LineFault
+  pub reading : ℕ
+  pub entries : List Entry
+  pub reply : List ℕ
+
+-- the reply to a request that made these entries: a tick tells how many they are, an advance the reading, and any other
+-- what its one batch came to
+abbrev pub reply_to : Request → ℕ → List Entry → Option Reply
+reply_to requests.Tick reading entries = Some (replies.Tick (length entries))
+reply_to (requests.Advance ms) reading entries = Some (replies.Advance reading)
+reply_to request reading (entry ∷ []) = answer_of entry.batch
+reply_to request reading _ = None
+
+-- this line is the reply to a request that made these entries; no unit of work was done for it
+pub record IsReplyTo (request : Request) (reading : ℕ) (entries : List Entry) (line : List ℕ) : Type 0 where
+  pub reply : Reply
+  pub told : reply_to request reading entries ≡ Some reply
+  pub written : line ≡ line_of reply (Some 0)
+
+-- a line with this number that is no request is answered by its fault, and makes no entry
+abbrev pub IsReplyBy : ℕ → Answer → Result Request LineFault → Type 0
+IsReplyBy number answer (Ok request) = IsReplyTo request answer.reading answer.entries answer.reply
+IsReplyBy number answer (Err fault) = (answer.entries ≡ []) × (answer.reply ≡ line_of (replies.Fault number fault) None)
+
+-- this is what the line with this number led to, under the manual clock or not
+pub record IsAnswer (by_hand : Bool) (number : ℕ) (line : List ℕ) (answer : Answer) : Type 0 where
+  pub found : request_of by_hand line ≡ answer.asked
+  pub replied : IsReplyBy number answer answer.asked

@@ -1,0 +1,81 @@
+-- The serial run: which command comes next, and what a request leads to by it.
+use Rattle.std.specs.Prelude.{◌≡◌, ◌+◌, nat_lt, max, if◌then◌else◌, ℕ, suc, List, [], ◌∷◌, ◌++◌, length, map, Option, Some, None, option_map, Result, Ok, Err}
+use Rattle.std.specs.List.{flat_map, sum_by}
+use Rattle.std.specs.Option.{option_or}
+use Rattle.zb_model.specs.declared.record.Batch.{Batch}
+use Rattle.zb_model.specs.declared.record.Command.{Command}
+use Rattle.zb_views.specs.View.{events_of, moment_of_last}
+use Rattle.zb_rules.specs.Step.{EachOn}
+use Rattle.zb_rules.specs.Due.{due_command}
+use Rattle.zb_world.specs.Entries.{Entry, part_of}
+use Rattle.zb_wire.specs.declared.request.Request.{Request}
+use Rattle.zb_wire.specs.declared.request.Request.TheVariants as requests
+use Rattle.zb_wire.specs.declared.request.LineFault.{LineFault}
+use Rattle.zb_wire.specs.Asked.{command_of}
+use Rattle.zb_serve.specs.Ends.{OfNumber}
+use Rattle.zb_serve.specs.Hours.{Hours, IsReadingOf}
+use Rattle.zb_serve.specs.Reply.{Answer}
+
+-- a tick makes at most so many batches
+unfoldable pub most_due : ℕ
+most_due = 1000
+
+-- the log of partition p that was opened with these batches, behind these entries of the run
+abbrev pub log_behind : ℕ → List Batch → List Entry → List Batch
+log_behind p opened entries = opened ++ part_of p entries
+
+-- the place behind these entries of a run whose logs had these batches at opening
+abbrev pub place_behind : List (List Batch) → List Entry → ℕ
+place_behind logs entries = sum_by length logs + length entries
+
+-- the first command that is due at a reading behind these entries, with its partition, of the logs from partition p on
+abbrev pub due_in_logs : (reading p : ℕ) → List (List Batch) → List Entry → Option (ℕ × Command)
+due_in_logs reading p [] entries = None
+due_in_logs reading p (log ∷ logs) entries =
+    option_or (option_map (λ command. (p, command)) (due_command reading (events_of (log_behind p log entries)))) (due_in_logs reading (suc p) logs entries)
+
+-- the command that a request asks for next at a reading, and its partition, behind the entries before it and those that
+-- were done for it: a tick for what is due, the first partition first, and any other for its own command, at partition 1
+abbrev pub next_of : List (List Batch) → Request → ℕ → (earlier done : List Entry) → Option (ℕ × Command)
+next_of logs requests.Tick reading earlier done = if nat_lt (length done) most_due then due_in_logs reading 1 logs (earlier ++ done) else None
+next_of logs request reading earlier [] = option_map (λ command. (1, command)) (command_of request)
+next_of logs request reading earlier (entry ∷ done) = None
+
+-- this is the entry that comes next for a request: of the command that it asks for, at the larger one of the last moment
+-- of its log and the reading, and it begins at its own place
+pub record IsNextEntry (logs : List (List Batch)) (request : Request) (reading : ℕ) (earlier done : List Entry) (entry : Entry) : Type 0 where
+  pub command : next_of logs request reading earlier done ≡ Some (entry.partition, entry.batch.command)
+  pub moment : OfNumber logs entry.partition
+      (λ opened. entry.batch.moment ≡ max (moment_of_last (log_behind entry.partition opened (earlier ++ done))) reading)
+  pub begin : entry.batch.begin ≡ place_behind logs (earlier ++ done)
+
+-- these entries came one after the other for a request, behind those before it
+abbrev pub AreMadeFor : List (List Batch) → Request → ℕ → (earlier entries : List Entry) → Type 0
+AreMadeFor logs request reading earlier entries = EachOn (IsNextEntry logs request reading earlier) [] entries
+
+-- a request was carried out at a reading by these entries: it asks for no more
+pub record IsCarriedOut (logs : List (List Batch)) (request : Request) (reading : ℕ) (earlier entries : List Entry) : Type 0 where
+  pub made : AreMadeFor logs request reading earlier entries
+  pub all : next_of logs request reading earlier entries ≡ None
+
+-- the entries of these answers, in order
+abbrev pub entries_made : List Answer → List Entry
+entries_made answers = flat_map (λ answer. answer.entries) answers
+
+-- what the lines of these answers were found to be
+abbrev pub found_in : List Answer → List (Result Request LineFault)
+found_in answers = map (λ answer. answer.asked) answers
+
+-- behind these answers a line was served: a request at a reading of the clock, by its entries, and no other line
+abbrev pub IsServedAs : Hours → List (List Batch) → List Answer → Answer → Result Request LineFault → Type 0
+IsServedAs hours logs before answer (Ok request) = IsReadingOf hours (found_in before ++ answer.asked ∷ []) answer.reading
+    × IsCarriedOut logs request answer.reading (entries_made before) answer.entries
+IsServedAs hours logs before answer (Err fault) = answer.entries ≡ []
+
+-- behind these answers this one was served
+abbrev pub IsServed : Hours → List (List Batch) → List Answer → Answer → Type 0
+IsServed hours logs before answer = IsServedAs hours logs before answer answer.asked
+
+-- these answers are those of the serial run: each was served behind those before it
+abbrev pub AreSerial : Hours → List (List Batch) → List Answer → Type 0
+AreSerial hours logs answers = EachOn (IsServed hours logs) [] answers
