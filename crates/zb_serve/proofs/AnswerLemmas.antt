@@ -28,7 +28,7 @@ use Rattle.zb_reply.specs.Reply.{answer_of, line_of}
 use Rattle.zb_reply.specs.ReplyLaws.{answer_of-deployed, answer_of-created, answer_of-published, answer_of-rejected}
 use Rattle.zb_reply.specs.declared.reply.Reply.{Reply}
 use Rattle.zb_reply.specs.declared.reply.Reply.TheVariants as replies
-use Rattle.zb_serve.specs.Hours.{Hours, is_manual, IsReadingOf, RunSetting}
+use Rattle.zb_serve.specs.Hours.{Hours, given_of, IsReadingOf, RunSetting}
 use Rattle.zb_serve.specs.Made.{most_due, asked, IsMadeNext, AreMadeFor, reply_to, IsServed}
 use Rattle.zb_serve.specs.Serving.{Past, Asks, IsDropped, IsUnserved, IsForgotten, IsUnanswered}
 use Rattle.zb_serve.specs.Session.{IsAnswer}
@@ -181,7 +181,7 @@ tick_full reading log batches full = rw (not_lt (length batches) most_due (omega
 
 -- a line that is no request is answered by its fault
 pub fault_answered : (hours : Hours) (log : List Batch) (lines : List (List ℕ)) (number : ℕ) (line reply old : List ℕ) (fault : LineFault) → number ≡ length lines + 1
-    → request_of (is_manual hours) line ≡ Err fault → old ≡ [] → reply ≡ old ++ line_of (replies.Fault number fault) None
+    → request_of (given_of hours (length lines + 1)) line ≡ Err fault → old ≡ [] → reply ≡ old ++ line_of (replies.Fault number fault) None
     → IsAnswer hours log lines line (record { reading = 0; batches = []; reply = reply })
 fault_answered hours log lines number line reply old fault count is none put =
     let written : reply ≡ line_of (replies.Fault (length lines + 1) fault) None =
@@ -190,7 +190,7 @@ fault_answered hours log lines number line reply old fault count is none put =
 
 -- and one that is by being served
 pub request_answered : (hours : Hours) (log : List Batch) (lines : List (List ℕ)) (line reply : List ℕ) (request : Request) (reading : ℕ) (batches : List Batch)
-    → request_of (is_manual hours) line ≡ Ok request → IsReadingOf hours (lines ++ line ∷ []) reading → IsServed request reading log batches reply
+    → request_of (given_of hours (length lines + 1)) line ≡ Ok request → IsReadingOf hours (lines ++ line ∷ []) reading → IsServed request reading log batches reply
     → IsAnswer hours log lines line (record { reading = reading; batches = batches; reply = reply })
 request_answered hours log lines line reply request reading batches is read served = rw is (read, served)
 

@@ -18,7 +18,7 @@ use Rattle.zb_serve.specs.Ends.{Told, LogEnds, OfNumber}
 use Rattle.zb_serve.specs.Ledger.{IsStored, AreMadeBatches}
 use Rattle.zb_wire.specs.declared.request.Request.{Request}
 use Rattle.zb_wire.specs.Request.{request_of}
-use Rattle.zb_serve.specs.Hours.{Hours, is_manual, IsReadingOf, RunSetting}
+use Rattle.zb_serve.specs.Hours.{Hours, given_of, IsReadingOf, RunSetting}
 use Rattle.zb_serve.specs.Made.{AreMadeFor, IsMadeNext}
 use Rattle.zb_serve.specs.Log.{Growth, whole_of, IsKept, WasLeft}
 use Rattle.zb_serve.specs.Served.{MayEnd, IsWhyUndone, IsUndone}
@@ -70,7 +70,7 @@ pub record IsFirst (hours : Hours) (log : List Batch) (served unserved : List (L
   pub lines : List (List ℕ)
   pub first : unserved ≡ line ∷ lines
   pub request : Request
-  pub asks : request_of (is_manual hours) line ≡ Ok request
+  pub asks : request_of (given_of hours (length served + 1)) line ≡ Ok request
   pub reading : ℕ
   pub read : IsReadingOf hours (served ++ line ∷ []) reading
   pub made : AreMadeFor request reading log silent

@@ -17,7 +17,7 @@ use Rattle.zb_lines.specs.declared.reader.Next.{Next}
 use Rattle.zb_lines.specs.declared.reader.Next.TheVariants as nexts
 use Rattle.zb_serve.specs.Ends.{Told}
 use Rattle.zb_wire.specs.Request.{request_of}
-use Rattle.zb_serve.specs.Hours.{is_manual, RunSetting}
+use Rattle.zb_serve.specs.Hours.{given_of, RunSetting}
 use Rattle.zb_serve.specs.Ledger.{IsGrown}
 use Rattle.zb_serve.specs.Log.{IsFront, IsKept, WasLeft}
 use Rattle.zb_serve.specs.Serving.{RunStart, Now, now_of, Clocks, session_ends, log_ends, IsSteady, IsServing, ComesNext, IsReplied, IsUnsent, IsUnanswered, IsForgotten, IsHalted, IsSinkEnd, IsLineEnd, IsOver, GoesOn, cause_of, goes_on, source_end_of}
@@ -308,14 +308,14 @@ shown_in held more most nexts.Full left shown came other some = absurd (some ref
 -- the line that comes next, as much of it as was kept
 pub comes_next : (told : Told) (setting : RunSetting) (start : RunStart) (now : Now) (before images : List ℕ → Type 0) (since : ℕ → List ℕ → Type 0) (Has : List Batch → Type 0) (places : List ℕ) (clocks : Clocks) (held : List ℕ) (budget number : ℕ)
     → (s : IsServing told setting start now before images since Has places clocks held budget number) → (most : ℕ) (more left shown : List ℕ) (next : Next) → next ≢ nexts.End → next ≢ nexts.Full → (came : Comes most (Ok next) (held ++ more) left shown)
-    → ((line : List ℕ) → request_of (is_manual setting.hours) (take most line) ≡ request_of (is_manual setting.hours) line)
+    → ((line : List ℕ) → request_of (given_of setting.hours number) (take most line) ≡ request_of (given_of setting.hours number) line)
     → ComesNext setting (past_of s.lines s.opened s.answers) Has places clocks number (line_in held more most next left shown came) shown
 comes_next told setting start now before images since Has places clocks held budget number s most more left shown next other some came decides = record {
   count = s.count;
   clock = s.clock;
   made = s.made;
   has = s.has;
-  same = ap (request_of (is_manual setting.hours)) (shown_in held more most next left shown came other some) ∙ decides (line_in held more most next left shown came);
+  same = ap (request_of (given_of setting.hours number)) (shown_in held more most next left shown came other some) ∙ decides (line_in held more most next left shown came);
 }
 
 -- a line was read

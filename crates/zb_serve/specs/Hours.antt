@@ -1,6 +1,7 @@
 -- The clock of a run, and its readings.
-use Rattle.std.specs.Prelude.{◌≡◌, ◌≤◌, min, sum_by, ℕ, List, Bool, true, false, IsTrue, Contains, Result, Ok}
+use Rattle.std.specs.Prelude.{◌≡◌, ◌≤◌, ◌+◌, min, ℕ, List, [], ◌∷◌, Bool, true, false, IsTrue, Contains, Result, Ok}
 use Rattle.zb_base.specs.Moment.{last_moment}
+use Rattle.zb_wire.specs.declared.given.Given.{Given}
 use Rattle.zb_wire.specs.declared.request.Request.{Request}
 use Rattle.zb_wire.specs.declared.request.Request.TheVariants as requests
 use Rattle.zb_wire.specs.declared.request.LineFault.{LineFault}
@@ -24,14 +25,23 @@ abbrev pub moved_by : Result Request LineFault → ℕ
 moved_by (Ok (requests.Advance ms)) = ms
 moved_by _ = 0
 
--- how far a line moves the clock that is moved by hand
-abbrev pub advance_of : List ℕ → ℕ
-advance_of line = moved_by (request_of true line)
+-- what the line with this number is read by: there is one partition
+abbrev pub given_of : Hours → ℕ → Given
+given_of hours number = record { number = number; partitions = 1; manual = is_manual hours }
+
+-- how far the line with this number moves the clock that is moved by hand
+abbrev pub advance_of : ℕ → List ℕ → ℕ
+advance_of number line = moved_by (request_of (given_of manual number) line)
+
+-- how far these lines do, the first of which has this number
+abbrev pub advances_from : ℕ → List (List ℕ) → ℕ
+advances_from number [] = 0
+advances_from number (line ∷ lines) = advance_of number line + advances_from (number + 1) lines
 
 -- the clock that is moved by hand stands at 0 at first, and behind these lines at the sum of their advances, at most
 -- at the last moment
 abbrev pub clock_after : List (List ℕ) → ℕ
-clock_after lines = min (sum_by advance_of lines) last_moment
+clock_after lines = min (advances_from 1 lines) last_moment
 
 -- a reading of the clock for the last one of these lines
 abbrev pub IsReadingOf : Hours → List (List ℕ) → ℕ → Type 0

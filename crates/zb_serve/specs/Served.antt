@@ -1,5 +1,5 @@
 -- What a run of the server is.
-use Rattle.std.specs.Prelude.{◌≡◌, ◌⊎◌, ◌<◌, ◌≤◌, ℕ, List, [], ◌∷◌, ◌++◌, length, slice_get, IsTrue, IsFalse, IsSome, Option, Some, None, Ok}
+use Rattle.std.specs.Prelude.{◌≡◌, ◌⊎◌, ◌<◌, ◌≤◌, ◌+◌, ℕ, List, [], ◌∷◌, ◌++◌, length, slice_get, IsTrue, IsFalse, IsSome, Option, Some, None, Ok}
 use Rattle.std.specs.List.{flat_map, AllByRecursion, AllZip, range_with_len}
 use Rattle.std.specs.List.Sorted.{IsPermutation, IsStrictlyIncreasing}
 use Rattle.zb_disk.specs.Cause.{Rose}
@@ -11,7 +11,7 @@ use Rattle.zb_serve.specs.Cause.{comes_before}
 use Rattle.zb_serve.specs.Order.{WasMet}
 use Rattle.zb_serve.specs.Session.{SessionRun, IsSession, batches_of}
 use Rattle.zb_partition.specs.Log.{IsBadAt}
-use Rattle.zb_serve.specs.Hours.{Hours, is_manual, IsReadingOf, RunSetting}
+use Rattle.zb_serve.specs.Hours.{Hours, given_of, IsReadingOf, RunSetting}
 use Rattle.zb_serve.specs.Made.{AreMadeFor, IsMadeNext}
 use Rattle.zb_serve.specs.Log.{Growth, whole_of, IsLog, IsKept, WasLeft}
 use Rattle.zb_world.specs.Entries.{Entry}
@@ -76,7 +76,7 @@ pub record IsUnfinished (hours : Hours) (runs : List SessionRun) (cause : Cause)
   pub lines : List (List ℕ)
   pub unserved : run.unserved ≡ line ∷ lines
   pub request : Request
-  pub asks : request_of (is_manual hours) line ≡ Ok request
+  pub asks : request_of (given_of hours (length run.served + 1)) line ≡ Ok request
   pub reading : ℕ
   pub read : IsReadingOf hours (run.served ++ line ∷ []) reading
   pub made : AreMadeFor request reading (run.log ++ batches_of run.answers) silent

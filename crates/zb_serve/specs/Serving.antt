@@ -23,7 +23,7 @@ use Rattle.zb_partition.specs.declared.fault.OpenFault.TheVariants as faults
 use Rattle.zb_words.specs.declared.plan.ClockKind.{ClockKind}
 use Rattle.zb_words.specs.declared.plan.ClockKind.TheVariants as kinds
 use Rattle.zb_serve.specs.Ends.{Told, SessionEnds, LogEnds}
-use Rattle.zb_serve.specs.Hours.{Hours, manual, real, is_manual, clock_after, IsReadingOf, RunSetting}
+use Rattle.zb_serve.specs.Hours.{Hours, manual, real, given_of, clock_after, IsReadingOf, RunSetting}
 use Rattle.zb_serve.specs.Made.{AreMadeFor, IsServed}
 use Rattle.zb_serve.specs.Log.{IsFront}
 use Rattle.zb_serve.specs.Session.{Answer, IsAnswer, AreAnswers, batches_of, replies_of, most_taken}
@@ -129,7 +129,7 @@ pub record ComesNext (setting : RunSetting) (past : Past) (Has : List Batch → 
   pub clock : AreAt setting.hours past.lines clocks
   pub made : AreMadeBatches setting.limit past.opened past.made places
   pub has : Has (log_of past)
-  pub same : request_of (is_manual setting.hours) shown ≡ request_of (is_manual setting.hours) line
+  pub same : request_of (given_of setting.hours number) shown ≡ request_of (given_of setting.hours number) line
 
 -- the line was answered, and its batches are in the log
 pub record IsAnswered (tells tells_images : Bool) (setting : RunSetting) (past : Past) (line reply : List ℕ) (old new : DiskView) (images : List ℕ → Type 0) (gone since : ℕ → List ℕ → Type 0)
@@ -191,7 +191,7 @@ pub record IsUnsent (told : Told) (setting : RunSetting) (past : Past) (line : L
 -- a line is a request, which was served at a reading of the clock
 pub record Asks (hours : Hours) (past : Past) (line : List ℕ) : Type 0 where
   pub request : Request
-  pub is : request_of (is_manual hours) line ≡ Ok request
+  pub is : request_of (given_of hours (length past.lines + 1)) line ≡ Ok request
   pub reading : ℕ
   pub read : IsReadingOf hours (past.lines ++ line ∷ []) reading
 

@@ -10,7 +10,7 @@ use Rattle.zb_wire.specs.declared.request.LineFault.{LineFault}
 use Rattle.zb_wire.specs.Request.{request_of}
 use Rattle.zb_reply.specs.declared.reply.Reply.TheVariants as replies
 use Rattle.zb_reply.specs.Reply.{line_of}
-use Rattle.zb_serve.specs.Hours.{Hours, is_manual, IsReadingOf}
+use Rattle.zb_serve.specs.Hours.{Hours, given_of, IsReadingOf}
 use Rattle.zb_serve.specs.Made.{IsServed}
 use Rattle.zb_serve.specs.Ends.{SessionEnds, Told}
 use Rattle.zb_serve.specs.Cause.{comes_before}
@@ -37,7 +37,7 @@ IsAnswerTo hours log before line (Ok request) answer = IsReadingOf hours (before
 
 -- this is what a line led to, behind this log and the lines before it
 abbrev pub IsAnswer : Hours → List Batch → List (List ℕ) → List ℕ → Answer → Type 0
-IsAnswer hours log before line answer = IsAnswerTo hours log before line (request_of (is_manual hours) line) answer
+IsAnswer hours log before line answer = IsAnswerTo hours log before line (request_of (given_of hours (length before + 1)) line) answer
 
 -- this is what the lines led to, one after the other, behind this log and the lines before them
 abbrev pub AreAnswers : Hours → List Batch → List (List ℕ) → List (List ℕ) → List Answer → Type 0

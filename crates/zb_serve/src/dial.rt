@@ -1,7 +1,7 @@
-ghost use Rattle.std.specs.Prelude.{◌≡◌, ◌≤◌, ◌+◌, ◌++◌, ◌∷◌, ℕ, List, [], min, Some, None, IsTrue, is_some, Ok};
+ghost use Rattle.std.specs.Prelude.{◌≡◌, ◌≤◌, ◌+◌, ◌++◌, ◌∷◌, ℕ, List, [], length, min, Some, None, IsTrue, is_some, Ok};
 ghost use Rattle.zb_base.specs.Moment.{last_moment};
 ghost use Rattle.zb_wire.specs.Request.{request_of};
-ghost use Rattle.zb_serve.specs.Hours.{Hours, real, is_manual, moved_by, IsReadingOf};
+ghost use Rattle.zb_serve.specs.Hours.{Hours, real, given_of, moved_by, IsReadingOf};
 ghost use Rattle.zb_serve.specs.Serving.{dial_of, clocks_of, AreAt};
 
 use std::marker::Model;
@@ -88,9 +88,9 @@ impl Dial {
 /// before.
 pub fn read_for<C: Clock>(request: &Request, dial: &mut Dial, clock: &mut C) -> Moment
     ensures reading { (hours : Hours) (lines : List (List ℕ)) (line : List ℕ) → AreAt hours lines (clocks_of dial.old C.tells (C.moments clock.old))
-        → request_of (is_manual hours) line ≡ Ok request.now → IsReadingOf hours (lines ++ line ∷ []) result }
+        → request_of (given_of hours (length lines + 1)) line ≡ Ok request.now → IsReadingOf hours (lines ++ line ∷ []) result }
     ensures at { (hours : Hours) (lines : List (List ℕ)) (line : List ℕ) → AreAt hours lines (clocks_of dial.old C.tells (C.moments clock.old))
-        → request_of (is_manual hours) line ≡ Ok request.now → AreAt hours (lines ++ line ∷ []) (clocks_of dial.new C.tells (C.moments clock.new)) }
+        → request_of (given_of hours (length lines + 1)) line ≡ Ok request.now → AreAt hours (lines ++ line ∷ []) (clocks_of dial.new C.tells (C.moments clock.new)) }
     ensures kind { is_some dial.new ≡ is_some dial.old }
     ensures moments { C.moments clock.new ≡ C.moments clock.old }
     ensures untouched { IsTrue (is_some dial.old) → clock.new ≡ clock.old }

@@ -17,7 +17,7 @@ answer_request-requires-clause-known g c =
 
 pub returns-in-Ok-clause-answered : goal.returns-in-Ok-clause-answered
 returns-in-Ok-clause-answered g c = λ setting past line next.
-    let is = found_at setting.hours past.lines _ _ line _ (Ok c.in-Ok.request) next.clock c.is_manual.ensures next.same c.in-Ok.ensures.found in
+    let is = found_at setting.hours past.lines _ c.args.number _ line _ (Ok c.in-Ok.request) next.count next.clock c.is_manual.ensures next.same c.in-Ok.ensures.found in
     on_ok_weaker c.answer_request.result (λ done. record {
       reading = c.read_for-reading.result;
       batches = done.batches;
@@ -28,7 +28,7 @@ returns-in-Ok-clause-answered g c = λ setting past line next.
 
 pub returns-in-Ok-clause-unanswered : goal.returns-in-Ok-clause-unanswered
 returns-in-Ok-clause-unanswered g c = λ setting past line next.
-    let is = found_at setting.hours past.lines _ _ line _ (Ok c.in-Ok.request) next.clock c.is_manual.ensures next.same c.in-Ok.ensures.found in
+    let is = found_at setting.hours past.lines _ c.args.number _ line _ (Ok c.in-Ok.request) next.count next.clock c.is_manual.ensures next.same c.in-Ok.ensures.found in
     if_err_as c.answer_request.result _ _ (λ end why. unserved_unanswered _ _ _ setting past line _ _ _ _ _ _ _ _ (record {
       request = c.in-Ok.request;
       is = is;
@@ -45,7 +45,7 @@ pub returns-in-Err-clause-answered : goal.returns-in-Err-clause-answered
 returns-in-Err-clause-answered g c = λ setting past line next.
     let spoken : ¬ (c.in-Err.fault ≡ faults.Memory) = search rules in
     let told = Tells-fault c.in-Err.fault _ c.in-Err.ensures.found spoken in
-    let is = found_at setting.hours past.lines _ _ line _ (Err c.in-Err.fault) next.clock c.is_manual.ensures next.same told in
+    let is = found_at setting.hours past.lines _ c.args.number _ line _ (Err c.in-Err.fault) next.count next.clock c.is_manual.ensures next.same told in
     on_ok_weaker c.put.result (λ put. record {
       reading = 0;
       batches = [];
