@@ -2,16 +2,25 @@
 use std::alloc::Global;
 use std::process::Abort;
 use zb_model::{Command, MessagePublish, Value, Vars};
-use zb_wire::{LineFault, Request, longest_shown, read_line};
+use zb_wire::{Given, LineFault, Request, longest_shown, read_line};
 
 // A publish with variables of each kind.
 const PAID: &[u8] =
     br#"{"op":"publish","name":"paid","correlationKey":"o-1","timeToLive":60000,"variables":
     {"n":9223372036854775807,"m":-9223372036854775808,"b":true,"":"\u00e9","l":[0,-1],"b":false,"e":[]}}"#;
 
+// What the first line of a session is read by, where there are two partitions.
+fn given(manual: bool) -> Given {
+    Given {
+        number: 1,
+        partitions: 2,
+        manual,
+    }
+}
+
 // The message that the line asks to publish.
 fn message_of(rt: &impl Abort, alloc: Global) -> MessagePublish {
-    match read_line(alloc, PAID, false) {
+    match read_line(alloc, PAID, given(false)) {
         Ok(Request::Publish(message)) => message,
         _ => panic!(rt; "no publish"),
     }
@@ -64,14 +73,28 @@ fn reads_variables(rt: HostRuntime) {
 #[test]
 fn moves_no_real_clock(rt: HostRuntime) {
     let line = br#"{"op":"advance","ms":5}"#;
-    match read_line(rt.alloc(), line, true) {
+    match read_line(rt.alloc(), line, given(true)) {
         Ok(Request::Advance(ms)) => assert!(rt; ms == 5),
         _ => panic!(&rt; "no advance"),
     }
-    match read_line(rt.alloc(), line, false) {
+    match read_line(rt.alloc(), line, given(false)) {
         Err(LineFault::UnknownOp) => {}
         _ => panic!(&rt; "another answer"),
     }
+}
+
+// Whether the line is a create, where there are two partitions.
+fn creates(alloc: Global, line: &[u8]) -> bool {
+    matches!(read_line(alloc, line, given(false)), Ok(Request::Create(_)))
+}
+
+#[test]
+fn names_one_of_the_partitions(rt: HostRuntime) {
+    let alloc = rt.alloc();
+    assert!(rt; !creates(alloc, br#"{"op":"create","process":"p","partition":0}"#));
+    assert!(rt; creates(alloc, br#"{"op":"create","process":"p","partition":1}"#));
+    assert!(rt; creates(alloc, br#"{"op":"create","process":"p","partition":2}"#));
+    assert!(rt; !creates(alloc, br#"{"op":"create","process":"p","partition":3}"#));
 }
 
 #[test]

@@ -3,15 +3,14 @@ use serde_json::Value as Json;
 use std::alloc::Global;
 use std::process::Abort;
 use zb_process::{Flow, Model, Node, NodeKind};
-use zb_reader::{LayoutFault, read_model};
+use zb_reader::{model_place, read_model};
 
-// What is read of a text.
-fn read(rt: &impl Abort, alloc: Global, text: &str) -> Result<Model, LayoutFault> {
-    let value = match Json::from_str(alloc, text) {
+// The JSON value that a text is.
+fn value(rt: &impl Abort, alloc: Global, text: &str) -> Json {
+    match Json::from_str(alloc, text) {
         Ok(value) => value,
         Err(_) => panic!(rt; "no JSON"),
-    };
-    read_model(alloc, &value)
+    }
 }
 
 #[test]
@@ -19,10 +18,10 @@ fn reads_a_model(rt: HostRuntime) {
     let text =
         r#"{"process":"p","versionTag":"v","nodes":[{"id":"s","kind":"startEvent"},{"id":"e","kind":"endEvent"}],
         "flows":[{"id":"f","sourceRef":"s","targetRef":"e"}]}"#;
-    match read(&rt, rt.alloc(), text) {
-        Ok(model) => assert!(rt; is_straight(&model)),
-        Err(_) => panic!(&rt; "no model"),
-    }
+    let value = value(&rt, rt.alloc(), text);
+    assert!(rt; matches!(model_place(rt.alloc(), &value), Ok(None)));
+    let model = read_model(rt.alloc(), &value).expect(&rt, "memory");
+    assert!(rt; is_straight(&model));
 }
 
 // Whether the model is one of a start event, a flow and an end event.
@@ -67,8 +66,9 @@ fn is_flow(flow: &Flow) -> bool {
 
 #[test]
 fn names_a_place(rt: HostRuntime) {
-    match read(&rt, rt.alloc(), r#"{"process":"p","nodes":[{"id":"s"}]}"#) {
-        Err(LayoutFault::Place { path }) => assert!(rt; path.as_str() == "/nodes/0/kind"),
+    let value = value(&rt, rt.alloc(), r#"{"process":"p","nodes":[{"id":"s"}]}"#);
+    match model_place(rt.alloc(), &value) {
+        Ok(Some(place)) => assert!(rt; place.as_str() == "/nodes/0/kind"),
         _ => panic!(&rt; "no place"),
     }
 }

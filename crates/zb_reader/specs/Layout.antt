@@ -1,6 +1,6 @@
 -- The layout of a process model in JSON (own; the names of elements and attributes are those of BPMN 2.0.2, section 10).
 -- So far of start events and end events that stand for themselves, and flows without conditions.
-use Rattle.std.specs.Prelude.{ℕ, List, [], ◌∷◌, codes, false, is_some, if◌then◌else◌, Option, Some, None, option_and_then, unwrap_or, Result, Ok, Err}
+use Rattle.std.specs.Prelude.{ℕ, List, [], ◌∷◌, codes, false, is_some, if◌then◌else◌, Option, Some, None, option_and_then, unwrap_or}
 use Rattle.std.specs.Option.{option_map_or}
 use Rattle.std.specs.Str.{bytes_eq}
 use Rattle.serde_json.specs.Data.{Data, Items, no_items, item}
@@ -73,7 +73,7 @@ model_fields d =
     ∷ []
 
 -- where a value fails to be a model: the first place in the order of the document; None where it is one
-abbrev pub place_in_model : Data → Option (List ℕ)
+unfoldable pub place_in_model : Data → Option (List ℕ)
 place_in_model d = place_in_object model_fields d
 
 -- the text of a field, and the empty one where it isn't there
@@ -111,7 +111,7 @@ made_of made (item d ds) = made d ∷ made_of made ds
 abbrev pub list_at : {A : Type 0} → (Data → A) → List ℕ → Data → List A
 list_at made field d = option_map_or (made_of made) (option_and_then as_array (get field d)) []
 
--- the model that a value is
+-- the model that the fields of a value are
 abbrev pub model_in : Data → Model
 model_in d = record {
   process = text_in (codes "process") d;
@@ -120,11 +120,6 @@ model_in d = record {
   flows = list_at flow_in (codes "flows") d;
 }
 
--- the model, where no place fails
-abbrev pub unless_failed : Option (List ℕ) → Model → Result Model (List ℕ)
-unless_failed None m = Ok m
-unless_failed (Some path) m = Err path
-
--- the model that a value is, or the first place that fails
-unfoldable pub model_of : Data → Result Model (List ℕ)
-model_of d = unless_failed (place_in_model d) (model_in d)
+-- the model that a value is laid out as, where no place fails
+unfoldable pub model_of : Data → Model
+model_of d = model_in d

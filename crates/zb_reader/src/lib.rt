@@ -9,4 +9,4 @@ mod node;
 mod place;
 mod reading;
 
-pub use reading::{LayoutFault, read_model};
+pub use reading::{model_place, read_model};

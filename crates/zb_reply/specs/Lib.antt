@@ -1,2 +1,3 @@
 pub mod Reply
+pub mod Member
 pub mod ReplyLaws

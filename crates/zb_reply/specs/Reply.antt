@@ -1,5 +1,5 @@
 -- The reply to a request, and its line: compact JSON (RFC 8259) with keys in byte order, and a newline.
-use Rattle.std.specs.Prelude.{◌≡◌, ℕ, List, [], ◌∷◌, ◌++◌, codes, Option, Some, None, option_map}
+use Rattle.std.specs.Prelude.{◌≡◌, ℕ, List, [], ◌∷◌, ◌++◌, codes, Bool, true, false, Option, Some, None}
 use Rattle.std.specs.Fmt.{decimal}
 use Rattle.serde_json.specs.Data.{string}
 use Rattle.serde_json.specs.Written.{compact_text}
@@ -15,30 +15,13 @@ use Rattle.zb_model.specs.declared.record.Batch.{Batch}
 use Rattle.zb_model.specs.declared.record.Rejection.{Rejection}
 use Rattle.zb_model.specs.declared.record.RejectionKind.{RejectionKind}
 use Rattle.zb_model.specs.declared.record.RejectionKind.TheVariants as kinds
+use Rattle.zb_wire.specs.First.{first_told}
 use Rattle.zb_wire.specs.declared.request.LineFault.{LineFault}
 use Rattle.zb_wire.specs.declared.request.LineFault.TheVariants as faults
 use Rattle.zb_reply.specs.declared.reply.DeployedReply.{DeployedReply}
 use Rattle.zb_reply.specs.declared.reply.Created.{Created}
 use Rattle.zb_reply.specs.declared.reply.Reply.{Reply}
 use Rattle.zb_reply.specs.declared.reply.Reply.TheVariants as replies
-
--- the first definition that the events make; other events are passed over
-abbrev pub definition_in : List Event → Option ProcessCreated
-definition_in [] = None
-definition_in (events.ProcessCreated e ∷ es) = Some e
-definition_in (_ ∷ es) = definition_in es
-
--- the first instance that the events make; other events are passed over
-abbrev pub instance_in : List Event → Option ProcessInstanceCreationCreated
-instance_in [] = None
-instance_in (events.ProcessInstanceCreationCreated e ∷ es) = Some e
-instance_in (_ ∷ es) = instance_in es
-
--- the key of the first message that the events publish; other events are passed over
-abbrev pub message_in : List Event → Option ℕ
-message_in [] = None
-message_in (events.MessagePublished e ∷ es) = Some e.key
-message_in (_ ∷ es) = message_in es
 
 -- what is told of a definition
 abbrev pub deployed_of : ProcessCreated → DeployedReply
@@ -48,15 +31,32 @@ deployed_of e = record { definition = e.key; process = e.model.process; version 
 abbrev pub created_of : ProcessInstanceCreationCreated → Created
 created_of e = record { definition = e.definition; instance = e.key }
 
--- the reply to a command that had this outcome; None where no request asks for the command, or it has no reply
+-- a deployment is answered by the definition that it makes
+abbrev pub deploy_answer : Event → Option Reply
+deploy_answer (events.ProcessCreated e) = Some (replies.Deploy (deployed_of e))
+deploy_answer _ = None
+
+-- a creation by the instance
+abbrev pub create_answer : Event → Option Reply
+create_answer (events.ProcessInstanceCreationCreated e) = Some (replies.Create (created_of e))
+create_answer _ = None
+
+-- a publish by the message
+abbrev pub publish_answer : Event → Option Reply
+publish_answer (events.MessagePublished e) = Some (replies.Publish e.key)
+publish_answer _ = None
+
+-- the reply to a command that had this outcome: what the first event tells that tells something, or the rejection
+abbrev pub reply_by : (Event → Option Reply) → Outcome → Option Reply
+reply_by tell (outcomes.Accepted es) = first_told tell es
+reply_by tell (outcomes.Rejected r) = Some (replies.Rejected r)
+
+-- the reply by the command; None where no request asks for the command, or it has no reply
 abbrev pub answer_to : Command → Outcome → Option Reply
-answer_to (commands.DeploymentCreate m) (outcomes.Accepted es) = option_map (λ e. replies.Deploy (deployed_of e)) (definition_in es)
-answer_to (commands.DeploymentCreate m) (outcomes.Rejected r) = Some (replies.Rejected r)
-answer_to (commands.ProcessInstanceCreationCreate c) (outcomes.Accepted es) = option_map (λ e. replies.Create (created_of e)) (instance_in es)
-answer_to (commands.ProcessInstanceCreationCreate c) (outcomes.Rejected r) = Some (replies.Rejected r)
-answer_to (commands.MessagePublish c) (outcomes.Accepted es) = option_map replies.Publish (message_in es)
-answer_to (commands.MessagePublish c) (outcomes.Rejected r) = Some (replies.Rejected r)
-answer_to _ _ = None
+answer_to (commands.DeploymentCreate m) outcome = reply_by deploy_answer outcome
+answer_to (commands.ProcessInstanceCreationCreate c) outcome = reply_by create_answer outcome
+answer_to (commands.MessagePublish m) outcome = reply_by publish_answer outcome
+answer_to _ outcome = None
 
 -- the reply to the request whose command became this batch
 unfoldable pub answer_of : Batch → Option Reply
@@ -100,17 +100,38 @@ abbrev pub fault_path : LineFault → List ℕ
 fault_path (faults.Field field (Some path)) = codes ",\"path\":" ++ quoted path
 fault_path _ = []
 
--- what a line tells of a definition
-abbrev pub deployed_text : DeployedReply → List ℕ
-deployed_text d = codes "\"definition\":" ++ (decimal d.definition ++ (codes ",\"process\":" ++ (quoted d.process ++ (codes ",\"version\":" ++ decimal d.version))))
+-- what a line tells under a name
+pub data Member : Type 0 where
+  a_number : List ℕ → ℕ → Member
+  a_text : List ℕ → List ℕ → Member
 
--- what a line tells of an instance
-abbrev pub created_text : Created → List ℕ
-created_text c = codes "\"definition\":" ++ (decimal c.definition ++ (codes ",\"instance\":" ++ decimal c.instance))
+-- a name, and a colon (RFC 8259, section 4)
+abbrev pub name_text : List ℕ → List ℕ
+name_text name = codes "\"" ++ (name ++ codes "\":")
 
--- what a line tells of a number that has a name
-abbrev pub number_text : List ℕ → ℕ → List ℕ
-number_text name number = codes "\"" ++ (name ++ (codes "\":" ++ decimal number))
+-- a name with what is told under it
+abbrev pub member_text : Member → List ℕ
+member_text (a_number name n) = name_text name ++ decimal n
+member_text (a_text name s) = name_text name ++ quoted s
+
+-- a comma, where something stands in front
+abbrev pub comma_behind : Bool → List ℕ
+comma_behind false = []
+comma_behind true = codes ","
+
+-- what a line tells, with commas between, and one in front where something stands there
+abbrev pub members_text : Bool → List Member → List ℕ
+members_text behind [] = []
+members_text behind (m ∷ ms) = comma_behind behind ++ (member_text m ++ members_text true ms)
+
+-- what the line of a request that was done tells, in byte order of the names
+abbrev pub members_told : Reply → List Member
+members_told (replies.Deploy d) = a_number (codes "definition") d.definition ∷ a_text (codes "process") d.process ∷ a_number (codes "version") d.version ∷ []
+members_told (replies.Create c) = a_number (codes "definition") c.definition ∷ a_number (codes "instance") c.instance ∷ []
+members_told (replies.Publish key) = a_number (codes "message") key ∷ []
+members_told (replies.Tick due) = a_number (codes "due") due ∷ []
+members_told (replies.Advance now) = a_number (codes "now") now ∷ []
+members_told _ = []
 
 -- the line of a request that was done, which tells this
 abbrev pub ok_line : List ℕ → Option ℕ → List ℕ
@@ -126,20 +147,11 @@ fault_line number fault = codes "{\"fault\":\"" ++ (fault_name fault ++ (codes "
 
 -- the line of a reply; that of a fault has no units
 unfoldable pub line_of : Reply → Option ℕ → List ℕ
-line_of (replies.Deploy deployed) units = ok_line (deployed_text deployed) units
-line_of (replies.Create created) units = ok_line (created_text created) units
-line_of (replies.Publish key) units = ok_line (number_text (codes "message") key) units
-line_of (replies.Tick due) units = ok_line (number_text (codes "due") due) units
-line_of (replies.Advance now) units = ok_line (number_text (codes "now") now) units
 line_of (replies.Rejected r) units = rejected_line r units
 line_of (replies.Fault number fault) units = fault_line number fault
+line_of reply units = ok_line (members_text false (members_told reply)) units
 
 -- a reply that has a line: one that isn't want of memory
 abbrev pub IsSpoken : Reply → Type 0
-IsSpoken (replies.Deploy deployed) = Unit {0}
-IsSpoken (replies.Create created) = Unit {0}
-IsSpoken (replies.Publish key) = Unit {0}
-IsSpoken (replies.Tick due) = Unit {0}
-IsSpoken (replies.Advance now) = Unit {0}
-IsSpoken (replies.Rejected r) = Unit {0}
 IsSpoken (replies.Fault number fault) = ¬ (fault ≡ faults.Memory)
+IsSpoken _ = Unit {0}

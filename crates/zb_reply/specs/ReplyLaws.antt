@@ -1,5 +1,6 @@
 -- Laws of the replies to requests.
-use Rattle.std.specs.Prelude.{◌≡◌, List, ◌∷◌, Option, Some, None, option_map, refl}
+use Rattle.std.specs.Prelude.{◌≡◌, List, ◌∷◌, [], Option, Some, None, refl}
+use Rattle.std.specs.Option.{option_or}
 use Rattle.std.proofs.Common.{subst}
 use Rattle.zb_process.specs.declared.model.Model.{Model}
 use Rattle.zb_instance_records.specs.declared.deployment.ProcessCreated.{ProcessCreated}
@@ -16,7 +17,8 @@ use Rattle.zb_model.specs.declared.record.Outcome.{Outcome}
 use Rattle.zb_model.specs.declared.record.Outcome.TheVariants as outcomes
 use Rattle.zb_model.specs.declared.record.Rejection.{Rejection}
 use Rattle.zb_wire.specs.Asked.{command_of}
-use Rattle.zb_reply.specs.Reply.{definition_in, instance_in, message_in, deployed_of, created_of, answer_to, answer_of, IsSpoken}
+use Rattle.zb_wire.specs.First.{first_told}
+use Rattle.zb_reply.specs.Reply.{deploy_answer, create_answer, publish_answer, deployed_of, created_of, reply_by, answer_to, answer_of, IsSpoken}
 use Rattle.zb_wire.specs.declared.request.Request.{Request}
 use Rattle.zb_wire.specs.declared.request.Request.TheVariants as requests
 use Rattle.zb_reply.specs.declared.reply.Reply.{Reply}
@@ -53,20 +55,46 @@ pub answer_of-rejected : (request : Request) (r : Rejection) (batch : Batch) →
 unfolding answer_of
 answer_of-rejected request r batch asked became = rw became (rejected_to request r batch.command asked)
 
--- what there is to tell of something is a reply with a line
-told_spoken : {A : Type 0} (tell : A → Reply) (o : Option A) (reply : Reply) → ((a : A) → IsSpoken (tell a)) → option_map tell o ≡ Some reply → IsSpoken reply
-told_spoken tell None reply speaks is = absurd (cc)
-told_spoken tell (Some a) reply speaks is =
-    let same : tell a ≡ reply = cc in
-    subst IsSpoken same (speaks a)
+first_spoken_by : (o rest : Option Reply) (reply : Reply) → (o ≡ Some reply → IsSpoken reply) → (rest ≡ Some reply → IsSpoken reply) → option_or o rest ≡ Some reply → IsSpoken reply
+first_spoken_by None rest reply speaks others is = others is
+first_spoken_by (Some r) rest reply speaks others is = speaks is
+
+first_spoken : (tell : Event → Option Reply) (es : List Event) (reply : Reply) → ((e : Event) → tell e ≡ Some reply → IsSpoken reply) → first_told tell es ≡ Some reply → IsSpoken reply
+first_spoken tell [] reply speaks is = absurd (cc)
+first_spoken tell (e ∷ es) reply speaks is = first_spoken_by (tell e) (first_told tell es) reply (speaks e) (first_spoken tell es reply speaks) is
+
+rejected_spoken : (r : Rejection) (reply : Reply) → Some (replies.Rejected r) ≡ Some reply → IsSpoken reply
+rejected_spoken r reply is =
+    let same : replies.Rejected r ≡ reply = cc in
+    subst IsSpoken same tt
+
+-- where what the events tell has a line, the reply has one
+reply_by-spoken : (tell : Event → Option Reply) (outcome : Outcome) (reply : Reply) → ((e : Event) → tell e ≡ Some reply → IsSpoken reply) → reply_by tell outcome ≡ Some reply → IsSpoken reply
+reply_by-spoken tell (outcomes.Accepted es) reply speaks is = first_spoken tell es reply speaks is
+reply_by-spoken tell (outcomes.Rejected r) reply speaks is = rejected_spoken r reply is
+
+deploy_answer-spoken : (reply : Reply) (e : Event) → deploy_answer e ≡ Some reply → IsSpoken reply
+deploy_answer-spoken reply (events.ProcessCreated e) is =
+    let same : replies.Deploy (deployed_of e) ≡ reply = cc in
+    subst IsSpoken same tt
+deploy_answer-spoken reply _ is = absurd (cc)
+
+create_answer-spoken : (reply : Reply) (e : Event) → create_answer e ≡ Some reply → IsSpoken reply
+create_answer-spoken reply (events.ProcessInstanceCreationCreated e) is =
+    let same : replies.Create (created_of e) ≡ reply = cc in
+    subst IsSpoken same tt
+create_answer-spoken reply _ is = absurd (cc)
+
+publish_answer-spoken : (reply : Reply) (e : Event) → publish_answer e ≡ Some reply → IsSpoken reply
+publish_answer-spoken reply (events.MessagePublished e) is =
+    let same : replies.Publish e.key ≡ reply = cc in
+    subst IsSpoken same tt
+publish_answer-spoken reply _ is = absurd (cc)
 
 answer_to-spoken : (command : Command) (outcome : Outcome) (reply : Reply) → answer_to command outcome ≡ Some reply → IsSpoken reply
-answer_to-spoken (commands.DeploymentCreate m) (outcomes.Accepted es) reply is = told_spoken (λ e. replies.Deploy (deployed_of e)) (definition_in es) reply (λ _. tt) is
-answer_to-spoken (commands.DeploymentCreate m) (outcomes.Rejected r) reply is = told_spoken replies.Rejected (Some r) reply (λ _. tt) is
-answer_to-spoken (commands.ProcessInstanceCreationCreate c) (outcomes.Accepted es) reply is = told_spoken (λ e. replies.Create (created_of e)) (instance_in es) reply (λ _. tt) is
-answer_to-spoken (commands.ProcessInstanceCreationCreate c) (outcomes.Rejected r) reply is = told_spoken replies.Rejected (Some r) reply (λ _. tt) is
-answer_to-spoken (commands.MessagePublish c) (outcomes.Accepted es) reply is = told_spoken replies.Publish (message_in es) reply (λ _. tt) is
-answer_to-spoken (commands.MessagePublish c) (outcomes.Rejected r) reply is = told_spoken replies.Rejected (Some r) reply (λ _. tt) is
+answer_to-spoken (commands.DeploymentCreate m) outcome reply is = reply_by-spoken deploy_answer outcome reply (deploy_answer-spoken reply) is
+answer_to-spoken (commands.ProcessInstanceCreationCreate c) outcome reply is = reply_by-spoken create_answer outcome reply (create_answer-spoken reply) is
+answer_to-spoken (commands.MessagePublish c) outcome reply is = reply_by-spoken publish_answer outcome reply (publish_answer-spoken reply) is
 answer_to-spoken _ outcome reply is = absurd (cc)
 
 -- what a batch is answered with has a line

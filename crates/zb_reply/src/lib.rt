@@ -1,8 +1,10 @@
 //! Replies to requests, and their text.
 #![tactic(auto)]
 
+mod answer;
 mod line;
 mod reply;
 
+pub use answer::reply_of;
 pub use line::reply_text;
-pub use reply::{Created, DeployedReply, Reply, reply_of};
+pub use reply::{Created, DeployedReply, Reply};

@@ -1,7 +1,8 @@
-ghost use Rattle.std.specs.Prelude.{◌≡◌, ◌++◌, string_bytes, IfOk, OnOk, OnErr};
-ghost use Rattle.zb_reply.specs.Reply.{line_of, ok_line, rejected_line, fault_line, deployed_text, created_text, number_text, quoted, kind_name, fault_name, fault_field, fault_path, units_of, IsSpoken};
+ghost use Rattle.std.specs.Prelude.{◌≡◌, ◌++◌, false, map, string_bytes, IfOk, OnOk, OnErr};
+ghost use Rattle.zb_reply.specs.Member.{member_of};
+ghost use Rattle.zb_reply.specs.Reply.{line_of, ok_line, rejected_line, fault_line, name_text, comma_behind, member_text, members_text, quoted, kind_name, fault_name, fault_field, fault_path, units_of, IsSpoken};
 
-use crate::{Created, DeployedReply, Reply};
+use crate::Reply;
 use serde_json::Value as Json;
 use std::alloc::{AllocError, Global};
 use zb_model::{Rejection, RejectionKind};
@@ -26,108 +27,106 @@ pub fn reply_text(
     bytes.extend_from_slice(line.as_bytes())
 }
 
+// What a line tells under a name.
+#[derive(Clone, Copy)]
+enum Member<'t> {
+    Number(&'static str, u64),
+    Text(&'static str, &'t str),
+}
+
 // The line of a reply.
 #[tactic(auto, unfolding(crate::specs::Reply::line_of))]
 fn line(alloc: Global, reply: &Reply, units: Option<u64>) -> Result<String, AllocError>
     ensures { IfOk result (λ line. string_bytes line ≡ line_of reply.now units) }
 {
     match reply {
-        Reply::Deploy(deployed) => deploy_line(alloc, deployed, units),
-        Reply::Create(created) => create_line(alloc, *created, units),
-        Reply::Publish(key) => number_line(alloc, "message", key.number(), units),
-        Reply::Tick(due) => number_line(alloc, "due", *due, units),
-        Reply::Advance(now) => number_line(alloc, "now", now.ms(), units),
+        Reply::Deploy(deployed) => ok_line(
+            alloc,
+            &[
+                Member::Number("definition", deployed.definition.number()),
+                Member::Text("process", deployed.process.as_str()),
+                Member::Number("version", u64::from(deployed.version)),
+            ],
+            units,
+        ),
+        Reply::Create(created) => ok_line(
+            alloc,
+            &[
+                Member::Number("definition", created.definition.number()),
+                Member::Number("instance", created.instance.number()),
+            ],
+            units,
+        ),
+        Reply::Publish(key) => ok_line(alloc, &[Member::Number("message", key.number())], units),
+        Reply::Tick(due) => ok_line(alloc, &[Member::Number("due", *due)], units),
+        Reply::Advance(now) => ok_line(alloc, &[Member::Number("now", now.ms())], units),
         Reply::Rejected(rejection) => rejected_line(alloc, rejection, units),
         Reply::Fault(number, fault) => fault_line(alloc, *number, fault),
     }
 }
 
-// The line of a deployment, which tells of its definition.
-fn deploy_line(
-    alloc: Global,
-    deployed: &DeployedReply,
-    units: Option<u64>,
-) -> Result<String, AllocError>
-    ensures { IfOk result (λ line. string_bytes line ≡ ok_line (deployed_text deployed.now) units) }
+// The line of a request that was done, which tells these.
+fn ok_line(alloc: Global, told: &[Member], units: Option<u64>) -> Result<String, AllocError>
+    ensures { IfOk result (λ line. string_bytes line
+        ≡ ok_line (members_text false (map member_of told.now)) units) }
 {
     let mut line = String::with_capacity(alloc, LINE_ROOM)?;
     line.push_str("{\"ok\":{")?;
-    push_deployed(alloc, &mut line, deployed)?;
+    push_members(alloc, &mut line, told)?;
     line.push_str("}")?;
     push_units(&mut line, units)?;
     line.push_str("}\n")?;
     Ok(line)
 }
 
-// Appends what a line tells of a definition.
-fn push_deployed(
-    alloc: Global,
-    line: &mut String,
-    deployed: &DeployedReply,
-) -> Result<(), AllocError>
-    ensures { OnOk result (string_bytes line.new ≡ string_bytes line.old ++ deployed_text deployed.now) }
-{
-    line.push_str("\"definition\":")?;
-    line.write(deployed.definition.number())?;
-    line.push_str(",\"process\":")?;
-    push_quoted(alloc, line, deployed.process.as_str())?;
-    line.push_str(",\"version\":")?;
-    line.write(deployed.version)?;
-    Ok(())
-}
-
-// The line of a create, which tells of its instance.
-fn create_line(alloc: Global, created: Created, units: Option<u64>) -> Result<String, AllocError>
-    ensures { IfOk result (λ line. string_bytes line ≡ ok_line (created_text created) units) }
-{
-    let mut line = String::with_capacity(alloc, LINE_ROOM)?;
-    line.push_str("{\"ok\":{")?;
-    push_created(&mut line, created)?;
-    line.push_str("}")?;
-    push_units(&mut line, units)?;
-    line.push_str("}\n")?;
-    Ok(line)
-}
-
-// Appends what a line tells of an instance.
-fn push_created(line: &mut String, created: Created) -> Result<(), AllocError>
-    ensures { OnOk result (string_bytes line.new ≡ string_bytes line.old ++ created_text created) }
-{
-    line.push_str("\"definition\":")?;
-    line.write(created.definition.number())?;
-    line.push_str(",\"instance\":")?;
-    line.write(created.instance.number())?;
-    Ok(())
-}
-
-// The line of a request that was done, which tells this number by its name.
-fn number_line(
-    alloc: Global,
-    name: &str,
-    number: u64,
-    units: Option<u64>,
-) -> Result<String, AllocError>
-    ensures { IfOk result (λ line. string_bytes line ≡ ok_line (number_text name.now number) units) }
-{
-    let mut line = String::with_capacity(alloc, LINE_ROOM)?;
-    line.push_str("{\"ok\":{")?;
-    push_number(&mut line, name, number)?;
-    line.push_str("}")?;
-    push_units(&mut line, units)?;
-    line.push_str("}\n")?;
-    Ok(line)
-}
-
-// Appends what a line tells of a number that has a name.
-fn push_number(line: &mut String, name: &str, number: u64) -> Result<(), AllocError>
+// Appends what a line tells, with commas between.
+fn push_members(alloc: Global, line: &mut String, told: &[Member]) -> Result<(), AllocError>
     ensures { OnOk result (string_bytes line.new
-        ≡ string_bytes line.old ++ number_text name.now number) }
+        ≡ string_bytes line.old ++ members_text false (map member_of told.now)) }
+{
+    let mut behind = false;
+    for member in told {
+        push_comma(line, behind)?;
+        push_member(alloc, line, member)?;
+        behind = true;
+    }
+    Ok(())
+}
+
+// Appends a comma, where something stands in front.
+fn push_comma(line: &mut String, behind: bool) -> Result<(), AllocError>
+    ensures { OnOk result (string_bytes line.new ≡ string_bytes line.old ++ comma_behind behind) }
+{
+    if behind {
+        return line.push_str(",");
+    }
+    Ok(())
+}
+
+// Appends a name and what is told under it.
+fn push_member(alloc: Global, line: &mut String, member: &Member) -> Result<(), AllocError>
+    ensures { OnOk result (string_bytes line.new
+        ≡ string_bytes line.old ++ member_text (member_of member.now)) }
+{
+    match member {
+        Member::Number(name, number) => {
+            push_name(line, name)?;
+            line.write(*number)
+        }
+        Member::Text(name, text) => {
+            push_name(line, name)?;
+            push_quoted(alloc, line, text)
+        }
+    }
+}
+
+// Appends a name and a colon.
+fn push_name(line: &mut String, name: &str) -> Result<(), AllocError>
+    ensures { OnOk result (string_bytes line.new ≡ string_bytes line.old ++ name_text name.now) }
 {
     line.push_str("\"")?;
     line.push_str(name)?;
-    line.push_str("\":")?;
-    line.write(number)?;
-    Ok(())
+    line.push_str("\":")
 }
 
 // The line of a request that was rejected.

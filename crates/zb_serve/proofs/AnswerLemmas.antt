@@ -17,6 +17,7 @@ use Rattle.zb_views.specs.Definitions.{definitions, greatest_version, definition
 use Rattle.zb_views.specs.declared.definition.Definition.{Definition}
 use Rattle.zb_rules.specs.Step.{IsAcceptance, IsOutcomeBy, IsOutcomeOf, IsStep}
 use Rattle.zb_wire.specs.Asked.{command_of}
+use Rattle.zb_wire.specs.declared.given.Given.{Given}
 use Rattle.zb_wire.specs.Request.{request_of}
 use Rattle.zb_wire.specs.declared.request.LineFault.{LineFault}
 use Rattle.zb_wire.specs.declared.request.Request.{Request}
@@ -89,9 +90,9 @@ step_answered p n log batch request asked step = by_request (events_of log) requ
     by_request before (requests.Advance ms) asked is = absurd (cc)
 
 -- a line that is no request is answered by its fault
-pub fault_answered : (by_hand : Bool) (number told : ℕ) (line reply old : List ℕ) (fault : LineFault) → told ≡ number → request_of by_hand line ≡ Err fault → old ≡ []
-    → reply ≡ old ++ line_of (replies.Fault told fault) None → IsAnswer by_hand number line (record { asked = Err fault; reading = 0; entries = []; reply = reply })
-fault_answered by_hand number told line reply old fault count is none put = record {
+pub fault_answered : (given : Given) (told : ℕ) (line reply old : List ℕ) (fault : LineFault) → told ≡ given.number → request_of given line ≡ Err fault → old ≡ []
+    → reply ≡ old ++ line_of (replies.Fault told fault) None → IsAnswer given line (record { asked = Err fault; reading = 0; entries = []; reply = reply })
+fault_answered given told line reply old fault count is none put = record {
   found = is;
   replied = (refl, put ∙ ap (λ bs. bs ++ line_of (replies.Fault told fault) None) none ∙ ap (λ (n : ℕ). line_of (replies.Fault n fault) None) count);
 }

@@ -7,7 +7,7 @@ use Rattle.zb_wire.specs.declared.request.LineFault.{LineFault}
 use Rattle.zb_wire.specs.Request.{request_of}
 use Rattle.zb_words.specs.declared.plan.ClockKind.{ClockKind}
 use Rattle.zb_words.specs.declared.plan.ClockKind.TheVariants as kinds
-use Rattle.zb_serve.specs.Hours.{Hours, manual, real, is_manual, moved_by, clock_after, IsReadingOf, hours_of}
+use Rattle.zb_serve.specs.Hours.{Hours, manual, real, is_manual, given_of, moved_by, clock_after, IsReadingOf, hours_of}
 use Rattle.zb_serve.specs.Serving.{Clocks, clocks_of, dial_of, AreAt}
 
 -- there is a clock that is moved by hand where the run goes by it
@@ -16,10 +16,12 @@ kind_at manual found clocks at = ap is_some at
 kind_at (real tells moments) found clocks at = ap is_some at.0
 
 -- what a line was found to be
-pub found_at : (hours : Hours) (found : List (Result Request LineFault)) (clocks : Clocks) (by_hand : Bool) (line shown : List ℕ) (is_found : Result Request LineFault) → AreAt hours found clocks → by_hand ≡ is_some clocks.dial
-    → request_of (is_manual hours) shown ≡ request_of (is_manual hours) line → request_of by_hand shown ≡ is_found → request_of (is_manual hours) line ≡ is_found
-found_at hours found clocks by_hand line shown is_found at is same was =
-    sym same ∙ ap (λ (b : Bool). request_of b shown) (sym (is ∙ kind_at hours found clocks at)) ∙ was
+pub found_at : (hours : Hours) (found : List (Result Request LineFault)) (clocks : Clocks) (number told : ℕ) (by_hand : Bool) (line shown : List ℕ) (is_found : Result Request LineFault) → number ≡ told → AreAt hours found clocks
+    → by_hand ≡ is_some clocks.dial → request_of (given_of hours 1 number) shown ≡ request_of (given_of hours 1 number) line → request_of (record { number = number; partitions = 1; manual = by_hand }) shown ≡ is_found
+    → request_of (given_of hours 1 told) line ≡ is_found
+found_at hours found clocks number told by_hand line shown is_found count at is same was =
+    ap (λ (n : ℕ). request_of (given_of hours 1 n) line) (sym count) ∙ sym same
+    ∙ ap (λ (b : Bool). request_of (record { number = number; partitions = 1; manual = b }) shown) (sym (is ∙ kind_at hours found clocks at)) ∙ was
 
 -- a line moves the clock on
 pub moved : (found : List (Result Request LineFault)) (last : Result Request LineFault) → clock_after (found ++ last ∷ []) ≡ min (clock_after found + moved_by last) last_moment

@@ -18,7 +18,7 @@ use Rattle.zb_serve.specs.Ends.{Told, LogEnds, OfNumber, EachFrom}
 use Rattle.zb_serve.specs.Ledger.{IsStored, AreMadeBatches}
 use Rattle.zb_wire.specs.declared.request.Request.{Request}
 use Rattle.zb_wire.specs.Request.{request_of}
-use Rattle.zb_serve.specs.Hours.{Hours, is_manual, IsReadingOf, RunSetting}
+use Rattle.zb_serve.specs.Hours.{Hours, given_of, IsReadingOf, RunSetting}
 use Rattle.zb_serve.specs.Reply.{Answer, IsAnswer}
 use Rattle.zb_serve.specs.Serial.{place_behind, IsNextEntry, AreMadeFor, found_in, entries_made, AreSerial}
 use Rattle.zb_serve.specs.Log.{Course, course_of, OpenedLog, log_in, batch_of, IsKept, IsFront, IsLeftOf, IsLog}
@@ -89,12 +89,12 @@ abbrev pub IsLeftOver : List Batch → Batch → Type 0
 IsLeftOver log batch = IsStep 1 1 log batch × (batch.begin ≡ length log)
 
 -- the first line that wasn't served made these batches and the one that isn't in the log, or memory ran out
-pub record IsFirst (hours : Hours) (opened : List Batch) (answers : List Answer) (unserved : List (List ℕ)) (cause : Cause) (silent : List Batch) (unlogged : Option Batch) : Type 0 where
+pub record IsFirst (hours : Hours) (opened : List Batch) (answers : List Answer) (served unserved : List (List ℕ)) (cause : Cause) (silent : List Batch) (unlogged : Option Batch) : Type 0 where
   pub line : List ℕ
   pub lines : List (List ℕ)
   pub first : unserved ≡ line ∷ lines
   pub request : Request
-  pub asks : request_of (is_manual hours) line ≡ Ok request
+  pub asks : request_of (given_of hours 1 (length served + 1)) line ≡ Ok request
   pub reading : ℕ
   pub read : IsReadingOf hours (found_in answers ++ Ok request ∷ []) reading
   pub made : AreMadeFor (opened ∷ []) request reading (entries_made answers) (entries_of 1 silent)
@@ -102,8 +102,8 @@ pub record IsFirst (hours : Hours) (opened : List Batch) (answers : List Answer)
   pub why : IsWhyUndone cause unlogged
 
 -- nothing was left undone, or the first line that wasn't served
-abbrev pub IsLeftUndone : Hours → List Batch → List Answer → List (List ℕ) → Cause → List Batch → Option Batch → Type 0
-IsLeftUndone hours opened answers unserved cause silent unlogged = ((silent ≡ []) × (unlogged ≡ None)) ⊎ IsFirst hours opened answers unserved cause silent unlogged
+abbrev pub IsLeftUndone : Hours → List Batch → List Answer → (served unserved : List (List ℕ)) → Cause → List Batch → Option Batch → Type 0
+IsLeftUndone hours opened answers served unserved cause silent unlogged = ((silent ≡ []) × (unlogged ≡ None)) ⊎ IsFirst hours opened answers served unserved cause silent unlogged
 
 some_same : {A : Type 0} (x y : A) → Some x ≡ Some y → x ≡ y
 some_same x y e = cc
@@ -257,7 +257,7 @@ module _ (told : Told) (setting : RunSetting) (start : RunStart) (now : Now) (ca
   next_entry P None next entry is = absurd (cc)
   next_entry P (Some batch) next entry is = let same : as_entry 1 batch ≡ entry = cc in subst P same (next batch refl)
 
-  undone_of : (run : SessionRun) (silent : List Batch) → IsLeftUndone setting.hours opened run.answers run.unserved cause silent unlogged → IsUndone course (opened ∷ []) (run ∷ []) (entries_of 1 silent)
+  undone_of : (run : SessionRun) (silent : List Batch) → IsLeftUndone setting.hours opened run.answers run.served run.unserved cause silent unlogged → IsUndone course (opened ∷ []) (run ∷ []) (entries_of 1 silent)
   undone_of run silent (inl (silent_none, none)) = inl (ap (entries_of 1) silent_none, ap (option_map (as_entry 1)) none)
   undone_of run silent (inr first) =
       let alone : run.answers ≡ answers_of (run ∷ []) = append_none run.answers in
@@ -290,7 +290,7 @@ pub over : (told : Told) (setting : RunSetting) (start : RunStart) (now : Now) (
     → (IsTrue told.images → IsByFirstCall start.disk.moment opened_at)
     → entries_made answers ++ entries_of 1 silent ≡ entries_of 1 made
     → IsStream told.source start.source now.source served unserved at_end
-    → EachFrom (IsAnswer (is_manual setting.hours)) 1 served answers
+    → EachFrom (λ n. IsAnswer (given_of setting.hours 1 n)) 1 served answers
     → AreSerial setting.hours (opened ∷ []) answers
     → (IsTrue told.sink → IsSent told 1 (session_ends start now) cause answers)
     → (IsTrue told.disk → Stands start.disk.contents (bodies_of opened))
@@ -300,7 +300,7 @@ pub over : (told : Told) (setting : RunSetting) (start : RunStart) (now : Now) (
     → (IsTrue told.images → (image : List ℕ) → since opened_at image → IsFront opened made image ⊎ IsKept told (log_ends start now) cause unlogged (opened ++ made) image)
     → (IsTrue told.images → (image : List ℕ) → since start.disk.moment image → before image ⊎ since opened_at image)
     → IsNamed told setting.limit start now (opened ++ made) unlogged unserved at_end cause
-    → IsLeftUndone setting.hours opened answers unserved cause silent unlogged
+    → IsLeftUndone setting.hours opened answers served unserved cause silent unlogged
     → ((batch : Batch) → unlogged ≡ Some batch → IsLeftOver (opened ++ made) batch)
     → IsOver told setting start now before images since places cause
 over told setting start now before images since places cause served unserved at_end answers opened made silent unlogged opened_at by_first split stream replied serial sent stood applied are_made held ever earlier named undone left =

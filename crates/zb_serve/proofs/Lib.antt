@@ -1,4 +1,5 @@
 pub mod AnswerLemmas
+pub mod SerialLemmas
 pub mod ClockLemmas
 pub mod HaltLemmas
 pub mod ResultLemmas

@@ -36,9 +36,13 @@ or_none (Some x) = refl
 abbrev pub at_one : Command → ℕ × Command
 at_one command = (1, command)
 
+-- the one log has as many frames as it has batches
+frames_alone : (opened : List Batch) → sum_by length (opened ∷ []) ≡ length opened
+frames_alone opened = let none : 0 + length opened ≡ length opened = omega arith in none
+
 -- the first place behind the one log
 pub place_none : (opened : List Batch) → place_behind (opened ∷ []) [] ≡ length opened
-place_none opened = let all : sum_by length (opened ∷ []) ≡ length opened = refl in omega (arith, all)
+place_none opened = omega (arith, frames_alone opened)
 
 -- behind entries of the one partition
 module _ (opened before done : List Batch) where
@@ -52,8 +56,7 @@ module _ (opened before done : List Batch) where
   -- of as many frames as places
   pub place_alone : place_behind (opened ∷ []) behind ≡ length (opened ++ (before ++ done))
   place_alone =
-      let all : sum_by length (opened ∷ []) ≡ length opened = refl in
-      omega (arith, all, length-append opened (before ++ done), length-append before done, length-append (entries_of 1 before) (entries_of 1 done), length-map before (as_entry 1), length-map done (as_entry 1))
+      omega (arith, frames_alone opened, length-append opened (before ++ done), length-append before done, length-append (entries_of 1 before) (entries_of 1 done), length-map before (as_entry 1), length-map done (as_entry 1))
 
   -- a tick asks for what is due in it, until it made the most
   pub tick_asks : (reading : ℕ) → length done < most_due → next_of (opened ∷ []) requests.Tick reading (entries_of 1 before) (entries_of 1 done) ≡ option_map at_one (due_command reading (events_of (opened ++ (before ++ done))))

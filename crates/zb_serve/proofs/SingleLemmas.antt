@@ -2,10 +2,9 @@
 use Rattle.std.proofs.Common.{◌≡◌, ◌⊎◌, ℕ, zero, suc, ◌-◌, ◌≤◌, List, [], ◌∷◌, ◌++◌, length, get_or, slice_get, IsTrue, Some, refl, sym, ap, subst, inl, inr, ⊎_elim, arith, length-append}
 use Rattle.std.proofs.Math.ListN.{set}
 use Rattle.std.specs.List.{AllZip}
-use Rattle.zb_disk.specs.Disk.{DiskView}
-use Rattle.zb_outside.specs.Stream.{SourceView, SinkView}
+use Rattle.zb_disk.specs.declared.disk.Disk.{Ghosts}
 use Rattle.zb_store.specs.declared.volume.Volume.{Volume}
-use Rattle.zb_serve.specs.Ends.{Told, SessionEnds, LogEnds, RunEnds, Crashes, crashes_of, sessions_ends, logs_ends, OfNumber, EachFrom, IsSafe}
+use Rattle.zb_serve.specs.Ends.{Devices, Told, told_of, SessionEnds, LogEnds, RunEnds, ends_of, Crashes, crashes_of, EachFrom, IsSafe}
 use Rattle.zb_serve.specs.Hours.{RunSetting}
 use Rattle.zb_serve.specs.Log.{Course, course_of, OpenedLog, IsLog}
 use Rattle.zb_serve.specs.Served.{Serves, MayEnd, FailsToOpen, IsRun, slots_in, slots_of_all}
@@ -34,15 +33,15 @@ one_put xs [] x y one is = refl
 one_put xs (a ∷ rest) x y one is = absurd (omega (arith, ap length is, length-append rest (x ∷ [])))
 
 -- nothing was done
-pub safe_same : {D : Type 0} (view : D → DiskView) (images : D → List ℕ → Type 0) (since : D → ℕ → List ℕ → Type 0) (volumes : List (Volume D))
-    → ((disk : D) (c : List ℕ) → since disk (view disk).moment c → images disk c) → AllZip (IsSafe view images since) volumes volumes
-safe_same view images since [] now = tt
-safe_same view images since (volume ∷ volumes) now =
-    (record { now = λ long image left. left; ever = λ image was. inl (now volume.log image was) }, safe_same view images since volumes now)
+pub safe_same : {D : Type 0} (disks : Ghosts D) (volumes : List (Volume D))
+    → ((disk : D) (c : List ℕ) → disks.since disk (disks.view disk).moment c → disks.images disk c) → AllZip (IsSafe disks) volumes volumes
+safe_same disks [] now = tt
+safe_same disks (volume ∷ volumes) now =
+    (record { now = λ long image left. left; ever = λ image was. inl (now volume.log image was) }, safe_same disks volumes now)
 
-pub safe_single : {D : Type 0} (view : D → DiskView) (images : D → List ℕ → Type 0) (since : D → ℕ → List ℕ → Type 0) (volume volume' : Volume D) (volumes volumes' : List (Volume D))
-    → volumes ≡ volume ∷ [] → volumes' ≡ volume' ∷ [] → IsSafe view images since volume volume' → AllZip (IsSafe view images since) volumes volumes'
-safe_single view images since volume volume' volumes volumes' e1 e2 safe = rw (e1, e2) (safe, tt)
+pub safe_single : {D : Type 0} (disks : Ghosts D) (volume volume' : Volume D) (volumes volumes' : List (Volume D))
+    → volumes ≡ volume ∷ [] → volumes' ≡ volume' ∷ [] → IsSafe disks volume volume' → AllZip (IsSafe disks) volumes volumes'
+safe_single disks volume volume' volumes volumes' e1 e2 safe = rw (e1, e2) (safe, tt)
 
 -- the slots of the one volume
 pub slots_single : {D : Type 0} (volume volume' : Volume D) (volumes volumes' : List (Volume D)) → volumes ≡ volume ∷ [] → volumes' ≡ volume' ∷ []
@@ -113,24 +112,24 @@ never_usage told setting ends crashes cause [] run is = subst (FailsToOpen told 
 never_usage told setting ends crashes cause (stamp ∷ stamps) run is = subst (MayEnd (length ends.sessions) (length ends.logs)) is run.2.status
 
 -- what crashes leave of the one volume's log is told by its number
-crashes_told : {D : Type 0} (images : D → List ℕ → Type 0) (since : D → ℕ → List ℕ → Type 0) (old new : Volume D)
-    → IsTold (crashes_of images since (old ∷ []) (new ∷ [])) (crashes_alone (images old.log) (images new.log) (since new.log))
-crashes_told images since old new = record {
+crashes_told : {D : Type 0} (disks : Ghosts D) (old new : Volume D)
+    → IsTold (crashes_of disks (old ∷ []) (new ∷ [])) (crashes_alone (disks.images old.log) (disks.images new.log) (disks.since new.log))
+crashes_told disks old new = record {
   before = λ image was. (old, omega arith, refl, was);
-  now = λ number image at. of_one new number (λ volume. images volume.log image) at;
-  gone = λ number moment image at. of_one new number (λ volume. since volume.log moment image) at;
+  now = λ number image at. of_one new number (λ volume. disks.images volume.log image) at;
+  gone = λ number moment image at. of_one new number (λ volume. disks.since volume.log moment image) at;
   again = λ moment image was. (new, omega arith, refl, was);
 }
 
 -- the run of the one session over the one volume is the run
-pub run_single : {S K D : Type 0} (told : Told) (setting : RunSetting) (source : S → SourceView) (sink : K → SinkView) (view : D → DiskView) (images : D → List ℕ → Type 0) (since : D → ℕ → List ℕ → Type 0)
-    (old new : Session S K) (olds news : List (Session S K)) (volume volume' : Volume D) (volumes volumes' : List (Volume D)) (cause : Cause) (stamps : List (List ℕ))
-    → olds ≡ old ∷ [] → news ≡ new ∷ [] → volumes ≡ volume ∷ [] → volumes' ≡ volume' ∷ []
-    → IsRun told setting (ends_alone (start_of (source old.source) (sink old.sink) (view volume.log)) (now_of (source new.source) (sink new.sink) (view volume'.log)))
-    (crashes_alone (images volume.log) (images volume'.log) (since volume'.log)) cause stamps
-    → IsRun told setting (record { sessions = sessions_ends source sink olds news; logs = logs_ends view volumes volumes' }) (crashes_of images since volumes volumes') cause stamps
-run_single told setting source sink view images since old new olds news volume volume' volumes volumes' cause stamps e1 e2 e3 e4 run =
-    let start = start_of (source old.source) (sink old.sink) (view volume.log) in
-    let now = now_of (source new.source) (sink new.sink) (view volume'.log) in
-    rw (e1, e2, e3, e4) (run_told told setting (session_ends start now ∷ []) (log_ends start now) (crashes_of images since (volume ∷ []) (volume' ∷ []))
-    (crashes_alone (images volume.log) (images volume'.log) (since volume'.log)) cause stamps (crashes_told images since volume volume') run)
+pub run_single : {S K D : Type 0} (devices : Devices S K D) (setting : RunSetting) (old new : Session S K) (olds news : List (Session S K)) (volume volume' : Volume D) (volumes volumes' : List (Volume D))
+    (cause : Cause) (stamps : List (List ℕ)) → olds ≡ old ∷ [] → news ≡ new ∷ [] → volumes ≡ volume ∷ [] → volumes' ≡ volume' ∷ []
+    → IsRun (told_of devices) setting
+    (ends_alone (start_of (devices.source.view old.source) (devices.sink.view old.sink) (devices.disk.view volume.log)) (now_of (devices.source.view new.source) (devices.sink.view new.sink) (devices.disk.view volume'.log)))
+    (crashes_alone (devices.disk.images volume.log) (devices.disk.images volume'.log) (devices.disk.since volume'.log)) cause stamps
+    → IsRun (told_of devices) setting (ends_of devices olds news volumes volumes') (crashes_of devices.disk volumes volumes') cause stamps
+run_single devices setting old new olds news volume volume' volumes volumes' cause stamps e1 e2 e3 e4 run =
+    let start = start_of (devices.source.view old.source) (devices.sink.view old.sink) (devices.disk.view volume.log) in
+    let now = now_of (devices.source.view new.source) (devices.sink.view new.sink) (devices.disk.view volume'.log) in
+    rw (e1, e2, e3, e4) (run_told (told_of devices) setting (session_ends start now ∷ []) (log_ends start now) (crashes_of devices.disk (volume ∷ []) (volume' ∷ []))
+    (crashes_alone (devices.disk.images volume.log) (devices.disk.images volume'.log) (devices.disk.since volume'.log)) cause stamps (crashes_told devices.disk volume volume') run)

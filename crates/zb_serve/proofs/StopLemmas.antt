@@ -19,7 +19,7 @@ use Rattle.zb_serve.specs.Ends.{Told, EachFrom}
 use Rattle.zb_wire.specs.declared.request.Request.{Request}
 use Rattle.std.proofs.lemmas.List.{map-append}
 use Rattle.zb_wire.specs.Request.{request_of}
-use Rattle.zb_serve.specs.Hours.{is_manual, RunSetting}
+use Rattle.zb_serve.specs.Hours.{given_of, RunSetting}
 use Rattle.zb_serve.specs.Ledger.{IsGrown}
 use Rattle.zb_serve.specs.Log.{IsFront, IsKept}
 use Rattle.zb_serve.specs.Serving.{RunStart, Now, now_of, Clocks, session_ends, log_ends, IsSteady, IsServing, ComesNext, IsReplied, IsUnsent, IsUnanswered, IsForgotten, IsHalted, IsSinkEnd, IsLineEnd, IsOver, GoesOn, cause_of, goes_on, source_end_of}
@@ -135,7 +135,7 @@ module _ (told : Told) (setting : RunSetting) (start : RunStart) (before : List 
   new = now_of source sink disk
 
   -- the lines with one more, and its answer
-  with_reply : (answer : Answer) → IsAnswer (is_manual setting.hours) number line answer → EachFrom (IsAnswer (is_manual setting.hours)) 1 (s.lines ++ line ∷ []) (s.answers ++ answer ∷ [])
+  with_reply : (answer : Answer) → IsAnswer (given_of setting.hours 1 number) line answer → EachFrom (λ n. IsAnswer (given_of setting.hours 1 n)) 1 (s.lines ++ line ∷ []) (s.answers ++ answer ∷ [])
   with_reply answer is = replied_more told setting start before old images gone Has places clocks held budget number s line answer is
 
   with_answer : (answer : Answer) → IsServed setting.hours (s.opened ∷ []) s.answers answer → AreSerial setting.hours (s.opened ∷ []) (s.answers ++ answer ∷ [])
@@ -202,7 +202,7 @@ module _ (told : Told) (setting : RunSetting) (start : RunStart) (before : List 
 
   -- memory ran out, and the line's batches are in the log
   stops_grown : sink ≡ old.sink → (IsTrue told.disk_counts → disk.faults ≡ old.disk.faults) → (batches : List Batch) → IsGrown told.disk told.images setting.limit old.disk disk images' gone since Has' places' s.opened s.batches batches
-      → IsLeftUndone setting.hours s.opened s.answers (line ∷ unserved) causes.Memory batches None → IsOver told setting start new before images' since places' causes.Memory
+      → IsLeftUndone setting.hours s.opened s.answers s.lines (line ∷ unserved) causes.Memory batches None → IsOver told setting start new before images' since places' causes.Memory
   stops_grown same steady batches grown undone =
       over told setting start new before images' since places' causes.Memory s.lines (line ∷ unserved) at_end s.answers s.opened (s.batches ++ batches) batches None s.opened_at s.by_first (entries_behind batches)
       stream s.replied s.serial (silent causes.Memory same) s.stood s.applied grown.made
@@ -212,6 +212,10 @@ module _ (told : Told) (setting : RunSetting) (start : RunStart) (before : List 
       (named_memory told setting.limit start new (s.opened ++ (s.batches ++ batches)) None (line ∷ unserved) at_end (disk_then steady) (no_more setting.limit (s.opened ++ (s.batches ++ batches))))
       undone
       (none_left (s.opened ++ (s.batches ++ batches)))
+
+  -- the number of the line is that behind the lines that were served
+  with_number : (request : Request) → request_of (given_of setting.hours 1 number) line ≡ Ok request → request_of (given_of setting.hours 1 (length s.lines + 1)) line ≡ Ok request
+  with_number request is = subst (λ (n : ℕ). request_of (given_of setting.hours 1 n) line ≡ Ok request) s.count is
 
   -- what a request made behind the batches that had been made, it made behind the answers
   behind_answers : (request : Request) (reading : ℕ) (batches : List Batch) → AreMadeFor (s.opened ∷ []) request reading (entries_of 1 s.batches) (entries_of 1 batches)
@@ -227,7 +231,7 @@ module _ (told : Told) (setting : RunSetting) (start : RunStart) (before : List 
     lines = unserved;
     first = refl;
     request = asks.request;
-    asks = asks.is;
+    asks = with_number asks.request asks.is;
     reading = asks.reading;
     read = asks.read;
     made = behind_answers asks.request asks.reading dropped.batches dropped.each;
@@ -259,7 +263,7 @@ module _ (told : Told) (setting : RunSetting) (start : RunStart) (before : List 
         lines = unserved;
         first = refl;
         request = asks.request;
-        asks = asks.is;
+        asks = with_number asks.request asks.is;
         reading = asks.reading;
         read = asks.read;
         made = behind_answers asks.request asks.reading cut.more cut.each;
@@ -328,7 +332,7 @@ shown_in held more most nexts.Full left shown came other some = absurd (some ref
 -- the line that comes next, as much of it as was kept
 pub comes_next : (told : Told) (setting : RunSetting) (start : RunStart) (now : Now) (before images : List ℕ → Type 0) (since : ℕ → List ℕ → Type 0) (Has : List Batch → Type 0) (places : List ℕ) (clocks : Clocks) (held : List ℕ) (budget number : ℕ)
     → (s : IsServing told setting start now before images since Has places clocks held budget number) → (most : ℕ) (more left shown : List ℕ) (next : Next) → next ≢ nexts.End → next ≢ nexts.Full → (came : Comes most (Ok next) (held ++ more) left shown)
-    → ((line : List ℕ) → request_of (is_manual setting.hours) (take most line) ≡ request_of (is_manual setting.hours) line)
+    → ((line : List ℕ) → request_of (given_of setting.hours 1 number) (take most line) ≡ request_of (given_of setting.hours 1 number) line)
     → ComesNext setting (past_of number s.answers s.opened s.batches) Has places clocks number (line_in held more most next left shown came) shown
 comes_next told setting start now before images since Has places clocks held budget number s most more left shown next other some came decides = record {
   count = refl;
@@ -336,7 +340,7 @@ comes_next told setting start now before images since Has places clocks held bud
   entries = s.entries;
   made = s.made;
   has = s.has;
-  same = ap (request_of (is_manual setting.hours)) (shown_in held more most next left shown came other some) ∙ decides (line_in held more most next left shown came);
+  same = ap (request_of (given_of setting.hours 1 number)) (shown_in held more most next left shown came other some) ∙ decides (line_in held more most next left shown came);
 }
 
 -- a line was read

@@ -14,7 +14,7 @@ use Rattle.zb_lines.specs.Taken.{TakesBytes}
 use Rattle.zb_lines.specs.TakenLaws.{takes_on}
 use Rattle.zb_lines.specs.Line.{IsOneLine, ended}
 use Rattle.zb_serve.specs.Ends.{Told, EachFrom}
-use Rattle.zb_serve.specs.Hours.{is_manual, RunSetting}
+use Rattle.zb_serve.specs.Hours.{given_of, RunSetting}
 use Rattle.zb_serve.specs.Ledger.{AreMadeBatches, IsStored}
 use Rattle.zb_serve.specs.Log.{IsFront}
 use Rattle.zb_serve.specs.Serving.{RunStart, Now, now_of, Clocks, Past, IsSteady, IsServing, IsReplied, IsSinkEnd, session_ends, cause_of}
@@ -73,10 +73,10 @@ module _ (told : Told) (setting : RunSetting) (start : RunStart) (before : List 
   }
 
   -- the lines with one more, and its answer
-  pub replied_more : (line : List ℕ) (answer : Answer) → IsAnswer (is_manual setting.hours) number line answer → EachFrom (IsAnswer (is_manual setting.hours)) 1 (s.lines ++ line ∷ []) (s.answers ++ answer ∷ [])
+  pub replied_more : (line : List ℕ) (answer : Answer) → IsAnswer (given_of setting.hours 1 number) line answer → EachFrom (λ n. IsAnswer (given_of setting.hours 1 n)) 1 (s.lines ++ line ∷ []) (s.answers ++ answer ∷ [])
   replied_more line answer is =
       let here : number ≡ 1 + length s.lines = omega (arith, s.count) in
-      EachFrom_more (IsAnswer (is_manual setting.hours)) 1 s.lines s.answers line answer s.replied (subst (λ (k : ℕ). IsAnswer (is_manual setting.hours) k line answer) here is)
+      EachFrom_more (λ n. IsAnswer (given_of setting.hours 1 n)) 1 s.lines s.answers line answer s.replied (subst (λ (k : ℕ). IsAnswer (given_of setting.hours 1 k) line answer) here is)
 
   pub serial_more : (answer : Answer) → IsServed setting.hours (s.opened ∷ []) s.answers answer → AreSerial setting.hours (s.opened ∷ []) (s.answers ++ answer ∷ [])
   serial_more answer served = each_on_more (IsServed setting.hours (s.opened ∷ [])) [] s.answers answer s.serial served

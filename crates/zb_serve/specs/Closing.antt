@@ -1,23 +1,29 @@
 -- What the server promises of a run: the clauses of its top call.
 use Rattle.std.specs.Prelude.{◌≡◌, ◌≢◌, ℕ, List, [], length, map, Bool, IsTrue}
 use Rattle.std.specs.List.{AllZip}
-use Rattle.zb_disk.specs.Disk.{DiskView}
-use Rattle.zb_outside.specs.Stream.{SourceView, SinkView}
 use Rattle.zb_store.specs.declared.volume.Volume.{Volume}
 use Rattle.zb_words.specs.declared.plan.Plan.{Plan}
 use Rattle.zb_serve.specs.Hours.{setting_of}
 use Rattle.zb_serve.specs.Words.{IsPlanned}
-use Rattle.zb_serve.specs.Ends.{Told, sessions_ends, logs_ends, crashes_of, IsSafe}
+use Rattle.zb_serve.specs.Ends.{Devices, told_of, ends_of, crashes_of, IsSafe}
 use Rattle.zb_serve.specs.Cause.{status_of}
 use Rattle.zb_serve.specs.Served.{IsRun, slots_of_all}
 use Rattle.zb_serve.specs.declared.run.Session.{Session}
 use Rattle.zb_serve.specs.declared.run.Closed.{Closed}
 use Rattle.zb_serve.specs.declared.run.Cause.TheVariants as causes
 
--- the words, a clock that may tell these moments, and what was handed in led to this
-pub record Closes {S K D : Type 0} (told : Told) (source : S → SourceView) (sink : K → SinkView) (disk : D → DiskView)
-    (images : D → List ℕ → Type 0) (since : D → ℕ → List ℕ → Type 0) (tells : Bool) (moments : List ℕ)
-    (words : List (List ℕ)) (sessions : List (Session S K)) (volumes : List (Volume D)) (closed : Closed S K D) : Type 0 where
+-- a real clock at hand: whether it tells the moments that it reads, and which they may be
+pub record ClockAtHand : Type 0 where
+  pub tells : Bool
+  pub moments : List ℕ
+
+-- the clock at hand that tells so
+abbrev pub clock_at_hand : Bool → List ℕ → ClockAtHand
+clock_at_hand tells moments = record { tells = tells; moments = moments }
+
+-- the words, a clock, and what was handed in led to this
+pub record Closes {S K D : Type 0} (devices : Devices S K D) (clock : ClockAtHand) (words : List (List ℕ)) (sessions : List (Session S K)) (volumes : List (Volume D))
+    (closed : Closed S K D) : Type 0 where
   -- the status is that of the cause
   pub status : closed.status ≡ status_of closed.cause
   -- It is a question of usage exactly where the words or the numbers can't be served. Nothing was touched then.
@@ -27,7 +33,7 @@ pub record Closes {S K D : Type 0} (told : Told) (source : S → SourceView) (si
   -- no session is touched before the logs are open
   pub unread : closed.stamps.items ≡ [] → closed.sessions.items ≡ sessions
   -- nor is a log that was there before put at risk where none was opened
-  pub spared : closed.stamps.items ≡ [] → IsTrue told.images → AllZip (IsSafe disk images since) volumes closed.volumes.items
+  pub spared : closed.stamps.items ≡ [] → IsTrue (told_of devices).images → AllZip (IsSafe devices.disk) volumes closed.volumes.items
   -- everything is handed back in order, and the slots for snapshots as they were
   pub same_sessions : length closed.sessions.items ≡ length sessions
   pub same_volumes : length closed.volumes.items ≡ length volumes
@@ -36,5 +42,5 @@ pub record Closes {S K D : Type 0} (told : Told) (source : S → SourceView) (si
   pub units : closed.units ≡ 0
   -- what the run is, by the plan of the words: its causes, its logs, its sessions, and what a crash leaves, now and ever
   pub run : closed.cause ≢ causes.Usage → (plan : Plan) × IsPlanned words (length sessions) (length volumes) plan
-      × IsRun told (setting_of plan tells moments) (record { sessions = sessions_ends source sink sessions closed.sessions.items; logs = logs_ends disk volumes closed.volumes.items })
-      (crashes_of images since volumes closed.volumes.items) closed.cause (map (λ list. list.items) closed.stamps.items)
+      × IsRun (told_of devices) (setting_of plan clock.tells clock.moments) (ends_of devices sessions closed.sessions.items volumes closed.volumes.items)
+      (crashes_of devices.disk volumes closed.volumes.items) closed.cause (map (λ list. list.items) closed.stamps.items)

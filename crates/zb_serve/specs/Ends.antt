@@ -1,6 +1,9 @@
 -- What was handed to a run and what it handed back, as plain data.
 use Rattle.std.specs.Prelude.{◌≡◌, ◌<◌, ◌≤◌, ◌-◌, ℕ, suc, List, [], ◌∷◌, length, Bool, slice_get, Some}
 use Rattle.zb_disk.specs.Disk.{DiskView}
+use Rattle.zb_disk.specs.declared.disk.Disk as disk_trait
+use Rattle.zb_outside.specs.declared.source.Source as source_trait
+use Rattle.zb_outside.specs.declared.sink.Sink as sink_trait
 use Rattle.zb_store.specs.Calls.{LeftByOpening}
 use Rattle.zb_outside.specs.Stream.{SourceView, SinkView}
 use Rattle.zb_serve.specs.declared.run.Session.{Session}
@@ -35,42 +38,56 @@ pub record Told : Type 0 where
   pub sink_counts : Bool
   pub disk_counts : Bool
 
--- what the types tell, one after another
-abbrev pub told : Bool → Bool → Bool → Bool → Bool → Bool → Bool → Bool → Bool → Told
-told source sink disk images sink_memory disk_memory source_counts sink_counts disk_counts = record {
-  source = source;
-  sink = sink;
-  disk = disk;
-  images = images;
-  sink_memory = sink_memory;
-  disk_memory = disk_memory;
+-- the devices of a run: what the clauses of their traits mean for the types that were handed in
+pub record Devices (S K D : Type 0) : Type 1 where
+  pub source : source_trait.Ghosts S
+  pub sink : sink_trait.Ghosts K
+  pub disk : disk_trait.Ghosts D
+
+-- the devices of a run, by their traits
+abbrev pub devices_of : {S K D : Type 0} → source_trait.Ghosts S → sink_trait.Ghosts K → disk_trait.Ghosts D → Devices S K D
+devices_of source sink disk = record { source = source; sink = sink; disk = disk }
+
+-- what a sink and a disk tell, beside a source that tells and counts so
+abbrev pub told : {K D : Type 0} → (source_tells source_counts : Bool) → sink_trait.Ghosts K → disk_trait.Ghosts D → Told
+told source_tells source_counts sink disk = record {
+  source = source_tells;
+  sink = sink.tells;
+  disk = disk.tells;
+  images = disk.tells_images;
+  sink_memory = sink.takes_memory;
+  disk_memory = disk.takes_memory;
   source_counts = source_counts;
-  sink_counts = sink_counts;
-  disk_counts = disk_counts;
+  sink_counts = sink.counts_failures;
+  disk_counts = disk.counts_failures;
 }
 
+-- what the devices of a run tell
+abbrev pub told_of : {S K D : Type 0} → Devices S K D → Told
+told_of devices = told devices.source.tells devices.source.counts_failures devices.sink devices.disk
+
 -- the ends of each session
-abbrev pub sessions_ends : {S K : Type 0} → (S → SourceView) → (K → SinkView) → List (Session S K) → List (Session S K) → List SessionEnds
-sessions_ends source sink (old ∷ olds) (new ∷ news) = record {
-  source = source old.source;
-  source_after = source new.source;
-  sink = sink old.sink;
-  sink_after = sink new.sink;
-} ∷ sessions_ends source sink olds news
-sessions_ends source sink [] news = []
-sessions_ends source sink (old ∷ olds) [] = []
+abbrev pub sessions_ends : {S K D : Type 0} → Devices S K D → List (Session S K) → List (Session S K) → List SessionEnds
+sessions_ends devices (old ∷ olds) (new ∷ news) = record {
+  source = devices.source.view old.source;
+  source_after = devices.source.view new.source;
+  sink = devices.sink.view old.sink;
+  sink_after = devices.sink.view new.sink;
+} ∷ sessions_ends devices olds news
+sessions_ends devices [] news = []
+sessions_ends devices (old ∷ olds) [] = []
 
 -- the ends of each volume's log
-abbrev pub logs_ends : {D : Type 0} → (D → DiskView) → List (Volume D) → List (Volume D) → List LogEnds
-logs_ends view (old ∷ olds) (new ∷ news) = record { disk = view old.log; disk_after = view new.log } ∷ logs_ends view olds news
-logs_ends view [] news = []
-logs_ends view (old ∷ olds) [] = []
+abbrev pub logs_ends : {D : Type 0} → disk_trait.Ghosts D → List (Volume D) → List (Volume D) → List LogEnds
+logs_ends disks (old ∷ olds) (new ∷ news) = record { disk = disks.view old.log; disk_after = disks.view new.log } ∷ logs_ends disks olds news
+logs_ends disks [] news = []
+logs_ends disks (old ∷ olds) [] = []
 
 -- the log of a volume was not put at risk: a crash now, or at any moment since the run began, leaves no more of it than
 -- what one before might have left, or an opening
-pub record IsSafe {D : Type 0} (view : D → DiskView) (images : D → List ℕ → Type 0) (since : D → ℕ → List ℕ → Type 0) (old new : Volume D) : Type 0 where
-  pub now : 1 < length (view old.log).contents → (image : List ℕ) → images new.log image → images old.log image
-  pub ever : (image : List ℕ) → since new.log (view old.log).moment image → LeftByOpening (view old.log).contents (images old.log) image
+pub record IsSafe {D : Type 0} (disks : disk_trait.Ghosts D) (old new : Volume D) : Type 0 where
+  pub now : 1 < length (disks.view old.log).contents → (image : List ℕ) → disks.images new.log image → disks.images old.log image
+  pub ever : (image : List ℕ) → disks.since new.log (disks.view old.log).moment image → LeftByOpening (disks.view old.log).contents (disks.images old.log) image
 
 -- R holds of the members at each place, and of the place's number, where the first has the number n
 abbrev pub EachFrom : {A B : Type 0} → (ℕ → A → B → Type 0) → ℕ → List A → List B → Type 0
@@ -90,18 +107,17 @@ pub record Crashes : Type 1 where
   pub now : (number : ℕ) → List ℕ → Type 0
   pub since : (number moment : ℕ) → List ℕ → Type 0
 
--- a crash now may leave this of the log of the volume with this number
-abbrev pub images_of : {D : Type 0} → (D → List ℕ → Type 0) → List (Volume D) → (number : ℕ) → List ℕ → Type 0
-images_of {D} images volumes number image = OfNumber volumes number (λ volume. images volume.log image)
-
--- a crash at some moment since this one might have left this of the log of the volume with this number
-abbrev pub since_of : {D : Type 0} → (D → ℕ → List ℕ → Type 0) → List (Volume D) → (number moment : ℕ) → List ℕ → Type 0
-since_of {D} since volumes number moment image = OfNumber volumes number (λ volume. since volume.log moment image)
-
 -- what crashes may leave of the logs of these volumes, as they were at first and as they are
-abbrev pub crashes_of : {D : Type 0} → (D → List ℕ → Type 0) → (D → ℕ → List ℕ → Type 0) → (before now : List (Volume D)) → Crashes
-crashes_of images since before now = record {
-  before = images_of images before;
-  now = images_of images now;
-  since = since_of since now;
+abbrev pub crashes_of : {D : Type 0} → disk_trait.Ghosts D → (before now : List (Volume D)) → Crashes
+crashes_of disks before now = record {
+  before = λ number image. OfNumber before number (λ volume. disks.images volume.log image);
+  now = λ number image. OfNumber now number (λ volume. disks.images volume.log image);
+  since = λ number moment image. OfNumber now number (λ volume. disks.since volume.log moment image);
+}
+
+-- the ends of a run's sessions and logs, as they were handed in and handed back
+abbrev pub ends_of : {S K D : Type 0} → Devices S K D → (sessions sessions_after : List (Session S K)) → (volumes volumes_after : List (Volume D)) → RunEnds
+ends_of devices sessions sessions_after volumes volumes_after = record {
+  sessions = sessions_ends devices sessions sessions_after;
+  logs = logs_ends devices.disk volumes volumes_after;
 }

@@ -19,7 +19,8 @@ stamps_of n first h = map (λ p. places_of p first h) (range_with_len 1 n)
 -- behind a history of n partitions, that of the logs as they were opened, these entries are one history with it, and in
 -- that one what happens at most once does
 abbrev pub GoesOnWith : ℕ → List (List Batch) → List Entry → Type 0
-GoesOnWith n logs entries = (base : List Entry) → IsHistory n base → parts_of n base ≡ logs → IsHistory n (base ++ entries) × HappensOnce (base ++ entries)
+GoesOnWith n logs entries = (base : List Entry) → IsHistory n base → parts_of n base ≡ logs
+    → IsHistory n (base ++ entries) × HappensOnce (base ++ entries)
 
 -- one image of the log of each of n partitions stand for a cut of a history at its end
 pub record AreCut (n : ℕ) (h : List Entry) (kept : List (List ℕ)) : Type 0 where

@@ -1,6 +1,7 @@
 -- The clock of a run, and its readings.
 use Rattle.std.specs.Prelude.{◌≡◌, ◌≤◌, min, sum_by, ℕ, List, Bool, true, false, IsTrue, Contains, Result, Ok}
 use Rattle.zb_base.specs.Moment.{last_moment}
+use Rattle.zb_wire.specs.declared.given.Given.{Given}
 use Rattle.zb_wire.specs.declared.request.Request.{Request}
 use Rattle.zb_wire.specs.declared.request.Request.TheVariants as requests
 use Rattle.zb_wire.specs.declared.request.LineFault.{LineFault}
@@ -17,6 +18,10 @@ pub data Hours : Type 0 where
 abbrev pub is_manual : Hours → Bool
 is_manual manual = true
 is_manual (real tells moments) = false
+
+-- what the line with this number is read by, in a run of so many partitions
+abbrev pub given_of : Hours → (partitions number : ℕ) → Given
+given_of hours partitions number = record { number = number; partitions = partitions; manual = is_manual hours }
 
 -- how far a request moves the clock that is moved by hand: only an advance does
 abbrev pub moved_by : Result Request LineFault → ℕ

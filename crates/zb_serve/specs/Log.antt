@@ -58,13 +58,15 @@ batch_of number (Some entry) = batch_if (is_of number entry) entry.batch
 
 -- the disk failed, or its call wanted memory, which ended the run
 abbrev pub IsDiskHurt : Told → LogEnds → Cause → Type 0
-IsDiskHurt told ends cause = Rose ends.disk.faults ends.disk_after.faults ⊎ (IsTrue told.disk_memory × (cause ≡ causes.Memory))
+IsDiskHurt told ends cause = Rose ends.disk.faults ends.disk_after.faults
+    ⊎ (IsTrue told.disk_memory × (cause ≡ causes.Memory))
 
 -- a file stands for the log, or, where the disk was hurt, for the log and the batch that was in writing, which fits its
 -- spelling
 abbrev pub IsKept : Told → LogEnds → Cause → Option Batch → List Batch → List ℕ → Type 0
 IsKept told ends cause unlogged log file = Stands file (bodies_of log)
-    ⊎ (((batch : Batch) × (unlogged ≡ Some batch) × IsBatch batch × Stands file (bodies_of (log ++ batch ∷ []))) × IsDiskHurt told ends cause)
+    ⊎ (((batch : Batch) × (unlogged ≡ Some batch) × IsBatch batch × Stands file (bodies_of (log ++ batch ∷ [])))
+    × IsDiskHurt told ends cause)
 
 -- a file stands for a front of a log that grew, which has all batches that were there at opening
 abbrev pub IsFront : List Batch → List Batch → List ℕ → Type 0
@@ -72,7 +74,8 @@ IsFront opened made file = (k : ℕ) × Stands file (bodies_of (opened ++ take k
 
 -- a file is what the run left of the log of the partition with this number
 abbrev pub IsLeftOf : Course → (number : ℕ) → LogEnds → OpenedLog → List ℕ → Type 0
-IsLeftOf course number ends opened file = IsKept course.told ends course.cause (batch_of number course.unlogged) (log_in course number opened) file
+IsLeftOf course number ends opened file =
+    IsKept course.told ends course.cause (batch_of number course.unlogged) (log_in course number opened) file
 
 -- the log of the partition with this number in a run, and what crashes leave of it
 pub record IsLog (course : Course) (crashes : Crashes) (number : ℕ) (ends : LogEnds) (opened : OpenedLog) : Type 0 where
@@ -85,7 +88,8 @@ pub record IsLog (course : Course) (crashes : Crashes) (number : ℕ) (ends : Lo
   pub fit : AreBatches (log_in course number opened)
   -- each batch that was added is a step on those before it, and so is the one that isn't in it
   pub steps : AreStepsOn number course.partitions opened.batches (part_of number course.entries)
-  pub next : (batch : Batch) → batch_of number course.unlogged ≡ Some batch → IsStep number course.partitions (log_in course number opened) batch
+  pub next : (batch : Batch) → batch_of number course.unlogged ≡ Some batch
+      → IsStep number course.partitions (log_in course number opened) batch
   -- the file stands for all of them
   pub contents : IsTrue course.told.disk → IsLeftOf course number ends opened ends.disk_after.contents
   -- the disk is named only where it failed, with the batch that was being written, for which the log had room
@@ -95,10 +99,12 @@ pub record IsLog (course : Course) (crashes : Crashes) (number : ℕ) (ends : Lo
   -- what was added to the log fits, and it is called full only where the frame of the batch that was made next doesn't
   pub fits : (part_of number course.entries ≡ []) ⊎ (extent (bodies_of (log_in course number opened)) ≤ course.setting.limit)
   pub log_full : (length_told frame most : ℕ) → course.cause ≡ causes.LogFull number length_told frame most
-      → (length_told ≡ extent (bodies_of (log_in course number opened))) × (most ≡ course.setting.limit) × (most < length_told + frame)
+      → (length_told ≡ extent (bodies_of (log_in course number opened)))
+      × (most ≡ course.setting.limit) × (most < length_told + frame)
       × ((batch : Batch) × (batch_of number course.unlogged ≡ Some batch) × (frame ≡ frame_of batch))
   -- what a crash now leaves stands for the log
-  pub crash_now : IsTrue course.told.images → (image : List ℕ) → crashes.now number image → IsLeftOf course number ends opened image
+  pub crash_now : IsTrue course.told.images → (image : List ℕ) → crashes.now number image
+      → IsLeftOf course number ends opened image
   -- one at any moment since it was opened left no more than that, or a front of the log
   pub crash_ever : IsTrue course.told.images → (image : List ℕ) → crashes.since number opened.moment image
       → IsFront opened.batches (part_of number course.entries) image ⊎ IsLeftOf course number ends opened image

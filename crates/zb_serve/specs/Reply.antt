@@ -1,6 +1,7 @@
 -- What a line is answered, by its entries alone.
-use Rattle.std.specs.Prelude.{◌≡◌, ℕ, List, [], ◌∷◌, length, Bool, Option, Some, None, Result, Ok, Err}
+use Rattle.std.specs.Prelude.{◌≡◌, ℕ, List, [], ◌∷◌, length, Option, Some, None, Result, Ok, Err}
 use Rattle.zb_world.specs.Entries.{Entry}
+use Rattle.zb_wire.specs.declared.given.Given.{Given}
 use Rattle.zb_wire.specs.declared.request.Request.{Request}
 use Rattle.zb_wire.specs.declared.request.Request.TheVariants as requests
 use Rattle.zb_wire.specs.declared.request.LineFault.{LineFault}
@@ -36,7 +37,7 @@ abbrev pub IsReplyBy : ℕ → Answer → Result Request LineFault → Type 0
 IsReplyBy number answer (Ok request) = IsReplyTo request answer.reading answer.entries answer.reply
 IsReplyBy number answer (Err fault) = (answer.entries ≡ []) × (answer.reply ≡ line_of (replies.Fault number fault) None)
 
--- this is what the line with this number led to, under the manual clock or not
-pub record IsAnswer (by_hand : Bool) (number : ℕ) (line : List ℕ) (answer : Answer) : Type 0 where
-  pub found : request_of by_hand line ≡ answer.asked
-  pub replied : IsReplyBy number answer answer.asked
+-- this is what a line led to, which was read by its number, the number of partitions, and the kind of the clock
+pub record IsAnswer (given : Given) (line : List ℕ) (answer : Answer) : Type 0 where
+  pub found : request_of given line ≡ answer.asked
+  pub replied : IsReplyBy given.number answer answer.asked

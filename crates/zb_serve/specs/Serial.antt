@@ -32,18 +32,21 @@ place_behind logs entries = sum_by length logs + length entries
 abbrev pub due_in_logs : (reading p : ℕ) → List (List Batch) → List Entry → Option (ℕ × Command)
 due_in_logs reading p [] entries = None
 due_in_logs reading p (log ∷ logs) entries =
-    option_or (option_map (λ command. (p, command)) (due_command reading (events_of (log_behind p log entries)))) (due_in_logs reading (suc p) logs entries)
+    option_or (option_map (λ command. (p, command)) (due_command reading (events_of (log_behind p log entries))))
+    (due_in_logs reading (suc p) logs entries)
 
 -- the command that a request asks for next at a reading, and its partition, behind the entries before it and those that
 -- were done for it: a tick for what is due, the first partition first, and any other for its own command, at partition 1
 abbrev pub next_of : List (List Batch) → Request → ℕ → (earlier done : List Entry) → Option (ℕ × Command)
-next_of logs requests.Tick reading earlier done = if nat_lt (length done) most_due then due_in_logs reading 1 logs (earlier ++ done) else None
+next_of logs requests.Tick reading earlier done =
+    if nat_lt (length done) most_due then due_in_logs reading 1 logs (earlier ++ done) else None
 next_of logs request reading earlier [] = option_map (λ command. (1, command)) (command_of request)
 next_of logs request reading earlier (entry ∷ done) = None
 
 -- this is the entry that comes next for a request: of the command that it asks for, at the larger one of the last moment
 -- of its log and the reading, and it begins at its own place
-pub record IsNextEntry (logs : List (List Batch)) (request : Request) (reading : ℕ) (earlier done : List Entry) (entry : Entry) : Type 0 where
+pub record IsNextEntry (logs : List (List Batch)) (request : Request) (reading : ℕ) (earlier done : List Entry)
+    (entry : Entry) : Type 0 where
   pub command : next_of logs request reading earlier done ≡ Some (entry.partition, entry.batch.command)
   pub moment : OfNumber logs entry.partition
       (λ opened. entry.batch.moment ≡ max (moment_of_last (log_behind entry.partition opened (earlier ++ done))) reading)

@@ -1,5 +1,5 @@
 -- What a run of the server is.
-use Rattle.std.specs.Prelude.{◌≡◌, ◌⊎◌, ◌<◌, ◌≤◌, ℕ, List, [], ◌∷◌, ◌++◌, length, map, All, IsTrue, IsFalse, IsSome, Option, Some, None, Ok}
+use Rattle.std.specs.Prelude.{◌≡◌, ◌⊎◌, ◌<◌, ◌≤◌, ◌+◌, ℕ, List, [], ◌∷◌, ◌++◌, length, map, All, IsTrue, IsFalse, IsSome, Option, Some, None, Ok}
 use Rattle.std.specs.List.{flat_map, AllByRecursion}
 use Rattle.zb_disk.specs.Cause.{Rose}
 use Rattle.zb_model.specs.declared.record.Batch.{Batch}
@@ -12,7 +12,7 @@ use Rattle.zb_store.specs.declared.volume.Volume.{Volume}
 use Rattle.zb_serve.specs.Ends.{RunEnds, LogEnds, Told, Crashes, EachFrom, OfNumber}
 use Rattle.zb_serve.specs.Cause.{comes_before}
 use Rattle.zb_serve.specs.Order.{WasMet}
-use Rattle.zb_serve.specs.Hours.{is_manual, IsReadingOf, RunSetting}
+use Rattle.zb_serve.specs.Hours.{given_of, IsReadingOf, RunSetting}
 use Rattle.zb_serve.specs.Reply.{Answer}
 use Rattle.zb_serve.specs.Serial.{place_behind, found_in, entries_made, IsNextEntry, AreMadeFor, AreSerial}
 use Rattle.zb_serve.specs.Session.{SessionRun, IsSession}
@@ -55,22 +55,24 @@ IsWhyUndone (causes.InputFull session) unlogged = ⊥
 
 -- a line was read and not answered, the first one that its session has not served: its request, at a reading of the
 -- clock, made these entries behind those of all answers, and the one that isn't in its log, if there is one
-pub record IsUnfinished (course : Course) (logs : List (List Batch)) (answers : List Answer) (rest : List Entry) (unserved : List (List ℕ)) : Type 0 where
+pub record IsUnfinished (course : Course) (logs : List (List Batch)) (answers : List Answer) (rest : List Entry)
+    (run : SessionRun) : Type 0 where
   pub line : List ℕ
   pub lines : List (List ℕ)
-  pub first : unserved ≡ line ∷ lines
+  pub first : run.unserved ≡ line ∷ lines
   pub request : Request
-  pub asks : request_of (is_manual course.setting.hours) line ≡ Ok request
+  pub asks : request_of (given_of course.setting.hours course.partitions (length run.served + 1)) line ≡ Ok request
   pub reading : ℕ
   pub read : IsReadingOf course.setting.hours (found_in answers ++ Ok request ∷ []) reading
   pub made : AreMadeFor logs request reading (entries_made answers) rest
-  pub next : (entry : Entry) → course.unlogged ≡ Some entry → IsNextEntry logs request reading (entries_made answers) rest entry
+  pub next : (entry : Entry) → course.unlogged ≡ Some entry
+      → IsNextEntry logs request reading (entries_made answers) rest entry
   pub why : IsWhyUndone course.cause course.unlogged
 
 -- nothing was left undone, or the first unserved line of one of the sessions
 abbrev pub IsUndone : Course → List (List Batch) → List SessionRun → List Entry → Type 0
 IsUndone course logs runs rest = ((rest ≡ []) × (course.unlogged ≡ None))
-    ⊎ ((number : ℕ) × OfNumber runs number (λ run. IsUnfinished course logs (answers_of runs) rest run.unserved))
+    ⊎ ((number : ℕ) × OfNumber runs number (IsUnfinished course logs (answers_of runs) rest))
 
 -- a run whose logs were opened, with these ends, what crashes leave of its logs, and its stamps
 pub record Serves (course : Course) (ends : RunEnds) (crashes : Crashes) (stamps : List (List ℕ)) : Type 0 where
@@ -98,8 +100,9 @@ pub record Serves (course : Course) (ends : RunEnds) (crashes : Crashes) (stamps
   pub undone : IsUndone course (batches_of logs) runs rest
   -- what a crash now leaves of all logs is a cut of the history at its end: all of it, and of a partition at most one
   -- step more
-  pub crash_cut : IsTrue course.told.images → (base : List Entry) → IsHistory course.partitions base → parts_of course.partitions base ≡ batches_of logs
-      → (kept : List (List ℕ)) → length kept ≡ course.partitions → AreImages crashes.now kept → AreCut course.partitions (base ++ course.entries) kept
+  pub crash_cut : IsTrue course.told.images → (base : List Entry) → IsHistory course.partitions base
+      → parts_of course.partitions base ≡ batches_of logs → (kept : List (List ℕ)) → length kept ≡ course.partitions
+      → AreImages crashes.now kept → AreCut course.partitions (base ++ course.entries) kept
 
 -- no call of a log's disk failed, as its count tells
 abbrev pub IsUntroubled : Told → LogEnds → Type 0
@@ -107,8 +110,10 @@ IsUntroubled told ends = IsTrue told.disk_counts → ends.disk_after.faults ≡ 
 
 -- Opening ended the run: a disk failed, a log has a first frame that can't be read, or there was no memory.
 abbrev pub FailsToOpen : Told → List LogEnds → Cause → Type 0
-FailsToOpen told volumes (causes.DiskFault partition batch) = (batch ≡ None) × OfNumber volumes partition (λ ends. Rose ends.disk.faults ends.disk_after.faults)
-FailsToOpen told volumes (causes.BadLog partition frame) = OfNumber volumes partition (λ ends. IsTrue told.disk → IsBadAt partition ends.disk.contents frame)
+FailsToOpen told volumes (causes.DiskFault partition batch) = (batch ≡ None)
+    × OfNumber volumes partition (λ ends. Rose ends.disk.faults ends.disk_after.faults)
+FailsToOpen told volumes (causes.BadLog partition frame) =
+    OfNumber volumes partition (λ ends. IsTrue told.disk → IsBadAt partition ends.disk.contents frame)
     × AllByRecursion (IsUntroubled told) volumes
 FailsToOpen told volumes causes.Memory = AllByRecursion (IsUntroubled told) volumes
 FailsToOpen told volumes causes.Done = ⊥
@@ -120,7 +125,8 @@ FailsToOpen told volumes (causes.InputFull session) = ⊥
 
 -- a log longer than one byte is as it was, and any other has at most one byte still
 abbrev pub IsSpared : Told → LogEnds → Type 0
-IsSpared told ends = IsTrue told.disk → (1 < length ends.disk.contents → ends.disk_after.contents ≡ ends.disk.contents)
+IsSpared told ends = IsTrue told.disk
+    → (1 < length ends.disk.contents → ends.disk_after.contents ≡ ends.disk.contents)
     × (length ends.disk.contents ≤ 1 → length ends.disk_after.contents ≤ 1)
 
 -- a run whose logs were opened came to its end by this cause, and with these stamps

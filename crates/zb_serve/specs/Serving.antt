@@ -25,7 +25,7 @@ use Rattle.zb_words.specs.declared.plan.ClockKind.{ClockKind}
 use Rattle.zb_words.specs.declared.plan.ClockKind.TheVariants as kinds
 use Rattle.zb_serve.specs.Ends.{Told, SessionEnds, LogEnds, RunEnds, Crashes, EachFrom}
 use Rattle.zb_world.specs.Entries.{entries_of}
-use Rattle.zb_serve.specs.Hours.{Hours, manual, real, is_manual, clock_after, IsReadingOf, RunSetting}
+use Rattle.zb_serve.specs.Hours.{Hours, manual, real, given_of, clock_after, IsReadingOf, RunSetting}
 use Rattle.zb_serve.specs.Reply.{Answer, IsAnswer, IsReplyTo}
 use Rattle.zb_serve.specs.Serial.{AreMadeFor, IsCarriedOut, found_in, entries_made, IsServed, AreSerial}
 use Rattle.zb_serve.specs.Log.{IsFront}
@@ -99,7 +99,7 @@ pub record IsServing (told : Told) (setting : RunSetting) (start : RunStart) (no
   pub each : AllByRecursion IsOneLine lines
   pub count : number ≡ length lines + 1
   pub clock : AreAt setting.hours (found_in answers) clocks
-  pub replied : EachFrom (IsAnswer (is_manual setting.hours)) 1 lines answers
+  pub replied : EachFrom (λ n. IsAnswer (given_of setting.hours 1 n)) 1 lines answers
   pub serial : AreSerial setting.hours (opened ∷ []) answers
   pub entries : entries_made answers ≡ entries_of 1 batches
   pub sent : IsTrue told.sink → now.sink.written ≡ start.sink.written ++ replies_of answers
@@ -138,7 +138,7 @@ pub record ComesNext (setting : RunSetting) (past : Past) (Has : List Batch → 
   pub entries : entries_made past.answers ≡ entries_of 1 past.made
   pub made : AreMadeBatches setting.limit past.opened past.made places
   pub has : Has (log_of past)
-  pub same : request_of (is_manual setting.hours) shown ≡ request_of (is_manual setting.hours) line
+  pub same : request_of (given_of setting.hours 1 number) shown ≡ request_of (given_of setting.hours 1 number) line
 
 -- the line was answered, and its batches are in the log
 pub record IsAnswered (tells tells_images : Bool) (setting : RunSetting) (past : Past) (line reply : List ℕ) (old new : DiskView) (images : List ℕ → Type 0) (gone since : ℕ → List ℕ → Type 0)
@@ -147,7 +147,7 @@ pub record IsAnswered (tells tells_images : Bool) (setting : RunSetting) (past :
   pub batches : List Batch
   pub written : answer.reply ≡ reply
   pub made : answer.entries ≡ entries_of 1 batches
-  pub is : IsAnswer (is_manual setting.hours) past.number line answer
+  pub is : IsAnswer (given_of setting.hours 1 past.number) line answer
   pub served : IsServed setting.hours (past.opened ∷ []) past.answers answer
   pub grown : IsGrown tells tells_images setting.limit old new images gone since Has places past.opened past.made batches
   pub clock : AreAt setting.hours (found_in (past.answers ++ answer ∷ [])) clocks
@@ -204,7 +204,7 @@ pub record IsUnsent (told : Told) (setting : RunSetting) (past : Past) (line : L
 -- a line is a request, which was served at a reading of the clock
 pub record Asks (hours : Hours) (past : Past) (line : List ℕ) : Type 0 where
   pub request : Request
-  pub is : request_of (is_manual hours) line ≡ Ok request
+  pub is : request_of (given_of hours 1 past.number) line ≡ Ok request
   pub reading : ℕ
   pub read : IsReadingOf hours (found_in past.answers ++ Ok request ∷ []) reading
 

@@ -20,7 +20,7 @@ use zb_disk::Disk;
 use zb_model::{Batch, Moment};
 use zb_outside::Clock;
 use zb_reply::Reply;
-use zb_wire::{LineFault, Request};
+use zb_wire::{Given, LineFault, Request};
 
 /// Answers the line with this number: its request, if it is one, is served at one reading of the clock, its
 /// batches are added to the log, and the line of its reply stands in `reply`. The clauses hold for all lines and
@@ -55,7 +55,12 @@ pub fn answer_line<D: Disk, C: Clock>(
     ensures untouched { IsTrue (is_some dial.old) → clock.new ≡ clock.old }
 {
     reply.clear();
-    match zb_wire::read_line(alloc, shown, dial.is_manual()) {
+    let given = Given {
+        number,
+        partitions: 1,
+        manual: dial.is_manual(),
+    };
+    match zb_wire::read_line(alloc, shown, given) {
         Ok(request) => {
             let reading = read_for(&request, dial, clock);
             answer_request(alloc, request, reading, ledger, reply)

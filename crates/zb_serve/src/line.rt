@@ -34,7 +34,7 @@ pub fn serve_line<K: Sink, D: Disk, C: Clock>(
     ensures replied { (source : SourceView) (tells counts : Bool) (setting : RunSetting) (past : Past) (line : List ℕ)
         → ComesNext setting past (IsOpen setting.limit ledger.old.partition) ledger.old.stamps.items (clocks_of dial.old C.tells (C.moments clock.old)) number line shown.now
         → OnOk result (IsReplied
-        (told tells K.tells D.tells D.tells_images K.takes_memory D.takes_memory counts K.counts_failures D.counts_failures) setting past line
+        (told tells counts K.Sink D.Disk) setting past line
         (now_of source (K.view sink.old) (D.view (disk_of ledger.old.partition)))
         (now_of source (K.view sink.new) (D.view (disk_of ledger.new.partition)))
         (D.images (disk_of ledger.new.partition)) (D.since (disk_of ledger.old.partition)) (D.since (disk_of ledger.new.partition))
@@ -42,7 +42,7 @@ pub fn serve_line<K: Sink, D: Disk, C: Clock>(
     ensures over { (source : SourceView) (tells counts : Bool) (setting : RunSetting) (past : Past) (line : List ℕ)
         → ComesNext setting past (IsOpen setting.limit ledger.old.partition) ledger.old.stamps.items (clocks_of dial.old C.tells (C.moments clock.old)) number line shown.now
         → IfErr result (IsLineEnd
-        (told tells K.tells D.tells D.tells_images K.takes_memory D.takes_memory counts K.counts_failures D.counts_failures) setting past line
+        (told tells counts K.Sink D.Disk) setting past line
         (now_of source (K.view sink.old) (D.view (disk_of ledger.old.partition)))
         (now_of source (K.view sink.new) (D.view (disk_of ledger.new.partition)))
         (D.images (disk_of ledger.new.partition)) (D.since (disk_of ledger.old.partition)) (D.since (disk_of ledger.new.partition))

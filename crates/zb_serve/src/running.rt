@@ -43,9 +43,9 @@ pub fn run<S: Source, K: Sink, D: Disk, C: Clock>(
     requires { plan.limit ≤ 2 ^ 32 }
     ensures unread { result.stamps.items ≡ [] → session.new ≡ session.old }
     ensures slots { slots_in result.volume ≡ slots_in volume }
-    ensures spared { result.stamps.items ≡ [] → IsTrue D.tells_images → IsSafe D.view D.images D.since volume result.volume }
+    ensures spared { result.stamps.items ≡ [] → IsTrue D.tells_images → IsSafe D.Disk volume result.volume }
     ensures run { IsRun
-        (told S.tells K.tells D.tells D.tells_images K.takes_memory D.takes_memory S.counts_failures K.counts_failures D.counts_failures) (setting_of plan C.tells (C.moments clock.old))
+        (told S.tells S.counts_failures K.Sink D.Disk) (setting_of plan C.tells (C.moments clock.old))
         (ends_alone
         (start_of (S.view session.old.source) (K.view session.old.sink) (D.view volume.log))
         (now_of (S.view session.new.source) (K.view session.new.sink) (D.view result.volume.log)))
@@ -96,7 +96,7 @@ fn serve_partition<S: Source, K: Sink, D: Disk, C: Clock>(
         (D.images disk) (D.since (disk_of partition)) (λ image. Stands image (bodies_of opened)))
         → (IsTrue D.counts_failures → (D.view (disk_of partition)).faults ≡ (D.view disk).faults)
         → IsRun
-        (told S.tells K.tells D.tells D.tells_images K.takes_memory D.takes_memory S.counts_failures K.counts_failures D.counts_failures) (setting_of plan C.tells (C.moments clock.old))
+        (told S.tells S.counts_failures K.Sink D.Disk) (setting_of plan C.tells (C.moments clock.old))
         (ends_alone
         (start_of (S.view session.old.source) (K.view session.old.sink) (D.view disk))
         (now_of (S.view session.new.source) (K.view session.new.sink) (D.view result.volume.log)))

@@ -54,19 +54,19 @@ pub fn serve_session<S: Source, K: Sink, D: Disk, C: Clock>(
     clock: &mut C,
 ) -> End
     requires { (setting : RunSetting) × (start : RunStart) × (first : D) × IsServing
-        (told S.tells K.tells D.tells D.tells_images K.takes_memory D.takes_memory S.counts_failures K.counts_failures D.counts_failures)
+        (told S.tells S.counts_failures K.Sink D.Disk)
         setting start (now_of (S.view session.old.source) (K.view session.old.sink) (D.view (disk_of ledger.old.partition)))
         (D.images first) (D.images (disk_of ledger.old.partition)) (D.since (disk_of ledger.old.partition)) (IsOpen setting.limit ledger.old.partition) ledger.old.stamps.items
         (clocks_of dial.old C.tells (C.moments clock.old)) [] most_taken 1 }
 
     // For all that the run may have begun with, and go by.
     ensures over { (setting : RunSetting) (start : RunStart) (first : D) → IsServing
-        (told S.tells K.tells D.tells D.tells_images K.takes_memory D.takes_memory S.counts_failures K.counts_failures D.counts_failures)
+        (told S.tells S.counts_failures K.Sink D.Disk)
         setting start (now_of (S.view session.old.source) (K.view session.old.sink) (D.view (disk_of ledger.old.partition)))
         (D.images first) (D.images (disk_of ledger.old.partition)) (D.since (disk_of ledger.old.partition)) (IsOpen setting.limit ledger.old.partition) ledger.old.stamps.items
         (clocks_of dial.old C.tells (C.moments clock.old)) [] most_taken 1
         → IsOver
-        (told S.tells K.tells D.tells D.tells_images K.takes_memory D.takes_memory S.counts_failures K.counts_failures D.counts_failures)
+        (told S.tells S.counts_failures K.Sink D.Disk)
         setting start (now_of (S.view session.new.source) (K.view session.new.sink) (D.view (disk_of ledger.new.partition)))
         (D.images first) (D.images (disk_of ledger.new.partition)) (D.since (disk_of ledger.new.partition)) ledger.new.stamps.items
         (cause_of (in_writing ledger.new.partition) result) }
@@ -99,17 +99,17 @@ fn serve_next<S: Source, K: Sink, D: Disk, C: Clock>(
     clock: &mut C,
 ) -> Result<bool, End>
     requires { (setting : RunSetting) × (start : RunStart) × (first : D) × IsServing
-        (told S.tells K.tells D.tells D.tells_images K.takes_memory D.takes_memory S.counts_failures K.counts_failures D.counts_failures)
+        (told S.tells S.counts_failures K.Sink D.Disk)
         setting start (now_of (S.view session.old.source) (K.view session.old.sink) (D.view (disk_of ledger.old.partition)))
         (D.images first) (D.images (disk_of ledger.old.partition)) (D.since (disk_of ledger.old.partition)) (IsOpen setting.limit ledger.old.partition) ledger.old.stamps.items
         (clocks_of dial.old C.tells (C.moments clock.old)) desk.old.reader desk.old.budget number }
     ensures goes_on { (setting : RunSetting) (start : RunStart) (first : D) → IsServing
-        (told S.tells K.tells D.tells D.tells_images K.takes_memory D.takes_memory S.counts_failures K.counts_failures D.counts_failures)
+        (told S.tells S.counts_failures K.Sink D.Disk)
         setting start (now_of (S.view session.old.source) (K.view session.old.sink) (D.view (disk_of ledger.old.partition)))
         (D.images first) (D.images (disk_of ledger.old.partition)) (D.since (disk_of ledger.old.partition)) (IsOpen setting.limit ledger.old.partition) ledger.old.stamps.items
         (clocks_of dial.old C.tells (C.moments clock.old)) desk.old.reader desk.old.budget number
         → GoesOn
-        (told S.tells K.tells D.tells D.tells_images K.takes_memory D.takes_memory S.counts_failures K.counts_failures D.counts_failures)
+        (told S.tells S.counts_failures K.Sink D.Disk)
         setting start (now_of (S.view session.new.source) (K.view session.new.sink) (D.view (disk_of ledger.new.partition)))
         (D.images first) (D.images (disk_of ledger.new.partition)) (D.since (disk_of ledger.new.partition)) (IsOpen setting.limit ledger.new.partition) ledger.new.stamps.items
         (clocks_of dial.new C.tells (C.moments clock.new)) desk.new.reader desk.new.budget number

@@ -3,9 +3,9 @@ ghost use Rattle.zb_words.specs.Plan.{IsPlan};
 ghost use Rattle.zb_words.specs.declared.plan.ClockKind.TheVariants as kinds;
 ghost use Rattle.zb_words.specs.declared.plan.Plan.{Plan};
 ghost use Rattle.zb_serve.specs.Words.{IsPlanned};
-ghost use Rattle.zb_serve.specs.Ends.{told};
+ghost use Rattle.zb_serve.specs.Ends.{devices_of};
 ghost use Rattle.zb_serve.specs.Cause.{status_of};
-ghost use Rattle.zb_serve.specs.Closing.{Closes};
+ghost use Rattle.zb_serve.specs.Closing.{Closes, clock_at_hand};
 
 use crate::run::{Cause, Closed, Session};
 use crate::running::{Ran, run};
@@ -38,10 +38,8 @@ where
     C: Clock,
     G: Door,
     requires { length sessions.items < 2 ^ 32 }
-    ensures closed { Closes
-        (told S.tells K.tells D.tells D.tells_images K.takes_memory D.takes_memory S.counts_failures K.counts_failures D.counts_failures)
-        S.view K.view D.view D.images D.since C.tells (C.moments clock.old)
-        (map string_bytes words.now) sessions.items volumes.items result }
+    ensures closed { Closes (devices_of S.Source K.Sink D.Disk) (clock_at_hand C.tells (C.moments clock.old)) (map string_bytes words.now)
+        sessions.items volumes.items result }
 
     // The clock is read under a plan that goes by it alone, and not where the words can't be served.
     ensures unasked { result.cause ≡ Cause.Usage → clock.new ≡ clock.old }
@@ -62,10 +60,8 @@ pub fn serve_alone<S: Source, K: Sink, D: Disk, C: Clock>(
     clock: &mut C,
 ) -> Closed<S, K, D>
     requires { length sessions.items < 2 ^ 32 }
-    ensures closed { Closes
-        (told S.tells K.tells D.tells D.tells_images K.takes_memory D.takes_memory S.counts_failures K.counts_failures D.counts_failures)
-        S.view K.view D.view D.images D.since C.tells (C.moments clock.old)
-        (map string_bytes words.now) sessions.items volumes.items result }
+    ensures closed { Closes (devices_of S.Source K.Sink D.Disk) (clock_at_hand C.tells (C.moments clock.old)) (map string_bytes words.now)
+        sessions.items volumes.items result }
 
     // The clock is read under a plan that goes by it alone, and not where the words can't be served.
     ensures unasked { result.cause ≡ Cause.Usage → clock.new ≡ clock.old }

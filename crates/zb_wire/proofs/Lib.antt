@@ -1,4 +1,4 @@
 pub mod LineLemmas
-pub mod NameLemmas
+pub mod FaultLemmas
 pub mod MemberLemmas
 pub mod LimitLemmas

@@ -1,90 +1,122 @@
--- The fields of a request's line, and what each may hold.
-use Rattle.std.specs.Prelude.{ℕ, List, [], ◌∷◌, length, codes, map, Bool, true, false, ◌||◌, not, nat_le, is_some, if◌then◌else◌, Option, Some, None, option_and_then, unwrap_or}
-use Rattle.std.specs.Option.{option_map_or}
+-- The fields of a request's line, what each may hold, and what is wrong with a line that has others.
+use Rattle.std.specs.Prelude.{ℕ, List, [], length, codes, Bool, true, false, ◌&&◌, ◌||◌, min, nat_le, is_some, if◌then◌else◌, Option, Some, None, option_map, option_and_then, unwrap_or}
+use Rattle.std.specs.Option.{option_map_or, option_or}
 use Rattle.std.specs.List.{list_any}
 use Rattle.std.specs.Str.{bytes_eq}
-use Rattle.serde_json.specs.Data.{Data, Members, no_members, member}
+use Rattle.serde_json.specs.Data.{Data, null, Members, no_members, member}
 use Rattle.serde_json.specs.Find.{get, as_str, as_object}
 use Rattle.zb_base.specs.declared.vars.Variable.{Variable}
-use Rattle.zb_wire.specs.Variables.{longest_name, unsigned_of, all_variables, variables_of}
+use Rattle.zb_process.specs.declared.model.Model.{Model}
+use Rattle.zb_reader.specs.Layout.{place_in_model, model_of}
+use Rattle.zb_wire.specs.First.{first_told}
+use Rattle.zb_wire.specs.Variables.{unsigned_of, all_variables, variables_of}
+use Rattle.zb_wire.specs.declared.given.Given.{Given}
+use Rattle.zb_wire.specs.declared.kind.Kind.{Kind}
+use Rattle.zb_wire.specs.declared.kind.Kind.TheVariants as kinds
+use Rattle.zb_wire.specs.declared.request.LineFault.{LineFault}
+use Rattle.zb_wire.specs.declared.request.LineFault.TheVariants as faults
 
--- a field: its name, whether a line must have it, the kind of its value, and the limits of a value of that kind
+-- a field: its name, whether a line must have it, and the kind of its value
 pub record FieldRule : Type 0 where
   pub name : List ℕ
   pub needed : Bool
-  pub kind : Data → Bool
-  pub limit : Data → Bool
+  pub kind : Kind
 
 -- a field that a line must have
-abbrev pub must : List ℕ → (Data → Bool) → (Data → Bool) → FieldRule
-must name kind limit = record { name = name; needed = true; kind = kind; limit = limit }
+abbrev pub must : List ℕ → Kind → FieldRule
+must name kind = record { name = name; needed = true; kind = kind }
 
 -- a field that a line may have
-abbrev pub may : List ℕ → (Data → Bool) → (Data → Bool) → FieldRule
-may name kind limit = record { name = name; needed = false; kind = kind; limit = limit }
+abbrev pub may : List ℕ → Kind → FieldRule
+may name kind = record { name = name; needed = false; kind = kind }
 
--- a text (RFC 8259, section 7)
-abbrev pub is_text : Data → Bool
-is_text d = is_some (as_str d)
+-- the fault of a field that is missing, of the wrong kind or unknown
+abbrev pub field_fault : List ℕ → LineFault
+field_fault field = faults.Field field None
 
--- a text of at most 255 bytes (own)
-abbrev pub is_name : Data → Bool
-is_name d = option_map_or (λ s. nat_le (length s) longest_name) (as_str d) false
+-- the fault of a field whose value fails at this place
+abbrev pub place_fault : List ℕ → List ℕ → LineFault
+place_fault field path = faults.Field field (Some path)
 
--- a whole number from 0 (RFC 8259, section 6)
-abbrev pub is_count : Data → Bool
-is_count d = is_some (unsigned_of d)
+-- FIELD (own): a field of this kind isn't there and must be; a model then fails as a whole
+abbrev pub missing_fault : List ℕ → Kind → LineFault
+missing_fault field kinds.Model = place_fault field []
+missing_fault field _ = field_fault field
 
--- the longest time, in milliseconds (own)
-abbrev pub longest_duration : ℕ
-longest_duration = 4000000000000
+-- the fault of a field, unless its value is good
+abbrev pub unless_good : Bool → List ℕ → Option LineFault
+unless_good good field = if good then None else Some (field_fault field)
 
--- a whole number from 0 to the longest time (own)
-abbrev pub is_duration : Data → Bool
-is_duration d = option_map_or (λ n. nat_le n longest_duration) (unsigned_of d) false
+-- FIELD (own): the value isn't of this kind, a text (RFC 8259, section 7), a whole number from 0 (RFC 8259, section
+-- 6), an object whose members are of the kinds that variables may have (own), or a model by its layout
+abbrev pub kind_fault : List ℕ → Kind → Data → Option LineFault
+kind_fault field (kinds.Text most) d = unless_good (is_some (as_str d)) field
+kind_fault field (kinds.Number least most) d = unless_good (is_some (unsigned_of d)) field
+kind_fault field kinds.Partition d = unless_good (is_some (unsigned_of d)) field
+kind_fault field kinds.Variables d = unless_good (option_map_or all_variables (as_object d) false) field
+kind_fault field kinds.Model d = option_map (place_fault field) (place_in_model d)
 
--- an object whose members are of the kinds that variables may have (own)
-abbrev pub are_variables : Data → Bool
-are_variables d = option_map_or all_variables (as_object d) false
+-- a text of at most so many bytes
+abbrev pub is_short : ℕ → Data → Bool
+is_short most d = option_map_or (λ s. nat_le (length s) most) (as_str d) false
+
+-- a whole number from the first of these to the second
+abbrev pub is_between : ℕ → ℕ → Data → Bool
+is_between least most d = option_map_or (λ n. nat_le least n && nat_le n most) (unsigned_of d) false
 
 -- the variables that an object stands for
 abbrev pub variables_in : Data → Option (List Variable)
 variables_in d = option_and_then variables_of (as_object d)
 
--- an object of variables within their limits (own)
-abbrev pub are_within : Data → Bool
-are_within d = is_some (variables_in d)
+-- the values of a kind that are within its limits (own); the layout of a model has its own
+abbrev pub allows : Given → Kind → Data → Bool
+allows given (kinds.Text most) d = is_short most d
+allows given (kinds.Number least most) d = is_between least most d
+allows given kinds.Partition d = is_between 1 given.partitions d
+allows given kinds.Variables d = is_some (variables_in d)
+allows given kinds.Model d = true
 
--- a field is there and of its kind, or it isn't there and needn't be
-abbrev pub is_right : Data → FieldRule → Bool
-is_right d f = option_map_or f.kind (get f.name d) (not f.needed)
+-- FIELD (own): a field is missing, or its value isn't of its kind
+abbrev pub wrong_field : Data → FieldRule → Option LineFault
+wrong_field d f = option_map_or (kind_fault f.name f.kind) (get f.name d) (if f.needed then Some (missing_fault f.name f.kind) else None)
 
 -- a field is within its limits, or it isn't there
-abbrev pub is_within : Data → FieldRule → Bool
-is_within d f = option_map_or f.limit (get f.name d) true
+abbrev pub is_within : Given → Data → FieldRule → Bool
+is_within given d f = option_map_or (allows given f.kind) (get f.name d) true
 
--- the first field that doesn't pass
-abbrev pub first_failing : (FieldRule → Bool) → List FieldRule → Option (List ℕ)
-first_failing passes [] = None
-first_failing passes (f ∷ fs) = if passes f then first_failing passes fs else Some f.name
+-- RANGE (own): a field is outside its limits
+abbrev pub field_outside : Given → Data → FieldRule → Option LineFault
+field_outside given d f = if is_within given d f then None else Some (faults.Range f.name)
 
--- the names of the fields
-abbrev pub names_of : List FieldRule → List (List ℕ)
-names_of fields = map (λ f. f.name) fields
+-- op, or one of the fields
+abbrev pub is_known : List FieldRule → List ℕ → Bool
+is_known fields name = bytes_eq name (codes "op") || list_any (λ f. bytes_eq name f.name) fields
 
--- op, or one of these names
-abbrev pub is_known : List (List ℕ) → List ℕ → Bool
-is_known names name = bytes_eq name (codes "op") || list_any (λ known. bytes_eq name known) names
+-- the first member, in byte order of the names, that is neither op nor one of the fields
+abbrev pub first_unknown : List FieldRule → Members → Option (List ℕ)
+first_unknown fields no_members = None
+first_unknown fields (member name d ms) = if is_known fields name then first_unknown fields ms else Some name
 
--- the first member, in byte order of the names, that is neither op nor one of these
-abbrev pub first_unknown : List (List ℕ) → Members → Option (List ℕ)
-first_unknown names no_members = None
-first_unknown names (member name d ms) = if is_known names name then first_unknown names ms else Some name
+-- what is wrong with a value that has no such fields: the first of them, in their order, that is missing or of the
+-- wrong kind; then the first other member, in byte order; then the first field outside its limits
+unfoldable pub fault_in : Given → List FieldRule → Members → Data → Option LineFault
+fault_in given fields members d =
+    option_or (first_told (wrong_field d) fields)
+    (option_or (option_map field_fault (first_unknown fields members))
+    (first_told (field_outside given d) fields))
 
--- the number of a field
+-- the number of a field, and 0 where it isn't there
 abbrev pub count_at : List ℕ → Data → ℕ
 count_at field d = unwrap_or (option_and_then unsigned_of (get field d)) 0
+
+-- the number of a field as one of 32 bits, the greatest of them where it is greater, and 0 where it isn't there
+abbrev pub short_count_at : List ℕ → Data → ℕ
+short_count_at field d = min (count_at field d) 4294967295
 
 -- the variables of a field, and none where it isn't there
 abbrev pub variables_of_field : List ℕ → Data → List Variable
 variables_of_field field d = unwrap_or (option_and_then variables_in (get field d)) []
+
+-- the model of a field, and an empty one where it isn't there
+abbrev pub model_at : List ℕ → Data → Model
+model_at field d = model_of (unwrap_or (get field d) null)

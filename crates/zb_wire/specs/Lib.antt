@@ -1,11 +1,9 @@
 pub mod Variables
+pub mod First
 pub mod Fields
 pub mod Op
+pub mod Ops
 pub mod Asked
-pub mod PublishFields
-pub mod CreateFields
-pub mod DeployFields
-pub mod ClockFields
 pub mod Request
 pub mod Table
 pub mod Limits

@@ -1,15 +1,13 @@
 -- Which request a line is, or what is wrong with it: the first fault, in the order in which they stand here.
--- What each op asks for stands in a module of its name. What no standard says is marked as this project's own.
-use Rattle.std.specs.Prelude.{◌≡◌, ℕ, List, length, codes, Bool, ◌&&◌, nat_le, if◌then◌else◌, Option, Some, None, option_and_then, Result, Ok, Err}
-use Rattle.std.specs.Str.{bytes_eq, is_utf8}
+-- What each op asks for stands in Ops. What no standard says is marked as this project's own.
+use Rattle.std.specs.Prelude.{◌≡◌, ℕ, List, length, codes, nat_le, if◌then◌else◌, Option, Some, None, option_and_then, Result, Ok, Err}
+use Rattle.std.specs.Str.{is_utf8}
 use Rattle.serde_json.specs.Data.{Data, Members}
 use Rattle.serde_json.specs.Read.{read}
 use Rattle.serde_json.specs.Find.{get, as_str, as_object}
 use Rattle.zb_wire.specs.Op.{request_with}
-use Rattle.zb_wire.specs.DeployFields.{deploy_with}
-use Rattle.zb_wire.specs.CreateFields.{create}
-use Rattle.zb_wire.specs.PublishFields.{publish}
-use Rattle.zb_wire.specs.ClockFields.{tick, advance}
+use Rattle.zb_wire.specs.Ops.{op_named}
+use Rattle.zb_wire.specs.declared.given.Given.{Given}
 use Rattle.zb_wire.specs.declared.request.Request.{Request}
 use Rattle.zb_wire.specs.declared.request.LineFault.{LineFault}
 use Rattle.zb_wire.specs.declared.request.LineFault.TheVariants as faults
@@ -40,29 +38,25 @@ members_in value = or_fault faults.NotObject (as_object value)
 abbrev pub op_in : Data → Result (List ℕ) LineFault
 op_in value = or_fault faults.NoOp (option_and_then as_str (get (codes "op") value))
 
--- UNKNOWN_OP (own): no request is called so, or it is an advance and the clock isn't the manual one; FIELD and RANGE, by the fields of the op
-abbrev pub request_for : Bool → List ℕ → Members → Data → Result Request LineFault
-request_for manual op members value =
-    if bytes_eq op (codes "deploy") then deploy_with members value
-    else (if bytes_eq op (codes "create") then request_with create members value
-    else (if bytes_eq op (codes "publish") then request_with publish members value
-    else (if bytes_eq op (codes "tick") then request_with tick members value
-    else (if bytes_eq op (codes "advance") && manual then request_with advance members value
-    else Err faults.UnknownOp))))
+-- UNKNOWN_OP (own): no op is called so; then FIELD and RANGE, by the fields of the op
+abbrev pub request_for : Given → List ℕ → Members → Data → Result Request LineFault
+request_for given name members value = do
+  op ← or_fault faults.UnknownOp (op_named given name)
+  request_with given op members value
 
--- the request that a value is, under the manual clock or not
-abbrev pub request_in : Bool → Data → Result Request LineFault
-request_in manual value = do
+-- the request that a value is
+abbrev pub request_in : Given → Data → Result Request LineFault
+request_in given value = do
   members ← members_in value
-  op ← op_in value
-  request_for manual op members value
+  name ← op_in value
+  request_for given name members value
 
--- the request that a line is, under the manual clock or not, or its fault
-unfoldable pub request_of : Bool → List ℕ → Result Request LineFault
-request_of manual line = do
+-- the request that a line is, or its fault
+unfoldable pub request_of : Given → List ℕ → Result Request LineFault
+request_of given line = do
   text ← short_line line
   value ← value_in text
-  request_in manual value
+  request_in given value
 
 -- this fault was found, unless memory ran out
 abbrev pub Tells : LineFault → Result Request LineFault → Type 0

@@ -4,25 +4,26 @@ use Rattle.std.proofs.Common.{sym, ap, ◌∙◌, arith}
 use Rattle.std.proofs.lemmas.Bool.{leb-true, leb-false, lt-leb}
 use Rattle.std.proofs.lemmas.List.{take_all, length-take-le}
 use Rattle.zb_wire.specs.Request.{longest_line, short_line, request_of, Tells}
+use Rattle.zb_wire.specs.declared.given.Given.{Given}
 use Rattle.zb_wire.specs.declared.request.LineFault.{LineFault}
 use Rattle.zb_wire.specs.declared.request.LineFault.TheVariants as faults
 use Rattle.zb_wire.specs.declared.request.Request.{Request}
 
 -- a line that is too long has that fault
-pub request_of-long : (manual : Bool) (line : List ℕ) → nat_le (length line) longest_line ≡ false → request_of manual line ≡ Err faults.TooLong
+pub request_of-long : (given : Given) (line : List ℕ) → nat_le (length line) longest_line ≡ false → request_of given line ≡ Err faults.TooLong
 unfolding request_of short_line
-request_of-long manual line long = rw long
+request_of-long given line long = rw long
 
-request_of_take_by : (b manual : Bool) (n : ℕ) (line : List ℕ) → nat_le (length line) n ≡ b → longest_line < n → request_of manual (take n line) ≡ request_of manual line
-request_of_take_by true manual n line fits above = ap (request_of manual) (take_all n line (leb-true _ _ fits))
-request_of_take_by false manual n line long above =
+request_of_take_by : (b : Bool) (given : Given) (n : ℕ) (line : List ℕ) → nat_le (length line) n ≡ b → longest_line < n → request_of given (take n line) ≡ request_of given line
+request_of_take_by true given n line fits above = ap (request_of given) (take_all n line (leb-true _ _ fits))
+request_of_take_by false given n line long above =
     let beyond : n < length line = leb-false _ _ long in
     let front : longest_line < length (take n line) = rw (length-take-le n line (omega arith)) above in
-    request_of-long manual (take n line) (lt-leb _ _ front) ∙ sym (request_of-long manual line (lt-leb _ _ (omega arith)))
+    request_of-long given (take n line) (lt-leb _ _ front) ∙ sym (request_of-long given line (lt-leb _ _ (omega arith)))
 
 -- one byte more than the longest line, and the front of a line asks for what the whole asks for
-pub request_of-take : (manual : Bool) (n : ℕ) (line : List ℕ) → longest_line < n → request_of manual (take n line) ≡ request_of manual line
-request_of-take manual n line above = request_of_take_by _ manual n line refl above
+pub request_of-take : (given : Given) (n : ℕ) (line : List ℕ) → longest_line < n → request_of given (take n line) ≡ request_of given line
+request_of-take given n line above = request_of_take_by _ given n line refl above
 
 -- a fault that isn't want of memory is the one that was found
 pub Tells-fault : (fault : LineFault) (found : Result Request LineFault) → Tells fault found → ¬ (fault ≡ faults.Memory) → found ≡ Err fault

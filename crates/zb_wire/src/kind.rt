@@ -1,81 +1,110 @@
-ghost use Rattle.std.specs.Prelude.{◌≡◌, is_some};
+ghost use Rattle.std.specs.Prelude.{◌≡◌, IfOk, if◌then◌else◌, Some, None, option_map};
 ghost use Rattle.serde_json.specs.View.{view};
+ghost use Rattle.zb_reader.specs.Layout.{place_in_model};
 ghost use Rattle.zb_wire.specs.Fields as spec;
-ghost use Rattle.zb_wire.specs.CreateFields.{is_version, is_partition};
-ghost use Rattle.zb_wire.specs.Table.{kind_of, bounds_of};
 
-use crate::values::version_in;
+use crate::faults::{field_fault, place_fault};
 use crate::variables::{all_variables, all_within};
+use crate::{Given, LineFault};
 use serde_json::Value as Json;
+use std::alloc::{AllocError, Global};
+use zb_model::Text;
+use zb_reader::model_place;
 
-/// A name or an id has at most so many bytes.
-pub const LONGEST_NAME: usize = 255;
-
-// The longest time, in milliseconds.
-const LONGEST_DURATION: u64 = 4_000_000_000_000;
-
-// The only partition so far.
-const ONLY_PARTITION: u64 = 1;
-
-/// What the value of a field may be, and the limits that it has.
+/// What the value of a field may be, with its limits.
 #[derive(Clone, Copy)]
 pub enum Kind {
-    /// A text of at most 255 bytes.
-    Name,
-    /// A whole number from 0 to the longest time.
-    Duration,
-    /// A whole number from 0 to the greatest version.
-    Version,
-    /// A whole number from 0, the number of a partition.
+    /// A text of at most so many bytes.
+    Text(usize),
+    /// A whole number from the first of these to the second.
+    Number(u64, u64),
+    /// The number of a partition, from 1.
     Partition,
-    /// An object whose members may be variables.
+    /// An object whose members are variables.
     Variables,
+    /// A process model.
+    Model,
 }
 
 impl Kind {
-    /// Whether the value is of this kind.
-    pub fn has(self, value: &Json) -> bool
-        ensures { result ≡ kind_of self (view value.now) }
+    /// The fault of a field of this kind that a line hasn't and must have.
+    pub fn missing(self, alloc: Global, field: &str) -> Result<LineFault, AllocError>
+        ensures { IfOk result (λ fault. fault ≡ spec.missing_fault field.now self) }
     {
         match self {
-            Kind::Name => value.is_string(),
-            Kind::Duration | Kind::Version | Kind::Partition => value.is_u64(),
-            Kind::Variables => value.as_object().is_some_and(all_variables),
+            Kind::Model => place_fault(alloc, field, Text::empty(alloc)),
+            Kind::Text(_) | Kind::Number(_, _) | Kind::Partition | Kind::Variables => {
+                field_fault(alloc, field)
+            }
         }
     }
 
-    /// Whether the value is of this kind and within its limits.
-    pub fn allows(self, value: &Json) -> bool
-        ensures { result ≡ bounds_of self (view value.now) }
+    /// The fault of a field of this kind whose value isn't of it, if it isn't.
+    pub fn fault(
+        self,
+        alloc: Global,
+        field: &str,
+        value: &Json,
+    ) -> Result<Option<LineFault>, AllocError>
+        ensures { IfOk result (λ fault. fault ≡ spec.kind_fault field.now self (view value.now)) }
     {
         match self {
-            Kind::Name => is_name(value),
-            Kind::Duration => is_duration(value),
-            Kind::Version => version_in(value).is_some(),
-            Kind::Partition => is_partition(value),
+            Kind::Text(_) => unless(alloc, value.is_string(), field),
+            Kind::Number(_, _) => unless(alloc, value.is_u64(), field),
+            Kind::Partition => unless(alloc, value.is_u64(), field),
+            Kind::Variables => {
+                let good = value.as_object().is_some_and(all_variables);
+                unless(alloc, good, field)
+            }
+            Kind::Model => model_fault(alloc, field, value),
+        }
+    }
+
+    /// Whether a value is of this kind and within its limits.
+    pub fn allows(self, given: Given, value: &Json) -> bool
+        ensures { result ≡ spec.allows given self (view value.now) }
+    {
+        match self {
+            Kind::Text(most) => is_short(value, most),
+            Kind::Number(least, most) => is_between(value, least, most),
+            Kind::Partition => is_between(value, 1, u64::from(given.partitions)),
             Kind::Variables => value.as_object().is_some_and(all_within),
+            Kind::Model => true,
         }
     }
 }
 
-fn is_name(value: &Json) -> bool
-    ensures { result ≡ spec.is_name (view value.now) }
+// The fault of a field, unless its value is good.
+fn unless(alloc: Global, good: bool, field: &str) -> Result<Option<LineFault>, AllocError>
+    ensures { IfOk result (λ fault. fault ≡ spec.unless_good good field.now) }
 {
-    value
-        .as_str()
-        .is_some_and(|text| text.len() <= LONGEST_NAME)
+    if good {
+        return Ok(None);
+    }
+    Ok(Some(field_fault(alloc, field)?))
 }
 
-fn is_duration(value: &Json) -> bool
-    ensures { result ≡ spec.is_duration (view value.now) }
+// The fault of a field whose value is no model.
+fn model_fault(alloc: Global, field: &str, value: &Json) -> Result<Option<LineFault>, AllocError>
+    ensures { IfOk result (λ fault. fault
+        ≡ option_map (spec.place_fault field.now) (place_in_model (view value.now))) }
 {
-    value.as_u64().is_some_and(|ms| ms <= LONGEST_DURATION)
+    match model_place(alloc, value)? {
+        Some(path) => Ok(Some(place_fault(alloc, field, path)?)),
+        None => Ok(None),
+    }
 }
 
-fn is_partition(value: &Json) -> bool
-    ensures { result ≡ is_partition (view value.now) }
+fn is_short(value: &Json, most: usize) -> bool
+    ensures { result ≡ spec.is_short most (view value.now) }
+{
+    value.as_str().is_some_and(|text| text.len() <= most)
+}
+
+fn is_between(value: &Json, least: u64, most: u64) -> bool
+    ensures { result ≡ spec.is_between least most (view value.now) }
 {
     value
         .as_u64()
-        .is_some_and(|number| number == ONLY_PARTITION)
+        .is_some_and(|number| least <= number && number <= most)
 }

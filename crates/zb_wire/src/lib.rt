@@ -1,17 +1,17 @@
 //! Lines to requests.
 #![tactic(auto)]
 
-mod clock;
-mod create;
-mod deploy;
 mod faults;
 mod fields;
+mod given;
 mod kind;
-mod publish;
+mod making;
+mod ops;
 mod reading;
 mod request;
 mod values;
 mod variables;
 
+pub use given::Given;
 pub use reading::{LONGEST_LINE, longest_shown, read_line};
 pub use request::{LineFault, Request};

@@ -1,16 +1,17 @@
-ghost use Rattle.std.specs.Prelude.{◌≡◌, ◌+◌, ℕ, Bool, List, take, IfOk};
+ghost use Rattle.std.specs.Prelude.{◌≡◌, ◌+◌, ℕ, List, take, IfOk};
 ghost use Rattle.zb_wire.specs.Limits.{IsWithinLimits};
-ghost use Rattle.serde_json.specs.View.{view};
+ghost use Rattle.serde_json.specs.View.{view, members_view};
+ghost use Rattle.zb_wire.specs.declared.given.Given.{Given};
+ghost use Rattle.zb_wire.specs.Op.{request_with};
+ghost use Rattle.zb_wire.specs.Table.{op_of};
 ghost use Rattle.zb_wire.specs.Reading.{ReadsValue, Blames};
 ghost use Rattle.zb_wire.specs.Request.{longest_line, value_in, request_in, request_of, GivesRequest};
 
-use crate::clock::{advance_in, tick_in};
-use crate::create::create_in;
-use crate::deploy::deploy_in;
-use crate::publish::publish_in;
-use crate::{LineFault, Request};
-use serde_json::{Category, Error, Value as Json};
-use std::alloc::Global;
+use crate::fields::fault_in;
+use crate::ops::OpName;
+use crate::{Given, LineFault, Request};
+use serde_json::{Category, Error, Map, Value as Json};
+use std::alloc::{AllocError, Global};
 
 /// A line has at most so many bytes, without its newline.
 pub const LONGEST_LINE: usize = 262_144;
@@ -19,24 +20,24 @@ pub const LONGEST_LINE: usize = 262_144;
 #[tactic(auto, unfolding(crate::specs::Request::longest_line))]
 pub fn longest_shown() -> usize
     ensures number { result ≡ longest_line + 1 }
-    ensures decides { (manual : Bool) (line : List ℕ)
-        → request_of manual (take result line) ≡ request_of manual line }
+    ensures decides { (given : Given) (line : List ℕ)
+        → request_of given (take result line) ≡ request_of given line }
 {
     LONGEST_LINE + 1
 }
 
-/// The request that a line, without its newline, asks for, or its fault; advance is an op where the clock is
-/// moved by hand. It takes time and memory in proportion to the line.
+/// The request that a line, without its newline, asks for, or its fault. It takes time and memory in
+/// proportion to the line.
 #[tactic(auto, unfolding(crate::specs::Request::request_of, crate::specs::Request::short_line, crate::specs::Request::longest_line))]
-pub fn read_line(alloc: Global, line: &[u8], manual: bool) -> Result<Request, LineFault>
-    ensures found { GivesRequest result (request_of manual line.now) }
-    ensures within { IfOk result IsWithinLimits }
+pub fn read_line(alloc: Global, line: &[u8], given: Given) -> Result<Request, LineFault>
+    ensures found { GivesRequest result (request_of given line.now) }
+    ensures within { IfOk result (IsWithinLimits given) }
 {
     if line.len() > LONGEST_LINE {
         return Err(LineFault::TooLong);
     }
     match value_in(alloc, line) {
-        Ok(value) => request_in(alloc, &value, manual),
+        Ok(value) => request_in(alloc, &value, given),
         Err(fault) => Err(fault),
     }
 }
@@ -63,21 +64,40 @@ fn fault_of(error: &Error) -> LineFault
 }
 
 // The request that a value is.
-fn request_in(alloc: Global, value: &Json, manual: bool) -> Result<Request, LineFault>
-    ensures { GivesRequest result (request_in manual (view value.now)) }
+fn request_in(alloc: Global, value: &Json, given: Given) -> Result<Request, LineFault>
+    ensures { GivesRequest result (request_in given (view value.now)) }
 {
     let Some(members) = value.as_object() else {
         return Err(LineFault::NotObject);
     };
-    let Some(op) = value.get("op").and_then(Json::as_str) else {
+    let Some(name) = value.get("op").and_then(Json::as_str) else {
         return Err(LineFault::NoOp);
     };
-    match op {
-        "deploy" => deploy_in(alloc, members, value),
-        "create" => create_in(alloc, members, value),
-        "publish" => publish_in(alloc, members, value),
-        "tick" => tick_in(alloc, members, value),
-        "advance" if manual => advance_in(alloc, members, value),
-        _ => Err(LineFault::UnknownOp),
+    match OpName::named(name, given) {
+        Some(op) => request_with(alloc, given, op, members, value),
+        None => Err(LineFault::UnknownOp),
+    }
+}
+
+// The request of this op that a value is, these being its members.
+#[tactic(auto, using(crate::proofs::FaultLemmas::tells_same))]
+fn request_with(
+    alloc: Global,
+    given: Given,
+    op: OpName,
+    members: &Map<String, Json>,
+    value: &Json,
+) -> Result<Request, LineFault>
+    ensures { GivesRequest result
+        (request_with given (op_of op) (members_view members.now.entries) (view value.now)) }
+{
+    match fault_in(alloc, given, op.fields(), members, value) {
+        Ok(None) => {}
+        Ok(Some(fault)) => return Err(fault),
+        Err(AllocError) => return Err(LineFault::Memory),
+    }
+    match op.make(alloc, value) {
+        Ok(request) => Ok(request),
+        Err(AllocError) => Err(LineFault::Memory),
     }
 }

@@ -2,12 +2,12 @@ ghost use Rattle.zb_reader.specs.Layout.{text_in};
 ghost use Rattle.std.specs.Prelude.{◌≡◌, IfOk};
 ghost use Rattle.serde_json.specs.View.{view};
 ghost use Rattle.zb_wire.specs.Fields as spec;
-ghost use Rattle.zb_wire.specs.CreateFields.{version_in, version_at};
 
 use crate::variables::variables_of;
 use serde_json::Value as Json;
 use std::alloc::{AllocError, Global};
-use zb_model::Vars;
+use zb_model::{Model, Vars};
+use zb_reader::read_model;
 
 /// The text of a field, and the empty one where it isn't there.
 pub fn text_at<'v>(value: &'v Json, field: &str) -> &'v str
@@ -23,21 +23,11 @@ pub fn count_at(value: &Json, field: &str) -> u64
     value.get(field).and_then(Json::as_u64).unwrap_or(0)
 }
 
-/// The version of a field, and 0 where it isn't there.
-pub fn version_at(value: &Json, field: &str) -> u32
-    ensures { result ≡ version_at field.now (view value.now) }
+/// The number of a field as one of 32 bits, the greatest of them where it is greater, and 0 where it isn't there.
+pub fn short_count_at(value: &Json, field: &str) -> u32
+    ensures { result ≡ spec.short_count_at field.now (view value.now) }
 {
-    value.get(field).and_then(version_in).unwrap_or(0)
-}
-
-/// The version that a value is, if it is a whole number from 0 to the greatest.
-pub fn version_in(value: &Json) -> Option<u32>
-    ensures { result ≡ version_in (view value.now) }
-{
-    match value.as_u64() {
-        Some(number) if number <= u64::from(u32::MAX) => Some(number as u32),
-        _ => None,
-    }
+    u32::try_from(count_at(value, field)).unwrap_or(u32::MAX)
 }
 
 /// The variables of a field, and none where it isn't there.
@@ -58,5 +48,15 @@ fn variables_in(alloc: Global, value: &Json) -> Result<Option<Vars>, AllocError>
     match value.as_object() {
         Some(members) => variables_of(alloc, members),
         None => Ok(None),
+    }
+}
+
+/// The model of a field.
+pub fn model_at(alloc: Global, value: &Json, field: &str) -> Result<Model, AllocError>
+    ensures { IfOk result (λ model. model ≡ spec.model_at field.now (view value.now)) }
+{
+    match value.get(field) {
+        Some(found) => read_model(alloc, found),
+        None => read_model(alloc, &Json::Null),
     }
 }

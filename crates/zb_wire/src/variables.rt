@@ -3,10 +3,12 @@ ghost use Rattle.zb_base.specs.declared.value.Value.TheVariants as values;
 ghost use Rattle.serde_json.specs.View.{view, items_view, members_view};
 ghost use Rattle.zb_wire.specs.Variables as spec;
 
-use crate::kind::LONGEST_NAME;
 use serde_json::{Map, Value as Json};
 use std::alloc::{AllocError, Global};
 use zb_model::{List, Text, Value, Variable, Vars};
+
+/// A name or an id has at most so many bytes.
+pub const LONGEST_NAME: usize = 255;
 
 // The text of a variable has at most so many bytes.
 const LONGEST_TEXT: usize = 32_768;

@@ -5,7 +5,7 @@ use Rattle.zb_wire.specs.declared.request.LineFault.TheVariants as faults
 use Rattle.zb_world.specs.Entries.{entries_of}
 use Rattle.zb_wire.specs.declared.request.Request.{Request}
 use Rattle.zb_wire.specs.declared.request.LineFault.{LineFault}
-use Rattle.zb_serve.specs.Hours.{is_manual}
+use Rattle.zb_serve.specs.Hours.{given_of}
 use Rattle.zb_serve.specs.Reply.{Answer}
 use Rattle.zb_serve.specs.Serial.{found_in}
 use Rattle.zb_serve.specs.Serving.{AreAt, clocks_of}
@@ -26,7 +26,7 @@ answer_request-requires-clause-known g c =
 pub returns-in-Ok-clause-answered : goal.returns-in-Ok-clause-answered
 returns-in-Ok-clause-answered g c = λ setting past line next.
     let found = found_in past.answers in
-    let is = found_at setting.hours found _ _ line _ (Ok c.in-Ok.request) next.clock c.is_manual.ensures next.same c.in-Ok.ensures.found in
+    let is = found_at setting.hours found _ c.args.number past.number _ line _ (Ok c.in-Ok.request) next.count next.clock c.is_manual.ensures next.same c.in-Ok.ensures.found in
     on_ok_weaker c.answer_request.result (λ done.
     let answer : Answer = record { asked = Ok c.in-Ok.request; reading = c.read_for-reading.result; entries = entries_of 1 done.batches; reply = c.answer_request.new.reply.items } in
     record {
@@ -37,13 +37,13 @@ returns-in-Ok-clause-answered g c = λ setting past line next.
       is = record { found = is; replied = done.replied };
       served = (c.read_for-reading.ensures.reading setting.hours found next.clock, carried_on _ _ _ _ _ _ next.entries done.done);
       grown = done.grown;
-      clock = subst (λ (f : List (Result Request LineFault)). AreAt setting.hours f (clocks_of c.answer_request.new.dial g.C.Clock.tells (g.C.Clock.moments c.answer_request.new.clock))) (sym (found_more past.answers answer)) (c.read_for-reading.ensures.at setting.hours found next.clock);
+      clock = subst (λ (f : List (Result Request LineFault)). AreAt setting.hours f (clocks_of c.read_for-reading.new.dial g.C.Clock.tells (g.C.Clock.moments c.read_for-reading.new.clock))) (sym (found_more past.answers answer)) (c.read_for-reading.ensures.at setting.hours found next.clock);
     }) (c.answer_request.ensures.done setting.limit past.opened past.made next.made next.has)
 
 pub returns-in-Ok-clause-unanswered : goal.returns-in-Ok-clause-unanswered
 returns-in-Ok-clause-unanswered g c = λ setting past line next.
     let found = found_in past.answers in
-    let is = found_at setting.hours found _ _ line _ (Ok c.in-Ok.request) next.clock c.is_manual.ensures next.same c.in-Ok.ensures.found in
+    let is = found_at setting.hours found _ c.args.number past.number _ line _ (Ok c.in-Ok.request) next.count next.clock c.is_manual.ensures next.same c.in-Ok.ensures.found in
     if_err_as c.answer_request.result _ _ (λ end why. unserved_unanswered _ _ _ setting past line _ _ _ _ _ _ _ _ (record {
       request = c.in-Ok.request;
       is = is;
@@ -61,7 +61,7 @@ returns-in-Err-clause-answered g c = λ setting past line next.
     let spoken : ¬ (c.in-Err.fault ≡ faults.Memory) = search rules in
     let told = Tells-fault c.in-Err.fault _ c.in-Err.ensures.found spoken in
     let found = found_in past.answers in
-    let is = found_at setting.hours found _ _ line _ (Err c.in-Err.fault) next.clock c.is_manual.ensures next.same told in
+    let is = found_at setting.hours found _ c.args.number past.number _ line _ (Err c.in-Err.fault) next.count next.clock c.is_manual.ensures next.same told in
     on_ok_weaker c.put.result (λ put.
     let answer : Answer = record { asked = Err c.in-Err.fault; reading = 0; entries = []; reply = c.put.new.reply.items } in
     record {
@@ -69,7 +69,7 @@ returns-in-Err-clause-answered g c = λ setting past line next.
       batches = [];
       written = refl;
       made = refl;
-      is = fault_answered (is_manual setting.hours) past.number c.args.number line _ _ c.in-Err.fault next.count is c.clear.ensures.items put;
+      is = fault_answered (given_of setting.hours 1 past.number) c.args.number line _ _ c.in-Err.fault next.count is c.clear.ensures.items put;
       served = refl;
       grown = grown_none setting.limit _ past.opened past.made c.args.ledger.now.partition g.met.D.Disk.images_told next.made next.has;
       clock = subst (λ (f : List (Result Request LineFault)). AreAt setting.hours f (clocks_of c.args.dial.now g.C.Clock.tells (g.C.Clock.moments c.args.clock.now))) (sym (found_more past.answers answer)) (at_fault setting.hours found c.in-Err.fault _ next.clock);

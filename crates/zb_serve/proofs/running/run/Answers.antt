@@ -15,7 +15,7 @@ pub returns-in-Err-open-clause-run : goal.returns-in-Err-open-clause-run
 returns-in-Err-open-clause-run g c =
     let said = c.in-Err-open.ensures in
     rw (c.reserve.ensures.items, c.new-stamps.ensures.items, c.open_cause.ensures) (
-      fails_to_open (told g.S.Source.tells g.K.Sink.tells g.D.Disk.tells g.D.Disk.tells_images g.K.Sink.takes_memory g.D.Disk.takes_memory g.S.Source.counts_failures g.K.Sink.counts_failures g.D.Disk.counts_failures)
+      fails_to_open (told g.S.Source.tells g.S.Source.counts_failures g.K.Sink g.D.Disk)
           (record { disk = g.D.Disk.view c.args.volume.log; disk_after = g.D.Disk.view c.in-Err-open.volume.log }) c.in-Err-open.fault
           (λ t frame e. subst (λ (p : ℕ). IsBadAt p (g.D.Disk.view c.args.volume.log).contents frame) c.new.ensures (said.bad t frame e)) said.cause,
       (λ t. (said.opens.same t, said.opens.short t), tt),

@@ -3,7 +3,7 @@ use Rattle.zb_lines.specs.Line.{Comes, IsAtEnd}
 use Rattle.zb_lines.specs.declared.reader.Next.{Next}
 use Rattle.zb_lines.specs.declared.reader.Next.TheVariants as nexts
 use Rattle.zb_partition.specs.Partition.{disk_of, in_writing}
-use Rattle.zb_serve.specs.Hours.{is_manual}
+use Rattle.zb_serve.specs.Hours.{given_of}
 use Rattle.zb_serve.specs.Ledger.{IsOpen}
 use Rattle.zb_serve.specs.Serving.{clocks_of}
 use Rattle.zb_serve.proofs.TurnLemmas.{past_of}
@@ -42,7 +42,7 @@ serve_line-requires g c =
         k.0,
         past_of c.args.number s.answers s.opened s.batches,
         line_in c.args.desk.now.reader read.0 c.longest_shown.result c.in-Ok.next c.next.new.self c.deref.result.now came,
-        comes_next _ k.0 k.1 _ _ _ _ _ _ _ _ _ _ s c.longest_shown.result read.0 c.next.new.self _ c.in-Ok.next not_end not_full came (c.longest_shown.ensures.decides (is_manual k.0.hours)),
+        comes_next _ k.0 k.1 _ _ _ _ _ _ _ _ _ _ s c.longest_shown.result read.0 c.next.new.self _ c.in-Ok.next not_end not_full came (c.longest_shown.ensures.decides (given_of k.0.hours 1 c.args.number)),
       );
     }
 
@@ -53,7 +53,7 @@ returns-in-Ok-serve_line-clause-goes_on g c = λ setting start first s.
     let came = subst (λ (l : List ℕ). Comes c.longest_shown.result (Ok c.in-Ok.next) (c.args.desk.now.reader ++ read.0) c.next.new.self l) (sym c.deref.ensures.value) read.3 in
     let not_end : c.in-Ok.next ≢ nexts.End = search rules in
     let not_full : c.in-Ok.next ≢ nexts.Full = search rules in
-    let next = comes_next _ setting start _ _ _ _ _ _ _ _ _ _ s c.longest_shown.result read.0 c.next.new.self _ c.in-Ok.next not_end not_full came (c.longest_shown.ensures.decides (is_manual setting.hours)) in
+    let next = comes_next _ setting start _ _ _ _ _ _ _ _ _ _ s c.longest_shown.result read.0 c.next.new.self _ c.in-Ok.next not_end not_full came (c.longest_shown.ensures.decides (given_of setting.hours 1 c.args.number)) in
     let replied = c.in-Ok-serve_line.ensures.replied (g.S.Source.view c.next.new.source) g.S.Source.tells g.S.Source.counts_failures setting _ _ next in
     rw c.may_go_on.ensures (turn_served _ setting start _ _ _ _ _ (g.D.Disk.since (disk_of c.serve_line.new.ledger.partition)) _ (IsOpen setting.limit c.serve_line.new.ledger.partition) _ _ _
     (clocks_of c.serve_line.new.dial g.C.Clock.tells (g.C.Clock.moments c.serve_line.new.clock)) _ _ _ _ c.longest_shown.result _ _ _ read.0 c.next.new.self _ s read.1 read.2
@@ -74,7 +74,7 @@ returns-in-Err-serve_line-clause-goes_on g c = λ setting start first s.
     let came = subst (λ (l : List ℕ). Comes c.longest_shown.result (Ok c.in-Ok.next) (c.args.desk.now.reader ++ read.0) c.next.new.self l) (sym c.deref.ensures.value) read.3 in
     let not_end : c.in-Ok.next ≢ nexts.End = search rules in
     let not_full : c.in-Ok.next ≢ nexts.Full = search rules in
-    let next = comes_next _ setting start _ _ _ _ _ _ _ _ _ _ s c.longest_shown.result read.0 c.next.new.self _ c.in-Ok.next not_end not_full came (c.longest_shown.ensures.decides (is_manual setting.hours)) in
+    let next = comes_next _ setting start _ _ _ _ _ _ _ _ _ _ s c.longest_shown.result read.0 c.next.new.self _ c.in-Ok.next not_end not_full came (c.longest_shown.ensures.decides (given_of setting.hours 1 c.args.number)) in
     let ended = c.in-Err-serve_line.ensures.over (g.S.Source.view c.next.new.source) g.S.Source.tells g.S.Source.counts_failures setting _ _ next in
     turn_stopped _ setting start _ _ _ _ _ (g.D.Disk.since (disk_of c.serve_line.new.ledger.partition)) _ (IsOpen setting.limit c.serve_line.new.ledger.partition) _ _ _
     (clocks_of c.serve_line.new.dial g.C.Clock.tells (g.C.Clock.moments c.serve_line.new.clock)) _ _ _ _ c.longest_shown.result _ _ _ read.0 c.next.new.self _ s read.1 read.2

@@ -4,7 +4,7 @@ use Rattle.std.specs.String.{string_bytes}
 use Rattle.zb_words.specs.declared.plan.Plan.{Plan}
 use Rattle.zb_words.proofs.WordLaws.{one_plan}
 use Rattle.zb_serve.specs.Words.{IsPlanned}
-use Rattle.zb_serve.specs.Ends.{told}
+use Rattle.zb_serve.specs.Ends.{devices_of}
 use Rattle.zb_serve.specs.Hours.{setting_of}
 use Rattle.zb_serve.proofs.SingleLemmas.{one_member, one_set, one_taken, one_put, run_single, safe_same, safe_single, slots_single}
 use Rattle.zb_serve.proofs.top.serve_alone.Goals as goal
@@ -23,7 +23,7 @@ returns-clause-closed g c =
       unopened = grind (arith, common_steps);
       untouched = grind (arith, common_steps);
       unread = grind (arith, common_steps);
-      spared = λ none tells. safe_single g.D.Disk.view g.D.Disk.images g.D.Disk.since c.in-Some-pop.volume _ _ _ volume volumes
+      spared = λ none tells. safe_single g.D.Disk c.in-Some-pop.volume _ _ _ volume volumes
           (c.run-cause.ensures.spared (ap (λ v. v.items) (sym c.closed-2.ensures.stamps) ∙ none) tells);
       same_sessions = grind (arith, common_steps);
       same_volumes = grind (arith, common_steps);
@@ -33,8 +33,8 @@ returns-clause-closed g c =
         c.in-Some.plan,
         planned,
         rw (c.closed-2.ensures.cause, c.closed-2.ensures.stamps)
-            (run_single (told g.S.Source.tells g.K.Sink.tells g.D.Disk.tells g.D.Disk.tells_images g.K.Sink.takes_memory g.D.Disk.takes_memory g.S.Source.counts_failures g.K.Sink.counts_failures g.D.Disk.counts_failures) (setting_of c.in-Some.plan g.C.Clock.tells (g.C.Clock.moments c.args.clock.now))
-            g.S.Source.view g.K.Sink.view g.D.Disk.view g.D.Disk.images g.D.Disk.since c.index_mut.result.now c.run-cause.new.session _ _ c.in-Some-pop.volume _ _ _ _ _ session sessions volume volumes c.run-cause.ensures.run),
+            (run_single (devices_of g.S.Source g.K.Sink g.D.Disk) (setting_of c.in-Some.plan g.C.Clock.tells (g.C.Clock.moments c.args.clock.now))
+            c.index_mut.result.now c.run-cause.new.session _ _ c.in-Some-pop.volume _ _ _ _ _ session sessions volume volumes c.run-cause.ensures.run),
       );
     }
 
@@ -46,7 +46,7 @@ returns-in_default-clause-closed g c = record {
   unopened = grind (arith, common_steps);
   untouched = grind (arith, common_steps);
   unread = grind (arith, common_steps);
-  spared = λ none tells. rw (ap (λ v. v.items) c.closed.ensures.volumes) (safe_same g.D.Disk.view g.D.Disk.images g.D.Disk.since c.args.volumes.items (λ disk left was. g.met.D.Disk.only_now disk left tells was));
+  spared = λ none tells. rw (ap (λ v. v.items) c.closed.ensures.volumes) (safe_same g.D.Disk c.args.volumes.items (λ disk left was. g.met.D.Disk.only_now disk left tells was));
   same_sessions = grind (arith, common_steps);
   same_volumes = grind (arith, common_steps);
   slots = grind (arith, common_steps);

@@ -5,4 +5,4 @@ use Rattle.zb_wire.proofs.reading.longest_shown.Goals as goal
 
 pub returns-clause-decides : goal.returns-clause-decides
 unfolding longest_line
-returns-clause-decides c = λ manual line. request_of-take manual 262145 line (lit< tt)
+returns-clause-decides c = λ given line. request_of-take given 262145 line (lit< tt)

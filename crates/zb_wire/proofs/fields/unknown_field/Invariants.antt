@@ -1,9 +1,0 @@
-use Rattle.std.proofs.Common.{◌≡◌}
-use Rattle.std.specs.Prelude.{map}
-use Rattle.serde_json.specs.View.{members_view}
-use Rattle.zb_wire.specs.Fields as spec
-use Rattle.zb_wire.proofs.fields.unknown_field.Given as goal
-
--- the members that are left decide
-abbrev pub invariant-loop-name : goal.invariant-loop-name
-invariant-loop-name g l = spec.first_unknown (map g.N.AsStr.text l.fields) (members_view l.members.entries) ≡ spec.first_unknown (map g.N.AsStr.text l.fields) (members_view l.name-iterator)

@@ -1,0 +1,98 @@
+-- The ops, a row for each, with what they ask for (Zeebe, the fields).
+use Rattle.std.specs.Prelude.{ℕ, List, [], ◌∷◌, codes, Bool, true, false, ◌&&◌, ◌||◌, not, Option}
+use Rattle.std.specs.List.{find}
+use Rattle.std.specs.Str.{bytes_eq}
+use Rattle.serde_json.specs.Data.{Data}
+use Rattle.zb_exchange_records.specs.declared.message.MessagePublish.{MessagePublish}
+use Rattle.zb_instance_records.specs.declared.instance.ProcessInstanceCreationCreate.{ProcessInstanceCreationCreate}
+use Rattle.zb_reader.specs.Layout.{text_in}
+use Rattle.zb_wire.specs.Variables.{longest_name}
+use Rattle.zb_wire.specs.Fields.{must, may, count_at, short_count_at, variables_of_field, model_at}
+use Rattle.zb_wire.specs.Op.{Op}
+use Rattle.zb_wire.specs.declared.given.Given.{Given}
+use Rattle.zb_wire.specs.declared.kind.Kind.{Kind}
+use Rattle.zb_wire.specs.declared.kind.Kind.TheVariants as kinds
+use Rattle.zb_wire.specs.declared.request.Request.TheVariants as requests
+
+-- a name or an id: a text of at most 255 bytes (own)
+abbrev pub a_name : Kind
+a_name = kinds.Text longest_name
+
+-- the longest time, in milliseconds (own)
+abbrev pub longest_duration : ℕ
+longest_duration = 4000000000000
+
+-- how long something lasts, in milliseconds (own)
+abbrev pub a_duration : Kind
+a_duration = kinds.Number 0 longest_duration
+
+-- a deploy
+abbrev pub deploy : Op
+deploy = record {
+  name = codes "deploy";
+  by_hand = false;
+  fields = must (codes "model") kinds.Model ∷ [];
+  request = λ d. requests.Deploy (model_at (codes "model") d);
+}
+
+-- the instance that the fields of a create ask for; the version 0 asks for the latest, and the partition isn't kept
+abbrev pub creation_of : Data → ProcessInstanceCreationCreate
+creation_of d = record { process = text_in (codes "process") d; version = short_count_at (codes "version") d; variables = variables_of_field (codes "variables") d }
+
+-- a create
+abbrev pub create : Op
+create = record {
+  name = codes "create";
+  by_hand = false;
+  fields =
+      must (codes "process") a_name
+      ∷ may (codes "version") (kinds.Number 0 4294967295)
+      ∷ may (codes "variables") kinds.Variables
+      ∷ may (codes "partition") kinds.Partition
+      ∷ [];
+  request = λ d. requests.Create (creation_of d);
+}
+
+-- the message that the fields of a publish ask for
+abbrev pub message_of : Data → MessagePublish
+message_of d = record { name = text_in (codes "name") d; correlation_key = text_in (codes "correlationKey") d; time_to_live = count_at (codes "timeToLive") d; id = text_in (codes "messageId") d; variables = variables_of_field (codes "variables") d }
+
+-- a publish
+abbrev pub publish : Op
+publish = record {
+  name = codes "publish";
+  by_hand = false;
+  fields =
+      must (codes "name") a_name
+      ∷ must (codes "correlationKey") a_name
+      ∷ must (codes "timeToLive") a_duration
+      ∷ may (codes "messageId") a_name
+      ∷ may (codes "variables") kinds.Variables
+      ∷ [];
+  request = λ d. requests.Publish (message_of d);
+}
+
+-- a tick, which has no fields (own)
+abbrev pub tick : Op
+tick = record { name = codes "tick"; by_hand = false; fields = []; request = λ d. requests.Tick }
+
+-- an advance of the clock that is moved by hand (own)
+abbrev pub advance : Op
+advance = record {
+  name = codes "advance";
+  by_hand = true;
+  fields = must (codes "ms") a_duration ∷ [];
+  request = λ d. requests.Advance (count_at (codes "ms") d);
+}
+
+-- all of them
+abbrev pub ops : List Op
+ops = deploy ∷ create ∷ publish ∷ tick ∷ advance ∷ []
+
+-- an op has this name, and wants no clock that is moved by hand, or that is given
+abbrev pub is_called : Given → List ℕ → Op → Bool
+is_called given name op = (not op.by_hand || given.manual) && bytes_eq name op.name
+
+-- the op of this name
+unfoldable pub op_named : Given → List ℕ → Option Op
+op_named given name = find (is_called given name) ops

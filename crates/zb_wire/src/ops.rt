@@ -1,0 +1,99 @@
+ghost use Rattle.std.specs.Prelude.{◌≡◌, IfOk, option_map, map};
+ghost use Rattle.serde_json.specs.View.{view};
+ghost use Rattle.zb_wire.specs.Ops.{op_named};
+ghost use Rattle.zb_wire.specs.Table.{field_of, op_of};
+
+use crate::fields::Field;
+use crate::kind::Kind;
+use crate::making::{creation_in, message_in};
+use crate::values::{count_at, model_at};
+use crate::variables::LONGEST_NAME;
+use crate::{Given, Request};
+use serde_json::Value as Json;
+use std::alloc::{AllocError, Global};
+
+// The longest time, in milliseconds.
+const LONGEST_DURATION: u64 = 4_000_000_000_000;
+
+// The greatest version, which is the greatest number of 32 bits.
+const GREATEST_VERSION: u64 = 4_294_967_295;
+
+// A name or an id.
+const NAME: Kind = Kind::Text(LONGEST_NAME);
+
+// A time to wait.
+const DURATION: Kind = Kind::Number(0, LONGEST_DURATION);
+
+const DEPLOY: [Field; 1] = [Field::Must("model", Kind::Model)];
+
+const CREATE: [Field; 4] = [
+    Field::Must("process", NAME),
+    Field::May("version", Kind::Number(0, GREATEST_VERSION)),
+    Field::May("variables", Kind::Variables),
+    Field::May("partition", Kind::Partition),
+];
+
+const PUBLISH: [Field; 5] = [
+    Field::Must("name", NAME),
+    Field::Must("correlationKey", NAME),
+    Field::Must("timeToLive", DURATION),
+    Field::May("messageId", NAME),
+    Field::May("variables", Kind::Variables),
+];
+
+const TICK: [Field; 0] = [];
+
+const ADVANCE: [Field; 1] = [Field::Must("ms", DURATION)];
+
+/// The ops.
+#[derive(Clone, Copy)]
+pub enum OpName {
+    Deploy,
+    Create,
+    Publish,
+    Tick,
+    Advance,
+}
+
+impl OpName {
+    /// The op of this name, where there is one; advance is one where the clock is moved by hand.
+    #[tactic(auto, unfolding(crate::specs::Ops::op_named))]
+    pub fn named(name: &str, given: Given) -> Option<OpName>
+        ensures { option_map op_of result ≡ op_named given name.now }
+    {
+        match name {
+            "deploy" => Some(OpName::Deploy),
+            "create" => Some(OpName::Create),
+            "publish" => Some(OpName::Publish),
+            "tick" => Some(OpName::Tick),
+            "advance" if given.manual => Some(OpName::Advance),
+            _ => None,
+        }
+    }
+
+    /// Its fields beside `op`, in order.
+    pub fn fields(self) -> &'static [Field]
+        ensures { map field_of result.now ≡ (op_of self).fields }
+    {
+        match self {
+            OpName::Deploy => &DEPLOY,
+            OpName::Create => &CREATE,
+            OpName::Publish => &PUBLISH,
+            OpName::Tick => &TICK,
+            OpName::Advance => &ADVANCE,
+        }
+    }
+
+    /// The request that a value with such fields is.
+    pub fn make(self, alloc: Global, value: &Json) -> Result<Request, AllocError>
+        ensures { IfOk result (λ request. request ≡ (op_of self).request (view value.now)) }
+    {
+        match self {
+            OpName::Deploy => Ok(Request::Deploy(model_at(alloc, value, "model")?)),
+            OpName::Create => Ok(Request::Create(creation_in(alloc, value)?)),
+            OpName::Publish => Ok(Request::Publish(message_in(alloc, value)?)),
+            OpName::Tick => Ok(Request::Tick),
+            OpName::Advance => Ok(Request::Advance(count_at(value, "ms"))),
+        }
+    }
+}
