@@ -18,8 +18,8 @@ use Rattle.zb_wire.specs.declared.request.Request.TheVariants as requests
 use Rattle.zb_reply.specs.Reply.{answer_of, line_of}
 use Rattle.zb_reply.specs.declared.reply.Reply.{Reply}
 use Rattle.zb_reply.specs.declared.reply.Reply.TheVariants as replies
-use Rattle.zb_serve.specs.Reply.{Answer, reply_to, IsReplyTo}
-use Rattle.zb_serve.specs.Serial.{most_due, log_behind, place_behind, due_in_logs, next_of, IsNextEntry, AreMadeFor, IsCarriedOut, entries_made, found_in}
+use Rattle.zb_serve.specs.Reply.{Answer, reply_by, reply_to, IsReplyTo}
+use Rattle.zb_serve.specs.Serial.{most_due, log_behind, place_behind, due_in_logs, next_by, next_of, IsNextEntry, AreMadeFor, IsCarriedOut, entries_made, found_in}
 
 -- the test of an order
 lt_is : (a b : ℕ) → a < b → nat_lt a b ≡ true
@@ -92,27 +92,15 @@ made_for_none logs request reading earlier = each_on_none (IsNextEntry logs requ
 
 -- a request that asks for a command asks for it first
 pub asks_first : (logs : List (List Batch)) (request : Request) (reading : ℕ) (earlier : List Entry) (command : Command) → command_of request ≡ Some command → next_of logs request reading earlier [] ≡ Some (1, command)
-asks_first logs (requests.Deploy m) reading earlier command is = ap (option_map at_one) is
-asks_first logs (requests.Create c) reading earlier command is = ap (option_map at_one) is
-asks_first logs (requests.Publish c) reading earlier command is = ap (option_map at_one) is
-asks_first logs requests.Tick reading earlier command is = absurd (cc)
-asks_first logs (requests.Advance ms) reading earlier command is = absurd (cc)
+asks_first logs request reading earlier command is = ap (λ (c : Option Command). next_by c logs request reading earlier []) is
 
 -- and for no more
 asks_once : (logs : List (List Batch)) (request : Request) (reading : ℕ) (earlier : List Entry) (command : Command) (entry : Entry) → command_of request ≡ Some command → next_of logs request reading earlier (entry ∷ []) ≡ None
-asks_once logs (requests.Deploy m) reading earlier command entry is = refl
-asks_once logs (requests.Create c) reading earlier command entry is = refl
-asks_once logs (requests.Publish c) reading earlier command entry is = refl
-asks_once logs requests.Tick reading earlier command entry is = absurd (cc)
-asks_once logs (requests.Advance ms) reading earlier command entry is = absurd (cc)
+asks_once logs request reading earlier command entry is = ap (λ (c : Option Command). next_by c logs request reading earlier (entry ∷ [])) is
 
 -- its reply is that of its batch
 replies_once : (request : Request) (reading : ℕ) (command : Command) (entry : Entry) → command_of request ≡ Some command → reply_to request reading (entry ∷ []) ≡ answer_of entry.batch
-replies_once (requests.Deploy m) reading command entry is = refl
-replies_once (requests.Create c) reading command entry is = refl
-replies_once (requests.Publish c) reading command entry is = refl
-replies_once requests.Tick reading command entry is = absurd (cc)
-replies_once (requests.Advance ms) reading command entry is = absurd (cc)
+replies_once request reading command entry is = ap (λ (c : Option Command). reply_by c request reading (entry ∷ [])) is
 
 -- the batch of a client's request
 pub made_for_one : (request : Request) (reading : ℕ) (opened before : List Batch) (batch : Batch) → command_of request ≡ Some batch.command → batch.moment ≡ max (moment_of_last (opened ++ before)) reading

@@ -6,6 +6,8 @@ use Rattle.zb_wire.specs.declared.request.Request.{Request}
 use Rattle.zb_wire.specs.declared.request.Request.TheVariants as requests
 use Rattle.zb_wire.specs.declared.request.LineFault.{LineFault}
 use Rattle.zb_wire.specs.Request.{request_of}
+use Rattle.zb_wire.specs.Asked.{command_of}
+use Rattle.zb_model.specs.declared.record.Command.{Command}
 use Rattle.zb_reply.specs.declared.reply.Reply.{Reply}
 use Rattle.zb_reply.specs.declared.reply.Reply.TheVariants as replies
 use Rattle.zb_reply.specs.Reply.{answer_of, line_of}
@@ -18,13 +20,25 @@ pub record Answer : Type 0 where
   pub entries : List Entry
   pub reply : List ℕ
 
--- the reply to a request that made these entries: a tick tells how many they are, an advance the reading, and any other
--- what its one batch came to
+-- the reply to a client's command: what its one batch came to
+abbrev pub reply_of_one : List Entry → Option Reply
+reply_of_one (entry ∷ []) = answer_of entry.batch
+reply_of_one _ = None
+
+-- the reply to the clock's ops: a tick tells how many its entries are, an advance the reading
+abbrev pub clocked_reply : Request → ℕ → List Entry → Option Reply
+clocked_reply requests.Tick reading entries = Some (replies.Tick (length entries))
+clocked_reply (requests.Advance ms) reading entries = Some (replies.Advance reading)
+clocked_reply _ reading entries = None
+
+-- the reply to a request that made these entries, by the command of a client that it has, if it has one
+abbrev pub reply_by : Option Command → Request → ℕ → List Entry → Option Reply
+reply_by (Some command) request reading entries = reply_of_one entries
+reply_by None request reading entries = clocked_reply request reading entries
+
+-- the reply to a request that made these entries
 abbrev pub reply_to : Request → ℕ → List Entry → Option Reply
-reply_to requests.Tick reading entries = Some (replies.Tick (length entries))
-reply_to (requests.Advance ms) reading entries = Some (replies.Advance reading)
-reply_to request reading (entry ∷ []) = answer_of entry.batch
-reply_to request reading _ = None
+reply_to request reading entries = reply_by (command_of request) request reading entries
 
 -- this line is the reply to a request that made these entries; no unit of work was done for it
 pub record IsReplyTo (request : Request) (reading : ℕ) (entries : List Entry) (line : List ℕ) : Type 0 where

@@ -35,13 +35,26 @@ due_in_logs reading p (log ∷ logs) entries =
     option_or (option_map (λ command. (p, command)) (due_command reading (events_of (log_behind p log entries))))
     (due_in_logs reading (suc p) logs entries)
 
--- the command that a request asks for next at a reading, and its partition, behind the entries before it and those that
--- were done for it: a tick for what is due, the first partition first, and any other for its own command, at partition 1
-abbrev pub next_of : List (List Batch) → Request → ℕ → (earlier done : List Entry) → Option (ℕ × Command)
-next_of logs requests.Tick reading earlier done =
+-- a client's command is asked for once, at partition 1
+abbrev pub once : Command → (done : List Entry) → Option (ℕ × Command)
+once command [] = Some (1, command)
+once command (entry ∷ done) = None
+
+-- what the clock's ops ask for next: a tick for what is due, the first partition first, and an advance for nothing
+abbrev pub clocked : List (List Batch) → Request → ℕ → (earlier done : List Entry) → Option (ℕ × Command)
+clocked logs requests.Tick reading earlier done =
     if nat_lt (length done) most_due then due_in_logs reading 1 logs (earlier ++ done) else None
-next_of logs request reading earlier [] = option_map (λ command. (1, command)) (command_of request)
-next_of logs request reading earlier (entry ∷ done) = None
+clocked logs _ reading earlier done = None
+
+-- the command that is asked for next, and its partition, by the command of a client that the request has, or else by time
+abbrev pub next_by : Option Command → List (List Batch) → Request → ℕ → (earlier done : List Entry) → Option (ℕ × Command)
+next_by (Some command) logs request reading earlier done = once command done
+next_by None logs request reading earlier done = clocked logs request reading earlier done
+
+-- the command that a request asks for next at a reading, and its partition, behind the entries before it and those that
+-- were done for it
+abbrev pub next_of : List (List Batch) → Request → ℕ → (earlier done : List Entry) → Option (ℕ × Command)
+next_of logs request reading earlier done = next_by (command_of request) logs request reading earlier done
 
 -- this is the entry that comes next for a request: of the command that it asks for, at the larger one of the last moment
 -- of its log and the reading, and it begins at its own place

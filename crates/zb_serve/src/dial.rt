@@ -56,7 +56,7 @@ impl Dial {
     {
         match request {
             Request::Advance(ms) => self.advance(*ms),
-            Request::Deploy(_) | Request::Create(_) | Request::Publish(_) | Request::Tick => {}
+            _ => {}
         }
     }
 
