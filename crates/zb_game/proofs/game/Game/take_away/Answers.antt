@@ -30,4 +30,4 @@ returns-clause-gone c =
     let cells = c.self.inside.cells.items in
     let place : position (λ (x : Cell). x.key == c.args.key) cells ≡ Some c.in-Some.place = search rules in
     let gone : removed (λ (x : Cell). x.key == c.args.key) cells ≡ Some (remove cells c.in-Some.place) = removed_at (λ (x : Cell). x.key == c.args.key) cells c.in-Some.place place in
-    rw (c.look_at-2.ensures, c.look_at.ensures, ← c.self.view_is, gone, c.remove.ensures.items) refl
+    rw (c.look_at.ensures, ← c.self.view_is, gone, c.remove.ensures.items) refl
