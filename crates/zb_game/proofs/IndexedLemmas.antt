@@ -1,5 +1,5 @@
 -- What is kept stays right as the board changes.
-use Rattle.std.proofs.Common.{◌≡◌, ℕ, zero, suc, ◌+◌, ◌<◌, ◌≤◌, ◌==◌, nat_lt, List, [], ◌∷◌, ◌++◌, length, filter, get_or, slice_set, remove, take, drop, Bool, true, false, not, ◌||◌, cond, if◌then◌else◌, Option, Some, None, option_map, refl, sym, ap, ◌∙◌, subst, arith}
+use Rattle.std.proofs.Common.{◌≡◌, ℕ, zero, suc, ◌+◌, ◌-◌, ◌^◌, ◌<◌, ◌≤◌, ◌==◌, nat_lt, List, [], ◌∷◌, ◌++◌, length, filter, get_or, slice_set, remove, take, drop, Bool, true, false, not, ◌||◌, cond, if◌then◌else◌, Option, Some, None, option_map, refl, sym, ap, ◌∙◌, subst, arith}
 use Rattle.std.specs.Option.{option_map_or}
 use Rattle.std.specs.List.{find}
 use Rattle.std.proofs.lemmas.Bool.Decides.{nat_tests}
@@ -19,7 +19,7 @@ use Rattle.zb_tokens.specs.EffectLaws.{mapped_from}
 use Rattle.zb_game.specs.declared.inside.Inside.{Inside}
 use Rattle.zb_game.specs.Inside.{counted_in, number_in}
 use Rattle.zb_game.specs.Indexed.{IsIndexed, goes_on_at, rests_in, is_awake, is_ready}
-use Rattle.zb_game.proofs.InsideLemmas.{passing_more, passing_fewer, passing_same, empty_counted}
+use Rattle.zb_game.proofs.InsideLemmas.{passing_more, passing_fewer, passing_same, passing_within, empty_counted}
 
 -- the keys of ready cells
 abbrev own : ℕ → ℕ
@@ -108,6 +108,23 @@ kept_empty = record {
 }
 
 module _ (b : Board) (inside : List Inside) (ready : List ℕ) (kept : IsIndexed b inside ready) where
+  -- a scope that something is in has a number, and there is one more
+  pub some_cell : (i : ℕ) (c : Cell) → i < length b.cells → c ≡ get_or b.cells i c → 1 ≤ counted_in inside c.scope
+  some_cell i c within at =
+      let same : (c.scope == c.scope) ≡ true = grind (arith, nat_tests) in
+      let some = rw same at (passing_fewer (λ (x : Cell). x.scope == c.scope) b.cells i c within at) in
+      omega (arith, kept.counted c.scope, some)
+
+  pub some_token : (i : ℕ) (t : Token) → i < length b.tokens → t ≡ get_or b.tokens i t → 1 ≤ counted_in inside t.scope
+  some_token i t within at =
+      let same : (t.scope == t.scope) ≡ true = grind (arith, nat_tests) in
+      let some = rw same at (passing_fewer (λ (x : Token). x.scope == t.scope) b.tokens i t within at) in
+      omega (arith, kept.counted t.scope, some)
+
+  pub has_more : (scope : ℕ) → length b.cells < 2 ^ 63 → length b.tokens < 2 ^ 63 → counted_in inside scope < 2 ^ 64 - 1
+  has_more scope cells tokens =
+      omega (arith, kept.counted scope, cells, tokens, passing_within (λ (x : Cell). x.scope == scope) b.cells, passing_within (λ (x : Token). x.scope == scope) b.tokens)
+
   -- a model more
   pub kept_model : (d : Deployed) → are_below (λ (x : Deployed). x.key) d.key b.models ≡ true → IsIndexed (record b { models = b.models ++ d ∷ [] }) inside ready
   kept_model d below =
