@@ -22,9 +22,9 @@ pub fn size(batch: &Batch) -> u64
 
 /// Appends the bytes of a batch. After a refusal `bytes` is as before. It takes a step for each byte.
 pub fn write(batch: &Batch, bytes: &mut Vec<u8>) -> Result<(), AllocError>
-    requires { length (bytes_of batch.now) < 2 ^ 32 }
     ensures ok { OnOk result (bytes.new.items ≡ bytes.old.items ++ bytes_of batch.now) }
     ensures err { OnErr result (bytes.new.items ≡ bytes.old.items) }
+    ensures fits { OnOk result (length (bytes_of batch.now) < 2 ^ 32 → IsBatch batch.now) }
 {
     zb_format::append(batch, bytes)
 }

@@ -1,5 +1,5 @@
 -- Pieces that are added to an encoder, one after another.
-use Rattle.std.proofs.Common.{OnOk, Result, Ok, Err, ◌≡◌, ℕ, suc, ◌+◌, ◌^◌, ◌≤◌, ◌<◌, List, [], ◌∷◌, ◌++◌, length, take, slice_index_or, length-append, append_assoc, ◌∙◌, sym, ap, subst, arith}
+use Rattle.std.proofs.Common.{◌≡◌, ℕ, suc, ◌+◌, ◌^◌, ◌≤◌, ◌<◌, List, [], ◌∷◌, ◌++◌, length, take, slice_index_or, length-append, append_assoc, ◌∙◌, sym, ap, subst, arith}
 use Rattle.std.proofs.Math.Seq.{take-suc, take-length}
 use Rattle.zb_format.specs.Front.{Begins}
 use Rattle.std.proofs.lemmas.List.{append-nil}
@@ -27,11 +27,6 @@ pub adds_byte : (a : Encoder) (byte : ℕ) (b : Encoder) (y : List ℕ) (c : Enc
 adds_byte a byte b y c p q = adds_then a (byte ∷ []) b y c p q
 
 pub ruleset pieces = (adds_then, adds_byte)
-
--- what follows where a call succeeds
-pub on_ok : {T E : Type 0} (result : Result T E) (P Q : Type 0) → (P → Q) → OnOk result P → OnOk result Q
-on_ok (Ok x) P Q so p = so p
-on_ok (Err e) P Q so p = p
 
 -- behind a front, these items have been added one after another; each has a byte and fits
 pub record Written {A : Type 0} (spelling : A → List ℕ) (fits : A → Type 0) (before : Encoder) (front : List ℕ) (items : List A) (after : Encoder) : Type 0 where

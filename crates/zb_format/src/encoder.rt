@@ -12,7 +12,9 @@ pub enum Encoder {
 }
 
 impl Encoder {
-    /// Adds bytes. After a refusal what was there before is there still.
+    /// Adds bytes. After a refusal what was there before is there still. A piece is most often a number, and where it
+    /// is put in place, its length is known there.
+    #[inline(always)]
     pub fn add(&mut self, piece: &[u8]) -> Result<(), AllocError>
         ensures added { OnOk result (Adds self.old piece.now self.new) }
         ensures kept { KeepsEncoded self.old self.new }

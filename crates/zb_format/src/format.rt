@@ -44,6 +44,7 @@ pub fn size<T: Format>(value: &T) -> u64
 pub fn append<T: Format>(value: &T, bytes: &mut Vec<u8>) -> Result<(), AllocError>
     ensures ok { OnOk result (bytes.new.items ≡ bytes.old.items ++ T.layout.spelling value.now) }
     ensures err { OnErr result (bytes.new.items ≡ bytes.old.items) }
+    ensures fits { OnOk result (length (T.layout.spelling value.now) < 2 ^ 32 → T.layout.fits value.now) }
 {
     let before = bytes.len();
     let alloc = *bytes.allocator();

@@ -7,6 +7,7 @@ use crate::{Encoder, Format};
 use std::alloc::AllocError;
 
 // Appends bytes. After a refusal what was there before is there still.
+#[inline(always)]
 #[tactic(auto, using(crate::proofs::PieceLemmas::appended))]
 pub fn append(piece: &[u8], bytes: &mut Vec<u8>) -> Result<(), AllocError>
     ensures ok { OnOk result (bytes.new.items ≡ bytes.old.items ++ piece.now) }

@@ -1,5 +1,5 @@
 -- What moves make of a board, from what was changed on it.
-use Rattle.std.proofs.Common.{◌≡◌, ℕ, ◌==◌, List, [], ◌∷◌, ◌++◌, position, remove, Option, Some, None, option_map, option_and_then, is_some, IsTrue, Result, Ok, Err, OnOk, refl, ap, sym, ◌∙◌, subst}
+use Rattle.std.proofs.Common.{◌≡◌, ℕ, ◌==◌, List, [], ◌∷◌, ◌++◌, position, remove, Option, Some, None, option_map, option_and_then, is_some, IsTrue, refl, ap, sym, ◌∙◌, subst}
 use Rattle.zb_tokens.specs.Edits.{edited, removed, is_none_of}
 use Rattle.zb_tokens.specs.declared.board.Cell.{Cell}
 use Rattle.zb_tokens.specs.declared.board.Token.{Token}
@@ -14,11 +14,6 @@ use Rattle.zb_tokens.specs.Game.{fits, played}
 use Rattle.zb_tokens.specs.GameLaws.{fitting_is_played}
 use Rattle.zb_game.proofs.EditLemmas.{removed_at, removed_none}
 use Rattle.std.proofs.lemmas.List.{append-nil}
-
--- what follows where a call succeeded
-pub on_ok : {T E : Type 0} (r : Result T E) (P Q : Type 0) → (P → Q) → OnOk r P → OnOk r Q
-on_ok (Ok x) P Q f p = f p
-on_ok (Err e) P Q f p = p
 
 -- a move that fits names nothing that isn't there
 none_some : (after : Option Board) → IsTrue (is_some after) → after ≡ None → ⊥

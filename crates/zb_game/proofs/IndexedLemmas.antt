@@ -1,12 +1,13 @@
 -- What is kept stays right as the board changes.
-use Rattle.std.proofs.Common.{◌≡◌, ℕ, zero, suc, ◌+◌, ◌<◌, ◌≤◌, ◌==◌, nat_lt, List, [], ◌∷◌, ◌++◌, length, filter, get_or, slice_set, remove, take, drop, Bool, true, false, not, ◌||◌, cond, if◌then◌else◌, Option, Some, None, option_map, refl, sym, ap, ◌∙◌, subst, arith}
+use Rattle.std.proofs.Common.{◌≡◌, ℕ, suc, ◌+◌, ◌-◌, ◌^◌, ◌<◌, ◌≤◌, ◌==◌, nat_lt, List, [], ◌∷◌, ◌++◌, length, filter, get_or, slice_set, remove, take, drop, Bool, true, false, not, ◌||◌, cond, if◌then◌else◌, Option, Some, None, option_map, refl, sym, ap, ◌∙◌, subst, arith}
 use Rattle.std.specs.Option.{option_map_or}
 use Rattle.std.specs.List.{find}
 use Rattle.std.proofs.lemmas.Bool.Decides.{nat_tests}
 use Rattle.std.proofs.lemmas.List.Elements.{All-nil, All-push, All-set, All-weaker, All-append, All-take, All-drop}
 use Rattle.zb_process.specs.declared.model.Model.{Model}
 use Rattle.zb_base.specs.declared.vars.Variable.{Variable}
-use Rattle.zb_table.specs.Rows.{Ascend, are_below, with_row, without}
+use Rattle.zb_table.specs.Rows.{are_below, with_row, without}
+use Rattle.zb_table.proofs.Ascending.{ascend_more, ascend_set, ascend_remove, finds_own, finds_more}
 use Rattle.zb_tokens.specs.declared.board.Cell.{Cell}
 use Rattle.zb_tokens.specs.declared.board.Token.{Token}
 use Rattle.zb_tokens.specs.declared.board.Deployed.{Deployed}
@@ -18,7 +19,7 @@ use Rattle.zb_tokens.specs.EffectLaws.{mapped_from}
 use Rattle.zb_game.specs.declared.inside.Inside.{Inside}
 use Rattle.zb_game.specs.Inside.{counted_in, number_in}
 use Rattle.zb_game.specs.Indexed.{IsIndexed, goes_on_at, rests_in, is_awake, is_ready}
-use Rattle.zb_game.proofs.InsideLemmas.{passing_more, passing_fewer, passing_same, empty_counted}
+use Rattle.zb_game.proofs.InsideLemmas.{passing_more, passing_fewer, passing_same, passing_within, empty_counted}
 
 -- the keys of ready cells
 abbrev own : ℕ → ℕ
@@ -59,55 +60,6 @@ module _ (key : ℕ) where
       by_tests true false at apart is later = later is
       by_tests false true at same is later = rw same refl
       by_tests false false at apart is later = rw apart (later is)
-
-module _ {A : Type 0} (key : A → ℕ) where
-  lower : (low high : ℕ) (rows : List A) → low ≤ high → Ascend key high rows → Ascend key low rows
-  lower low high [] le up = tt
-  lower low high (r ∷ rows) le up = (omega (arith, le, up.0), up.1)
-
-  -- keys go on ascending with one that is greater than all, where one is changed but for its key, and without one
-  pub ascend_more : (low : ℕ) (rows : List A) (row : A) → low ≤ key row → Ascend key low rows → are_below key (key row) rows ≡ true → Ascend key low (rows ++ row ∷ [])
-  ascend_more low [] row le up below = (le, tt)
-  ascend_more low (r ∷ rows) row le up below =
-      let here : key r + 1 ≤ key row = grind (arith, nat_tests, below) in
-      let later : are_below key (key row) rows ≡ true = grind (arith, nat_tests, below) in
-      (up.0, ascend_more (key r + 1) rows row here up.1 later)
-
-  pub ascend_set : (low : ℕ) (rows : List A) (i : ℕ) (x y : A) → x ≡ get_or rows i x → key y ≡ key x → Ascend key low rows → Ascend key low (slice_set rows i y)
-  ascend_set low [] i x y at same up = tt
-  ascend_set low (r ∷ rows) zero x y at same up =
-      let is : key y ≡ key r = same ∙ ap key at in
-      rw is up
-  ascend_set low (r ∷ rows) (suc i) x y at same up = (up.0, ascend_set (key r + 1) rows i x y at same up.1)
-
-  pub ascend_remove : (low : ℕ) (rows : List A) (i : ℕ) → Ascend key low rows → Ascend key low (remove rows i)
-  ascend_remove low [] zero up = tt
-  ascend_remove low [] (suc i) up = tt
-  ascend_remove low (r ∷ rows) zero up = lower low (key r + 1) rows (omega (arith, up.0)) up.1
-  ascend_remove low (r ∷ rows) (suc i) up = (up.0, ascend_remove (key r + 1) rows i up.1)
-
-  not_found_below : (low : ℕ) (rows : List A) (i : ℕ) (d : A) → i < length rows → Ascend key low rows → low ≤ key (get_or rows i d)
-  not_found_below low [] i d within up = absurd (omega (arith, within))
-  not_found_below low (r ∷ rows) zero d within up = up.0
-  not_found_below low (r ∷ rows) (suc i) d within up = omega (arith, not_found_below (key r + 1) rows i d (omega (arith, within)) up.1, up.0)
-
-  -- a row is the one that is found with its key
-  pub finds_own : (low : ℕ) (rows : List A) (i : ℕ) (d : A) → i < length rows → Ascend key low rows → find (λ r. key r == key (get_or rows i d)) rows ≡ Some (get_or rows i d)
-  finds_own low [] i d within up = absurd (omega (arith, within))
-  finds_own low (r ∷ rows) zero d within up = let same : (key r == key r) ≡ true = grind (arith, nat_tests) in rw same refl
-  finds_own low (r ∷ rows) (suc i) d within up =
-      let above = not_found_below (key r + 1) rows i d (omega (arith, within)) up.1 in
-      let other : (key r == key (get_or rows i d)) ≡ false = grind (arith, nat_tests, above) in
-      rw other (finds_own (key r + 1) rows i d (omega (arith, within)) up.1)
-
-  -- what is found is found among more
-  pub finds_more : (p : A → Bool) (rows more : List A) (x : A) → find p rows ≡ Some x → find p (rows ++ more) ≡ Some x
-  finds_more p [] more x is = absurd (cc)
-  finds_more p (r ∷ rows) more x is = by_test (p r) is (finds_more p rows more x)
-    where
-      by_test : (t : Bool) → cond t (Some r) (find p rows) ≡ Some x → (find p rows ≡ Some x → find p (rows ++ more) ≡ Some x) → cond t (Some r) (find p (rows ++ more)) ≡ Some x
-      by_test true is later = is
-      by_test false is later = later is
 
 -- a law of tests
 back : (s t : Bool) → (s ≡ true → t ≡ true) → t ≡ false → s ≡ false
@@ -156,6 +108,23 @@ kept_empty = record {
 }
 
 module _ (b : Board) (inside : List Inside) (ready : List ℕ) (kept : IsIndexed b inside ready) where
+  -- a scope that something is in has a number, and there is one more
+  pub some_cell : (i : ℕ) (c : Cell) → i < length b.cells → c ≡ get_or b.cells i c → 1 ≤ counted_in inside c.scope
+  some_cell i c within at =
+      let same : (c.scope == c.scope) ≡ true = grind (arith, nat_tests) in
+      let some = rw same at (passing_fewer (λ (x : Cell). x.scope == c.scope) b.cells i c within at) in
+      omega (arith, kept.counted c.scope, some)
+
+  pub some_token : (i : ℕ) (t : Token) → i < length b.tokens → t ≡ get_or b.tokens i t → 1 ≤ counted_in inside t.scope
+  some_token i t within at =
+      let same : (t.scope == t.scope) ≡ true = grind (arith, nat_tests) in
+      let some = rw same at (passing_fewer (λ (x : Token). x.scope == t.scope) b.tokens i t within at) in
+      omega (arith, kept.counted t.scope, some)
+
+  pub has_more : (scope : ℕ) → length b.cells < 2 ^ 63 → length b.tokens < 2 ^ 63 → counted_in inside scope < 2 ^ 64 - 1
+  has_more scope cells tokens =
+      omega (arith, kept.counted scope, cells, tokens, passing_within (λ (x : Cell). x.scope == scope) b.cells, passing_within (λ (x : Token). x.scope == scope) b.tokens)
+
   -- a model more
   pub kept_model : (d : Deployed) → are_below (λ (x : Deployed). x.key) d.key b.models ≡ true → IsIndexed (record b { models = b.models ++ d ∷ [] }) inside ready
   kept_model d below =

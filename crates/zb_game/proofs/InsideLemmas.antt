@@ -1,5 +1,5 @@
 -- Counting what is in scopes.
-use Rattle.std.proofs.Common.{◌≡◌, ℕ, zero, suc, ◌+◌, ◌<◌, ◌==◌, nat_lt, List, [], ◌∷◌, ◌++◌, length, filter, get_or, slice_set, remove, Bool, true, false, not, ◌&&◌, ◌||◌, cond, if◌then◌else◌, Option, Some, refl, sym, ap, ◌∙◌, arith}
+use Rattle.std.proofs.Common.{◌≡◌, ℕ, zero, suc, ◌+◌, ◌<◌, ◌≤◌, ◌==◌, nat_lt, List, [], ◌∷◌, ◌++◌, length, filter, get_or, slice_set, remove, Bool, true, false, not, ◌&&◌, ◌||◌, cond, if◌then◌else◌, Option, Some, refl, sym, ap, ◌∙◌, arith}
 use Rattle.std.specs.Option.{option_map_or}
 use Rattle.std.specs.List.{list_any}
 use Rattle.std.proofs.lemmas.Bool.Decides.{nat_tests}
@@ -70,6 +70,15 @@ module _ {A : Type 0} (p : A → Bool) where
   -- with one in front
   pub passing_cons : (x : A) (xs : List A) → passing (x ∷ xs) ≡ passing xs + (if p x then 1 else 0)
   passing_cons x xs = one_by (p x) x xs
+
+  within_by : (t : Bool) (x : A) (xs : List A) → passing xs ≤ length xs → length (cond t (x ∷ filter p xs) (filter p xs)) ≤ suc (length xs)
+  within_by true x xs later = omega (arith, later)
+  within_by false x xs later = omega (arith, later)
+
+  -- no more than there are
+  pub passing_within : (xs : List A) → passing xs ≤ length xs
+  passing_within [] = omega arith
+  passing_within (x ∷ xs) = within_by (p x) x xs (passing_within xs)
 
   -- with one behind
   pub passing_more : (xs : List A) (x : A) → passing (xs ++ x ∷ []) ≡ passing xs + (if p x then 1 else 0)

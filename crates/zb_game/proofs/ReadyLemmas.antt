@@ -18,7 +18,7 @@ use Rattle.zb_process.specs.declared.model.Model.{Model}
 use Rattle.zb_game.specs.declared.inside.Inside.{Inside}
 use Rattle.zb_game.specs.Indexed.{IsIndexed, goes_on_at, rests_in, is_ready}
 use Rattle.zb_game.specs.Searches.{is_forced_at, newest_key}
-use Rattle.zb_game.proofs.IndexedLemmas.{finds_own}
+use Rattle.zb_table.proofs.Ascending.{finds_own}
 
 -- a cell that goes on by itself doesn't rest
 goes_not_rests : (b : Board) (c : Cell) (phase : Phase) → goes_on_in b c phase ≡ true → rests_in b c phase ≡ false

@@ -141,36 +141,36 @@ impl Game {
         }
     }
 
-    /// Plays a move, whether it fits or not. `Illegal` says that its effect names a cell, a token or a model that isn't
+    /// Plays a move, whether it fits or not; its texts go onto the board. `Illegal` says that its effect names a cell, a token or a model that isn't
     /// there, and nothing has changed; where all are there, only `Memory` is answered for a fault. After `Memory`
     /// the game is only dropped. What a move names is found as `fits` does. A new cell, model or token takes constant
     /// time; those behind a cell or a token that goes move up.
-    pub fn play(&mut self, alloc: Global, m: &Move) -> Result<(), GameFault>
-        ensures played { OnOk result (played self.old m.now ≡ Some self.new) }
-        ensures illegal { IsErrOf result GameFault.Illegal → played self.old m.now ≡ None }
+    pub fn play(&mut self, alloc: Global, m: Move) -> Result<(), GameFault>
+        ensures played { OnOk result (played self.old m ≡ Some self.new) }
+        ensures illegal { IsErrOf result GameFault.Illegal → played self.old m ≡ None }
         ensures kept { IsErrOf result GameFault.Illegal → self.new ≡ self.old }
     {
         match m {
-            Move::Stand(d) => self.stand(alloc, d),
+            Move::Stand(d) => self.stand(d),
             Move::Start(s) => self.start(alloc, s),
             Move::Enter(e) => self.enter(alloc, e),
-            Move::Open(key) => self.open(alloc, *key),
-            Move::Finish(key) => self.finish(alloc, *key),
-            Move::Leave(l) => self.leave(alloc, l),
+            Move::Open(key) => self.open(alloc, key),
+            Move::Finish(key) => self.finish(alloc, key),
+            Move::Leave(l) => self.leave(l),
             Move::Take(t) => self.take(alloc, t),
-            Move::Assign(a) => self.assign(alloc, a),
+            Move::Assign(a) => self.assign(a),
         }
     }
 
     /// Makes a move that fits. At `Illegal`, exactly where it doesn't, nothing has changed; after `Memory` the game
     /// is only dropped. It costs what `fits` and `play` do.
-    pub fn make(&mut self, alloc: Global, m: &Move) -> Result<(), GameFault>
-        ensures fit { OnOk result (IsTrue (fits self.old m.now)) }
-        ensures played { OnOk result (played self.old m.now ≡ Some self.new) }
-        ensures illegal { IsErrOf result GameFault.Illegal → IsFalse (fits self.old m.now) }
+    pub fn make(&mut self, alloc: Global, m: Move) -> Result<(), GameFault>
+        ensures fit { OnOk result (IsTrue (fits self.old m)) }
+        ensures played { OnOk result (played self.old m ≡ Some self.new) }
+        ensures illegal { IsErrOf result GameFault.Illegal → IsFalse (fits self.old m) }
         ensures kept { IsErrOf result GameFault.Illegal → self.new ≡ self.old }
     {
-        if self.fits(m) {
+        if self.fits(&m) {
             self.play(alloc, m)
         } else {
             Err(GameFault::Illegal)

@@ -1,5 +1,5 @@
 // How many cells and tokens are in each scope.
-ghost use Rattle.std.specs.Prelude.{◌≡◌, ℕ, ◌+◌, ◌==◌, IfOk, OnOk, if◌then◌else◌};
+ghost use Rattle.std.specs.Prelude.{◌≡◌, ℕ, ◌+◌, ◌-◌, ◌^◌, ◌<◌, ◌≤◌, ◌==◌, IfOk, OnOk, if◌then◌else◌};
 ghost use Rattle.zb_game.specs.Inside.{counted_in};
 
 use std::alloc::{AllocError, Global};
@@ -40,28 +40,24 @@ pub fn counted_in(inside: &Table<Inside>, scope: Key) -> usize
     }
 }
 
-/// Counts one more in a scope. It costs what `Table::add` does.
+/// Counts one more in a scope, up to the greatest number. It costs what `Table::add` does.
 pub fn one_more(inside: &mut Table<Inside>, scope: Key) -> Result<(), AllocError>
-    ensures { OnOk result ((key : ℕ) → counted_in inside.new key ≡ counted_in inside.old key + (if scope == key then 1 else 0)) }
+    ensures { OnOk result (counted_in inside.old scope < 2 ^ 64 - 1
+        → (key : ℕ) → counted_in inside.new key ≡ counted_in inside.old key + (if scope == key then 1 else 0)) }
 {
-    match counted_in(inside, scope).checked_add(1) {
-        Some(number) => put(inside, scope, number),
-        None => Err(AllocError),
-    }
+    put(inside, scope, counted_in(inside, scope).saturating_add(1))
 }
 
-/// Counts one less in a scope, and gives how many are left. It costs what `Table::add` and `Table::remove` do.
+/// Counts one less in a scope, down to 0, and gives how many are left. It costs what `Table::add` and `Table::remove`
+/// do.
 pub fn one_less(inside: &mut Table<Inside>, scope: Key) -> Result<usize, AllocError>
     ensures left { IfOk result (λ left. counted_in inside.new scope ≡ left) }
-    ensures numbers { OnOk result ((key : ℕ) → counted_in inside.old key ≡ counted_in inside.new key + (if scope == key then 1 else 0)) }
+    ensures numbers { OnOk result (1 ≤ counted_in inside.old scope
+        → (key : ℕ) → counted_in inside.old key ≡ counted_in inside.new key + (if scope == key then 1 else 0)) }
 {
-    match counted_in(inside, scope).checked_sub(1) {
-        Some(left) => {
-            put(inside, scope, left)?;
-            Ok(left)
-        }
-        None => Err(AllocError),
-    }
+    let left = counted_in(inside, scope).saturating_sub(1);
+    put(inside, scope, left)?;
+    Ok(left)
 }
 
 // Keeps this number for a scope. Nothing is kept where it is 0.

@@ -1,4 +1,4 @@
-ghost use Rattle.std.specs.Prelude.{◌≡◌, ◌⊎◌, ◌<◌, ◌≤◌, ◌+◌, ◌++◌, ◌∷◌, ◌^◌, ℕ, List, [], length, IsTrue, IsFalse, IsOk, IsErr, IfErr, IfOk, OnErr, OnOk, IsErrOf, Some, None, Err};
+ghost use Rattle.std.specs.Prelude.{◌≡◌, ◌⊎◌, ◌<◌, ◌≤◌, ◌+◌, ◌++◌, ◌∷◌, ◌^◌, ℕ, List, [], length, IsTrue, IsFalse, IsOk, IsErr, IfErr, IfOk, IfSome, IfNone, OnErr, OnOk, IsErrOf, Some, None, Err};
 ghost use Rattle.zb_disk.specs.Disk.{Only};
 ghost use Rattle.zb_model.specs.declared.record.Event.{Event};
 ghost use Rattle.zb_model.specs.declared.record.Batch.{Batch};
@@ -352,19 +352,37 @@ impl<D: Disk> Partition<D> {
         ensures live { is_live self.new ≡ is_live self.old }
         ensures in_writing { in_writing self.new ≡ in_writing self.old }
     {
-        let size = zb_codec::size(batch);
-        let frame = size.saturating_add(FRAME_BYTES);
+        match put_frame(&mut self.frame, batch) {
+            Ok(()) => match self.full_at(self.frame.len() as u64) {
+                Some(stop) => Err(stop),
+                None => Ok(()),
+            },
+            Err(AllocError) => {
+                let frame = zb_codec::size(batch).saturating_add(FRAME_BYTES);
+                match self.full_at(frame) {
+                    Some(stop) => Err(stop),
+                    None => Err(Stop::Memory),
+                }
+            }
+        }
+    }
+
+    // Why the log takes no frame of so many bytes, if it takes none.
+    fn full_at(&self, frame: u64) -> Option<Stop>
+        ensures room { IfNone result (gates.length_of self.now.log + frame ≤ limit_of self.now) }
+        ensures full { IfSome result (λ stop. (stop ≡ Stop.LogFull (gates.length_of self.now.log) frame (limit_of self.now))
+            × (limit_of self.now < gates.length_of self.now.log + frame)) }
+    {
         let length = self.log.length();
         let limit = self.log.limit();
-        if length.saturating_add(frame) > limit {
-            return Err(Stop::LogFull {
-                length,
-                frame,
-                limit,
-            });
+        if length.saturating_add(frame) <= limit {
+            return None;
         }
-        put_frame(&mut self.frame, batch, size)?;
-        Ok(())
+        Some(Stop::LogFull {
+            length,
+            frame,
+            limit,
+        })
     }
 }
 

@@ -1,7 +1,9 @@
 // Taking a batch into what is known of a log.
-ghost use Rattle.std.specs.Prelude.{◌≡◌, ◌<◌, ◌^◌, ◌++◌, List, [], length, IsTrue, IsFalse, IsErrOf, OnOk};
+ghost use Rattle.std.specs.Prelude.{◌≡◌, ◌<◌, ◌≤◌, ◌^◌, ◌++◌, List, [], length, drop, IsTrue, IsFalse, IsErrOf, OnOk};
+ghost use Rattle.std.specs.Int.{w64, to_be_bytes};
 ghost use Rattle.zb_model.specs.declared.record.Event.{Event};
 ghost use Rattle.zb_model.specs.Record.{bytes_of};
+ghost use Rattle.zb_model.specs.RecordFits.{IsBatch};
 ghost use Rattle.zb_store.specs.Log.{framed};
 ghost use Rattle.zb_views.specs.View.{events_in};
 ghost use Rattle.zb_rules.specs.Applies.{all_apply};
@@ -43,16 +45,25 @@ fn take_all(alloc: Global, state: &mut State, events: List<Event>) -> Result<(),
     Ok(())
 }
 
-/// Makes the frame of a batch of this size: its length, its bytes and a closed gate.
+/// Makes the frame of a batch: its length, its bytes and a closed gate.
 #[tactic(auto, unfolding(zb_store::specs::Log::framed))]
-pub fn put_frame(frame: &mut Vec<u8>, batch: &Batch, size: u64) -> Result<(), AllocError>
-    requires whole { size ≡ length (bytes_of batch.now) }
-    requires small { size < 2 ^ 32 }
-    ensures { OnOk result (frame.new.items ≡ framed (bytes_of batch.now)) }
+pub fn put_frame(frame: &mut Vec<u8>, batch: &Batch) -> Result<(), AllocError>
+    ensures made { OnOk result (frame.new.items ≡ framed (bytes_of batch.now)) }
+    ensures fits { OnOk result (length (bytes_of batch.now) < 2 ^ 32 → IsBatch batch.now) }
 {
     frame.clear();
-    frame.extend_from_slice(&size.to_be_bytes())?;
+    frame.extend_from_slice(&[0; 8])?;
     zb_codec::write(batch, frame)?;
+    let size = (frame.len() - 8) as u64;
+    put_length(frame.as_mut_slice(), size);
     frame.push(0)?;
     Ok(())
+}
+
+// Puts a length in the first eight bytes.
+fn put_length(frame: &mut [u8], size: u64)
+    requires { 8 ≤ length frame.old }
+    ensures { frame.new ≡ to_be_bytes w64 size ++ drop 8 frame.old }
+{
+    frame[..8].copy_from_slice(&size.to_be_bytes());
 }

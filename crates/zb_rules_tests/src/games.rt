@@ -13,10 +13,10 @@ fn started(rt: &impl Abort, alloc: Global, last: NodeKind) -> Game {
         key: definition,
         model: straight(rt, alloc, last),
     });
-    assert!(rt; game.make(alloc, &stand) == Ok(()));
+    assert!(rt; game.make(alloc, stand) == Ok(()));
     let key = Key::new(2);
     let start = Move::Start(Start { key, definition });
-    assert!(rt; game.make(alloc, &start) == Ok(()));
+    assert!(rt; game.make(alloc, start) == Ok(()));
     game
 }
 
@@ -27,7 +27,7 @@ fn goes_on(rt: &impl Abort, alloc: Global, game: &mut Game, key: Key) -> bool {
     };
     match game.move_of(alloc, key, mover).expect(rt, "memory") {
         Some(m) => {
-            assert!(rt; game.make(alloc, &m) == Ok(()));
+            assert!(rt; game.make(alloc, m) == Ok(()));
             true
         }
         None => false,
@@ -56,10 +56,10 @@ fn goes_on_until_a_node_waits(rt: HostRuntime) {
 fn refuses_a_cell_that_is_not_there(rt: HostRuntime) {
     let alloc = rt.alloc();
     let mut game = started(&rt, alloc, NodeKind::EndEvent);
-    let astray = Move::Finish(Key::new(7));
-    assert!(rt; !game.fits(&astray));
-    assert!(rt; game.make(alloc, &astray) == Err(GameFault::Illegal));
-    assert!(rt; game.play(alloc, &astray) == Err(GameFault::Illegal));
+    let astray = Key::new(7);
+    assert!(rt; !game.fits(&Move::Finish(astray)));
+    assert!(rt; game.make(alloc, Move::Finish(astray)) == Err(GameFault::Illegal));
+    assert!(rt; game.play(alloc, Move::Finish(astray)) == Err(GameFault::Illegal));
     let copy = game.copy(alloc).expect(&rt, "memory");
     assert!(rt; copy.definition_of(Key::new(2)) == Some(Key::new(1)));
     assert!(rt; copy.is_process_of(Key::new(1), "p"));

@@ -20,7 +20,7 @@ use Rattle.zb_views.specs.Definitions.{definition_told}
 use Rattle.zb_views.specs.Begin.{begun_told}
 use Rattle.zb_tokens.specs.Board.{Board}
 use Rattle.zb_rules.specs.Shown.{shown, after_shown, board_of, event_of}
-use Rattle.zb_rules.specs.Applies.{applies, all_apply, holds_own, may_fit}
+use Rattle.zb_rules.specs.Applies.{applies, holds_own, may_fit}
 use Rattle.zb_rules.specs.StepLaws.{all_apply_more}
 use Rattle.zb_rules.specs.Settling.{turn_of, HasQuietGame}
 use Rattle.zb_tokens.specs.Forced.{next_mover, move_of}

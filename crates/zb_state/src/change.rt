@@ -21,7 +21,9 @@ pub enum Change {
     Nothing,
 }
 
-/// What the event changes. It costs a copy of its message, and of the id of its process.
+/// What the event changes. It costs a copy of its message, and of the id of its process. Most events change nothing,
+/// so it is put in place where it is called.
+#[inline(always)]
 pub fn copied_change(alloc: Global, event: &Event) -> Result<Change, AllocError>
     ensures { IfOk result (λ change. change ≡ change_told event.now) }
 {

@@ -25,7 +25,7 @@ pub fn play(alloc: Global, event: &Event, game: &mut Game) -> Result<(), TableFa
     ensures kept { IsErrOf result TableFault.NotApplicable → game.new ≡ game.old }
 {
     match shown(alloc, event)? {
-        Some(step) => make(alloc, &step, game),
+        Some(step) => make(alloc, step, game),
         None => Ok(()),
     }
 }
@@ -47,10 +47,10 @@ pub fn shows_move(event: &Event) -> bool
 }
 
 // Makes a move, and answers as a table does.
-fn make(alloc: Global, shown: &Move, game: &mut Game) -> Result<(), TableFault>
-    ensures fit { OnOk result (IsTrue (fits game.old shown.now)) }
-    ensures played { OnOk result (played game.old shown.now ≡ Some game.new) }
-    ensures illegal { IsErrOf result TableFault.NotApplicable → IsFalse (fits game.old shown.now) }
+fn make(alloc: Global, shown: Move, game: &mut Game) -> Result<(), TableFault>
+    ensures fit { OnOk result (IsTrue (fits game.old shown)) }
+    ensures played { OnOk result (played game.old shown ≡ Some game.new) }
+    ensures illegal { IsErrOf result TableFault.NotApplicable → IsFalse (fits game.old shown) }
     ensures kept { IsErrOf result TableFault.NotApplicable → game.new ≡ game.old }
 {
     match game.make(alloc, shown) {

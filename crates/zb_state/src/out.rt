@@ -1,4 +1,4 @@
-ghost use Rattle.std.specs.Prelude.{◌≡◌, ◌++◌, ◌∷◌, List, [], length, IsTrue, OnOk};
+ghost use Rattle.std.specs.Prelude.{◌≡◌, ◌++◌, ◌∷◌, List, [], length, IsTrue, IfOk, OnOk};
 ghost use Rattle.zb_model.specs.declared.record.Event.{Event};
 ghost use Rattle.zb_rules.specs.Applies.{applies};
 ghost use Rattle.zb_state.specs.State.{partition_of, Admits, IsStateOf};
@@ -7,6 +7,9 @@ use crate::State;
 use std::alloc::{AllocError, Global};
 use std::marker::Model;
 use zb_model::{Event, List, TableFault};
+
+// The events of most commands are no more than so many.
+const ROOM: usize = 16;
 
 /// The events that a command has made so far.
 #[derive(Drop)]
@@ -28,13 +31,13 @@ impl Model for Out {
 }
 
 impl Out {
-    /// No events. It takes no memory.
-    pub fn new(alloc: Global) -> Out
-        ensures { result ≡ [] }
+    /// No events, with room for as many as most commands make.
+    pub fn new(alloc: Global) -> Result<Out, AllocError>
+        ensures { IfOk result (λ out. out ≡ []) }
     {
-        Out {
-            events: List::empty(alloc),
-        }
+        Ok(Out {
+            events: List::with_capacity(alloc, ROOM)?,
+        })
     }
 
     /// How many events there are.

@@ -345,6 +345,7 @@ impl State {
 
     // Takes in the greatest counter of an event, and what it changes beside the game. After a refusal the
     // state is only dropped.
+    #[inline(always)]
     fn note(&mut self, counter: u64, change: Change) -> Result<(), AllocError>
         requires small { counter < 2 ^ 51 }
         requires draws { Draws (partition_of self.old) self.old.counter counter change }

@@ -1,5 +1,5 @@
 -- The outcome that own events and what they force come to.
-use Rattle.std.proofs.Common.{◌≡◌, ℕ, List, ◌++◌, IsTrue, Some, ap}
+use Rattle.std.proofs.Common.{◌≡◌, ℕ, List, IsTrue, Some, ap}
 use Rattle.std.specs.Cmp.Derive.{both_true}
 use Rattle.zb_model.specs.declared.record.Event.{Event}
 use Rattle.zb_model.specs.declared.record.Command.{Command}

@@ -51,7 +51,7 @@ fn run(
     ensures place { partition_of state.new ≡ partition_of state.old }
     ensures reached { OnOk result (IsReached state.new) }
 {
-    let mut out = Out::new(alloc);
+    let mut out = Out::new(alloc)?;
     emit(alloc, state, moment, command, &mut out)?;
     settle(alloc, state, &mut out)?;
     Ok(Outcome::Accepted(out.events()))

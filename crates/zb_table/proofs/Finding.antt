@@ -3,6 +3,7 @@ use Rattle.std.proofs.Common.{◌≡◌, ℕ, zero, suc, ◌+◌, ◌-◌, ◌<�
 use Rattle.std.proofs.lemmas.Bool.Decides.{nat_tests}
 use Rattle.zb_table.specs.declared.row.Place.{Place}
 use Rattle.zb_table.specs.Rows.{Ascend, row_at}
+use Rattle.zb_table.proofs.Ascending.{lower}
 use Rattle.zb_table.specs.Places.{held, rows_in, IsUnder, AreOrdered, count_below}
 
 module _ {A : Type 0} where
@@ -100,10 +101,6 @@ module _ {A : Type 0} (key : A → ℕ) where
   rows_ascend low [] o = tt
   rows_ascend low (p ∷ ps) o = by_row p.row o.1 (rows_ascend (p.key + 1) ps o.2)
     where
-      lower : (high : ℕ) (rows : List A) → low ≤ high → Ascend key high rows → Ascend key low rows
-      lower high [] le up = tt
-      lower high (r ∷ rows) le up = (omega (arith, le, up.0), up.1)
-
       by_row : (row : Option A) → IsUnder key p.key row → Ascend key (p.key + 1) (rows_in ps) → Ascend key low (held row (rows_in ps))
-      by_row None under up = lower (p.key + 1) (rows_in ps) (omega (arith, o.0)) up
+      by_row None under up = lower key low (p.key + 1) (rows_in ps) (omega (arith, o.0)) up
       by_row (Some r) under up = (omega (arith, o.0, under), rw under up)

@@ -10,6 +10,7 @@ use Rattle.std.proofs.lemmas.List.Sums.{position_or_len_is}
 use Rattle.std.proofs.lemmas.List.Folds.{find_at}
 use Rattle.std.proofs.lemmas.Option.{slice_get-get_or, slice_get_past}
 use Rattle.zb_table.specs.Rows.{Ascend, are_below}
+use Rattle.zb_table.proofs.Ascending.{not_below}
 
 module _ {A : Type 0} (p : A → Bool) (xs : List A) where
   place_found : (i : ℕ) → position_or_len p xs ≡ i → i < length xs → Some i ≡ position p xs
@@ -31,16 +32,11 @@ module _ {A : Type 0} (p : A → Bool) (xs : List A) where
       sym (find_at p xs ∙ slice_get_past xs (position_or_len p xs) past)
 
 module _ {A : Type 0} (key : A → ℕ) where
-  not_below : (low : ℕ) (rows : List A) (i : ℕ) (d : A) → Ascend key low rows → i < length rows → low ≤ key (get_or rows i d)
-  not_below low [] i d up within = absurd (omega (arith, within))
-  not_below low (r ∷ rows) zero d up within = up.0
-  not_below low (r ∷ rows) (suc i) d up within = omega (arith, not_below (key r + 1) rows i d up.1 (omega (arith, within)), up.0)
-
   -- the keys of an ascending list are apart
   pub apart : (low : ℕ) (rows : List A) (i j : ℕ) (d : A) → Ascend key low rows → i < j → j < length rows → key (get_or rows i d) < key (get_or rows j d)
   apart low [] i j d up before within = absurd (omega (arith, within))
   apart low (r ∷ rows) i zero d up before within = absurd (omega (arith, before))
-  apart low (r ∷ rows) zero (suc j) d up before within = omega (arith, not_below (key r + 1) rows j d up.1 (omega (arith, within)))
+  apart low (r ∷ rows) zero (suc j) d up before within = omega (arith, not_below key (key r + 1) rows j d up.1 (omega (arith, within)))
   apart low (r ∷ rows) (suc i) (suc j) d up before within = apart (key r + 1) rows i j d up.1 (omega (arith, before)) (omega (arith, within))
 
   -- the comparisons with a key rise along them
@@ -103,7 +99,7 @@ module _ {A : Type 0} (key : A → ℕ) where
       let within : length rows < length (next ∷ rows) = omega arith in
       let there = slice_get-get_or (next ∷ rows) (length rows) last within in
       let is_last : last ≡ get_or (next ∷ rows) (length rows) last = cc in
-      let above : key r + 1 ≤ key last = ap-le (not_below (key r + 1) (next ∷ rows) (length rows) last up.1 within) (ap key is_last) in
+      let above : key r + 1 ≤ key last = ap-le (not_below key (key r + 1) (next ∷ rows) (length rows) last up.1 within) (ap key is_last) in
       by_test (nat_lt (key last) k) refl later above
     where
       ap-le : {a b c : ℕ} → a ≤ b → c ≡ b → a ≤ c

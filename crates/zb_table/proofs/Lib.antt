@@ -1,3 +1,4 @@
+pub mod Ascending
 pub mod Finding
 pub mod Changing
 pub mod Scanning

@@ -2,8 +2,6 @@ ghost use Rattle.std.specs.Prelude.{◌≡◌, Some, None, OnOk, IsErrOf};
 ghost use Rattle.zb_tokens.specs.MoveAssign.{fits_assign, play_assign};
 
 use crate::{Game, GameFault};
-use std::alloc::Global;
-use zb_base::TryCopy;
 use zb_tokens::Assigned;
 
 impl Game {
@@ -18,13 +16,11 @@ impl Game {
     }
 
     // Plays that a variable gets its first value.
-    pub(super) fn assign(&mut self, alloc: Global, a: &Assigned) -> Result<(), GameFault>
-        ensures played { OnOk result (play_assign self.old a.now ≡ Some self.new) }
-        ensures illegal { IsErrOf result GameFault.Illegal → play_assign self.old a.now ≡ None }
+    pub(super) fn assign(&mut self, a: Assigned) -> Result<(), GameFault>
+        ensures played { OnOk result (play_assign self.old a ≡ Some self.new) }
+        ensures illegal { IsErrOf result GameFault.Illegal → play_assign self.old a ≡ None }
         ensures kept { IsErrOf result GameFault.Illegal → self.new ≡ self.old }
     {
-        let name = a.name.copy(alloc)?;
-        let value = a.value.copy(alloc)?;
-        self.put_variable(a.scope, name, value)
+        self.put_variable(a.scope, a.name, a.value)
     }
 }

@@ -100,7 +100,6 @@ impl Game {
         self.cells.remove(place);
         self.ascends = ascends;
         self.look_at(key);
-        self.look_at(around);
         Ok(())
     }
 

@@ -9,7 +9,7 @@ use crate::lookups::{has_coming, node_in};
 use crate::places::place_of_token;
 use crate::{Game, GameFault};
 use std::alloc::Global;
-use zb_base::{Key, TryCopy};
+use zb_base::Key;
 use zb_process::Model;
 use zb_tokens::Enter;
 
@@ -49,19 +49,19 @@ impl Game {
     }
 
     // Plays that a token enters a node.
-    pub(super) fn enter(&mut self, alloc: Global, e: &Enter) -> Result<(), GameFault>
-        ensures played { OnOk result (play_enter self.old e.now ≡ Some self.new) }
-        ensures illegal { IsErrOf result GameFault.Illegal → play_enter self.old e.now ≡ None }
+    pub(super) fn enter(&mut self, alloc: Global, e: Enter) -> Result<(), GameFault>
+        ensures played { OnOk result (play_enter self.old e ≡ Some self.new) }
+        ensures illegal { IsErrOf result GameFault.Illegal → play_enter self.old e ≡ None }
         ensures kept { IsErrOf result GameFault.Illegal → self.new ≡ self.old }
     {
         let Some(definition) = self.definition_of(e.scope) else {
             return Err(GameFault::Illegal);
         };
-        let Some(place) = place_of_token(e, &self.tokens) else {
+        let Some(place) = place_of_token(&e, &self.tokens) else {
             return Err(GameFault::Illegal);
         };
-        let node = e.node.copy(alloc)?;
-        let cell = new_cell(alloc, e.key, e.scope, definition, node, comes_by_none(e));
+        let before = comes_by_none(&e);
+        let cell = new_cell(alloc, e.key, e.scope, definition, e.node, before);
         self.add_cell(cell)?;
         self.take_token(place)?;
         Ok(())

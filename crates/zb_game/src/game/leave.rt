@@ -1,7 +1,6 @@
 ghost use Rattle.std.specs.Prelude.{◌≡◌, Some, None, IfOk, OnOk, IsErrOf};
 ghost use Rattle.zb_tokens.specs.MoveLeave.{are_among, fits_leave, flows_of, leaving, owed_by, play_leave};
 
-use crate::edits::copy_of;
 use crate::flows::{are_among_flows, flows_out};
 use crate::{Game, GameFault};
 use std::alloc::{AllocError, Global};
@@ -47,13 +46,12 @@ impl Game {
     }
 
     // Plays that a cell has completed.
-    pub(super) fn leave(&mut self, alloc: Global, l: &Leave) -> Result<(), GameFault>
-        ensures played { OnOk result (play_leave self.old l.now ≡ Some self.new) }
-        ensures illegal { IsErrOf result GameFault.Illegal → play_leave self.old l.now ≡ None }
+    pub(super) fn leave(&mut self, l: Leave) -> Result<(), GameFault>
+        ensures played { OnOk result (play_leave self.old l ≡ Some self.new) }
+        ensures illegal { IsErrOf result GameFault.Illegal → play_leave self.old l ≡ None }
         ensures kept { IsErrOf result GameFault.Illegal → self.new ≡ self.old }
     {
-        let owed = copy_of(alloc, l.owed.as_slice())?;
-        self.leaving(l.key, owed)
+        self.leaving(l.key, l.owed)
     }
 
     // A cell leaves and owes these flows; where there are none it is gone.

@@ -2,8 +2,6 @@ ghost use Rattle.std.specs.Prelude.{◌≡◌, Some, None, OnOk, IsErrOf};
 ghost use Rattle.zb_tokens.specs.MoveStand.{fits_stand, play_stand};
 
 use crate::{Game, GameFault};
-use std::alloc::Global;
-use zb_base::TryCopy;
 use zb_tokens::Deployed;
 
 impl Game {
@@ -15,12 +13,12 @@ impl Game {
     }
 
     // Plays that a model stands under a key.
-    pub(super) fn stand(&mut self, alloc: Global, d: &Deployed) -> Result<(), GameFault>
-        ensures played { OnOk result (play_stand self.old d.now ≡ Some self.new) }
-        ensures illegal { IsErrOf result GameFault.Illegal → play_stand self.old d.now ≡ None }
+    pub(super) fn stand(&mut self, d: Deployed) -> Result<(), GameFault>
+        ensures played { OnOk result (play_stand self.old d ≡ Some self.new) }
+        ensures illegal { IsErrOf result GameFault.Illegal → play_stand self.old d ≡ None }
         ensures kept { IsErrOf result GameFault.Illegal → self.new ≡ self.old }
     {
-        self.add_model(d.copy(alloc)?)?;
+        self.add_model(d)?;
         Ok(())
     }
 }

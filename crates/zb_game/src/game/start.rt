@@ -16,9 +16,9 @@ impl Game {
     }
 
     // Plays that a process is instantiated.
-    pub(super) fn start(&mut self, alloc: Global, s: &Start) -> Result<(), GameFault>
-        ensures played { OnOk result (play_start self.old s.now ≡ Some self.new) }
-        ensures illegal { IsErrOf result GameFault.Illegal → play_start self.old s.now ≡ None }
+    pub(super) fn start(&mut self, alloc: Global, s: Start) -> Result<(), GameFault>
+        ensures played { OnOk result (play_start self.old s ≡ Some self.new) }
+        ensures illegal { IsErrOf result GameFault.Illegal → play_start self.old s ≡ None }
         ensures kept { IsErrOf result GameFault.Illegal → self.new ≡ self.old }
     {
         let Some(model) = self.model(s.definition) else {

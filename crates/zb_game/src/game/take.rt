@@ -4,7 +4,7 @@ ghost use Rattle.zb_tokens.specs.MoveTake.{fits_take, is_first, play_take, rest_
 use crate::edits::copy_of;
 use crate::{Game, GameFault};
 use std::alloc::{AllocError, Global};
-use zb_base::{List, Text, TryCopy};
+use zb_base::{List, Text};
 use zb_tokens::{Phase, Spot, Take, Token};
 
 impl Game {
@@ -20,9 +20,9 @@ impl Game {
     }
 
     // Plays that a cell takes the first flow that it owes.
-    pub(super) fn take(&mut self, alloc: Global, t: &Take) -> Result<(), GameFault>
-        ensures played { OnOk result (play_take self.old t.now ≡ Some self.new) }
-        ensures illegal { IsErrOf result GameFault.Illegal → play_take self.old t.now ≡ None }
+    pub(super) fn take(&mut self, alloc: Global, t: Take) -> Result<(), GameFault>
+        ensures played { OnOk result (play_take self.old t ≡ Some self.new) }
+        ensures illegal { IsErrOf result GameFault.Illegal → play_take self.old t ≡ None }
         ensures kept { IsErrOf result GameFault.Illegal → self.new ≡ self.old }
     {
         let Some(cell) = self.cell(t.key) else {
@@ -30,11 +30,10 @@ impl Game {
         };
         let scope = cell.scope;
         let owed = rest_of(alloc, cell.owed.as_slice())?;
-        let flow = t.flow.copy(alloc)?;
         self.leaving(t.key, owed)?;
         self.add_token(Token {
             scope,
-            spot: Spot::OnFlow(flow),
+            spot: Spot::OnFlow(t.flow),
         })?;
         Ok(())
     }

@@ -1,7 +1,6 @@
-use Rattle.std.proofs.Common.{◌≡◌, ◌∙◌, List, ◌++◌, IsTrue, Some, ap, sym, arith}
+use Rattle.std.proofs.Common.{◌∙◌, List, ◌++◌, IsTrue, Some, ap, sym, arith}
 use Rattle.std.proofs.lemmas.Result.{on_ok_weaker}
 use Rattle.zb_model.specs.declared.record.Event.{Event}
-use Rattle.zb_rules.specs.Own.{own_events}
 use Rattle.zb_rules.specs.Sound.{HasKeys}
 use Rattle.zb_rules.specs.ProgressLaws.{own_apply}
 use Rattle.zb_state.specs.State.{partition_of}

@@ -1,5 +1,6 @@
 use Rattle.std.proofs.Common.{◌∷◌}
-use Rattle.zb_format.proofs.Adding.{adds_then, adds_byte, keeps_then, on_ok, written_next}
+use Rattle.std.proofs.lemmas.Result.{on_ok_weaker}
+use Rattle.zb_format.proofs.Adding.{adds_then, adds_byte, keeps_then, written_next}
 use Rattle.zb_format.specs.Encoded.{Adds}
 use Rattle.zb_process.specs.Expression.{operator, tree, IsTree}
 use Rattle.zb_process.proofs.PieceLemmas.{written_none}
@@ -8,7 +9,7 @@ use Rattle.zb_process.proofs.expression.writing.+write.Goals as goal
 pub write_binary-returns-clause-added : goal.write_binary-returns-clause-added
 write_binary-returns-clause-added t c =
     let first : Adds c.args.encoder.now (operator c.args.operator ∷ tree c.args.left.now) c.write_unary.new.encoder = rw (← c.byte_of.ensures) c.in_ok-write_unary.ensures.added in
-    on_ok c.write_tree.result _ _ (adds_then _ _ _ _ _ first) c.write_tree.ensures.added
+    on_ok_weaker c.write_tree.result (adds_then _ _ _ _ _ first) c.write_tree.ensures.added
 
 pub write_members-loop-member-init : goal.write_members-loop-member-init
 write_members-loop-member-init t c =

@@ -1,4 +1,3 @@
-use Rattle.std.proofs.Common.{rules}
 use Rattle.zb_rules.specs.Shown.{board_of}
 use Rattle.zb_state.specs.State.{partition_of}
 use Rattle.zb_state.proofs.StateLemmas.{same_board, turn_told, no_turn_told}
