@@ -1,4 +1,4 @@
-use Rattle.std.proofs.Common.{◌≡◌, ◌++◌, ◌∙◌, sym, ap₂, take, drop, take_at, drop_at, take-append-drop, length-take-le, rules}
+use Rattle.std.proofs.Common.{◌++◌, ◌∙◌, sym, ap₂, take_at, drop_at, take-append-drop, length-take-le, rules}
 use Rattle.zb_partition.proofs.record.put_length.Goals as goal
 
 pub copy_from_slice-requires : goal.copy_from_slice-requires
