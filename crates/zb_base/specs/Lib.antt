@@ -3,3 +3,4 @@ pub mod Moment
 pub mod Vars
 pub mod VarsLaws
 pub mod Results
+pub mod Text

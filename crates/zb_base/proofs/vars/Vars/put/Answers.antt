@@ -3,13 +3,13 @@ use Rattle.std.specs.declared.cmp.Ordering.TheVariants.{Less, Equal}
 use Rattle.zb_base.specs.declared.vars.Variable.{Variable}
 use Rattle.zb_base.specs.Vars.{StandsAt, is_ascending, with_value}
 use Rattle.zb_base.proofs.VarsLemmas.{stands_in_same, with_value_found, with_value_missing, is_ascending-with_value}
-use Rattle.zb_base.proofs.vars.Vars.put.Goals.{Joined-index_mut, In_ok-insert-in-Err}
+use Rattle.zb_base.proofs.vars.Vars.put.Goals.{Joined-index_mut-2, In_ok-insert-in-Err}
 use Rattle.zb_base.proofs.vars.Vars.put.Goals as goal
 
 abbrev AreAscending : List Variable → Type 0
 AreAscending vs = IsTrue (is_ascending vs)
 
-found : (c : Joined-index_mut) → StandsAt c.args.name c.self.inside.items.items Equal c.in-Ok.index
+found : (c : Joined-index_mut-2) → StandsAt c.args.name c.self.inside.items.items Equal c.in-Ok.index
 found c = stands_in_same _ _ _ _ _ _ c.as_str.ensures c.as_slice.ensures.value c.in-Ok.ensures.found
 
 missing : (c : In_ok-insert-in-Err) → StandsAt c.args.name c.self.inside.items.items Less c.in-Err.index
