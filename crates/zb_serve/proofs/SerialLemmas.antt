@@ -18,7 +18,7 @@ use Rattle.zb_wire.specs.declared.request.Request.TheVariants as requests
 use Rattle.zb_reply.specs.Reply.{answer_of, line_of}
 use Rattle.zb_reply.specs.declared.reply.Reply.{Reply}
 use Rattle.zb_reply.specs.declared.reply.Reply.TheVariants as replies
-use Rattle.zb_serve.specs.Reply.{Answer, reply_by, reply_to, IsReplyTo}
+use Rattle.zb_serve.specs.Reply.{Answer, reply_if, reply_to, IsReplyTo}
 use Rattle.zb_serve.specs.Serial.{most_due, log_behind, place_behind, due_in_logs, next_by, next_of, IsNextEntry, AreMadeFor, IsCarriedOut, entries_made, found_in}
 
 -- the test of an order
@@ -100,7 +100,7 @@ asks_once logs request reading earlier command entry is = ap (λ (c : Option Com
 
 -- its reply is that of its batch
 replies_once : (request : Request) (reading : ℕ) (command : Command) (entry : Entry) → command_of request ≡ Some command → reply_to request reading (entry ∷ []) ≡ answer_of entry.batch
-replies_once request reading command entry is = ap (λ (c : Option Command). reply_by c request reading (entry ∷ [])) is
+replies_once request reading command entry is = ap (λ (c : Option Command). reply_if c request reading (entry ∷ [])) is
 
 -- the batch of a client's request
 pub made_for_one : (request : Request) (reading : ℕ) (opened before : List Batch) (batch : Batch) → command_of request ≡ Some batch.command → batch.moment ≡ max (moment_of_last (opened ++ before)) reading

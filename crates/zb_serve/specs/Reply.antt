@@ -32,13 +32,13 @@ clocked_reply (requests.Advance ms) reading entries = Some (replies.Advance read
 clocked_reply _ reading entries = None
 
 -- the reply to a request that made these entries, by the command of a client that it has, if it has one
-abbrev pub reply_by : Option Command → Request → ℕ → List Entry → Option Reply
-reply_by (Some command) request reading entries = reply_of_one entries
-reply_by None request reading entries = clocked_reply request reading entries
+abbrev pub reply_if : Option Command → Request → ℕ → List Entry → Option Reply
+reply_if (Some command) request reading entries = reply_of_one entries
+reply_if None request reading entries = clocked_reply request reading entries
 
 -- the reply to a request that made these entries
 abbrev pub reply_to : Request → ℕ → List Entry → Option Reply
-reply_to request reading entries = reply_by (command_of request) request reading entries
+reply_to request reading entries = reply_if (command_of request) request reading entries
 
 -- this line is the reply to a request that made these entries; no unit of work was done for it
 pub record IsReplyTo (request : Request) (reading : ℕ) (entries : List Entry) (line : List ℕ) : Type 0 where
