@@ -11,7 +11,7 @@ returns-in-Ok-clause-taken c = λ p log known.
     let heading : upshot_at c.args.body.now ≡ upshot_behind c.in-Ok.heading c.read_heading.new.cursor = rw (← c.new-cursor.ensures) c.in-Ok.ensures in
     IfOk-weaker c.take_events.result _ _
     (λ taken said is.
-        known_read p log c.args.body.now c.read_heading.new.cursor c.in-Ok.heading c.args.known.now _ (λ i. omega (arith, c.type_inv.body i)) heading known c.take_events.ensures.place (said is) refl)
+    known_read p log c.args.body.now c.read_heading.new.cursor c.in-Ok.heading c.args.known.now _ (λ i. omega (arith, c.type_inv.body i)) heading known c.take_events.ensures.place (said is) refl)
     (c.take_events.ensures.taken (events_of log) known.state)
 
 pub returns-in-Ok-clause-bad : goal.returns-in-Ok-clause-bad
@@ -19,8 +19,8 @@ returns-in-Ok-clause-bad c = λ p log known.
     let heading : upshot_at c.args.body.now ≡ upshot_behind c.in-Ok.heading c.read_heading.new.cursor = rw (← c.new-cursor.ensures) c.in-Ok.ensures in
     IfOk-weaker c.take_events.result _ _
     (λ taken said is.
-        bad_events p log c.args.body.now c.read_heading.new.cursor c.in-Ok.heading heading
-        (subst (λ (q : ℕ). AreRefused q (events_of log) (events_at c.in-Ok.heading.events c.read_heading.new.cursor)) known.place (said is)))
+    bad_events p log c.args.body.now c.read_heading.new.cursor c.in-Ok.heading heading
+    (subst (λ (q : ℕ). AreRefused q (events_of log) (events_at c.in-Ok.heading.events c.read_heading.new.cursor)) known.place (said is)))
     (c.take_events.ensures.bad (events_of log) known.state)
 
 pub returns-in-Err-NotSpelled-clause-bad : goal.returns-in-Err-NotSpelled-clause-bad
