@@ -11,6 +11,6 @@ bytes_kept (kinds.InPlace size bytes) = take size bytes
 bytes_kept (kinds.Apart text) = string_bytes text.value
 
 -- the bytes that stand in their place fit there, and are UTF-8
-abbrev pub FitsInPlace : Kept → Type 0
-FitsInPlace (kinds.InPlace size bytes) = (size ≤ 16) × IsUtf8 (take size bytes)
-FitsInPlace (kinds.Apart text) = Unit {0}
+abbrev pub IsWellKept : Kept → Type 0
+IsWellKept (kinds.InPlace size bytes) = (size ≤ 16) × IsUtf8 (take size bytes)
+IsWellKept (kinds.Apart text) = Unit {0}

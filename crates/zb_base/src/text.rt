@@ -24,16 +24,16 @@ pub enum Kept {
 
 impl Model for Text {
     ghost use Rattle.std.specs.Prelude.{ℕ, List};
-    ghost use Rattle.zb_base.specs.Text.{bytes_kept, FitsInPlace};
+    ghost use Rattle.zb_base.specs.Text.{bytes_kept, IsWellKept};
 
     ghost Value = { List ℕ };
 
     ghost view = { λ t. bytes_kept t.kept };
 
-    ghost invariant = { λ t. FitsInPlace t.kept };
+    ghost invariant = { λ t. IsWellKept t.kept };
 }
 
-ghost use Rattle.zb_base.specs.Text.{bytes_kept, FitsInPlace};
+ghost use Rattle.zb_base.specs.Text.{bytes_kept, IsWellKept};
 
 impl Text {
     /// The empty text. It takes no memory.
@@ -74,7 +74,7 @@ impl Text {
 fn in_place(text: &str) -> Kept
     requires { length text.now ≤ 16 }
     ensures value { bytes_kept result ≡ text.now }
-    ensures kept { FitsInPlace result }
+    ensures kept { IsWellKept result }
 {
     let mut bytes = [0; MOST_IN_PLACE];
     bytes[..text.len()].copy_from_slice(text.as_bytes());

@@ -5,11 +5,10 @@ ghost use Rattle.std.specs.Prelude.{◌≡◌, ◌≢◌, ◌++◌, ◌-◌, ◌
 ghost use Rattle.zb_model.specs.declared.record.Batch.{Batch};
 ghost use Rattle.zb_model.specs.Record.{bytes_of};
 ghost use Rattle.zb_model.specs.RecordFits.{IsBatch};
-ghost use Rattle.zb_model.specs.Upshots.{upshot_of};
 
 use std::alloc::{AllocError, Global};
 use zb_format::{Cursor, Format, ReadFault};
-use zb_model::{Batch, Upshot};
+use zb_model::Batch;
 
 /// The number of bytes that `write` appends for a batch, at most the greatest `u64`. It takes a step for each
 /// field of the batch.
@@ -39,21 +38,6 @@ pub fn read(alloc: Global, bytes: &[u8]) -> Result<Option<Batch>, AllocError>
     let mut cursor = Cursor::new(bytes);
     match Batch::read(alloc, &mut cursor) {
         Ok(batch) => Ok(where_ended(batch, cursor.is_at_end())),
-        Err(ReadFault::NotSpelled) => Ok(None),
-        Err(ReadFault::Memory) => Err(AllocError),
-    }
-}
-
-/// The upshot of the batch that these bytes spell, all of them. None where no batch has these bytes. It takes a
-/// step for each byte, and keeps the upshot alone.
-#[tactic(auto, using(crate::proofs::UpshotLemmas::whole))]
-pub fn read_upshot(alloc: Global, bytes: &[u8]) -> Result<Option<Upshot>, AllocError>
-    ensures found { IfOk result (λ found. IfSome found (λ upshot. (batch : Batch) × IsBatch batch × (bytes.now ≡ bytes_of batch) × (upshot ≡ upshot_of batch))) }
-    ensures none { IfOk result (λ found. IfNone found ((batch : Batch) → IsBatch batch → bytes.now ≢ bytes_of batch)) }
-{
-    let mut cursor = Cursor::new(bytes);
-    match zb_model::read_upshot(alloc, &mut cursor) {
-        Ok(upshot) => Ok(where_ended(upshot, cursor.is_at_end())),
         Err(ReadFault::NotSpelled) => Ok(None),
         Err(ReadFault::Memory) => Err(AllocError),
     }

@@ -1,4 +1,5 @@
 // Reading a text where it stands.
+ghost use Rattle.std.specs.Prelude.{IsTrue, IsAscii};
 ghost use Rattle.zb_format.specs.Reading.{ReadsAs, text_at};
 
 use crate::{Cursor, Format, ReadFault};
@@ -14,8 +15,30 @@ pub fn read_str<'a>(alloc: Global, cursor: &mut Cursor<'a>) -> Result<&'a str, R
         return Ok("");
     }
     let front = cursor.front(length as usize)?;
+    if is_short_ascii(front) {
+        return Ok(unsafe { str::from_utf8_unchecked(front) });
+    }
     match std::str::from_utf8(front) {
         Ok(text) => Ok(text),
         Err(_) => Err(ReadFault::NotSpelled),
     }
+}
+
+// Whether the bytes are a few of ASCII. A short text is looked at sooner here than by `from_utf8`.
+fn is_short_ascii(bytes: &[u8]) -> bool
+    ensures { IsTrue result → IsAscii bytes.now }
+{
+    bytes.len() <= 16 && has_ascii_alone(bytes)
+}
+
+// Whether each byte is ASCII.
+fn has_ascii_alone(bytes: &[u8]) -> bool
+    ensures { IsTrue result → IsAscii bytes.now }
+{
+    for byte in bytes {
+        if *byte >= 128 {
+            return false;
+        }
+    }
+    true
 }

@@ -9,9 +9,9 @@ mod record;
 mod stop;
 mod upshot;
 
-pub use record::{Batch, Command, Event, Outcome, Packet, Rejection, RejectionKind, Upshot};
+pub use record::{Batch, Command, Event, Heading, Outcome, Packet, Rejection, RejectionKind};
 pub use stop::{Note, Stop, TableFault};
-pub use upshot::read_upshot;
+pub use upshot::read_heading;
 pub use zb_base::{
     Key, List, Moment, Pair, PartitionId, Text, TryCopy, Value, Variable, Vars, home_of,
 };

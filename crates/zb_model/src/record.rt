@@ -144,11 +144,12 @@ pub struct Batch {
     pub outcome: Outcome,
 }
 
-/// What a batch says of the state: all of it but its command and its begin.
+/// What stands in front of a batch's events.
 #[derive(Drop)]
-pub struct Upshot {
+pub struct Heading {
     pub moment: Moment,
-    pub outcome: Outcome,
+    /// How many events follow; none where its command was rejected.
+    pub events: u32,
 }
 
 /// A command that one partition sends to another.

@@ -2,21 +2,22 @@
 ghost use Rattle.std.specs.Prelude.{◌≡◌, ◌++◌, ◌∷◌, ℕ, List, [], IsTrue, IsFalse, IfErr, IfOk, OnOk, IsErrOf, not, false, ◌<◌, ◌^◌};
 ghost use Rattle.zb_model.specs.declared.record.Batch.{Batch};
 ghost use Rattle.zb_model.specs.Record.{bytes_of};
-ghost use Rattle.zb_model.specs.RecordFits.{IsBatch};
-ghost use Rattle.zb_model.specs.Upshots.{upshot_of};
+ghost use Rattle.zb_model.specs.declared.record.Event.{Event};
+ghost use Rattle.zb_model.specs.Layouts as layouts;
+ghost use Rattle.zb_model.specs.Upshots.{events_at};
 ghost use Rattle.zb_store.specs.Calls.{OnlyReads};
 ghost use Rattle.zb_store.specs.Scan.{disk_of_scan, limit_of_scan, gate_of_scan, is_over, is_closed};
-ghost use Rattle.zb_views.specs.View.{events_of, events_in};
-ghost use Rattle.zb_rules.specs.Applies.{all_apply};
+ghost use Rattle.zb_rules.specs.Applies.{applies};
+ghost use Rattle.zb_state.specs.State.{partition_of, IsStateOf};
 ghost use Rattle.zb_partition.specs.Log.{IsBadBody, IsBadAt};
-ghost use Rattle.zb_partition.specs.Reading.{IsKnown, IsAtStart, IsRead, IsReadOn};
+ghost use Rattle.zb_partition.specs.Reading.{IsKnown, IsAtStart, IsRead, IsReadOn, IsTaken, AreTaken, IsRefused, AreRefused};
 ghost use Rattle.zb_partition.specs.Fault.{IsDiskCause};
 
 use crate::fault::OpenFault;
-use crate::record::take_in;
-use std::alloc::Global;
+use std::alloc::{AllocError, Global};
 use zb_disk::Disk;
-use zb_model::{Batch, Moment, PartitionId, TableFault, Upshot};
+use zb_format::{Cursor, Format, ReadFault};
+use zb_model::{Batch, Event, Moment, PartitionId, TableFault};
 use zb_state::State;
 use zb_store::{Found, Scan};
 
@@ -97,32 +98,80 @@ fn read_body(alloc: Global, body: &[u8], frame: u64, known: &mut Known) -> Resul
         → IsErrOf result (OpenFault.BadLog n) → (n ≡ frame) × IsBadBody p log body.now }
     ensures silent { ¬ (IsErrOf result OpenFault.DiskFault) }
 {
-    match zb_codec::read_upshot(alloc, body)? {
-        Some(upshot) => take_upshot(alloc, upshot, frame, known),
-        None => Err(OpenFault::BadLog { frame }),
+    match take_body(alloc, body, known)? {
+        true => Ok(()),
+        false => Err(OpenFault::BadLog { frame }),
     }
 }
 
-// Takes in the upshot of this frame's batch.
-fn take_upshot(
-    alloc: Global,
-    upshot: Upshot,
-    frame: u64,
-    known: &mut Known,
-) -> Result<(), OpenFault>
-    ensures taken { (p : ℕ) (log : List Batch) (batch : Batch) → IsKnown p log known.old → IsBatch batch → upshot ≡ upshot_of batch
-        → OnOk result (IsKnown p (log ++ batch ∷ []) known.new) }
-    ensures bad { (p : ℕ) (log : List Batch) (n : ℕ) → IsKnown p log known.old
-        → IsErrOf result (OpenFault.BadLog n) → (n ≡ frame) × IsFalse (all_apply p (events_of log) (events_in upshot.outcome)) }
-    ensures silent { ¬ (IsErrOf result OpenFault.DiskFault) }
+// Takes in the batch that this body spells, event by event: whether it spells one whose events apply. Where it
+// doesn't, or memory is wanting, what is known is only dropped.
+fn take_body(alloc: Global, body: &[u8], known: &mut Known) -> Result<bool, AllocError>
+    ensures taken { (p : ℕ) (log : List Batch) → IsKnown p log known.old
+        → IfOk result (λ taken. IsTrue taken → (batch : Batch) × (body.now ≡ bytes_of batch) × IsKnown p (log ++ batch ∷ []) known.new) }
+    ensures bad { (p : ℕ) (log : List Batch) → IsKnown p log known.old
+        → IfOk result (λ taken. IsFalse taken → IsBadBody p log body.now) }
 {
-    let moment = upshot.moment;
-    match take_in(alloc, &mut known.state, upshot.outcome) {
-        Ok(()) => {
-            known.last_moment = moment;
-            Ok(())
+    let mut cursor = Cursor::new(body);
+    match zb_model::read_heading(alloc, &mut cursor) {
+        Ok(heading) => {
+            known.last_moment = heading.moment;
+            take_events(alloc, heading.events, &mut cursor, &mut known.state)
         }
-        Err(TableFault::NotApplicable) => Err(OpenFault::BadLog { frame }),
-        Err(TableFault::Memory) => Err(OpenFault::Memory),
+        Err(ReadFault::NotSpelled) => Ok(false),
+        Err(ReadFault::Memory) => Err(AllocError),
+    }
+}
+
+// Takes in so many events, which are all that is left: whether they are there, alone, and apply.
+fn take_events(
+    alloc: Global,
+    count: u32,
+    cursor: &mut Cursor<'_>,
+    state: &mut State,
+) -> Result<bool, AllocError>
+    ensures place { partition_of state.new ≡ partition_of state.old }
+    ensures taken { (es : List Event) → IsStateOf es state.old → IfOk result (λ taken. IsTrue taken
+        → AreTaken (partition_of state.old) es (events_at count cursor.old) state.new) }
+    ensures bad { (es : List Event) → IsStateOf es state.old → IfOk result (λ taken. IsFalse taken
+        → AreRefused (partition_of state.old) es (events_at count cursor.old)) }
+{
+    for _ in 0..count {
+        match take_event(alloc, cursor, state) {
+            Ok(true) => {}
+            Ok(false) => return Ok(false),
+            Err(refusal) => return Err(refusal),
+        }
+    }
+    Ok(cursor.is_at_end())
+}
+
+// Takes in the event that comes next: whether there is one, and it applies.
+fn take_event(alloc: Global, cursor: &mut Cursor<'_>, state: &mut State) -> Result<bool, AllocError>
+    ensures place { partition_of state.new ≡ partition_of state.old }
+    ensures taken { (es : List Event) → IsStateOf es state.old → IfOk result (λ taken. IsTrue taken
+        → IsTaken (partition_of state.old) es (layouts.event.reading cursor.old) cursor.new state.new) }
+    ensures bad { (es : List Event) → IsStateOf es state.old → IfOk result (λ taken. IsFalse taken
+        → IsRefused (partition_of state.old) es (layouts.event.reading cursor.old)) }
+{
+    match Event::read(alloc, cursor) {
+        Ok(event) => take_in(alloc, event, state),
+        Err(ReadFault::NotSpelled) => Ok(false),
+        Err(ReadFault::Memory) => Err(AllocError),
+    }
+}
+
+// Takes in an event: whether it applies.
+fn take_in(alloc: Global, event: Event, state: &mut State) -> Result<bool, AllocError>
+    ensures place { partition_of state.new ≡ partition_of state.old }
+    ensures taken { (es : List Event) → IsStateOf es state.old → IfOk result (λ taken. IsTrue taken
+        → IsTrue (applies (partition_of state.old) es event) × IsStateOf (es ++ event ∷ []) state.new) }
+    ensures bad { (es : List Event) → IsStateOf es state.old → IfOk result (λ taken. IsFalse taken
+        → IsFalse (applies (partition_of state.old) es event)) }
+{
+    match state.take_in(alloc, event) {
+        Ok(()) => Ok(true),
+        Err(TableFault::NotApplicable) => Ok(false),
+        Err(TableFault::Memory) => Err(AllocError),
     }
 }

@@ -1,49 +1,12 @@
-// Taking a batch into what is known of a log.
-ghost use Rattle.std.specs.Prelude.{◌≡◌, ◌<◌, ◌≤◌, ◌^◌, ◌++◌, List, [], length, drop, IsTrue, IsFalse, IsErrOf, OnOk};
+// Making the frame of a batch.
+ghost use Rattle.std.specs.Prelude.{◌≡◌, ◌<◌, ◌≤◌, ◌^◌, ◌++◌, length, drop, OnOk};
 ghost use Rattle.std.specs.Int.{w64, to_be_bytes};
-ghost use Rattle.zb_model.specs.declared.record.Event.{Event};
 ghost use Rattle.zb_model.specs.Record.{bytes_of};
 ghost use Rattle.zb_model.specs.RecordFits.{IsBatch};
 ghost use Rattle.zb_store.specs.Log.{framed};
-ghost use Rattle.zb_views.specs.View.{events_in};
-ghost use Rattle.zb_rules.specs.Applies.{all_apply};
-ghost use Rattle.zb_state.specs.State.{partition_of, IsStateOf};
 
-use std::alloc::{AllocError, Global};
-use zb_model::{Batch, Event, List, Outcome, TableFault};
-use zb_state::State;
-
-/// Takes in the events of an outcome. At `NotApplicable` one of them doesn't apply; after any refusal the
-/// state is only dropped.
-pub fn take_in(alloc: Global, state: &mut State, outcome: Outcome) -> Result<(), TableFault>
-    ensures place { partition_of state.new ≡ partition_of state.old }
-    ensures applied { (es : List Event) → IsStateOf es state.old → OnOk result (IsTrue (all_apply (partition_of state.old) es (events_in outcome))) }
-    ensures state { (es : List Event) → IsStateOf es state.old → OnOk result (IsStateOf (es ++ events_in outcome) state.new) }
-    ensures refused { (es : List Event) → IsStateOf es state.old
-        → IsErrOf result TableFault.NotApplicable → IsFalse (all_apply (partition_of state.old) es (events_in outcome)) }
-{
-    match outcome {
-        Outcome::Accepted(events) => take_all(alloc, state, events),
-        Outcome::Rejected(_) => Ok(()),
-    }
-}
-
-// Takes in the events, one after the other.
-fn take_all(alloc: Global, state: &mut State, events: List<Event>) -> Result<(), TableFault>
-    ensures place { partition_of state.new ≡ partition_of state.old }
-    ensures applied { (es : List Event) → IsStateOf es state.old → OnOk result (IsTrue (all_apply (partition_of state.old) es events)) }
-    ensures state { (es : List Event) → IsStateOf es state.old → OnOk result (IsStateOf (es ++ events) state.new) }
-    ensures refused { (es : List Event) → IsStateOf es state.old
-        → IsErrOf result TableFault.NotApplicable → IsFalse (all_apply (partition_of state.old) es events) }
-{
-    for event in events.into_vec() {
-        match state.take_in(alloc, event) {
-            Ok(()) => {}
-            Err(fault) => return Err(fault),
-        }
-    }
-    Ok(())
-}
+use std::alloc::AllocError;
+use zb_model::Batch;
 
 /// Makes the frame of a batch: its length, its bytes and a closed gate.
 #[tactic(auto, unfolding(zb_store::specs::Log::framed))]

@@ -4,14 +4,8 @@ use Rattle.std.specs.List.{flat_map}
 use Rattle.zb_base.specs.Key.{key_of}
 use Rattle.zb_model.specs.declared.record.Event.{Event}
 use Rattle.zb_model.specs.declared.record.Event.TheVariants as events
-use Rattle.zb_model.specs.declared.record.Outcome.{Outcome}
-use Rattle.zb_model.specs.declared.record.Outcome.TheVariants as outcomes
+pub use Rattle.zb_model.specs.Upshots.{events_in}
 use Rattle.zb_model.specs.declared.record.Batch.{Batch}
-
--- the events of an outcome; a rejection has none
-abbrev pub events_in : Outcome → List Event
-events_in (outcomes.Rejected r) = []
-events_in (outcomes.Accepted es) = es
 
 -- the events of a log
 abbrev pub events_of : List Batch → List Event
