@@ -62,6 +62,7 @@ impl Text {
         ensures { result.now ≡ self.now }
     {
         match &self.kept {
+            // The type's invariant has them in UTF-8, and the check demands it here.
             Kept::InPlace(size, bytes) => unsafe {
                 str::from_utf8_unchecked(&bytes[..*size as usize])
             },

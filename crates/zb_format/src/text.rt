@@ -15,6 +15,7 @@ pub fn read_str<'a>(alloc: Global, cursor: &mut Cursor<'a>) -> Result<&'a str, R
         return Ok("");
     }
     let front = cursor.front(length as usize)?;
+    // ASCII is UTF-8, and the check demands that here.
     if is_short_ascii(front) {
         return Ok(unsafe { str::from_utf8_unchecked(front) });
     }
