@@ -1,6 +1,6 @@
 -- What requests are answered.
-use Rattle.std.proofs.Common.{◌≡◌, ◌<◌, ◌≤◌, ◌+◌, max, nat_lt, ℕ, List, [], ◌∷◌, ◌++◌, length, Bool, true, false, IsSome, Option, Some, None, option_map, Ok, Err, refl, sym, ◌∙◌, ap, subst, inr, arith}
-use Rattle.zb_disk.specs.Disk.{DiskView}
+use Rattle.std.proofs.Common.{◌≡◌, ℕ, List, [], ◌++◌, IsSome, Option, Some, None, option_map, Err, refl, ◌∙◌, ap, subst, inl, inr}
+use Rattle.zb_disk.specs.declared.disk.Disk.{Ghosts}
 use Rattle.zb_instance_records.specs.declared.instance.ProcessInstanceCreationCreate.{ProcessInstanceCreationCreate}
 use Rattle.zb_model.specs.declared.record.Event.{Event}
 use Rattle.zb_model.specs.declared.record.Batch.{Batch}
@@ -8,7 +8,7 @@ use Rattle.zb_model.specs.declared.record.Command.{Command}
 use Rattle.zb_model.specs.declared.record.Command.TheVariants as commands
 use Rattle.zb_model.specs.declared.record.Outcome.TheVariants as outcomes
 use Rattle.zb_model.specs.declared.record.Rejection.{Rejection}
-use Rattle.zb_views.specs.View.{events_of, moment_of_last, next_key}
+use Rattle.zb_views.specs.View.{events_of, next_key}
 use Rattle.zb_rules.specs.Own.{IsSupported, own_events}
 use Rattle.zb_rules.specs.Publish.{message_under, published_under}
 use Rattle.zb_rules.specs.Deploy.{version_behind, deployed}
@@ -26,8 +26,9 @@ use Rattle.zb_reply.specs.Reply.{answer_of, line_of}
 use Rattle.zb_reply.specs.ReplyLaws.{answer_of-deployed, answer_of-created, answer_of-published, answer_of-rejected}
 use Rattle.zb_reply.specs.declared.reply.Reply.{Reply}
 use Rattle.zb_reply.specs.declared.reply.Reply.TheVariants as replies
-use Rattle.zb_serve.specs.Hours.{RunSetting}
-use Rattle.zb_serve.specs.Serving.{Past, Asks, IsDropped, IsUnserved, IsForgotten, IsUnanswered}
+use Rattle.zb_serve.specs.Serving.{Past, Asks, IsDropped, IsUnserved, IsUnanswered}
+use Rattle.zb_serve.specs.Ledger.{Account, Holds}
+use Rattle.zb_serve.specs.declared.ledger.Ledger.{Ledger}
 use Rattle.zb_serve.specs.Reply.{IsAnswer}
 use Rattle.zb_serve.specs.declared.run.End.{End}
 use Rattle.zb_serve.specs.declared.run.End.TheVariants as ends
@@ -98,27 +99,20 @@ fault_answered given told line reply old fault count is none put = record {
 }
 
 -- where memory ran out, a request was not served
-pub unserved_memory : (tells tells_images takes_memory : Bool) (limit : ℕ) (request : Request) (reading : ℕ) (opened before : List Batch) (old new : DiskView) (images : List ℕ → Type 0)
-    (gone since : ℕ → List ℕ → Type 0) (Has : List Batch → Type 0) (places : List ℕ) (in_writing : Option Batch) (end : End)
-    → end ≡ ends.Memory → IsDropped tells tells_images limit request reading opened before old new images gone since Has places
-    → IsUnserved tells tells_images takes_memory limit request reading opened before old new images gone since Has places in_writing end
-unserved_memory tells tells_images takes_memory limit request reading opened before old new images gone since Has places in_writing end memory dropped = rw memory dropped
+pub unserved_memory : {D : Type 0} {disks : Ghosts D} (account : Account D) (request : Request) (reading : ℕ) (ledger : Ledger D disks) (end : End) → end ≡ ends.Memory → IsDropped account request reading ledger
+    → IsUnserved account request reading ledger end
+unserved_memory account request reading ledger end memory dropped = rw memory dropped
 
 -- nor was a line answered
-pub unanswered_memory : (tells tells_images takes_memory : Bool) (setting : RunSetting) (past : Past) (line : List ℕ) (old new : DiskView) (images : List ℕ → Type 0)
-    (gone since : ℕ → List ℕ → Type 0) (Has : List Batch → Type 0) (places : List ℕ) (in_writing : Option Batch) (end : End)
-    → end ≡ ends.Memory → IsForgotten tells tells_images setting past line old new images gone since Has places
-    → IsUnanswered tells tells_images takes_memory setting past line old new images gone since Has places in_writing end
-unanswered_memory tells tells_images takes_memory setting past line old new images gone since Has places in_writing end memory forgotten = rw memory forgotten
+pub unanswered_memory : {D : Type 0} {disks : Ghosts D} (past : Past D) (line : List ℕ) (ledger : Ledger D disks) (end : End) → end ≡ ends.Memory → Holds past.account ledger → IsUnanswered past line ledger end
+unanswered_memory past line ledger end memory holds = rw memory (inl holds)
 
 -- a line whose request was not served was not answered
-pub unserved_unanswered : (tells tells_images takes_memory : Bool) (setting : RunSetting) (past : Past) (line : List ℕ) (old new : DiskView) (images : List ℕ → Type 0)
-    (gone since : ℕ → List ℕ → Type 0) (Has : List Batch → Type 0) (places : List ℕ) (in_writing : Option Batch) (asks : Asks setting.hours past line) (end : End)
-    → IsUnserved tells tells_images takes_memory setting.limit asks.request asks.reading past.opened past.made old new images gone since Has places in_writing end
-    → IsUnanswered tells tells_images takes_memory setting past line old new images gone since Has places in_writing end
-unserved_unanswered tells tells_images takes_memory setting past line old new images gone since Has places in_writing asks ends.Memory why = inr (asks, why)
-unserved_unanswered tells tells_images takes_memory setting past line old new images gone since Has places in_writing asks (ends.Stopped stop) why = (asks, why)
-unserved_unanswered tells tells_images takes_memory setting past line old new images gone since Has places in_writing asks ends.Done why = absurd why
-unserved_unanswered tells tells_images takes_memory setting past line old new images gone since Has places in_writing asks ends.SourceFault why = absurd why
-unserved_unanswered tells tells_images takes_memory setting past line old new images gone since Has places in_writing asks ends.SinkFault why = absurd why
-unserved_unanswered tells tells_images takes_memory setting past line old new images gone since Has places in_writing asks ends.InputFull why = absurd why
+pub unserved_unanswered : {D : Type 0} {disks : Ghosts D} (past : Past D) (line : List ℕ) (ledger : Ledger D disks) (asks : Asks past line) (end : End) → IsUnserved past.account asks.request asks.reading ledger end
+    → IsUnanswered past line ledger end
+unserved_unanswered past line ledger asks ends.Memory why = inr (asks, why)
+unserved_unanswered past line ledger asks (ends.Stopped stop) why = (asks, why)
+unserved_unanswered past line ledger asks ends.Done why = absurd why
+unserved_unanswered past line ledger asks ends.SourceFault why = absurd why
+unserved_unanswered past line ledger asks ends.SinkFault why = absurd why
+unserved_unanswered past line ledger asks ends.InputFull why = absurd why

@@ -1,5 +1,5 @@
 -- The clocks behind one line more.
-use Rattle.std.proofs.Common.{◌≡◌, ◌≤◌, ◌+◌, min, ℕ, List, [], ◌∷◌, ◌++◌, Bool, true, Option, Some, None, Result, Err, is_some, refl, sym, ap, ◌∙◌, subst, arith}
+use Rattle.std.proofs.Common.{◌≡◌, ◌≤◌, ◌+◌, min, ℕ, List, [], ◌∷◌, ◌++◌, Bool, Option, Some, None, Result, Err, is_some, refl, sym, ap, ◌∙◌, subst, arith}
 use Rattle.std.proofs.lemmas.List.Sums.{sum_by_push}
 use Rattle.zb_base.specs.Moment.{last_moment}
 use Rattle.zb_wire.specs.declared.request.Request.{Request}

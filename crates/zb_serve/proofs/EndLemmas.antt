@@ -15,7 +15,7 @@ use Rattle.zb_store.specs.Stands.{Stands}
 use Rattle.zb_partition.specs.Log.{bodies_of, AreBatches, IsApplied}
 use Rattle.zb_partition.specs.Stopping.{frame_of, HasRoomFor}
 use Rattle.zb_serve.specs.Ends.{Told, LogEnds, OfNumber, EachFrom}
-use Rattle.zb_serve.specs.Ledger.{IsStored, AreMadeBatches}
+use Rattle.zb_serve.specs.Ledger.{AreMadeBatches}
 use Rattle.zb_wire.specs.declared.request.Request.{Request}
 use Rattle.zb_wire.specs.Request.{request_of}
 use Rattle.zb_serve.specs.Hours.{Hours, given_of, IsReadingOf, RunSetting}
@@ -23,10 +23,10 @@ use Rattle.zb_serve.specs.Reply.{Answer, IsAnswer}
 use Rattle.zb_serve.specs.Serial.{place_behind, IsNextEntry, AreMadeFor, found_in, entries_made, AreSerial}
 use Rattle.zb_serve.specs.Log.{Course, course_of, OpenedLog, log_in, batch_of, IsKept, IsFront, IsLeftOf, IsLog}
 use Rattle.zb_serve.specs.History.{stamps_of}
-use Rattle.zb_serve.specs.Served.{MayEnd, IsWhyUndone, IsUndone, answers_of}
+use Rattle.zb_serve.specs.Served.{HasRun, MayEnd, IsWhyUndone, IsUndone, answers_of}
 use Rattle.zb_serve.specs.Cause.{rank_of, comes_before}
 use Rattle.zb_serve.specs.Order.{HasFailed, WasMet}
-use Rattle.zb_serve.specs.Serving.{RunStart, Now, IsOver, session_ends, log_ends, ends_alone, crashes_alone}
+use Rattle.zb_serve.specs.Serving.{RunStart, Now, session_ends, log_ends, ends_alone, crashes_alone}
 use Rattle.zb_serve.specs.Session.{SessionRun, IsSent, most_taken}
 use Rattle.zb_serve.specs.declared.run.Cause.{Cause}
 use Rattle.zb_serve.specs.declared.run.Cause.TheVariants as causes
@@ -40,10 +40,11 @@ pub record IsHeld (told : Told) (ends : LogEnds) (images : List ℕ → Type 0) 
   pub file : IsTrue told.disk → IsKept told ends cause unlogged log ends.disk_after.contents
   pub crash : IsTrue told.images → (image : List ℕ) → images image → IsKept told ends cause unlogged log image
 
-pub held_stored : (told : Told) (ends : LogEnds) (images : List ℕ → Type 0) (cause : Cause) (unlogged : Option Batch) (log : List Batch) → IsStored told.disk told.images ends.disk_after images log → IsHeld told ends images cause unlogged log
-held_stored told ends images cause unlogged log stored = record {
-  file = λ t. inl (stored.file t);
-  crash = λ t image left. inl (stored.crash t image left);
+pub held_stands : (told : Told) (ends : LogEnds) (images : List ℕ → Type 0) (cause : Cause) (unlogged : Option Batch) (log : List Batch) → (IsTrue told.disk → Stands ends.disk_after.contents (bodies_of log))
+    → (IsTrue told.images → (image : List ℕ) → images image → Stands image (bodies_of log)) → IsHeld told ends images cause unlogged log
+held_stands told ends images cause unlogged log file crash = record {
+  file = λ t. inl (file t);
+  crash = λ t image left. inl (crash t image left);
 }
 
 -- what a cause says, and that nothing that comes before it was met
@@ -302,7 +303,7 @@ pub over : (told : Told) (setting : RunSetting) (start : RunStart) (now : Now) (
     → IsNamed told setting.limit start now (opened ++ made) unlogged unserved at_end cause
     → IsLeftUndone setting.hours opened answers served unserved cause silent unlogged
     → ((batch : Batch) → unlogged ≡ Some batch → IsLeftOver (opened ++ made) batch)
-    → IsOver told setting start now before images since places cause
+    → HasRun told setting (ends_alone start now) (crashes_alone before images since) cause (places ∷ [])
 over told setting start now before images since places cause served unserved at_end answers opened made silent unlogged opened_at by_first split stream replied serial sent stood applied are_made held ever earlier named undone left =
     let run : SessionRun = record {
       taken = stream.taken;

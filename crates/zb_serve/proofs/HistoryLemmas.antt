@@ -1,7 +1,7 @@
 -- The batches of a run of one partition in the history of the engine.
-use Rattle.std.proofs.Common.{◌≡◌, ◌⊎◌, ℕ, zero, suc, ◌+◌, ◌≤◌, List, [], ◌∷◌, ◌++◌, length, take, All, IsTrue, Option, Some, refl, sym, ap, subst, ◌∙◌, arith, inl, inr}
+use Rattle.std.proofs.Common.{◌≡◌, ℕ, zero, suc, ◌+◌, List, [], ◌∷◌, ◌++◌, length, take, All, Option, Some, refl, sym, ap, subst, ◌∙◌, arith, inl, inr}
 use Rattle.std.specs.List.{AllZip, range_with_len, slice_get}
-use Rattle.std.proofs.lemmas.List.{length-append, length-take, length-map, take_all, map-append}
+use Rattle.std.proofs.lemmas.List.{length-append, length-take, length-map, take_all}
 use Rattle.std.proofs.lemmas.List.Elements.{All-nil, All-cons}
 use Rattle.std.proofs.lemmas.Option.{slice_get_within}
 use Rattle.zb_model.specs.declared.record.Batch.{Batch}

@@ -1,5 +1,5 @@
 -- Batches that are made one after the other.
-use Rattle.std.proofs.Common.{◌≡◌, ◌⊎◌, ℕ, suc, ◌+◌, ◌<◌, ◌≤◌, max, min, List, [], ◌∷◌, ◌++◌, length, take, Bool, IsTrue, Option, Some, None, sym, ap, ◌∙◌, subst, inl, inr, ⊎_elim, append_assoc, arith, length-append}
+use Rattle.std.proofs.Common.{◌≡◌, ◌⊎◌, ℕ, suc, ◌+◌, ◌<◌, ◌≤◌, max, min, List, [], ◌∷◌, ◌++◌, length, take, IsTrue, Option, Some, None, sym, ap, ◌∙◌, subst, inl, inr, ⊎_elim, append_assoc, arith, length-append}
 use Rattle.std.proofs.lemmas.List.{take-append-le, take_min}
 use Rattle.std.proofs.Math.Seq.{take-append-add}
 use Rattle.std.specs.List.{range_with_len}
@@ -13,16 +13,18 @@ use Rattle.zb_model.specs.declared.stop.Stop.TheVariants as stops
 use Rattle.zb_views.specs.View.{moment_of_last}
 use Rattle.zb_rules.specs.Step.{IsStep}
 use Rattle.zb_rules.specs.StepLaws.{are_steps_more}
-use Rattle.zb_store.specs.CallLaws.{leaves_none, leaves_then, leaves_weaker}
+use Rattle.zb_store.specs.CallLaws.{leaves_weaker}
 use Rattle.zb_store.specs.GateLogLaws.{log_stands}
 use Rattle.zb_store.specs.Log.{extent}
 use Rattle.zb_store.specs.Stands.{Stands}
 use Rattle.zb_partition.specs.Log.{bodies_of, AreBatches}
 use Rattle.zb_partition.specs.Partition.{disk_of, in_writing, HasLog}
 use Rattle.zb_partition.specs.Stopping.{IsLeft, IsHurt, IsStepOf, IsStopCause, IsStopped, IsLogOrMore}
+use Rattle.zb_store.specs.Calls.{LeavesOnly}
 use Rattle.zb_partition.specs.declared.partition.Partition.{Partition}
 use Rattle.zb_serve.specs.Log.{IsFront}
-use Rattle.zb_serve.specs.Ledger.{IsStamped, AreMadeBatches, IsOpen, IsStored, IsGrown, IsHeldUp}
+use Rattle.zb_serve.specs.Ledger.{Account, log_of, with_more, disk_in, view_in, IsStamped, AreMadeBatches, IsOpen, Holds, HasStopped, IsHurtSince, IsLeftIn}
+use Rattle.zb_serve.specs.declared.ledger.Ledger.{Ledger}
 use Rattle.zb_serve.proofs.ListLemmas.{range_with_len_more, AllZip_more, append_none}
 
 -- a count that rose later rose
@@ -71,130 +73,147 @@ pub front_or_more : (log : List Batch) (batch : Batch) (file : List ℕ) → IsL
 front_or_more log batch file (inl without) = (0, subst (λ (l : List Batch). Stands file (bodies_of l)) (append_none log) without)
 front_or_more log batch file (inr with) = (1, with)
 
--- the batches that were opened and made, in either order of brackets
-sorted : (opened before more : List Batch) → (opened ++ before) ++ more ≡ opened ++ (before ++ more)
-sorted opened before more = append_assoc opened before more
+-- what a crash might have left since the log was opened, once it has grown
+ever_more : (opened made more : List Batch) (at old new : ℕ) (gone since : ℕ → List ℕ → Type 0) → at ≤ old
+    → ((image : List ℕ) → gone at image → IsFront opened made image) → LeavesOnly old new gone since (IsFront (opened ++ made) more)
+    → (image : List ℕ) → since at image → IsFront opened (made ++ more) image
+ever_more opened made more at old new gone since later ever leaves image was =
+    ⊎_elim (λ earlier. front_grows opened made more image (ever image earlier)) (λ front. front_behind opened made more image front) (leaves.nothing_else at image later was)
 
--- batches that were made, and then more
-module _ (tells tells_images : Bool) (limit : ℕ) (old mid new : DiskView) (images images' : List ℕ → Type 0) (past between since : ℕ → List ℕ → Type 0)
-    (Has Has' : List Batch → Type 0) (places places' : List ℕ) (opened before more : List Batch)
-    (first : IsGrown tells tells_images limit old mid images past between Has places opened before more) where
-  -- the front that a crash left of what was there between
-  front_then : (again : List Batch) (file : List ℕ) → IsFront (opened ++ (before ++ more)) again file → IsFront (opened ++ before) (more ++ again) file
-  front_then again file front =
-      front_behind (opened ++ before) more again file (subst (λ (l : List Batch). IsFront l again file) (sym (sorted opened before more)) front)
-
-  pub grown_then : (again : List Batch) → IsGrown tells tells_images limit mid new images' between since Has' places' opened (before ++ more) again
-      → IsGrown tells tells_images limit old new images' past since Has' places' opened before (more ++ again)
-  grown_then again next = record {
-    made = subst (λ (l : List Batch). AreMadeBatches limit opened l places') (append_assoc before more again) next.made;
-    has = subst (λ (l : List Batch). Has' (opened ++ l)) (append_assoc before more again) next.has;
-    stored = subst (λ (l : List Batch). IsStored tells tells_images new images' (opened ++ l)) (append_assoc before more again) next.stored;
-    time = λ t.
-        leaves_weaker old.moment new.moment past since _ (IsFront (opened ++ before) (more ++ again))
-        (λ file left. ⊎_elim (front_grows (opened ++ before) more again file) (front_then again file) left)
-        (leaves_then old.moment mid.moment new.moment past between since (IsFront (opened ++ before) more) (IsFront (opened ++ (before ++ more)) again) (first.time t) (next.time t));
-  }
-
-  -- what a disk that was hurt later holds
-  hurt_then : (takes_memory : Bool) → old.faults ≤ mid.faults → (log : List Batch) (in_writing : Option Batch) (file : List ℕ)
-      → IsLeft (IsHurt takes_memory mid.faults new.faults) log in_writing file → IsLeft (IsHurt takes_memory old.faults new.faults) log in_writing file
-  hurt_then takes_memory later log None file left = left
-  hurt_then takes_memory later log (Some batch) file (inl without) = inl without
-  hurt_then takes_memory later log (Some batch) file (inr (inl rose, fits, with)) = inr (inl (rose_since old.faults mid.faults new.faults later rose), fits, with)
-  hurt_then takes_memory later log (Some batch) file (inr (inr takes, fits, with)) = inr (inr takes, fits, with)
-
-  cause_then : old.faults ≤ mid.faults → (log : List Batch) (refused in_writing : Option Batch) (stop : Stop)
-      → IsStopCause mid.faults new.faults limit log refused in_writing stop → IsStopCause old.faults new.faults limit log refused in_writing stop
-  cause_then later log refused in_writing stops.Memory why = why
-  cause_then later log refused in_writing stops.DiskFault why = (rose_since old.faults mid.faults new.faults later why.0, why.1, why.2)
-  cause_then later log refused in_writing (stops.LogFull n frame most) why = why
-
-  -- batches that were made, and then a command that stopped the partition
-  pub held_then : (takes_memory : Bool) → old.faults ≤ mid.faults → (reading : ℕ) (command : Command) (in_writing : Option Batch) (stop : Stop)
-      → IsHeldUp tells tells_images takes_memory limit mid new images' between since places' opened (before ++ more) [] reading command in_writing stop
-      → IsHeldUp tells tells_images takes_memory limit old new images' past since places' opened before more reading command in_writing stop
-  held_then takes_memory later reading command in_writing stop held =
-      let none : (before ++ more) ++ [] ≡ before ++ more = sym (append_none (before ++ more)) in
-      let log = opened ++ (before ++ more) in
-      let Left : List Batch → List ℕ → Type 0 = λ l file. IsLeft (IsHurt takes_memory mid.faults new.faults) (opened ++ l) in_writing file in
-      let left : (file : List ℕ) → Left ((before ++ more) ++ []) file → IsLeft (IsHurt takes_memory old.faults new.faults) log in_writing file =
-      λ file l. hurt_then takes_memory later log in_writing file (subst (λ (b : List Batch). Left b file) none l) in
-      record {
-        made = subst (λ (l : List Batch). AreMadeBatches limit opened l places') none held.made;
-        refused = held.refused;
-        next = subst (λ (l : List Batch). (batch : Batch) → held.refused ≡ Some batch → IsStepOf 1 1 (opened ++ l) (max (moment_of_last (opened ++ l)) reading) (length (opened ++ l)) command batch) none held.next;
-        cause = cause_then later log held.refused in_writing stop (subst (λ (l : List Batch). IsStopCause mid.faults new.faults limit (opened ++ l) held.refused in_writing stop) none held.cause);
-        file = λ t. left new.contents (held.file t);
-        crash = λ t image is. left image (held.crash t image is);
-        time = λ t.
-            leaves_weaker old.moment new.moment past since _ (λ image. IsFront (opened ++ before) more image ⊎ IsLeft (IsHurt takes_memory old.faults new.faults) log in_writing image)
-            (λ file was. ⊎_elim (λ front. inl front)
-            (λ later_left. ⊎_elim (λ front. inl (subst (λ (l : List Batch). IsFront (opened ++ before) l file) (sym (append_none more)) (front_then [] file front))) (λ l. inr (left file l)) later_left) was)
-            (leaves_then old.moment mid.moment new.moment past between since (IsFront (opened ++ before) more) _ (first.time t) (held.time t));
-      }
+-- what one might have left since the run began, once more calls were made
+opening_more : (before : List ℕ → Type 0) (first at old new : ℕ) (gone since : ℕ → List ℕ → Type 0) (P : List ℕ → Type 0) → first ≤ at → at ≤ old
+    → ((image : List ℕ) → gone first image → before image ⊎ gone at image) → LeavesOnly old new gone since P
+    → (image : List ℕ) → since first image → before image ⊎ since at image
+opening_more before first at old new gone since P sooner later opening leaves image was =
+    ⊎_elim (λ earlier. ⊎_elim (λ left. inl left) (λ kept. inr (leaves.keeps at image later kept)) (opening image earlier)) (λ now. inr now) (leaves.splits first at image sooner later was)
 
 -- a partition that is known to have this log
-module _ {D : Type 0} {disks : Ghosts D} (log : List Batch) (partition : Partition D disks) (told : IsTrue disks.tells_images → IsTrue disks.tells) (has : HasLog log partition) where
-  crash_stands : IsTrue disks.tells_images → (image : List ℕ) → disks.images (disk_of partition) image → Stands image (bodies_of log)
-  crash_stands t image left = rw (has.durable t image left) (log_stands _ _ _ (has.file (told t)))
+module _ {D : Type 0} {disks : Ghosts D} (log : List Batch) (partition : Partition D disks) (has : HasLog log partition) where
+  -- its file stands for the log
+  pub file_stands : IsTrue disks.tells → Stands (disks.view (disk_of partition)).contents (bodies_of log)
+  file_stands t = log_stands _ _ _ (has.file t)
 
-  -- its file stands for the log, whatever a crash leaves
-  pub has_stored : IsStored disks.tells disks.tells_images (disks.view (disk_of partition)) (disks.images (disk_of partition)) log
-  has_stored = record { file = λ t. log_stands _ _ _ (has.file t); crash = crash_stands }
+  -- whatever a crash leaves
+  pub crash_stands : (IsTrue disks.tells_images → IsTrue disks.tells) → IsTrue disks.tells_images → (image : List ℕ) → disks.images (disk_of partition) image → Stands image (bodies_of log)
+  crash_stands told t image left = rw (has.durable t image left) (log_stands _ _ _ (has.file (told t)))
 
--- a partition that is open, with these batches
-module _ {D : Type 0} {disks : Ghosts D} (limit : ℕ) (places : List ℕ) (opened before : List Batch) (partition : Partition D disks) (told : IsTrue disks.tells_images → IsTrue disks.tells)
-    (made : AreMadeBatches limit opened before places) (is_open : IsOpen limit partition (opened ++ before)) where
-  -- makes no more
-  pub grown_none : IsGrown disks.tells disks.tells_images limit (disks.view (disk_of partition)) (disks.view (disk_of partition)) (disks.images (disk_of partition))
-      (disks.since (disk_of partition)) (disks.since (disk_of partition)) (IsOpen limit partition) places opened before []
-  grown_none = record {
-    made = subst (λ (l : List Batch). AreMadeBatches limit opened l places) (append_none before) made;
-    has = subst (λ (l : List Batch). IsOpen limit partition (opened ++ l)) (append_none before) is_open;
-    stored = subst (λ (l : List Batch). IsStored disks.tells disks.tells_images (disks.view (disk_of partition)) (disks.images (disk_of partition)) (opened ++ l)) (append_none before) (has_stored (opened ++ before) partition told is_open.has);
-    time = λ t. leaves_none (disks.view (disk_of partition)).moment (disks.since (disk_of partition)) (IsFront (opened ++ before) []);
-  }
+-- a ledger that holds what an account has
+module _ {D : Type 0} {disks : Ghosts D} (account : Account D) (old : Ledger D disks) (holds : Holds account old) where
+  abbrev first : DiskView
+  first = disks.view account.first
 
-  left_resting : (takes_memory : Bool) (file : List ℕ) → Stands file (bodies_of (opened ++ before)) → IsLeft (IsHurt takes_memory (disks.view (disk_of partition)).faults (disks.view (disk_of partition)).faults) (opened ++ before) (in_writing partition) file
-  left_resting takes_memory file stands = rw (is_open.has.resting) stands
+  -- and its disk since, over the calls of a command
+  module _ (new : Ledger D disks) where
+    -- one batch more was made
+    pub holds_more : (batch : Batch) → AreMadeBatches account.limit account.opened (account.made ++ batch ∷ []) new.stamps.items
+        → IsOpen account.limit new.partition (account.opened ++ (account.made ++ batch ∷ []))
+        → (IsTrue disks.tells_images → LeavesOnly (view_in old).moment (view_in new).moment (disks.since (disk_in old)) (disks.since (disk_in new)) (IsLogOrMore (log_of account) batch))
+        → (view_in old).faults ≤ (view_in new).faults → (IsTrue disks.counts_failures → (view_in new).faults ≡ (view_in old).faults)
+        → Holds (with_more account (batch ∷ [])) new
+    holds_more batch made stands time later steady = record {
+      was = holds.was;
+      made = made;
+      is_open = stands;
+      time = λ t.
+          let h = holds.time t in
+          let leaves = leaves_weaker _ _ _ _ _ _ (front_or_more (log_of account) batch) (time t) in
+          record {
+            later = omega (arith, h.later, leaves.later);
+            ever = ever_more account.opened account.made (batch ∷ []) account.opened_at (view_in old).moment (view_in new).moment (disks.since (disk_in old)) (disks.since (disk_in new)) h.later h.ever leaves;
+            opening = opening_more (disks.images account.first) first.moment account.opened_at (view_in old).moment (view_in new).moment (disks.since (disk_in old)) (disks.since (disk_in new)) _
+                (holds.was.by_first t).0 h.later h.opening leaves;
+          };
+      faults = omega (arith, holds.faults, later);
+      steady = λ t. steady t ∙ holds.steady t;
+    }
+
+    -- what a disk that was hurt in a command holds
+    hurt_then : (log : List Batch) (writing : Option Batch) (file : List ℕ)
+        → IsLeft (IsHurt disks.takes_memory (view_in old).faults (view_in new).faults) log writing file → IsLeft (IsHurt disks.takes_memory first.faults (view_in new).faults) log writing file
+    hurt_then log None file left = left
+    hurt_then log (Some batch) file (inl without) = inl without
+    hurt_then log (Some batch) file (inr (inl rose, fits, with)) = inr (inl (rose_since first.faults (view_in old).faults (view_in new).faults holds.faults rose), fits, with)
+    hurt_then log (Some batch) file (inr (inr takes, fits, with)) = inr (inr takes, fits, with)
+
+    cause_then : (refused writing : Option Batch) (stop : Stop) → IsStopCause (view_in old).faults (view_in new).faults account.limit (log_of account) refused writing stop
+        → IsStopCause first.faults (view_in new).faults account.limit (log_of account) refused writing stop
+    cause_then refused writing stops.Memory why = why
+    cause_then refused writing stops.DiskFault why = (rose_since first.faults (view_in old).faults (view_in new).faults holds.faults why.0, why.1, why.2)
+    cause_then refused writing (stops.LogFull n frame most) why = why
+
+    -- a command stopped it
+    pub stopped_by : (reading at begin : ℕ) (command : Command) (stop : Stop) → new.stamps.items ≡ old.stamps.items → at ≡ max (moment_of_last (log_of account)) reading → begin ≡ length (log_of account)
+        → IsStopped disks.tells disks.tells_images disks.takes_memory (view_in old) (view_in new) (disks.images (disk_in new)) (disks.since (disk_in old)) (disks.since (disk_in new)) 1 account.limit
+        (log_of account) at begin command (in_writing new.partition) stop
+        → (IsTrue disks.counts_failures → (stop ≡ stops.DiskFault → ⊥) → (view_in new).faults ≡ (view_in old).faults)
+        → HasStopped account reading command stop new
+    stopped_by reading at begin command stop stamps is_at is_begin stopped steady =
+        let log = log_of account in
+        record {
+          was = holds.was;
+          made = subst (AreMadeBatches account.limit account.opened account.made) (sym stamps) holds.made;
+          refused = stopped.refused;
+          next = λ batch is. subst (λ (m : ℕ). IsStepOf 1 1 log m (length log) command batch) is_at (subst (λ (b : ℕ). IsStepOf 1 1 log at b command batch) is_begin (stopped.next 1 batch is));
+          cause = cause_then stopped.refused (in_writing new.partition) stop stopped.unwritten.cause;
+          file = λ t. hurt_then log (in_writing new.partition) (view_in new).contents (stopped.unwritten.file t);
+          crash = λ t image left. hurt_then log (in_writing new.partition) image (stopped.unwritten.crash t image left);
+          time = λ t.
+              let h = holds.time t in
+              let leaves = stopped.unwritten.time t in
+              record {
+                later = omega (arith, h.later, leaves.later);
+                ever = λ image was. ⊎_elim (λ earlier. inl (h.ever image earlier)) (λ left. inr (hurt_then log (in_writing new.partition) image left)) (leaves.nothing_else account.opened_at image h.later was);
+                opening = opening_more (disks.images account.first) first.moment account.opened_at (view_in old).moment (view_in new).moment (disks.since (disk_in old)) (disks.since (disk_in new)) _
+                    (holds.was.by_first t).0 h.later h.opening leaves;
+              };
+          steady = λ t other. steady t other ∙ holds.steady t;
+        }
 
   -- nothing was done to it, since there was no memory
-  pub held_unasked : (takes_memory : Bool) (reading : ℕ) (command : Command)
-      → IsHeldUp disks.tells disks.tells_images takes_memory limit (disks.view (disk_of partition)) (disks.view (disk_of partition)) (disks.images (disk_of partition))
-      (disks.since (disk_of partition)) (disks.since (disk_of partition)) places opened before [] reading command (in_writing partition) stops.Memory
-  held_unasked takes_memory reading command =
-      let view = disks.view (disk_of partition) in
-      let stored = has_stored (opened ++ before) partition told is_open.has in
-      let Left : List Batch → List ℕ → Type 0 = λ l file. IsLeft (IsHurt takes_memory view.faults view.faults) (opened ++ l) (in_writing partition) file in
+  pub stopped_unasked : (told : IsTrue disks.tells_images → IsTrue disks.tells) (reading : ℕ) (command : Command) → HasStopped account reading command stops.Memory old
+  stopped_unasked told reading command =
+      let has = holds.is_open.has in
+      let resting : (file : List ℕ) → Stands file (bodies_of (log_of account)) → IsLeftIn account old file = λ file stands. subst (λ (writing : Option Batch). IsLeft (IsHurtSince account old) (log_of account) writing file) (sym has.resting) stands in
       record {
-        made = subst (λ (l : List Batch). AreMadeBatches limit opened l places) (append_none before) made;
+        was = holds.was;
+        made = holds.made;
         refused = None;
         next = λ batch e. absurd (cc);
-        cause = (inl is_open.has.resting, λ batch e. absurd (cc));
-        file = λ t. subst (λ (l : List Batch). Left l view.contents) (append_none before) (left_resting takes_memory view.contents (stored.file t));
-        crash = λ t image is. subst (λ (l : List Batch). Left l image) (append_none before) (left_resting takes_memory image (stored.crash t image is));
-        time = λ t. leaves_none view.moment (disks.since (disk_of partition)) _;
+        cause = (inl has.resting, λ batch e. absurd (cc));
+        file = λ t. resting (view_in old).contents (file_stands (log_of account) old.partition has t);
+        crash = λ t image left. resting image (crash_stands (log_of account) old.partition has told t image left);
+        time = λ t.
+            let h = holds.time t in
+            record { later = h.later; ever = λ image was. inl (h.ever image was); opening = h.opening };
+        steady = λ t other. holds.steady t;
       }
 
-  -- a command stopped it
-  pub held_stopped : (takes_memory : Bool) (new : DiskView) (images : List ℕ → Type 0) (since : ℕ → List ℕ → Type 0) (reading at begin : ℕ) (command : Command) (writing : Option Batch) (stop : Stop)
-      → at ≡ max (moment_of_last (opened ++ before)) reading → begin ≡ length (opened ++ before)
-      → IsStopped disks.tells disks.tells_images takes_memory (disks.view (disk_of partition)) new images (disks.since (disk_of partition)) since 1 limit (opened ++ before) at begin command writing stop
-      → IsHeldUp disks.tells disks.tells_images takes_memory limit (disks.view (disk_of partition)) new images (disks.since (disk_of partition)) since places opened before [] reading command writing stop
-  held_stopped takes_memory new images since reading at begin command writing stop is_at is_begin stopped =
-      let faults = (disks.view (disk_of partition)).faults in
-      let Left : List Batch → List ℕ → Type 0 = λ l file. IsLeft (IsHurt takes_memory faults new.faults) (opened ++ l) writing file in
-      let log = opened ++ before in
-      let next : (batch : Batch) → stopped.refused ≡ Some batch → IsStepOf 1 1 log (max (moment_of_last log) reading) (length log) command batch =
-      λ batch is. subst (λ (m : ℕ). IsStepOf 1 1 log m (length log) command batch) is_at (subst (λ (b : ℕ). IsStepOf 1 1 log at b command batch) is_begin (stopped.next 1 batch is)) in
-      record {
-        made = subst (λ (l : List Batch). AreMadeBatches limit opened l places) (append_none before) made;
-        refused = stopped.refused;
-        next = subst (λ (l : List Batch). (batch : Batch) → stopped.refused ≡ Some batch → IsStepOf 1 1 (opened ++ l) (max (moment_of_last (opened ++ l)) reading) (length (opened ++ l)) command batch) (append_none before) next;
-        cause = subst (λ (l : List Batch). IsStopCause faults new.faults limit (opened ++ l) stopped.refused writing stop) (append_none before) stopped.unwritten.cause;
-        file = λ t. subst (λ (l : List Batch). Left l new.contents) (append_none before) (stopped.unwritten.file t);
-        crash = λ t image is. subst (λ (l : List Batch). Left l image) (append_none before) (stopped.unwritten.crash t image is);
-        time = λ t. leaves_weaker (disks.view (disk_of partition)).moment new.moment (disks.since (disk_of partition)) since _ _
-            (λ image left. inr (subst (λ (l : List Batch). Left l image) (append_none before) left)) (stopped.unwritten.time t);
-      }
+  -- the same partition with the same stamps
+  pub holds_moved : (new : Ledger D disks) → new.partition ≡ old.partition → new.stamps.items ≡ old.stamps.items → Holds account new
+  holds_moved new partition stamps =
+      subst (λ (p : Partition D disks). Holds account (record { partition = p; stamps = new.stamps })) (sym partition) (record {
+        was = holds.was;
+        made = subst (AreMadeBatches account.limit account.opened account.made) (sym stamps) holds.made;
+        is_open = holds.is_open;
+        time = holds.time;
+        faults = holds.faults;
+        steady = holds.steady;
+      })
+
+-- an account with nothing more
+pub holds_same : {D : Type 0} {disks : Ghosts D} (account : Account D) (ledger : Ledger D disks) → Holds account ledger → Holds (with_more account []) ledger
+holds_same account ledger holds =
+    let none : account.made ≡ account.made ++ [] = append_none account.made in
+    subst (λ (made : List Batch). Holds (record { first = account.first; limit = account.limit; opened = account.opened; opened_at = account.opened_at; made = made }) ledger) none holds
+
+-- an account with more, and then more
+pub holds_then : {D : Type 0} {disks : Ghosts D} (account : Account D) (ledger : Ledger D disks) (more again : List Batch) → Holds (with_more (with_more account more) again) ledger → Holds (with_more account (more ++ again)) ledger
+holds_then account ledger more again holds =
+    subst (λ (made : List Batch). Holds (record { first = account.first; limit = account.limit; opened = account.opened; opened_at = account.opened_at; made = made }) ledger) (append_assoc account.made more again) holds
+
+-- a ledger that was stopped behind an account was so behind it with nothing more
+pub stopped_same : {D : Type 0} {disks : Ghosts D} (account : Account D) (reading : ℕ) (command : Command) (stop : Stop) (ledger : Ledger D disks) → HasStopped account reading command stop ledger
+    → HasStopped (with_more account []) reading command stop ledger
+stopped_same account reading command stop ledger stopped =
+    let none : account.made ≡ account.made ++ [] = append_none account.made in
+    subst (λ (made : List Batch). HasStopped (record { first = account.first; limit = account.limit; opened = account.opened; opened_at = account.opened_at; made = made }) reading command stop ledger) none stopped

@@ -1,7 +1,6 @@
 -- How a run begins, or ends at once.
-use Rattle.std.proofs.Common.{◌≡◌, ◌⊎◌, ℕ, ◌≤◌, List, [], ◌∷◌, Bool, true, false, IsTrue, refl, subst, arith, inl, ⊎_elim}
+use Rattle.std.proofs.Common.{◌≡◌, ◌⊎◌, ℕ, ◌≤◌, List, [], ◌∷◌, Bool, true, false, IsTrue, refl, sym, subst, arith, inl, ⊎_elim}
 use Rattle.std.proofs.lemmas.Bool.{false≢true}
-use Rattle.zb_disk.specs.Disk.{DiskView}
 use Rattle.zb_disk.specs.declared.disk.Disk.{Ghosts}
 use Rattle.zb_lines.specs.TakenLaws.{takes_nothing}
 use Rattle.zb_model.specs.declared.record.Batch.{Batch}
@@ -13,10 +12,10 @@ use Rattle.zb_partition.specs.Fault.{IsDiskCause}
 use Rattle.zb_partition.specs.declared.fault.OpenFault.{OpenFault}
 use Rattle.zb_partition.specs.declared.fault.OpenFault.TheVariants as faults
 use Rattle.zb_serve.specs.Ends.{Told, LogEnds}
-use Rattle.zb_serve.specs.Ledger.{AreMadeBatches, IsStored}
+use Rattle.zb_serve.specs.Ledger.{view_in, disk_in, AreMadeBatches, IsOpen}
+use Rattle.zb_serve.specs.declared.ledger.Ledger.{Ledger}
 use Rattle.zb_serve.specs.Served.{FailsToOpen}
-use Rattle.zb_serve.specs.Hours.{RunSetting}
-use Rattle.zb_serve.specs.Serving.{RunStart, now_of, Clocks, AreAt, IsServing, open_cause_of}
+use Rattle.zb_serve.specs.Serving.{Streams, Begun, service_of, stand_of, Clocks, AreAt, IsServing, open_cause_of}
 use Rattle.zb_serve.specs.Serial.{IsServed}
 use Rattle.zb_serve.specs.Session.{most_taken}
 use Rattle.zb_serve.proofs.ListLemmas.{append_none}
@@ -59,44 +58,46 @@ settled_still now images since P alone all = record {
 }
 
 -- nothing was read yet
-pub serving_first : (told : Told) (setting : RunSetting) (start : RunStart) (disk : DiskView) (before images : List ℕ → Type 0) (since : ℕ → List ℕ → Type 0) (Has : List Batch → Type 0) (clocks : Clocks) (opened : List Batch)
-    → Has opened → AreBatches opened → IsStored told.disk told.images disk images opened → (IsTrue told.disk → Stands start.disk.contents (bodies_of opened)) → IsApplied 1 opened → AreAt setting.hours [] clocks
-    → start.disk.faults ≤ disk.faults → (IsTrue told.disk_counts → disk.faults ≡ start.disk.faults)
-    → (IsTrue told.images → Settles start.disk.moment disk.moment before since (λ image. Stands image (bodies_of opened)))
-    → IsServing told setting start (now_of start.source start.sink disk) before images since Has [] clocks [] most_taken 1
+pub serving_first : {D : Type 0} {disks : Ghosts D} (streams : Streams) (begun : Begun D) (ledger : Ledger D disks) (clocks : Clocks) (opened : List Batch)
+    → IsOpen begun.setting.limit ledger.partition opened → ledger.stamps.items ≡ [] → (IsTrue disks.tells → Stands (disks.view begun.first).contents (bodies_of opened)) → IsApplied 1 opened → AreAt begun.setting.hours [] clocks
+    → (disks.view begun.first).faults ≤ (view_in ledger).faults → (IsTrue disks.counts_failures → (view_in ledger).faults ≡ (disks.view begun.first).faults)
+    → (IsTrue disks.tells_images → Settles (disks.view begun.first).moment (view_in ledger).moment (disks.images begun.first) (disks.since (disk_in ledger)) (λ image. Stands image (bodies_of opened)))
+    → IsServing streams begun (stand_of begun.source (service_of begun.sink ledger clocks) [] most_taken 1)
 unfolding most_taken
-serving_first told setting start disk before images since Has clocks opened has fit stored stood applied at later steady settled =
-    let begun = settled_at told.images start.disk.moment disk.moment before since (λ image. Stands image (bodies_of opened)) settled in
+serving_first {D} {disks} streams begun ledger clocks opened stands none stood applied at later steady settled =
+    let settled_so = settled_at disks.tells_images (disks.view begun.first).moment (view_in ledger).moment (disks.images begun.first) (disks.since (disk_in ledger)) (λ image. Stands image (bodies_of opened)) settled in
     record {
-      opened = opened;
       taken = [];
       lines = [];
       answers = [];
+      opened = opened;
+      opened_at = settled_so.0;
       batches = [];
-      takes = takes_nothing told.source start.source;
+      takes = takes_nothing streams.source_tells begun.source;
       spent = refl;
       whole = refl;
       each = tt;
       count = refl;
       clock = at;
       replied = tt;
-      serial = each_on_none (IsServed setting.hours (opened ∷ [])) [];
+      serial = each_on_none (IsServed begun.setting.hours (opened ∷ [])) [];
       entries = refl;
-      sent = λ t. append_none start.sink.written;
-      stood = stood;
-      applied = applied;
-      made = made_none setting.limit opened fit;
-      has = subst Has (append_none opened) has;
-      stored = subst (IsStored told.disk told.images disk images) (append_none opened) stored;
-      opened_at = begun.0;
-      by_first = λ t. (begun.1 t).0;
-      later = λ t. (begun.1 t).1;
-      ever = λ t image was. (0, subst (λ (l : List Batch). Stands image (bodies_of l)) (append_none opened) ((begun.1 t).2 image was));
-      opening = λ t. (begun.1 t).3;
-      source_later = omega arith;
-      sink_later = omega arith;
-      disk_later = later;
-      steady = record { source = λ t. refl; sink = λ t. refl; disk = steady };
+      sent = λ t. append_none begun.sink.written;
+      holds = record {
+        was = record { stood = stood; applied = applied; by_first = λ t. (settled_so.1 t).0 };
+        made = subst (AreMadeBatches begun.setting.limit opened []) (sym none) (made_none begun.setting.limit opened stands.has.fits);
+        is_open = subst (IsOpen begun.setting.limit ledger.partition) (append_none opened) stands;
+        time = λ t.
+            let so = settled_so.1 t in
+            record {
+              later = so.1;
+              ever = λ image was. (0, subst (λ (l : List Batch). Stands image (bodies_of l)) (append_none opened) (so.2 image was));
+              opening = so.3;
+            };
+        faults = later;
+        steady = steady;
+      };
+      steady = record { source_later = omega arith; sink_later = omega arith; source_same = λ t. refl; sink_same = λ t. refl };
     }
 
 -- what an opening may have left, at any moment since

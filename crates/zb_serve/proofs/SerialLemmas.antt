@@ -1,5 +1,5 @@
 -- The serial run over one log.
-use Rattle.std.proofs.Common.{◌≡◌, ◌<◌, ◌≤◌, ◌+◌, max, nat_lt, ℕ, List, [], ◌∷◌, ◌++◌, length, map, Bool, true, false, Option, Some, None, option_map, refl, sym, ◌∙◌, ap, subst, arith}
+use Rattle.std.proofs.Common.{◌≡◌, ◌<◌, ◌≤◌, ◌+◌, max, nat_lt, ℕ, List, [], ◌∷◌, ◌++◌, length, true, false, Option, Some, None, option_map, refl, sym, ◌∙◌, ap, subst, arith}
 use Rattle.std.specs.Option.{option_or}
 use Rattle.std.specs.List.{sum_by}
 use Rattle.std.proofs.lemmas.Bool.Decides.{nat_tests}
@@ -10,7 +10,7 @@ use Rattle.zb_model.specs.declared.record.Command.{Command}
 use Rattle.zb_views.specs.View.{events_of, moment_of_last}
 use Rattle.zb_rules.specs.Due.{due_command}
 use Rattle.zb_rules.specs.StepLaws.{each_on_none, each_on_more}
-use Rattle.zb_world.specs.Entries.{Entry, as_entry, entries_of, part_of}
+use Rattle.zb_world.specs.Entries.{Entry, as_entry, entries_of}
 use Rattle.zb_world.specs.EntryLaws.{part_of_entries, part_of_joined}
 use Rattle.zb_wire.specs.Asked.{command_of}
 use Rattle.zb_wire.specs.declared.request.Request.{Request}
@@ -18,8 +18,13 @@ use Rattle.zb_wire.specs.declared.request.Request.TheVariants as requests
 use Rattle.zb_reply.specs.Reply.{answer_of, line_of}
 use Rattle.zb_reply.specs.declared.reply.Reply.{Reply}
 use Rattle.zb_reply.specs.declared.reply.Reply.TheVariants as replies
+<<<<<<< HEAD
 use Rattle.zb_serve.specs.Reply.{Answer, reply_if, reply_to, IsReplyTo}
 use Rattle.zb_serve.specs.Serial.{most_due, log_behind, place_behind, due_in_logs, next_by, next_of, IsNextEntry, AreMadeFor, IsCarriedOut, entries_made, found_in}
+=======
+use Rattle.zb_serve.specs.Reply.{Answer, reply_by, reply_to, IsReplyTo}
+use Rattle.zb_serve.specs.Serial.{most_due, log_behind, place_behind, next_by, next_of, IsNextEntry, AreMadeFor, IsCarriedOut, entries_made, found_in}
+>>>>>>> 64ef7f9635e85701af8e4f35c632efaa6a48195c
 
 -- the test of an order
 lt_is : (a b : ℕ) → a < b → nat_lt a b ≡ true

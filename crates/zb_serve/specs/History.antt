@@ -1,5 +1,5 @@
 -- The run in the one history of the engine.
-use Rattle.std.specs.Prelude.{◌≡◌, ℕ, List, ◌++◌, length, map, slice_get, Some, suc, All}
+use Rattle.std.specs.Prelude.{◌≡◌, ℕ, List, ◌++◌, length, map, slice_get, Some, suc}
 use Rattle.std.specs.List.{AllZip, range_with_len}
 use Rattle.zb_model.specs.declared.record.Batch.{Batch}
 use Rattle.zb_store.specs.Stands.{Stands}

@@ -1,5 +1,5 @@
 -- A partition's log in a run.
-use Rattle.std.specs.Prelude.{◌≡◌, ◌⊎◌, ◌<◌, ◌≤◌, ◌+◌, ℕ, List, [], ◌∷◌, ◌++◌, length, take, IsTrue, Bool, true, false, Option, Some, None}
+use Rattle.std.specs.Prelude.{◌≡◌, ◌⊎◌, ◌<◌, ◌≤◌, ◌+◌, ℕ, List, [], ◌∷◌, ◌++◌, take, IsTrue, Bool, true, false, Option, Some, None}
 use Rattle.zb_disk.specs.Cause.{Rose}
 use Rattle.zb_model.specs.declared.record.Batch.{Batch}
 use Rattle.zb_model.specs.RecordFits.{IsBatch}

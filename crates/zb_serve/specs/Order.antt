@@ -1,5 +1,5 @@
 -- The order of the causes of a run: of those that were met the first is told.
-use Rattle.std.specs.Prelude.{◌≡◌, ◌<◌, ℕ, List, [], ◌∷◌, ◌++◌, length, Bool, false, IsTrue, Option, Some}
+use Rattle.std.specs.Prelude.{◌≡◌, ◌<◌, ℕ, List, [], ◌∷◌, ◌++◌, length, Bool, false, IsTrue, Some}
 use Rattle.zb_model.specs.declared.record.Batch.{Batch}
 use Rattle.zb_store.specs.Log.{extent}
 use Rattle.zb_partition.specs.Log.{bodies_of}

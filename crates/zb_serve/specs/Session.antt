@@ -1,5 +1,5 @@
 -- A session: the lines of a source, what each led to, and the replies.
-use Rattle.std.specs.Prelude.{◌≡◌, ◌⊎◌, ◌<◌, ◌≤◌, ◌+◌, ◌^◌, ℕ, List, [], ◌∷◌, ◌++◌, length, take, Bool, true, false, IsTrue, IsFalse}
+use Rattle.std.specs.Prelude.{◌≡◌, ◌⊎◌, ◌<◌, ◌≤◌, ◌^◌, ℕ, List, [], ◌∷◌, ◌++◌, length, take, Bool, true, false, IsTrue, IsFalse}
 use Rattle.std.specs.List.{flat_map}
 use Rattle.zb_disk.specs.Cause.{Rose}
 use Rattle.zb_lines.specs.Taken.{TakesBytes}

@@ -1,16 +1,11 @@
-ghost use Rattle.std.specs.Prelude.{◌≡◌, ◌≤◌, ◌++◌, ◌∷◌, ℕ, List, [], Option, Some, None, IsSome, IsTrue, is_some, IfErr, IfOk, OnOk, IsErrOf, Ok};
-ghost use Rattle.zb_model.specs.declared.record.Batch.{Batch};
-ghost use Rattle.zb_model.specs.declared.stop.Stop.TheVariants as stops;
-ghost use Rattle.zb_wire.specs.Request.{request_of};
+ghost use Rattle.std.specs.Prelude.{◌≡◌, ◌++◌, ℕ, List, [], Some, IsSome, IsTrue, is_some, IfErr, OnOk};
 ghost use Rattle.zb_wire.specs.declared.request.Request.TheVariants as requests;
 ghost use Rattle.zb_wire.specs.Asked.{command_of};
 ghost use Rattle.zb_reply.specs.Reply.{answer_of, line_of, IsSpoken};
 ghost use Rattle.zb_reply.specs.declared.reply.Reply.{Reply};
-ghost use Rattle.zb_reply.specs.declared.reply.Reply.TheVariants as replies;
-ghost use Rattle.zb_partition.specs.Partition.{disk_of, slots_of, in_writing};
-ghost use Rattle.zb_serve.specs.Hours.{RunSetting};
-ghost use Rattle.zb_serve.specs.Ledger.{AreMadeBatches, IsOpen};
-ghost use Rattle.zb_serve.specs.Serving.{Past, log_of, clocks_of, ComesNext, IsAnswered, IsUnanswered, IsDone, IsUnserved};
+ghost use Rattle.zb_partition.specs.Partition.{slots_of};
+ghost use Rattle.zb_serve.specs.Ledger.{Account, Holds};
+ghost use Rattle.zb_serve.specs.Serving.{Past, clocks_of, ComesNext, IsAnswered, IsUnanswered, IsDone, IsUnserved};
 
 use crate::dial::{Dial, read_for};
 use crate::ledger::Ledger;
@@ -34,22 +29,15 @@ pub fn answer_line<D: Disk, C: Clock>(
     clock: &mut C,
     reply: &mut Vec<u8>,
 ) -> Result<(), End>
-    requires known { (setting : RunSetting) × (past : Past) × (line : List ℕ)
-        × ComesNext setting past (IsOpen setting.limit ledger.old.partition) ledger.old.stamps.items (clocks_of dial.old C.tells (C.moments clock.old)) number line shown.now }
-    ensures answered { (setting : RunSetting) (past : Past) (line : List ℕ)
-        → ComesNext setting past (IsOpen setting.limit ledger.old.partition) ledger.old.stamps.items (clocks_of dial.old C.tells (C.moments clock.old)) number line shown.now
-        → OnOk result (IsAnswered D.tells D.tells_images setting past line reply.new.items (D.view (disk_of ledger.old.partition)) (D.view (disk_of ledger.new.partition))
-        (D.images (disk_of ledger.new.partition)) (D.since (disk_of ledger.old.partition)) (D.since (disk_of ledger.new.partition))
-        (IsOpen setting.limit ledger.new.partition) ledger.new.stamps.items (clocks_of dial.new C.tells (C.moments clock.new))) }
-    ensures unanswered { (setting : RunSetting) (past : Past) (line : List ℕ)
-        → ComesNext setting past (IsOpen setting.limit ledger.old.partition) ledger.old.stamps.items (clocks_of dial.old C.tells (C.moments clock.old)) number line shown.now
-        → IfErr result (IsUnanswered D.tells D.tells_images D.takes_memory setting past line (D.view (disk_of ledger.old.partition)) (D.view (disk_of ledger.new.partition))
-        (D.images (disk_of ledger.new.partition)) (D.since (disk_of ledger.old.partition)) (D.since (disk_of ledger.new.partition))
-        (IsOpen setting.limit ledger.new.partition) ledger.new.stamps.items (in_writing ledger.new.partition)) }
+    requires known { (past : Past D) × (line : List ℕ)
+        × ComesNext past ledger.old (clocks_of dial.old C.tells (C.moments clock.old)) number line shown.now }
+    ensures answered { (past : Past D) (line : List ℕ)
+        → ComesNext past ledger.old (clocks_of dial.old C.tells (C.moments clock.old)) number line shown.now
+        → OnOk result (IsAnswered past line reply.new.items ledger.new (clocks_of dial.new C.tells (C.moments clock.new))) }
+    ensures unanswered { (past : Past D) (line : List ℕ)
+        → ComesNext past ledger.old (clocks_of dial.old C.tells (C.moments clock.old)) number line shown.now
+        → IfErr result (IsUnanswered past line ledger.new) }
     ensures slots { slots_of ledger.new.partition ≡ slots_of ledger.old.partition }
-    ensures later { (D.view (disk_of ledger.old.partition)).faults ≤ (D.view (disk_of ledger.new.partition)).faults }
-    ensures steady { IsTrue D.counts_failures → ¬ IsErrOf result (End.Stopped stops.DiskFault)
-        → (D.view (disk_of ledger.new.partition)).faults ≡ (D.view (disk_of ledger.old.partition)).faults }
     ensures kind { is_some dial.new ≡ is_some dial.old }
     ensures moments { C.moments clock.new ≡ C.moments clock.old }
     ensures untouched { IsTrue (is_some dial.old) → clock.new ≡ clock.old }
@@ -78,20 +66,13 @@ fn answer_request<D: Disk>(
     ledger: &mut Ledger<D>,
     reply: &mut Vec<u8>,
 ) -> Result<(), End>
-    requires known { (limit : ℕ) × (opened before : List Batch) × AreMadeBatches limit opened before ledger.old.stamps.items × IsOpen limit ledger.old.partition (opened ++ before) }
+    requires known { (account : Account D) × Holds account ledger.old }
     requires empty { reply.old.items ≡ [] }
-    ensures done { (limit : ℕ) (opened before : List Batch) → AreMadeBatches limit opened before ledger.old.stamps.items → IsOpen limit ledger.old.partition (opened ++ before)
-        → OnOk result (IsDone D.tells D.tells_images limit request reading opened before reply.new.items (D.view (disk_of ledger.old.partition)) (D.view (disk_of ledger.new.partition))
-        (D.images (disk_of ledger.new.partition)) (D.since (disk_of ledger.old.partition)) (D.since (disk_of ledger.new.partition))
-        (IsOpen limit ledger.new.partition) ledger.new.stamps.items) }
-    ensures unserved { (limit : ℕ) (opened before : List Batch) → AreMadeBatches limit opened before ledger.old.stamps.items → IsOpen limit ledger.old.partition (opened ++ before)
-        → IfErr result (IsUnserved D.tells D.tells_images D.takes_memory limit request reading opened before (D.view (disk_of ledger.old.partition)) (D.view (disk_of ledger.new.partition))
-        (D.images (disk_of ledger.new.partition)) (D.since (disk_of ledger.old.partition)) (D.since (disk_of ledger.new.partition))
-        (IsOpen limit ledger.new.partition) ledger.new.stamps.items (in_writing ledger.new.partition)) }
+    ensures done { (account : Account D) → Holds account ledger.old
+        → OnOk result (IsDone account request reading reply.new.items ledger.new) }
+    ensures unserved { (account : Account D) → Holds account ledger.old
+        → IfErr result (IsUnserved account request reading ledger.new) }
     ensures slots { slots_of ledger.new.partition ≡ slots_of ledger.old.partition }
-    ensures later { (D.view (disk_of ledger.old.partition)).faults ≤ (D.view (disk_of ledger.new.partition)).faults }
-    ensures steady { IsTrue D.counts_failures → ¬ IsErrOf result (End.Stopped stops.DiskFault)
-        → (D.view (disk_of ledger.new.partition)).faults ≡ (D.view (disk_of ledger.old.partition)).faults }
 {
     match request {
         Request::Tick => answer_tick(alloc, reading, ledger, reply),
@@ -107,20 +88,13 @@ fn answer_tick<D: Disk>(
     ledger: &mut Ledger<D>,
     reply: &mut Vec<u8>,
 ) -> Result<(), End>
-    requires known { (limit : ℕ) × (opened before : List Batch) × AreMadeBatches limit opened before ledger.old.stamps.items × IsOpen limit ledger.old.partition (opened ++ before) }
+    requires known { (account : Account D) × Holds account ledger.old }
     requires empty { reply.old.items ≡ [] }
-    ensures done { (limit : ℕ) (opened before : List Batch) → AreMadeBatches limit opened before ledger.old.stamps.items → IsOpen limit ledger.old.partition (opened ++ before)
-        → OnOk result (IsDone D.tells D.tells_images limit requests.Tick reading opened before reply.new.items (D.view (disk_of ledger.old.partition)) (D.view (disk_of ledger.new.partition))
-        (D.images (disk_of ledger.new.partition)) (D.since (disk_of ledger.old.partition)) (D.since (disk_of ledger.new.partition))
-        (IsOpen limit ledger.new.partition) ledger.new.stamps.items) }
-    ensures unserved { (limit : ℕ) (opened before : List Batch) → AreMadeBatches limit opened before ledger.old.stamps.items → IsOpen limit ledger.old.partition (opened ++ before)
-        → IfErr result (IsUnserved D.tells D.tells_images D.takes_memory limit requests.Tick reading opened before (D.view (disk_of ledger.old.partition)) (D.view (disk_of ledger.new.partition))
-        (D.images (disk_of ledger.new.partition)) (D.since (disk_of ledger.old.partition)) (D.since (disk_of ledger.new.partition))
-        (IsOpen limit ledger.new.partition) ledger.new.stamps.items (in_writing ledger.new.partition)) }
+    ensures done { (account : Account D) → Holds account ledger.old
+        → OnOk result (IsDone account requests.Tick reading reply.new.items ledger.new) }
+    ensures unserved { (account : Account D) → Holds account ledger.old
+        → IfErr result (IsUnserved account requests.Tick reading ledger.new) }
     ensures slots { slots_of ledger.new.partition ≡ slots_of ledger.old.partition }
-    ensures later { (D.view (disk_of ledger.old.partition)).faults ≤ (D.view (disk_of ledger.new.partition)).faults }
-    ensures steady { IsTrue D.counts_failures → ¬ IsErrOf result (End.Stopped stops.DiskFault)
-        → (D.view (disk_of ledger.new.partition)).faults ≡ (D.view (disk_of ledger.old.partition)).faults }
 {
     match ledger.tick(alloc, reading) {
         Ok(due) => put(alloc, &Reply::Tick(due), Some(0), reply),
@@ -136,21 +110,14 @@ fn answer_command<D: Disk>(
     ledger: &mut Ledger<D>,
     reply: &mut Vec<u8>,
 ) -> Result<(), End>
-    requires known { (limit : ℕ) × (opened before : List Batch) × AreMadeBatches limit opened before ledger.old.stamps.items × IsOpen limit ledger.old.partition (opened ++ before) }
+    requires known { (account : Account D) × Holds account ledger.old }
     requires command { IsSome (command_of request) }
     requires empty { reply.old.items ≡ [] }
-    ensures done { (limit : ℕ) (opened before : List Batch) → AreMadeBatches limit opened before ledger.old.stamps.items → IsOpen limit ledger.old.partition (opened ++ before)
-        → OnOk result (IsDone D.tells D.tells_images limit request reading opened before reply.new.items (D.view (disk_of ledger.old.partition)) (D.view (disk_of ledger.new.partition))
-        (D.images (disk_of ledger.new.partition)) (D.since (disk_of ledger.old.partition)) (D.since (disk_of ledger.new.partition))
-        (IsOpen limit ledger.new.partition) ledger.new.stamps.items) }
-    ensures unserved { (limit : ℕ) (opened before : List Batch) → AreMadeBatches limit opened before ledger.old.stamps.items → IsOpen limit ledger.old.partition (opened ++ before)
-        → IfErr result (IsUnserved D.tells D.tells_images D.takes_memory limit request reading opened before (D.view (disk_of ledger.old.partition)) (D.view (disk_of ledger.new.partition))
-        (D.images (disk_of ledger.new.partition)) (D.since (disk_of ledger.old.partition)) (D.since (disk_of ledger.new.partition))
-        (IsOpen limit ledger.new.partition) ledger.new.stamps.items (in_writing ledger.new.partition)) }
+    ensures done { (account : Account D) → Holds account ledger.old
+        → OnOk result (IsDone account request reading reply.new.items ledger.new) }
+    ensures unserved { (account : Account D) → Holds account ledger.old
+        → IfErr result (IsUnserved account request reading ledger.new) }
     ensures slots { slots_of ledger.new.partition ≡ slots_of ledger.old.partition }
-    ensures later { (D.view (disk_of ledger.old.partition)).faults ≤ (D.view (disk_of ledger.new.partition)).faults }
-    ensures steady { IsTrue D.counts_failures → ¬ IsErrOf result (End.Stopped stops.DiskFault)
-        → (D.view (disk_of ledger.new.partition)).faults ≡ (D.view (disk_of ledger.old.partition)).faults }
 {
     let Some(command) = request.into_command() else {
         unreachable!()

@@ -1,11 +1,9 @@
-ghost use Rattle.std.specs.Prelude.{◌≡◌, ◌≤◌, ◌++◌, ◌∷◌, ℕ, List, [], length, max, IfErr, IfOk, OnOk, IsErrOf, IsTrue};
+ghost use Rattle.std.specs.Prelude.{◌≡◌, max, IfErr, IfOk, OnOk};
 ghost use Rattle.zb_model.specs.declared.record.Batch.{Batch};
-ghost use Rattle.zb_views.specs.View.{moment_of_last};
-ghost use Rattle.zb_rules.specs.Step.{IsStep};
 ghost use Rattle.zb_rules.specs.Own.{IsSupported};
 ghost use Rattle.zb_partition.specs.Partition.{disk_of, slots_of, in_writing};
-ghost use Rattle.zb_serve.specs.Ledger.{AreMadeBatches, IsOpen, IsGrown, IsHeldUp, IsAdded, IsTicked, IsCut};
 ghost use Rattle.zb_wire.specs.declared.request.Request.TheVariants as requests;
+ghost use Rattle.zb_serve.specs.Ledger.{Account, Holds, IsCommitted, HasStopped, IsTicked, IsCut};
 
 use std::alloc::{AllocError, Global};
 use zb_disk::Disk;
@@ -24,34 +22,20 @@ pub struct Ledger<D: Disk> {
 
 impl<D: Disk> Ledger<D> {
     /// Submits a command at a reading of the clock, or at the last moment of the log where that is larger, and
-    /// notes the place of its batch. The clauses hold for all batches that the log had at opening and that were
-    /// made since.
+    /// notes the place of its batch. The clauses hold for every account of the ledger.
     pub fn commit(
         &mut self,
         alloc: Global,
         reading: Moment,
         command: Command,
     ) -> Result<Batch, Stop>
-        requires known { (limit : ℕ) × (opened before : List Batch) × AreMadeBatches limit opened before self.old.stamps.items × IsOpen limit self.old.partition (opened ++ before) }
+        requires known { (account : Account D) × Holds account self.old }
         requires run { IsSupported command }
-        ensures step { (limit : ℕ) (opened before : List Batch) → AreMadeBatches limit opened before self.old.stamps.items → IsOpen limit self.old.partition (opened ++ before)
-            → IfOk result (IsStep 1 1 (opened ++ before)) }
-        ensures moment { (limit : ℕ) (opened before : List Batch) → AreMadeBatches limit opened before self.old.stamps.items → IsOpen limit self.old.partition (opened ++ before)
-            → IfOk result (λ batch. batch.moment ≡ max (moment_of_last (opened ++ before)) reading) }
-        ensures begin { (limit : ℕ) (opened before : List Batch) → AreMadeBatches limit opened before self.old.stamps.items → IsOpen limit self.old.partition (opened ++ before)
-            → IfOk result (λ batch. batch.begin ≡ length (opened ++ before)) }
-        ensures command { IfOk result (λ batch. batch.command ≡ command) }
-        ensures grown { (limit : ℕ) (opened before : List Batch) → AreMadeBatches limit opened before self.old.stamps.items → IsOpen limit self.old.partition (opened ++ before)
-            → IfOk result (λ batch. IsGrown D.tells D.tells_images limit (D.view (disk_of self.old.partition)) (D.view (disk_of self.new.partition))
-            (D.images (disk_of self.new.partition)) (D.since (disk_of self.old.partition)) (D.since (disk_of self.new.partition))
-            (IsOpen limit self.new.partition) self.new.stamps.items opened before (batch ∷ [])) }
-        ensures held { (limit : ℕ) (opened before : List Batch) → AreMadeBatches limit opened before self.old.stamps.items → IsOpen limit self.old.partition (opened ++ before)
-            → IfErr result (IsHeldUp D.tells D.tells_images D.takes_memory limit (D.view (disk_of self.old.partition)) (D.view (disk_of self.new.partition))
-            (D.images (disk_of self.new.partition)) (D.since (disk_of self.old.partition)) (D.since (disk_of self.new.partition))
-            self.new.stamps.items opened before [] reading command (in_writing self.new.partition)) }
+        ensures committed { (account : Account D) → Holds account self.old
+            → IfOk result (λ batch. IsCommitted account reading command batch self.new) }
+        ensures stopped { (account : Account D) → Holds account self.old
+            → IfErr result (λ stop. HasStopped account reading command stop self.new) }
         ensures slots { slots_of self.new.partition ≡ slots_of self.old.partition }
-        ensures later { (D.view (disk_of self.old.partition)).faults ≤ (D.view (disk_of self.new.partition)).faults }
-        ensures steady { IsTrue D.counts_failures → ¬ IsErrOf result Stop.DiskFault → (D.view (disk_of self.new.partition)).faults ≡ (D.view (disk_of self.old.partition)).faults }
     {
         match self.stamps.reserve(1) {
             Ok(()) => {}
@@ -71,18 +55,12 @@ impl<D: Disk> Ledger<D> {
     /// Submits the command that is due first at a reading of the clock, and so on, until none is due or
     /// `MOST_DUE` were, and tells how many. After an `Err` the batches of those before are in the log.
     pub fn tick(&mut self, alloc: Global, reading: Moment) -> Result<u64, Stop>
-        requires known { (limit : ℕ) × (opened before : List Batch) × AreMadeBatches limit opened before self.old.stamps.items × IsOpen limit self.old.partition (opened ++ before) }
-        ensures ticked { (limit : ℕ) (opened before : List Batch) → AreMadeBatches limit opened before self.old.stamps.items → IsOpen limit self.old.partition (opened ++ before)
-            → IfOk result (IsTicked D.tells D.tells_images limit reading opened before (D.view (disk_of self.old.partition)) (D.view (disk_of self.new.partition))
-            (D.images (disk_of self.new.partition)) (D.since (disk_of self.old.partition)) (D.since (disk_of self.new.partition))
-            (IsOpen limit self.new.partition) self.new.stamps.items) }
-        ensures held { (limit : ℕ) (opened before : List Batch) → AreMadeBatches limit opened before self.old.stamps.items → IsOpen limit self.old.partition (opened ++ before)
-            → IfErr result (IsCut D.tells D.tells_images D.takes_memory limit requests.Tick reading opened before (D.view (disk_of self.old.partition)) (D.view (disk_of self.new.partition))
-            (D.images (disk_of self.new.partition)) (D.since (disk_of self.old.partition)) (D.since (disk_of self.new.partition))
-            self.new.stamps.items (in_writing self.new.partition)) }
+        requires known { (account : Account D) × Holds account self.old }
+        ensures ticked { (account : Account D) → Holds account self.old
+            → IfOk result (λ due. IsTicked account reading due self.new) }
+        ensures cut { (account : Account D) → Holds account self.old
+            → IfErr result (λ stop. IsCut account requests.Tick reading stop self.new) }
         ensures slots { slots_of self.new.partition ≡ slots_of self.old.partition }
-        ensures later { (D.view (disk_of self.old.partition)).faults ≤ (D.view (disk_of self.new.partition)).faults }
-        ensures steady { IsTrue D.counts_failures → ¬ IsErrOf result Stop.DiskFault → (D.view (disk_of self.new.partition)).faults ≡ (D.view (disk_of self.old.partition)).faults }
     {
         for done in 0..MOST_DUE {
             let Some(command) = self.partition.due(reading) else {
@@ -98,19 +76,13 @@ impl<D: Disk> Ledger<D> {
 
     // Submits a command whose batch nobody asks for.
     fn add(&mut self, alloc: Global, reading: Moment, command: Command) -> Result<(), Stop>
-        requires known { (limit : ℕ) × (opened before : List Batch) × AreMadeBatches limit opened before self.old.stamps.items × IsOpen limit self.old.partition (opened ++ before) }
+        requires known { (account : Account D) × Holds account self.old }
         requires run { IsSupported command }
-        ensures added { (limit : ℕ) (opened before : List Batch) → AreMadeBatches limit opened before self.old.stamps.items → IsOpen limit self.old.partition (opened ++ before)
-            → OnOk result (IsAdded D.tells D.tells_images limit reading command opened before (D.view (disk_of self.old.partition)) (D.view (disk_of self.new.partition))
-            (D.images (disk_of self.new.partition)) (D.since (disk_of self.old.partition)) (D.since (disk_of self.new.partition))
-            (IsOpen limit self.new.partition) self.new.stamps.items) }
-        ensures held { (limit : ℕ) (opened before : List Batch) → AreMadeBatches limit opened before self.old.stamps.items → IsOpen limit self.old.partition (opened ++ before)
-            → IfErr result (IsHeldUp D.tells D.tells_images D.takes_memory limit (D.view (disk_of self.old.partition)) (D.view (disk_of self.new.partition))
-            (D.images (disk_of self.new.partition)) (D.since (disk_of self.old.partition)) (D.since (disk_of self.new.partition))
-            self.new.stamps.items opened before [] reading command (in_writing self.new.partition)) }
+        ensures added { (account : Account D) → Holds account self.old
+            → OnOk result ((batch : Batch) × IsCommitted account reading command batch self.new) }
+        ensures stopped { (account : Account D) → Holds account self.old
+            → IfErr result (λ stop. HasStopped account reading command stop self.new) }
         ensures slots { slots_of self.new.partition ≡ slots_of self.old.partition }
-        ensures later { (D.view (disk_of self.old.partition)).faults ≤ (D.view (disk_of self.new.partition)).faults }
-        ensures steady { IsTrue D.counts_failures → ¬ IsErrOf result Stop.DiskFault → (D.view (disk_of self.new.partition)).faults ≡ (D.view (disk_of self.old.partition)).faults }
     {
         let _batch = match self.commit(alloc, reading, command) {
             Ok(batch) => batch,

@@ -1,10 +1,7 @@
-ghost use Rattle.std.specs.Prelude.{◌≡◌, [], IsTrue, is_some, IfOk};
-ghost use Rattle.zb_partition.specs.Partition.{disk_of, slots_of, in_writing};
-ghost use Rattle.zb_serve.specs.Ends.{told};
-ghost use Rattle.zb_serve.specs.Hours.{RunSetting};
-ghost use Rattle.zb_serve.specs.Ledger.{IsOpen};
+ghost use Rattle.std.specs.Prelude.{◌≡◌, ◌+◌, [], IsTrue, is_some, IfOk};
+ghost use Rattle.zb_partition.specs.Partition.{slots_of, in_writing};
 ghost use Rattle.zb_serve.specs.Session.{most_taken};
-ghost use Rattle.zb_serve.specs.Serving.{now_of, clocks_of, RunStart, IsServing, IsOver, GoesOn, cause_of, goes_on, source_end_of};
+ghost use Rattle.zb_serve.specs.Serving.{clocks_of, streams_of, Begun, service_of, stand_of, IsServing, IsOver, GoesOn, cause_of, goes_on, source_end_of};
 
 use crate::dial::Dial;
 use crate::ledger::Ledger;
@@ -53,23 +50,18 @@ pub fn serve_session<S: Source, K: Sink, D: Disk, C: Clock>(
     dial: &mut Dial,
     clock: &mut C,
 ) -> End
-    requires { (setting : RunSetting) × (start : RunStart) × (first : D) × IsServing
-        (told S.tells S.counts_failures K.Sink D.Disk)
-        setting start (now_of (S.view session.old.source) (K.view session.old.sink) (D.view (disk_of ledger.old.partition)))
-        (D.images first) (D.images (disk_of ledger.old.partition)) (D.since (disk_of ledger.old.partition)) (IsOpen setting.limit ledger.old.partition) ledger.old.stamps.items
-        (clocks_of dial.old C.tells (C.moments clock.old)) [] most_taken 1 }
+    requires { (begun : Begun D) × IsServing (streams_of S.tells S.counts_failures K.Sink) begun
+        (stand_of (S.view session.old.source)
+        (service_of (K.view session.old.sink) ledger.old (clocks_of dial.old C.tells (C.moments clock.old)))
+        [] most_taken 1) }
 
     // For all that the run may have begun with, and go by.
-    ensures over { (setting : RunSetting) (start : RunStart) (first : D) → IsServing
-        (told S.tells S.counts_failures K.Sink D.Disk)
-        setting start (now_of (S.view session.old.source) (K.view session.old.sink) (D.view (disk_of ledger.old.partition)))
-        (D.images first) (D.images (disk_of ledger.old.partition)) (D.since (disk_of ledger.old.partition)) (IsOpen setting.limit ledger.old.partition) ledger.old.stamps.items
-        (clocks_of dial.old C.tells (C.moments clock.old)) [] most_taken 1
-        → IsOver
-        (told S.tells S.counts_failures K.Sink D.Disk)
-        setting start (now_of (S.view session.new.source) (K.view session.new.sink) (D.view (disk_of ledger.new.partition)))
-        (D.images first) (D.images (disk_of ledger.new.partition)) (D.since (disk_of ledger.new.partition)) ledger.new.stamps.items
-        (cause_of (in_writing ledger.new.partition) result) }
+    ensures over { (begun : Begun D) → IsServing (streams_of S.tells S.counts_failures K.Sink) begun
+        (stand_of (S.view session.old.source)
+        (service_of (K.view session.old.sink) ledger.old (clocks_of dial.old C.tells (C.moments clock.old)))
+        [] most_taken 1)
+        → IsOver (streams_of S.tells S.counts_failures K.Sink) begun
+        (S.view session.new.source) (K.view session.new.sink) ledger.new (cause_of (in_writing ledger.new.partition) result) }
     ensures slots { slots_of ledger.new.partition ≡ slots_of ledger.old.partition }
     ensures moments { C.moments clock.new ≡ C.moments clock.old }
     ensures untouched { IsTrue (is_some dial.old) → clock.new ≡ clock.old }
@@ -98,22 +90,18 @@ fn serve_next<S: Source, K: Sink, D: Disk, C: Clock>(
     dial: &mut Dial,
     clock: &mut C,
 ) -> Result<bool, End>
-    requires { (setting : RunSetting) × (start : RunStart) × (first : D) × IsServing
-        (told S.tells S.counts_failures K.Sink D.Disk)
-        setting start (now_of (S.view session.old.source) (K.view session.old.sink) (D.view (disk_of ledger.old.partition)))
-        (D.images first) (D.images (disk_of ledger.old.partition)) (D.since (disk_of ledger.old.partition)) (IsOpen setting.limit ledger.old.partition) ledger.old.stamps.items
-        (clocks_of dial.old C.tells (C.moments clock.old)) desk.old.reader desk.old.budget number }
-    ensures goes_on { (setting : RunSetting) (start : RunStart) (first : D) → IsServing
-        (told S.tells S.counts_failures K.Sink D.Disk)
-        setting start (now_of (S.view session.old.source) (K.view session.old.sink) (D.view (disk_of ledger.old.partition)))
-        (D.images first) (D.images (disk_of ledger.old.partition)) (D.since (disk_of ledger.old.partition)) (IsOpen setting.limit ledger.old.partition) ledger.old.stamps.items
-        (clocks_of dial.old C.tells (C.moments clock.old)) desk.old.reader desk.old.budget number
-        → GoesOn
-        (told S.tells S.counts_failures K.Sink D.Disk)
-        setting start (now_of (S.view session.new.source) (K.view session.new.sink) (D.view (disk_of ledger.new.partition)))
-        (D.images first) (D.images (disk_of ledger.new.partition)) (D.since (disk_of ledger.new.partition)) (IsOpen setting.limit ledger.new.partition) ledger.new.stamps.items
-        (clocks_of dial.new C.tells (C.moments clock.new)) desk.new.reader desk.new.budget number
-        (in_writing ledger.new.partition) result }
+    requires { (begun : Begun D) × IsServing (streams_of S.tells S.counts_failures K.Sink) begun
+        (stand_of (S.view session.old.source)
+        (service_of (K.view session.old.sink) ledger.old (clocks_of dial.old C.tells (C.moments clock.old)))
+        desk.old.reader desk.old.budget number) }
+    ensures goes_on { (begun : Begun D) → IsServing (streams_of S.tells S.counts_failures K.Sink) begun
+        (stand_of (S.view session.old.source)
+        (service_of (K.view session.old.sink) ledger.old (clocks_of dial.old C.tells (C.moments clock.old)))
+        desk.old.reader desk.old.budget number)
+        → GoesOn (streams_of S.tells S.counts_failures K.Sink) begun
+        (stand_of (S.view session.new.source)
+        (service_of (K.view session.new.sink) ledger.new (clocks_of dial.new C.tells (C.moments clock.new)))
+        desk.new.reader desk.new.budget (number + 1)) result }
     ensures slots { slots_of ledger.new.partition ≡ slots_of ledger.old.partition }
     ensures kind { is_some dial.new ≡ is_some dial.old }
     ensures moments { C.moments clock.new ≡ C.moments clock.old }

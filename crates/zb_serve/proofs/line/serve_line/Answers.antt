@@ -5,25 +5,21 @@ use Rattle.zb_serve.proofs.line.serve_line.Goals as goal
 
 -- nothing was written
 pub returns-in-Err-clause-over : goal.returns-in-Err-clause-over
-returns-in-Err-clause-over g c = λ source tells counts setting past line next. inr (refl, c.in-Err.ensures.unanswered setting past line next)
+returns-in-Err-clause-over g c = λ tells counts past line next. inr (refl, c.in-Err.ensures.unanswered past line next)
 
 pub returns-in-Ok-clause-replied : goal.returns-in-Ok-clause-replied
-returns-in-Ok-clause-replied g c = λ source tells counts setting past line next.
+returns-in-Ok-clause-replied g c = λ tells counts past line next.
     on_ok_weaker c.deliver.result (λ sent. record {
       reply = c.answer_line.new.reply.items;
-      answered = c.in-Ok.ensures.answered setting past line next;
+      answered = c.in-Ok.ensures.answered past line next;
       sent = λ t. sent t ∙ ap (λ reply. (g.K.Sink.view c.args.sink.now).written ++ reply) c.deref.ensures.value;
     }) (on_ok_under c.deliver.result _ _ c.deliver.ensures.sent)
 
 pub returns-in-Ok-clause-over : goal.returns-in-Ok-clause-over
-returns-in-Ok-clause-over g c = λ source tells counts setting past line next.
+returns-in-Ok-clause-over g c = λ tells counts past line next.
     if_err_both c.deliver.result _ _ _ _ c.deliver.ensures.part c.deliver.ensures.end (λ end part named. inl (record {
       reply = c.answer_line.new.reply.items;
-      answered = c.in-Ok.ensures.answered setting past line next;
+      answered = c.in-Ok.ensures.answered past line next;
       sent = λ t. ((part t).0, (part t).1 ∙ ap (λ reply. (g.K.Sink.view c.args.sink.now).written ++ take (part t).0 reply) c.deref.ensures.value);
       named = named;
     }))
-
--- a reply was written, or wasn't: the disk is as it was then
-pub returns-in-Ok-clause-disk_steady : goal.returns-in-Ok-clause-disk_steady
-returns-in-Ok-clause-disk_steady g c = λ t other. c.in-Ok.ensures.steady t (λ e. absurd (cc))

@@ -2,80 +2,70 @@ use Rattle.std.proofs.Common.{◌≢◌, ℕ, ◌++◌, List, Ok, ap, sym, subst
 use Rattle.zb_lines.specs.Line.{Comes, IsAtEnd}
 use Rattle.zb_lines.specs.declared.reader.Next.{Next}
 use Rattle.zb_lines.specs.declared.reader.Next.TheVariants as nexts
-use Rattle.zb_partition.specs.Partition.{disk_of, in_writing}
 use Rattle.zb_serve.specs.Hours.{given_of}
-use Rattle.zb_serve.specs.Ledger.{IsOpen}
-use Rattle.zb_serve.specs.Serving.{clocks_of}
 use Rattle.zb_serve.proofs.TurnLemmas.{past_of}
 use Rattle.zb_serve.proofs.StopLemmas.{stops_reading, stops_done, stops_full, line_in, comes_next, turn_served, turn_stopped}
 use Rattle.zb_serve.proofs.session.serve_next.Goals as goal
 
 pub returns-in-Err-clause-goes_on : goal.returns-in-Err-clause-goes_on
-returns-in-Err-clause-goes_on g c = λ setting start first s.
+returns-in-Err-clause-goes_on g c = λ begun s.
     let read = c.in-Err.ensures.comes in
-    rw c.source_end.ensures (stops_reading _ setting start _ _ _ _ _ _ _ _ _ _ s _ _ read.0 read.1 read.2 (in_writing c.args.ledger.now.partition) c.next.new.self c.next.new.line.items c.longest_shown.result c.in-Err.trouble read.3 c.in-Err.ensures.failed)
+    rw c.source_end.ensures (stops_reading _ begun g.met.D.Disk.images_told _ s _ _ read.0 read.1 read.2 c.next.new.self c.next.new.line.items c.longest_shown.result c.in-Err.trouble read.3 c.in-Err.ensures.failed)
 
 -- there are no more lines
 pub returns-in-End-clause-goes_on : goal.returns-in-End-clause-goes_on
-returns-in-End-clause-goes_on g c = λ setting start first s.
+returns-in-End-clause-goes_on g c = λ begun s.
     let read = c.in-Ok.ensures.comes in
     let came = subst (λ (n : Next). Comes c.longest_shown.result (Ok n) (c.args.desk.now.reader ++ read.0) c.next.new.self c.next.new.line.items) c.in-End.is read.3 in
-    stops_done _ setting start _ _ _ _ _ _ _ _ _ _ s _ _ read.0 read.1 read.2 came.0 (c.in-Ok.ensures.at_end (subst (λ (n : Next). IsAtEnd (Ok n)) (sym c.in-End.is) tt)) c.in-Ok.ensures.steady
+    stops_done _ begun g.met.D.Disk.images_told _ s _ _ read.0 read.1 read.2 came.0 (c.in-Ok.ensures.at_end (subst (λ (n : Next). IsAtEnd (Ok n)) (sym c.in-End.is) tt)) c.in-Ok.ensures.steady
 
 -- no more may be taken
 pub returns-in-Full-clause-goes_on : goal.returns-in-Full-clause-goes_on
-returns-in-Full-clause-goes_on g c = λ setting start first s.
+returns-in-Full-clause-goes_on g c = λ begun s.
     let read = c.in-Ok.ensures.comes in
     let came = subst (λ (n : Next). Comes c.longest_shown.result (Ok n) (c.args.desk.now.reader ++ read.0) c.next.new.self c.next.new.line.items) c.in-Full.is read.3 in
-    stops_full _ setting start _ _ _ _ _ _ _ _ _ _ s _ _ read.0 read.1 read.2 came (c.in-Ok.ensures.full (ap Ok c.in-Full.is)) c.in-Ok.ensures.steady
+    stops_full _ begun g.met.D.Disk.images_told _ s _ _ read.0 read.1 read.2 came (c.in-Ok.ensures.full (ap Ok c.in-Full.is)) c.in-Ok.ensures.steady
 
 pub serve_line-requires : goal.serve_line-requires
 serve_line-requires g c =
-    let k = c.requires in
-    let s = k.3 in
+    let begun = c.requires.0 in
+    let s = c.requires.1 in
     let read = c.in-Ok.ensures.comes in
     let came = subst (λ (l : List ℕ). Comes c.longest_shown.result (Ok c.in-Ok.next) (c.args.desk.now.reader ++ read.0) c.next.new.self l) (sym c.deref.ensures.value) read.3 in
     let not_end : c.in-Ok.next ≢ nexts.End = search rules in
     let not_full : c.in-Ok.next ≢ nexts.Full = search rules in
     record {
       known = (
-        k.0,
-        past_of c.args.number s.answers s.opened s.batches,
+        past_of _ begun _ s,
         line_in c.args.desk.now.reader read.0 c.longest_shown.result c.in-Ok.next c.next.new.self c.deref.result.now came,
-        comes_next _ k.0 k.1 _ _ _ _ _ _ _ _ _ _ s c.longest_shown.result read.0 c.next.new.self _ c.in-Ok.next not_end not_full came (c.longest_shown.ensures.decides (given_of k.0.hours 1 c.args.number)),
+        comes_next _ begun _ s c.longest_shown.result read.0 c.next.new.self _ c.in-Ok.next not_end not_full came (c.longest_shown.ensures.decides (given_of begun.setting.hours 1 c.args.number)),
       );
     }
 
 -- a line was served
 pub returns-in-Ok-serve_line-clause-goes_on : goal.returns-in-Ok-serve_line-clause-goes_on
-returns-in-Ok-serve_line-clause-goes_on g c = λ setting start first s.
+returns-in-Ok-serve_line-clause-goes_on g c = λ begun s.
     let read = c.in-Ok.ensures.comes in
     let came = subst (λ (l : List ℕ). Comes c.longest_shown.result (Ok c.in-Ok.next) (c.args.desk.now.reader ++ read.0) c.next.new.self l) (sym c.deref.ensures.value) read.3 in
     let not_end : c.in-Ok.next ≢ nexts.End = search rules in
     let not_full : c.in-Ok.next ≢ nexts.Full = search rules in
-    let next = comes_next _ setting start _ _ _ _ _ _ _ _ _ _ s c.longest_shown.result read.0 c.next.new.self _ c.in-Ok.next not_end not_full came (c.longest_shown.ensures.decides (given_of setting.hours 1 c.args.number)) in
-    let replied = c.in-Ok-serve_line.ensures.replied (g.S.Source.view c.next.new.source) g.S.Source.tells g.S.Source.counts_failures setting _ _ next in
-    rw c.may_go_on.ensures (turn_served _ setting start _ _ _ _ _ (g.D.Disk.since (disk_of c.serve_line.new.ledger.partition)) _ (IsOpen setting.limit c.serve_line.new.ledger.partition) _ _ _
-    (clocks_of c.serve_line.new.dial g.C.Clock.tells (g.C.Clock.moments c.serve_line.new.clock)) _ _ _ _ c.longest_shown.result _ _ _ read.0 c.next.new.self _ s read.1 read.2
-    (in_writing c.serve_line.new.ledger.partition) c.in-Ok.next not_end not_full came c.in-Ok.ensures.at_end
-    replied (record {
+    let next = comes_next _ begun _ s c.longest_shown.result read.0 c.next.new.self _ c.in-Ok.next not_end not_full came (c.longest_shown.ensures.decides (given_of begun.setting.hours 1 c.args.number)) in
+    let replied = c.in-Ok-serve_line.ensures.replied g.S.Source.tells g.S.Source.counts_failures _ _ next in
+    rw c.may_go_on.ensures (turn_served _ begun g.met.D.Disk.images_told _ s _ _ _ c.longest_shown.result read.0 c.next.new.self _ read.1 read.2
+    c.in-Ok.next not_end not_full came c.in-Ok.ensures.at_end replied (record {
       source_later = c.in-Ok.ensures.later;
       sink_later = c.in-Ok-serve_line.ensures.sink_later;
-      disk_later = c.in-Ok-serve_line.ensures.disk_later;
-      source_steady = c.in-Ok.ensures.steady;
-      sink_steady = λ t. c.in-Ok-serve_line.ensures.sink_steady t (λ e. absurd (cc));
-      disk_steady = λ t. c.in-Ok-serve_line.ensures.disk_steady t (λ e. absurd (cc));
+      source_same = c.in-Ok.ensures.steady;
+      sink_same = λ t. c.in-Ok-serve_line.ensures.sink_steady t (λ e. absurd (cc));
     }))
 
 -- a line ended the run
 pub returns-in-Err-serve_line-clause-goes_on : goal.returns-in-Err-serve_line-clause-goes_on
-returns-in-Err-serve_line-clause-goes_on g c = λ setting start first s.
+returns-in-Err-serve_line-clause-goes_on g c = λ begun s.
     let read = c.in-Ok.ensures.comes in
     let came = subst (λ (l : List ℕ). Comes c.longest_shown.result (Ok c.in-Ok.next) (c.args.desk.now.reader ++ read.0) c.next.new.self l) (sym c.deref.ensures.value) read.3 in
     let not_end : c.in-Ok.next ≢ nexts.End = search rules in
     let not_full : c.in-Ok.next ≢ nexts.Full = search rules in
-    let next = comes_next _ setting start _ _ _ _ _ _ _ _ _ _ s c.longest_shown.result read.0 c.next.new.self _ c.in-Ok.next not_end not_full came (c.longest_shown.ensures.decides (given_of setting.hours 1 c.args.number)) in
-    let ended = c.in-Err-serve_line.ensures.over (g.S.Source.view c.next.new.source) g.S.Source.tells g.S.Source.counts_failures setting _ _ next in
-    turn_stopped _ setting start _ _ _ _ _ (g.D.Disk.since (disk_of c.serve_line.new.ledger.partition)) _ (IsOpen setting.limit c.serve_line.new.ledger.partition) _ _ _
-    (clocks_of c.serve_line.new.dial g.C.Clock.tells (g.C.Clock.moments c.serve_line.new.clock)) _ _ _ _ c.longest_shown.result _ _ _ read.0 c.next.new.self _ s read.1 read.2
-    (in_writing c.serve_line.new.ledger.partition) c.in-Ok.next not_end not_full came c.in-Ok.ensures.at_end _ ended c.in-Ok.ensures.steady (λ t other. c.in-Err-serve_line.ensures.disk_steady t (λ e. other (cc)))
+    let next = comes_next _ begun _ s c.longest_shown.result read.0 c.next.new.self _ c.in-Ok.next not_end not_full came (c.longest_shown.ensures.decides (given_of begun.setting.hours 1 c.args.number)) in
+    let ended = c.in-Err-serve_line.ensures.over g.S.Source.tells g.S.Source.counts_failures _ _ next in
+    turn_stopped _ begun g.met.D.Disk.images_told _ s _ _ _ c.longest_shown.result read.0 c.next.new.self _ read.1 read.2 c.in-Ok.next not_end not_full came c.in-Ok.ensures.at_end _ ended c.in-Ok.ensures.steady
