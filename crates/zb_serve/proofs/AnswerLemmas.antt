@@ -27,7 +27,7 @@ use Rattle.zb_reply.specs.ReplyLaws.{answer_of-deployed, answer_of-created, answ
 use Rattle.zb_reply.specs.declared.reply.Reply.{Reply}
 use Rattle.zb_reply.specs.declared.reply.Reply.TheVariants as replies
 use Rattle.zb_serve.specs.Serving.{Past, Asks, IsDropped, IsUnserved, IsUnanswered}
-use Rattle.zb_serve.specs.Ledger.{Account, Holds}
+use Rattle.zb_serve.specs.Ledger.{Account, HasAccount}
 use Rattle.zb_serve.specs.declared.ledger.Ledger.{Ledger}
 use Rattle.zb_serve.specs.Reply.{IsAnswer}
 use Rattle.zb_serve.specs.declared.run.End.{End}
@@ -104,7 +104,7 @@ pub unserved_memory : {D : Type 0} {disks : Ghosts D} (account : Account D) (req
 unserved_memory account request reading ledger end memory dropped = rw memory dropped
 
 -- nor was a line answered
-pub unanswered_memory : {D : Type 0} {disks : Ghosts D} (past : Past D) (line : List ℕ) (ledger : Ledger D disks) (end : End) → end ≡ ends.Memory → Holds past.account ledger → IsUnanswered past line ledger end
+pub unanswered_memory : {D : Type 0} {disks : Ghosts D} (past : Past D) (line : List ℕ) (ledger : Ledger D disks) (end : End) → end ≡ ends.Memory → HasAccount past.account ledger → IsUnanswered past line ledger end
 unanswered_memory past line ledger end memory holds = rw memory (inl holds)
 
 -- a line whose request was not served was not answered

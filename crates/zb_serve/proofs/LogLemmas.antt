@@ -23,7 +23,7 @@ use Rattle.zb_partition.specs.Stopping.{IsLeft, IsHurt, IsStepOf, IsStopCause, I
 use Rattle.zb_store.specs.Calls.{LeavesOnly}
 use Rattle.zb_partition.specs.declared.partition.Partition.{Partition}
 use Rattle.zb_serve.specs.Log.{IsFront}
-use Rattle.zb_serve.specs.Ledger.{Account, log_of, with_more, disk_in, view_in, IsStamped, AreMadeBatches, IsOpen, Holds, HasStopped, IsHurtSince, IsLeftIn}
+use Rattle.zb_serve.specs.Ledger.{Account, log_of, with_more, disk_in, view_in, IsStamped, AreMadeBatches, IsOpen, HasAccount, HasStopped, IsHurtSince, IsLeftIn}
 use Rattle.zb_serve.specs.declared.ledger.Ledger.{Ledger}
 use Rattle.zb_serve.proofs.ListLemmas.{range_with_len_more, AllZip_more, append_none}
 
@@ -98,7 +98,7 @@ module _ {D : Type 0} {disks : Ghosts D} (log : List Batch) (partition : Partiti
   crash_stands told t image left = rw (has.durable t image left) (log_stands _ _ _ (has.file (told t)))
 
 -- a ledger that holds what an account has
-module _ {D : Type 0} {disks : Ghosts D} (account : Account D) (old : Ledger D disks) (holds : Holds account old) where
+module _ {D : Type 0} {disks : Ghosts D} (account : Account D) (old : Ledger D disks) (holds : HasAccount account old) where
   abbrev first : DiskView
   first = disks.view account.first
 
@@ -109,7 +109,7 @@ module _ {D : Type 0} {disks : Ghosts D} (account : Account D) (old : Ledger D d
         → IsOpen account.limit new.partition (account.opened ++ (account.made ++ batch ∷ []))
         → (IsTrue disks.tells_images → LeavesOnly (view_in old).moment (view_in new).moment (disks.since (disk_in old)) (disks.since (disk_in new)) (IsLogOrMore (log_of account) batch))
         → (view_in old).faults ≤ (view_in new).faults → (IsTrue disks.counts_failures → (view_in new).faults ≡ (view_in old).faults)
-        → Holds (with_more account (batch ∷ [])) new
+        → HasAccount (with_more account (batch ∷ [])) new
     holds_more batch made stands time later steady = record {
       was = holds.was;
       made = made;
@@ -189,9 +189,9 @@ module _ {D : Type 0} {disks : Ghosts D} (account : Account D) (old : Ledger D d
       }
 
   -- the same partition with the same stamps
-  pub holds_moved : (new : Ledger D disks) → new.partition ≡ old.partition → new.stamps.items ≡ old.stamps.items → Holds account new
+  pub holds_moved : (new : Ledger D disks) → new.partition ≡ old.partition → new.stamps.items ≡ old.stamps.items → HasAccount account new
   holds_moved new partition stamps =
-      subst (λ (p : Partition D disks). Holds account (record { partition = p; stamps = new.stamps })) (sym partition) (record {
+      subst (λ (p : Partition D disks). HasAccount account (record { partition = p; stamps = new.stamps })) (sym partition) (record {
         was = holds.was;
         made = subst (AreMadeBatches account.limit account.opened account.made) (sym stamps) holds.made;
         is_open = holds.is_open;
@@ -201,15 +201,15 @@ module _ {D : Type 0} {disks : Ghosts D} (account : Account D) (old : Ledger D d
       })
 
 -- an account with nothing more
-pub holds_same : {D : Type 0} {disks : Ghosts D} (account : Account D) (ledger : Ledger D disks) → Holds account ledger → Holds (with_more account []) ledger
+pub holds_same : {D : Type 0} {disks : Ghosts D} (account : Account D) (ledger : Ledger D disks) → HasAccount account ledger → HasAccount (with_more account []) ledger
 holds_same account ledger holds =
     let none : account.made ≡ account.made ++ [] = append_none account.made in
-    subst (λ (made : List Batch). Holds (record { first = account.first; limit = account.limit; opened = account.opened; opened_at = account.opened_at; made = made }) ledger) none holds
+    subst (λ (made : List Batch). HasAccount (record { first = account.first; limit = account.limit; opened = account.opened; opened_at = account.opened_at; made = made }) ledger) none holds
 
 -- an account with more, and then more
-pub holds_then : {D : Type 0} {disks : Ghosts D} (account : Account D) (ledger : Ledger D disks) (more again : List Batch) → Holds (with_more (with_more account more) again) ledger → Holds (with_more account (more ++ again)) ledger
+pub holds_then : {D : Type 0} {disks : Ghosts D} (account : Account D) (ledger : Ledger D disks) (more again : List Batch) → HasAccount (with_more (with_more account more) again) ledger → HasAccount (with_more account (more ++ again)) ledger
 holds_then account ledger more again holds =
-    subst (λ (made : List Batch). Holds (record { first = account.first; limit = account.limit; opened = account.opened; opened_at = account.opened_at; made = made }) ledger) (append_assoc account.made more again) holds
+    subst (λ (made : List Batch). HasAccount (record { first = account.first; limit = account.limit; opened = account.opened; opened_at = account.opened_at; made = made }) ledger) (append_assoc account.made more again) holds
 
 -- a ledger that was stopped behind an account was so behind it with nothing more
 pub stopped_same : {D : Type 0} {disks : Ghosts D} (account : Account D) (reading : ℕ) (command : Command) (stop : Stop) (ledger : Ledger D disks) → HasStopped account reading command stop ledger

@@ -18,13 +18,8 @@ use Rattle.zb_wire.specs.declared.request.Request.TheVariants as requests
 use Rattle.zb_reply.specs.Reply.{answer_of, line_of}
 use Rattle.zb_reply.specs.declared.reply.Reply.{Reply}
 use Rattle.zb_reply.specs.declared.reply.Reply.TheVariants as replies
-<<<<<<< HEAD
 use Rattle.zb_serve.specs.Reply.{Answer, reply_if, reply_to, IsReplyTo}
-use Rattle.zb_serve.specs.Serial.{most_due, log_behind, place_behind, due_in_logs, next_by, next_of, IsNextEntry, AreMadeFor, IsCarriedOut, entries_made, found_in}
-=======
-use Rattle.zb_serve.specs.Reply.{Answer, reply_by, reply_to, IsReplyTo}
 use Rattle.zb_serve.specs.Serial.{most_due, log_behind, place_behind, next_by, next_of, IsNextEntry, AreMadeFor, IsCarriedOut, entries_made, found_in}
->>>>>>> 64ef7f9635e85701af8e4f35c632efaa6a48195c
 
 -- the test of an order
 lt_is : (a b : ℕ) → a < b → nat_lt a b ≡ true

@@ -16,7 +16,7 @@ use Rattle.std.proofs.lemmas.List.{map-append}
 use Rattle.zb_wire.specs.Request.{request_of}
 use Rattle.zb_serve.specs.Hours.{given_of}
 use Rattle.zb_serve.specs.Serving.{RunStart, start_of, Now, now_of, Streams, told_by, Begun, Stand, Service, stand_of, account_of, session_ends, log_ends, AreSteady, IsServing, ComesNext, IsReplied, IsUnsent, IsUnanswered, IsLineEnd, IsOver, GoesOn, cause_of, goes_on, source_end_of}
-use Rattle.zb_serve.specs.Ledger.{view_in, disk_in, Holds, HasStopped}
+use Rattle.zb_serve.specs.Ledger.{view_in, disk_in, HasAccount, HasStopped}
 use Rattle.zb_serve.specs.declared.ledger.Ledger.{Ledger}
 use Rattle.zb_disk.specs.declared.disk.Disk.{Ghosts}
 use Rattle.zb_partition.specs.Partition.{in_writing}
@@ -63,7 +63,7 @@ module _ {D : Type 0} {disks : Ghosts D} (streams : Streams) (begun : Begun D) (
   log = opened ++ made
 
   -- that holds all its batches
-  pub over_holding : Holds (account_of begun opened opened_at made) ledger → IsServedSo begun opened made silent served answers → IsStream streams.source_tells begun.source source served unserved at_end
+  pub over_holding : HasAccount (account_of begun opened opened_at made) ledger → IsServedSo begun opened made silent served answers → IsStream streams.source_tells begun.source source served unserved at_end
       → (IsTrue streams.sink_tells → IsSent told 1 (session_ends start now) cause answers) → IsNamed told begun.setting.limit start now log None unserved at_end cause
       → IsLeftUndone begun.setting.hours opened answers served unserved cause silent None → IsOver streams begun source sink ledger cause
   over_holding holds so stream sent named undone =
@@ -252,7 +252,7 @@ module _ {D : Type 0} {disks : Ghosts D} (streams : Streams) (begun : Begun D) (
   silent cause same t = inl (ap (λ (v : SinkView). v.written) same ∙ s.sent t)
 
   -- memory ran out, and these batches of the line are in the log
-  stops_grown : new.sink ≡ old.sink → (batches : List Batch) → Holds (account_of begun s.opened s.opened_at (s.batches ++ batches)) new.ledger
+  stops_grown : new.sink ≡ old.sink → (batches : List Batch) → HasAccount (account_of begun s.opened s.opened_at (s.batches ++ batches)) new.ledger
       → IsLeftUndone begun.setting.hours s.opened s.answers s.lines (line ∷ unserved) causes.Memory batches None → IsOver streams begun source new.sink new.ledger causes.Memory
   stops_grown same batches holds undone =
       let log = s.opened ++ (s.batches ++ batches) in

@@ -8,7 +8,7 @@ use Rattle.zb_views.specs.View.{events_of}
 use Rattle.zb_rules.specs.Due.{due_command}
 use Rattle.zb_world.specs.Entries.{entries_of}
 use Rattle.zb_wire.specs.declared.request.Request.TheVariants as requests
-use Rattle.zb_serve.specs.Ledger.{Account, log_of, with_more, Holds, IsCommitted, HasStopped, IsTicked, IsCut}
+use Rattle.zb_serve.specs.Ledger.{Account, log_of, with_more, HasAccount, IsCommitted, HasStopped, IsTicked, IsCut}
 use Rattle.zb_serve.specs.Serial.{most_due, next_of, AreMadeFor}
 use Rattle.zb_serve.specs.declared.ledger.Ledger.{Ledger}
 use Rattle.zb_serve.proofs.LogLemmas.{holds_same, holds_then}
@@ -19,10 +19,10 @@ pub record IsTicking {D : Type 0} {disks : Ghosts D} (account : Account D) (read
   pub more : List Batch
   pub count : done ≡ length more
   pub each : AreMadeFor (account.opened ∷ []) requests.Tick reading (entries_of 1 account.made) (entries_of 1 more)
-  pub holds : Holds (with_more account more) ledger
+  pub holds : HasAccount (with_more account more) ledger
 
 -- none yet
-pub ticking_none : {D : Type 0} {disks : Ghosts D} (account : Account D) (reading : ℕ) (ledger : Ledger D disks) → Holds account ledger → IsTicking account reading 0 ledger
+pub ticking_none : {D : Type 0} {disks : Ghosts D} (account : Account D) (reading : ℕ) (ledger : Ledger D disks) → HasAccount account ledger → IsTicking account reading 0 ledger
 ticking_none account reading ledger holds = record {
   more = [];
   count = refl;

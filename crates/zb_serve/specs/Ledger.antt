@@ -46,10 +46,11 @@ with_more account more = record {
   made = account.made ++ more;
 }
 
--- the disk of a ledger's log, and as plain data
+-- the disk of a ledger's log
 abbrev pub disk_in : {D : Type 0} {disks : Ghosts D} → Ledger D disks → D
 disk_in ledger = disk_of ledger.partition
 
+-- and that disk as plain data
 abbrev pub view_in : {D : Type 0} {disks : Ghosts D} → Ledger D disks → DiskView
 view_in {D} {disks} ledger = disks.view (disk_of ledger.partition)
 
@@ -86,7 +87,7 @@ pub record LeftSince {D : Type 0} (disks : Ghosts D) (first : D) (opened_at : �
   pub opening : (image : List ℕ) → disks.since disk (disks.view first).moment image → disks.images first image ⊎ disks.since disk opened_at image
 
 -- the ledger has these batches, and its disk hasn't failed since the run began
-pub record Holds {D : Type 0} {disks : Ghosts D} (account : Account D) (ledger : Ledger D disks) : Type 0 where
+pub record HasAccount {D : Type 0} {disks : Ghosts D} (account : Account D) (ledger : Ledger D disks) : Type 0 where
   pub was : WasOpened disks account.first account.opened account.opened_at
   pub made : AreMadeBatches account.limit account.opened account.made ledger.stamps.items
   pub is_open : IsOpen account.limit ledger.partition (log_of account)
@@ -100,7 +101,7 @@ pub record IsCommitted {D : Type 0} {disks : Ghosts D} (account : Account D) (re
   pub moment : batch.moment ≡ max (moment_of_last (log_of account)) reading
   pub begin : batch.begin ≡ length (log_of account)
   pub is : batch.command ≡ command
-  pub holds : Holds (with_more account (batch ∷ [])) ledger
+  pub holds : HasAccount (with_more account (batch ∷ [])) ledger
 
 -- the disk was hurt since the run began
 abbrev pub IsHurtSince : {D : Type 0} {disks : Ghosts D} → Account D → Ledger D disks → Type 0
@@ -128,7 +129,7 @@ pub record IsTicked {D : Type 0} {disks : Ghosts D} (account : Account D) (readi
   pub more : List Batch
   pub count : due ≡ length more
   pub done : IsCarriedOut (account.opened ∷ []) requests.Tick reading (entries_of 1 account.made) (entries_of 1 more)
-  pub holds : Holds (with_more account more) ledger
+  pub holds : HasAccount (with_more account more) ledger
 
 -- a request stopped the ledger, once it had made these batches and asked for this command
 pub record IsCut {D : Type 0} {disks : Ghosts D} (account : Account D) (request : Request) (reading : ℕ) (stop : Stop) (ledger : Ledger D disks) : Type 0 where

@@ -28,7 +28,7 @@ use Rattle.zb_serve.specs.Hours.{Hours, manual, real, given_of, clock_after, IsR
 use Rattle.zb_serve.specs.Reply.{Answer, IsAnswer, IsReplyTo}
 use Rattle.zb_serve.specs.Serial.{AreMadeFor, IsCarriedOut, found_in, entries_made, IsServed, AreSerial}
 use Rattle.zb_serve.specs.Session.{replies_of, most_taken}
-use Rattle.zb_serve.specs.Ledger.{Account, with_more, view_in, disk_in, Holds, IsCut}
+use Rattle.zb_serve.specs.Ledger.{Account, with_more, view_in, disk_in, HasAccount, IsCut}
 use Rattle.zb_serve.specs.Served.{HasRun}
 use Rattle.zb_serve.specs.declared.ledger.Ledger.{Ledger}
 use Rattle.zb_serve.specs.declared.run.Cause.{Cause}
@@ -184,7 +184,7 @@ pub record IsServing {D : Type 0} {disks : Ghosts D} (streams : Streams) (begun 
   pub serial : AreSerial begun.setting.hours (opened ∷ []) answers
   pub entries : entries_made answers ≡ entries_of 1 batches
   pub sent : IsTrue streams.sink_tells → now.sink.written ≡ begun.sink.written ++ replies_of answers
-  pub holds : Holds (account_of begun opened opened_at batches) now.ledger
+  pub holds : HasAccount (account_of begun opened opened_at batches) now.ledger
   pub steady : AreSteady streams begun.source now.source begun.sink now.sink
 
 -- a line comes next, of which as much was kept as shows its request
@@ -192,7 +192,7 @@ pub record ComesNext {D : Type 0} {disks : Ghosts D} (past : Past D) (ledger : L
   pub count : number ≡ past.number
   pub clock : AreAt past.setting.hours (found_in past.answers) clocks
   pub entries : entries_made past.answers ≡ entries_of 1 past.account.made
-  pub holds : Holds past.account ledger
+  pub holds : HasAccount past.account ledger
   pub same : request_of (given_of past.setting.hours 1 number) shown ≡ request_of (given_of past.setting.hours 1 number) line
 
 -- the line was answered, and its batches are in the log
@@ -203,7 +203,7 @@ pub record IsAnswered {D : Type 0} {disks : Ghosts D} (past : Past D) (line repl
   pub made : answer.entries ≡ entries_of 1 batches
   pub is : IsAnswer (given_of past.setting.hours 1 past.number) line answer
   pub served : IsServed past.setting.hours (past.account.opened ∷ []) past.answers answer
-  pub holds : Holds (with_more past.account batches) ledger
+  pub holds : HasAccount (with_more past.account batches) ledger
   pub clock : AreAt past.setting.hours (found_in (past.answers ++ answer ∷ [])) clocks
 
 -- a request was served at a reading of the clock, and its batches are in the log
@@ -211,13 +211,13 @@ pub record IsDone {D : Type 0} {disks : Ghosts D} (account : Account D) (request
   pub batches : List Batch
   pub done : IsCarriedOut (account.opened ∷ []) request reading (entries_of 1 account.made) (entries_of 1 batches)
   pub replied : IsReplyTo request reading (entries_of 1 batches) reply
-  pub holds : Holds (with_more account batches) ledger
+  pub holds : HasAccount (with_more account batches) ledger
 
 -- memory ran out once a request had made these batches
 pub record IsDropped {D : Type 0} {disks : Ghosts D} (account : Account D) (request : Request) (reading : ℕ) (ledger : Ledger D disks) : Type 0 where
   pub batches : List Batch
   pub each : AreMadeFor (account.opened ∷ []) request reading (entries_of 1 account.made) (entries_of 1 batches)
-  pub holds : Holds (with_more account batches) ledger
+  pub holds : HasAccount (with_more account batches) ledger
 
 -- why a request was not served
 abbrev pub IsUnserved : {D : Type 0} {disks : Ghosts D} → Account D → Request → ℕ → Ledger D disks → End → Type 0
@@ -238,7 +238,7 @@ pub record Asks {D : Type 0} (past : Past D) (line : List ℕ) : Type 0 where
 -- why a line was not answered: memory ran out, before it was known for a request, or once that had made these batches;
 -- or its request stopped the ledger
 abbrev pub IsUnanswered : {D : Type 0} {disks : Ghosts D} → Past D → List ℕ → Ledger D disks → End → Type 0
-IsUnanswered past line ledger ends.Memory = Holds past.account ledger ⊎ ((asks : Asks past line) × IsDropped past.account asks.request asks.reading ledger)
+IsUnanswered past line ledger ends.Memory = HasAccount past.account ledger ⊎ ((asks : Asks past line) × IsDropped past.account asks.request asks.reading ledger)
 IsUnanswered past line ledger (ends.Stopped stop) = (asks : Asks past line) × IsCut past.account asks.request asks.reading stop ledger
 IsUnanswered past line ledger ends.Done = ⊥
 IsUnanswered past line ledger ends.SourceFault = ⊥

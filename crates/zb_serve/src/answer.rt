@@ -4,7 +4,7 @@ ghost use Rattle.zb_wire.specs.Asked.{command_of};
 ghost use Rattle.zb_reply.specs.Reply.{answer_of, line_of, IsSpoken};
 ghost use Rattle.zb_reply.specs.declared.reply.Reply.{Reply};
 ghost use Rattle.zb_partition.specs.Partition.{slots_of};
-ghost use Rattle.zb_serve.specs.Ledger.{Account, Holds};
+ghost use Rattle.zb_serve.specs.Ledger.{Account, HasAccount};
 ghost use Rattle.zb_serve.specs.Serving.{Past, clocks_of, ComesNext, IsAnswered, IsUnanswered, IsDone, IsUnserved};
 
 use crate::dial::{Dial, read_for};
@@ -66,11 +66,11 @@ fn answer_request<D: Disk>(
     ledger: &mut Ledger<D>,
     reply: &mut Vec<u8>,
 ) -> Result<(), End>
-    requires known { (account : Account D) × Holds account ledger.old }
+    requires known { (account : Account D) × HasAccount account ledger.old }
     requires empty { reply.old.items ≡ [] }
-    ensures done { (account : Account D) → Holds account ledger.old
+    ensures done { (account : Account D) → HasAccount account ledger.old
         → OnOk result (IsDone account request reading reply.new.items ledger.new) }
-    ensures unserved { (account : Account D) → Holds account ledger.old
+    ensures unserved { (account : Account D) → HasAccount account ledger.old
         → IfErr result (IsUnserved account request reading ledger.new) }
     ensures slots { slots_of ledger.new.partition ≡ slots_of ledger.old.partition }
 {
@@ -88,11 +88,11 @@ fn answer_tick<D: Disk>(
     ledger: &mut Ledger<D>,
     reply: &mut Vec<u8>,
 ) -> Result<(), End>
-    requires known { (account : Account D) × Holds account ledger.old }
+    requires known { (account : Account D) × HasAccount account ledger.old }
     requires empty { reply.old.items ≡ [] }
-    ensures done { (account : Account D) → Holds account ledger.old
+    ensures done { (account : Account D) → HasAccount account ledger.old
         → OnOk result (IsDone account requests.Tick reading reply.new.items ledger.new) }
-    ensures unserved { (account : Account D) → Holds account ledger.old
+    ensures unserved { (account : Account D) → HasAccount account ledger.old
         → IfErr result (IsUnserved account requests.Tick reading ledger.new) }
     ensures slots { slots_of ledger.new.partition ≡ slots_of ledger.old.partition }
 {
@@ -110,12 +110,12 @@ fn answer_command<D: Disk>(
     ledger: &mut Ledger<D>,
     reply: &mut Vec<u8>,
 ) -> Result<(), End>
-    requires known { (account : Account D) × Holds account ledger.old }
+    requires known { (account : Account D) × HasAccount account ledger.old }
     requires command { IsSome (command_of request) }
     requires empty { reply.old.items ≡ [] }
-    ensures done { (account : Account D) → Holds account ledger.old
+    ensures done { (account : Account D) → HasAccount account ledger.old
         → OnOk result (IsDone account request reading reply.new.items ledger.new) }
-    ensures unserved { (account : Account D) → Holds account ledger.old
+    ensures unserved { (account : Account D) → HasAccount account ledger.old
         → IfErr result (IsUnserved account request reading ledger.new) }
     ensures slots { slots_of ledger.new.partition ≡ slots_of ledger.old.partition }
 {

@@ -3,7 +3,7 @@ ghost use Rattle.zb_model.specs.declared.record.Batch.{Batch};
 ghost use Rattle.zb_rules.specs.Own.{IsSupported};
 ghost use Rattle.zb_partition.specs.Partition.{disk_of, slots_of, in_writing};
 ghost use Rattle.zb_wire.specs.declared.request.Request.TheVariants as requests;
-ghost use Rattle.zb_serve.specs.Ledger.{Account, Holds, IsCommitted, HasStopped, IsTicked, IsCut};
+ghost use Rattle.zb_serve.specs.Ledger.{Account, HasAccount, IsCommitted, HasStopped, IsTicked, IsCut};
 
 use std::alloc::{AllocError, Global};
 use zb_disk::Disk;
@@ -29,11 +29,11 @@ impl<D: Disk> Ledger<D> {
         reading: Moment,
         command: Command,
     ) -> Result<Batch, Stop>
-        requires known { (account : Account D) × Holds account self.old }
+        requires known { (account : Account D) × HasAccount account self.old }
         requires run { IsSupported command }
-        ensures committed { (account : Account D) → Holds account self.old
+        ensures committed { (account : Account D) → HasAccount account self.old
             → IfOk result (λ batch. IsCommitted account reading command batch self.new) }
-        ensures stopped { (account : Account D) → Holds account self.old
+        ensures stopped { (account : Account D) → HasAccount account self.old
             → IfErr result (λ stop. HasStopped account reading command stop self.new) }
         ensures slots { slots_of self.new.partition ≡ slots_of self.old.partition }
     {
@@ -55,10 +55,10 @@ impl<D: Disk> Ledger<D> {
     /// Submits the command that is due first at a reading of the clock, and so on, until none is due or
     /// `MOST_DUE` were, and tells how many. After an `Err` the batches of those before are in the log.
     pub fn tick(&mut self, alloc: Global, reading: Moment) -> Result<u64, Stop>
-        requires known { (account : Account D) × Holds account self.old }
-        ensures ticked { (account : Account D) → Holds account self.old
+        requires known { (account : Account D) × HasAccount account self.old }
+        ensures ticked { (account : Account D) → HasAccount account self.old
             → IfOk result (λ due. IsTicked account reading due self.new) }
-        ensures cut { (account : Account D) → Holds account self.old
+        ensures cut { (account : Account D) → HasAccount account self.old
             → IfErr result (λ stop. IsCut account requests.Tick reading stop self.new) }
         ensures slots { slots_of self.new.partition ≡ slots_of self.old.partition }
     {
@@ -76,11 +76,11 @@ impl<D: Disk> Ledger<D> {
 
     // Submits a command whose batch nobody asks for.
     fn add(&mut self, alloc: Global, reading: Moment, command: Command) -> Result<(), Stop>
-        requires known { (account : Account D) × Holds account self.old }
+        requires known { (account : Account D) × HasAccount account self.old }
         requires run { IsSupported command }
-        ensures added { (account : Account D) → Holds account self.old
+        ensures added { (account : Account D) → HasAccount account self.old
             → OnOk result ((batch : Batch) × IsCommitted account reading command batch self.new) }
-        ensures stopped { (account : Account D) → Holds account self.old
+        ensures stopped { (account : Account D) → HasAccount account self.old
             → IfErr result (λ stop. HasStopped account reading command stop self.new) }
         ensures slots { slots_of self.new.partition ≡ slots_of self.old.partition }
     {
