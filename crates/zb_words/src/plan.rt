@@ -48,7 +48,7 @@ const MOST_DIGITS: usize = 20;
 /// `--clock manual`, and `--limit n`. An option and its value are two words, or one with `=` between the
 /// two, as in `--clock=manual`. `n` is a number of bytes from 64 to 4,294,967,296, in 1 to 20 decimal
 /// digits, and zeros may lead. Where no option says otherwise, the clock is the real one and the limit
-/// 1,073,741,824 bytes.
+/// 1,073,741,824 bytes. It goes over the words once for each option that there is.
 pub fn plan_of(words: &[String]) -> Option<Plan>
     ensures planned { IfSome result (IsPlan (map string_bytes words.now)) }
     ensures unplanned { IfNone result ((plan : Plan) → IsPlan (map string_bytes words.now) plan → ⊥) }
