@@ -1,13 +1,15 @@
 -- Laws of the words of a command line.
-use Rattle.std.proofs.Common.{◌≡◌, ◌≢◌, ℕ, ◌<◌, ◌^◌, Option, Some, None, List, [], ◌∷◌, length, get_or, refl, ap, sym, ◌∙◌, subst, lit<, arith}
-use Rattle.std.specs.Prelude.{codes, option_to_list}
+use Rattle.std.proofs.Common.{◌≡◌, ◌≢◌, ℕ, ◌<◌, Option, Some, None, List, [], ◌∷◌, ◌++◌, length, get_or, refl, ap, sym, ◌∙◌, subst, lit<, arith}
+use Rattle.std.specs.Prelude.{codes}
 use Rattle.std.specs.List.{filter_map}
 use Rattle.std.specs.Int.{IsInRange}
+use Rattle.std.proofs.lemmas.List.Elements.{filter_map-append}
+use Rattle.std.proofs.lemmas.Slice.Eq.{bytes_eq-Decides}
 use Rattle.std.proofs.lemmas.Str.Parse.{digit_at}
 use Rattle.zb_words.specs.declared.plan.ClockKind.{ClockKind}
 use Rattle.zb_words.specs.declared.plan.ClockKind.TheVariants.{Real, Manual}
 use Rattle.zb_words.specs.declared.plan.Plan.{Plan}
-use Rattle.zb_words.specs.Plan.{Setting, Gives, GiveAll, text_for, IsMeant, AskFor, IsClockName, IsDecimal, IsPlan}
+use Rattle.zb_words.specs.Plan.{Setting, GiveAll, text_for, IsMeant, AskFor, IsClockName, IsDecimal, IsPlan}
 use Rattle.zb_words.proofs.SettingLemmas.{asked_by, its_options}
 
 -- no clock has both names
@@ -35,41 +37,29 @@ one_plan words plan other is is' =
     let same = its_options words is.options (codes "serve") other is.verb is' in
     let clock : plan.clock ≡ other.clock = one_asked is.options _ _ _ plan.clock other.clock one_clock is.clock (rw same at is'.clock) in
     let limit : plan.limit ≡ other.limit = one_asked is.options _ _ _ plan.limit other.limit (λ text a b says says'. says.value ∙ sym says'.value) is.limit (rw same at is'.limit) in
-    let made : ClockKind → ℕ → Plan = λ kind bytes. record { clock = kind; limit = bytes } in
-    ap (λ (kind : ClockKind). made kind plan.limit) clock ∙ ap (λ (bytes : ℕ). made other.clock bytes) limit
+    λ i. record { clock = clock i; limit = limit i }
 
--- settings in any order, each option's text at most once, ask for what their texts say
-pub plan_by : (options : List (List ℕ)) (settings : List Setting) (clock limit : Option (List ℕ)) (plan : Plan) → GiveAll options settings
-    → filter_map (text_for (codes "--clock")) settings ≡ option_to_list clock → IsMeant IsClockName Real clock plan.clock
-    → filter_map (text_for (codes "--limit")) settings ≡ option_to_list limit → IsMeant (IsDecimal 64 (2 ^ 32)) (2 ^ 30) limit plan.limit → IsPlan (codes "serve" ∷ options) plan
-plan_by options settings clock limit plan given clock_once clock_says limit_once limit_says = record {
-  options = options;
-  verb = refl;
-  clock = record { text = clock; once = record { settings = settings; given = given; once = clock_once }; meant = clock_says };
-  limit = record { text = limit; once = record { settings = settings; given = given; once = limit_once }; meant = limit_says };
+-- an option that is given once asks for what its text says, wherever it stands among the settings
+pub ask_once : {X : Type 0} (words : List (List ℕ)) (option text : List ℕ) (before after : List Setting) (Says : List ℕ → X → Type 0) (default x : X)
+    → GiveAll words (before ++ (option, text) ∷ after) → filter_map (text_for option) before ≡ [] → filter_map (text_for option) after ≡ [] → Says text x → AskFor words option Says default x
+ask_once words option text before after Says default x given none none' says = record {
+  text = Some text;
+  once = record {
+    settings = before ++ (option, text) ∷ after;
+    given = given;
+    once = rw (filter_map-append (text_for option) before ((option, text) ∷ after), none, (bytes_eq-Decides option option).1 refl, none') refl;
+  };
+  meant = says;
 }
+
+-- an option that isn't given asks for the default
+pub ask_never : {X : Type 0} (words : List (List ℕ)) (option : List ℕ) (settings : List Setting) (Says : List ℕ → X → Type 0) (default : X)
+    → GiveAll words settings → filter_map (text_for option) settings ≡ [] → AskFor words option Says default default
+ask_never words option settings Says default given none = record { text = None; once = record { settings = settings; given = given; once = none }; meant = refl }
 
 -- the verb alone asks for the real clock and the default limit
 pub no_options : IsPlan (codes "serve" ∷ []) (record { clock = Real; limit = 1073741824 })
-no_options = plan_by [] [] None None _ refl refl refl refl refl
-
--- each spelling of one setting is read
-pub clock_alone : (text : List ℕ) (kind : ClockKind) (options : List (List ℕ)) → IsClockName text kind → Gives options (codes "--clock", text) [] → IsPlan (codes "serve" ∷ options) (record { clock = kind; limit = 1073741824 })
-clock_alone text kind options says gives = plan_by options ((codes "--clock", text) ∷ []) (Some text) None _ ([], gives, refl) refl says refl refl
-
-pub limit_alone : (text : List ℕ) (bytes : ℕ) (options : List (List ℕ)) → IsDecimal 64 (2 ^ 32) text bytes → Gives options (codes "--limit", text) [] → IsPlan (codes "serve" ∷ options) (record { clock = Real; limit = bytes })
-limit_alone text bytes options says gives = plan_by options ((codes "--limit", text) ∷ []) None (Some text) _ ([], gives, refl) refl refl refl says
-
--- and each of two, in either order
-pub clock_first : (text digits : List ℕ) (kind : ClockKind) (bytes : ℕ) (options rest : List (List ℕ)) → IsClockName text kind → IsDecimal 64 (2 ^ 32) digits bytes
-    → Gives options (codes "--clock", text) rest → Gives rest (codes "--limit", digits) [] → IsPlan (codes "serve" ∷ options) (record { clock = kind; limit = bytes })
-clock_first text digits kind bytes options rest says says' gives gives' =
-    plan_by options ((codes "--clock", text) ∷ (codes "--limit", digits) ∷ []) (Some text) (Some digits) _ (rest, gives, ([], gives', refl)) refl says refl says'
-
-pub limit_first : (text digits : List ℕ) (kind : ClockKind) (bytes : ℕ) (options rest : List (List ℕ)) → IsClockName text kind → IsDecimal 64 (2 ^ 32) digits bytes
-    → Gives options (codes "--limit", digits) rest → Gives rest (codes "--clock", text) [] → IsPlan (codes "serve" ∷ options) (record { clock = kind; limit = bytes })
-limit_first text digits kind bytes options rest says says' gives gives' =
-    plan_by options ((codes "--limit", digits) ∷ (codes "--clock", text) ∷ []) (Some text) (Some digits) _ (rest, gives, ([], gives', refl)) refl says refl says'
+no_options = record { options = []; verb = refl; clock = ask_never [] _ [] _ _ refl refl; limit = ask_never [] _ [] _ _ refl refl }
 
 -- no value is empty or begins with '-'
 pub clock_no_dash : (text : List ℕ) (kind : ClockKind) → IsClockName text kind → (0 < length text) × (get_or text 0 0 ≢ 45)
