@@ -1,5 +1,2 @@
-mod SpellingLemmas
-mod OptionLemmas
 mod SettingLemmas
-mod PlanLemmas
 pub mod WordLaws

@@ -1,7 +1,6 @@
 //! The words of the server's command line.
 #![tactic(auto)]
 
-mod asked;
 mod plan;
 mod setting;
 

@@ -1,7 +1,7 @@
-ghost use Rattle.std.specs.Prelude.{◌≡◌, ◌≤◌, ◌^◌, map, string_bytes, IfSome, IfNone};
-ghost use Rattle.zb_words.specs.Plan.{IsPlan};
+ghost use Rattle.std.specs.Prelude.{◌≡◌, ◌≤◌, ◌^◌, ℕ, codes, map, string_bytes, IfSome, IfNone};
+ghost use Rattle.zb_words.specs.Plan.{IsPlan, AskFor, IsClockName, IsDecimal};
 
-use crate::asked::read_options;
+use crate::setting::text_of;
 
 /// The clock that a server goes by.
 #[derive(Clone, Copy, Debug, PartialEq, Eq)]
@@ -21,11 +21,26 @@ pub struct Plan {
     pub limit: u64,
 }
 
-// The clock of a server whose words name none.
-const DEFAULT_CLOCK: ClockKind = ClockKind::Real;
+// An option whose value is a number, of which it says the least, the greatest, and the one that is meant
+// where the option isn't given.
+#[derive(Clone, Copy)]
+struct NumberOption {
+    name: &'static str,
+    least: u64,
+    greatest: u64,
+    default: u64,
+}
 
-// The limit of a server whose words name none, in bytes.
-const DEFAULT_LIMIT: u64 = 1_073_741_824;
+// The most bytes that a log may have.
+const LIMIT: NumberOption = NumberOption {
+    name: "--limit",
+    least: 64,
+    greatest: 4_294_967_296,
+    default: 1_073_741_824,
+};
+
+// The most digits that a number may be written in.
+const MOST_DIGITS: usize = 20;
 
 /// Reads the words of a server's command line, those after the program's name; `None` for any others.
 ///
@@ -33,7 +48,7 @@ const DEFAULT_LIMIT: u64 = 1_073_741_824;
 /// `--clock manual`, and `--limit n`. An option and its value are two words, or one with `=` between the
 /// two, as in `--clock=manual`. `n` is a number of bytes from 64 to 4,294,967,296, in 1 to 20 decimal
 /// digits, and zeros may lead. Where no option says otherwise, the clock is the real one and the limit
-/// 1,073,741,824 bytes.
+/// 1,073,741,824 bytes. It goes over the words once for each option that there is.
 pub fn plan_of(words: &[String]) -> Option<Plan>
     ensures planned { IfSome result (IsPlan (map string_bytes words.now)) }
     ensures unplanned { IfNone result ((plan : Plan) → IsPlan (map string_bytes words.now) plan → ⊥) }
@@ -43,9 +58,59 @@ pub fn plan_of(words: &[String]) -> Option<Plan>
     if verb.as_str() != "serve" {
         return None;
     }
-    let asked = read_options(options)?;
     Some(Plan {
-        clock: asked.clock.unwrap_or(DEFAULT_CLOCK),
-        limit: asked.limit.unwrap_or(DEFAULT_LIMIT),
+        clock: clock_in(options)?,
+        limit: number_in(options, LIMIT)?,
     })
+}
+
+// The clock that the options ask for.
+fn clock_in(words: &[String]) -> Option<ClockKind>
+    ensures some { IfSome result (AskFor (map string_bytes words.now) (codes "--clock") IsClockName ClockKind.Real) }
+    ensures none { IfNone result ((kind : ClockKind) → AskFor (map string_bytes words.now) (codes "--clock") IsClockName ClockKind.Real kind → ⊥) }
+{
+    match text_of(words, "--clock")? {
+        None => Some(ClockKind::Real),
+        Some(name) => clock_of(name),
+    }
+}
+
+// The clock of this name.
+fn clock_of(name: &str) -> Option<ClockKind>
+    ensures some { IfSome result (IsClockName name.now) }
+    ensures none { IfNone result ((kind : ClockKind) → IsClockName name.now kind → ⊥) }
+{
+    match name {
+        "real" => Some(ClockKind::Real),
+        "manual" => Some(ClockKind::Manual),
+        _ => None,
+    }
+}
+
+// The number that the options ask for.
+fn number_in(words: &[String], option: NumberOption) -> Option<u64>
+    ensures some { IfSome result (AskFor (map string_bytes words.now) option.name.now (IsDecimal option.least option.greatest) option.default) }
+    ensures none { IfNone result ((n : ℕ) → AskFor (map string_bytes words.now) option.name.now (IsDecimal option.least option.greatest) option.default n → ⊥) }
+    ensures within { option.least ≤ option.default → option.default ≤ option.greatest → IfSome result (λ n. (option.least ≤ n) × (n ≤ option.greatest)) }
+{
+    match text_of(words, option.name)? {
+        None => Some(option.default),
+        Some(digits) => number_of(digits, option.least, option.greatest),
+    }
+}
+
+// The number that these digits write, from the least to the greatest.
+fn number_of(digits: &str, least: u64, greatest: u64) -> Option<u64>
+    ensures some { IfSome result (IsDecimal least greatest digits.now) }
+    ensures none { IfNone result ((n : ℕ) → IsDecimal least greatest digits.now n → ⊥) }
+{
+    if digits.len() > MOST_DIGITS || digits.starts_with('+') {
+        return None;
+    }
+    let number = digits.parse::<u64>().ok()?;
+    if (least..=greatest).contains(&number) {
+        Some(number)
+    } else {
+        None
+    }
 }

@@ -1,78 +1,63 @@
-ghost use Rattle.std.specs.Prelude.{◌≡◌, ◌≤◌, ◌<◌, ◌^◌, ◌++◌, ◌∷◌, [], ℕ, List, map, take, length, string_bytes, IfSome, IfNone};
-ghost use Rattle.zb_words.specs.Plan.{IsLimit, IsOptionValue, Gives, option_of};
+ghost use Rattle.std.specs.Prelude.{◌≡◌, ◌≤◌, ◌<◌, ◌++◌, ◌∷◌, [], ℕ, List, Option, Some, map, drop, length, string_bytes, option_map, option_to_list, is_some, true, IfSome, IfNone};
+ghost use Rattle.std.specs.List.{filter_map};
+ghost use Rattle.zb_words.specs.Plan.{Setting, Gives, GiveOnce, is_option, text_for};
 
-use crate::plan::ClockKind;
-
-/// What one option asks for.
-#[derive(Clone, Copy)]
-pub enum Setting {
-    /// This clock.
-    Clock(ClockKind),
-    /// A limit of so many bytes.
-    Limit(u64),
+/// The text that the words give the option, if they give one; `None` where they aren't settings, or where
+/// they give it twice.
+pub fn text_of<'a>(words: &'a [String], option: &str) -> Option<Option<&'a str>>
+    ensures some { IfSome result (λ text. GiveOnce (map string_bytes words.now) option.now (option_map (λ t. t.now) text)) }
+    ensures none { IfNone result ((text : Option (List ℕ)) → GiveOnce (map string_bytes words.now) option.now text → ⊥) }
+{
+    let mut found = None;
+    let mut place = 0;
+    while place < words.len() {
+        let (name, value, length) = first_setting(&words[place..])?;
+        found = with_setting(found, option, name, value)?;
+        place += length;
+    }
+    Some(found)
 }
 
-// The least limit that may be asked for, in bytes.
-const LEAST: u64 = 64;
+// What an option is given with one setting more; `None` where it has a text and is given another.
+fn with_setting<'a>(
+    found: Option<&'a str>,
+    option: &str,
+    name: &str,
+    value: &'a str,
+) -> Option<Option<&'a str>>
+    ensures some { IfSome result (λ text. option_to_list (option_map (λ t. t.now) text) ≡ option_to_list (option_map (λ t. t.now) found.entry) ++ filter_map (text_for option.now) ((name.now, value.now) ∷ [])) }
+    ensures none { IfNone result ((text_for option.now (name.now, value.now) ≡ Some value.now) × (is_some found.entry ≡ true)) }
+{
+    match found {
+        _ if name != option => Some(found),
+        None => Some(Some(value)),
+        Some(_) => None,
+    }
+}
 
-// The greatest limit that may be asked for, in bytes.
-const GREATEST: u64 = 4_294_967_296;
-
-// The most digits that a limit may be written in.
-const MOST_DIGITS: usize = 20;
-
-/// The setting that these words begin with, and how many of them give it.
-pub fn first_setting(words: &[String]) -> Option<(Setting, usize)>
-    ensures within { IfSome result (λ read. (0 < read.1) × (read.1 ≤ length words.now)) }
-    ensures some { IfSome result (λ read. Gives (take read.1 (map string_bytes words.now)) read.0) }
-    ensures none { IfNone result ((front rest : List (List ℕ)) (setting : Setting) → map string_bytes words.now ≡ front ++ rest → Gives front setting → ⊥) }
+// The option and its value that these words begin with, and how many words give it.
+fn first_setting(words: &[String]) -> Option<(&str, &str, usize)>
+    ensures within { IfSome result (λ read. (0 < read.2) × (read.2 ≤ length words.now)) }
+    ensures some { IfSome result (λ read. Gives (map string_bytes words.now) (read.0.now, read.1.now) (drop read.2 (map string_bytes words.now))) }
+    ensures none { IfNone result ((setting : Setting) (rest : List (List ℕ)) → Gives (map string_bytes words.now) setting rest → ⊥) }
 {
     let (word, rest) = words.split_first()?;
     match word.split_once('=') {
-        Some((option, value)) => Some((setting_of(option, value)?, 1)),
-        None => {
+        Some((option, value)) if is_an_option(option) => Some((option, value, 1)),
+        None if is_an_option(word) => {
             let value = rest.first()?;
-            Some((setting_of(word, value)?, 2))
+            Some((word, value, 2))
         }
-    }
-}
-
-// The setting that an option gives by this value.
-fn setting_of(option: &str, value: &str) -> Option<Setting>
-    ensures some { IfSome result (λ setting. (option_of setting ≡ option.now) × IsOptionValue setting value.now) }
-    ensures none { IfNone result ((setting : Setting) → option_of setting ≡ option.now → IsOptionValue setting value.now → ⊥) }
-{
-    match option {
-        "--clock" => Some(Setting::Clock(clock_of(value)?)),
-        "--limit" => Some(Setting::Limit(limit_of(value)?)),
         _ => None,
     }
 }
 
-// The clock of this name.
-fn clock_of(name: &str) -> Option<ClockKind>
-    ensures some { IfSome result (λ kind. IsOptionValue (Setting.Clock kind) name.now) }
-    ensures none { IfNone result ((kind : ClockKind) → IsOptionValue (Setting.Clock kind) name.now → ⊥) }
+// Whether there is an option of this name.
+fn is_an_option(name: &str) -> bool
+    ensures { result ≡ is_option name.now }
 {
     match name {
-        "real" => Some(ClockKind::Real),
-        "manual" => Some(ClockKind::Manual),
-        _ => None,
-    }
-}
-
-// The limit that these digits write.
-fn limit_of(digits: &str) -> Option<u64>
-    ensures some { IfSome result (IsLimit digits.now) }
-    ensures none { IfNone result ((bytes : ℕ) → IsLimit digits.now bytes → ⊥) }
-{
-    if digits.len() > MOST_DIGITS || digits.starts_with('+') {
-        return None;
-    }
-    let bytes = digits.parse::<u64>().ok()?;
-    if (LEAST..=GREATEST).contains(&bytes) {
-        Some(bytes)
-    } else {
-        None
+        "--clock" | "--limit" => true,
+        _ => false,
     }
 }
