@@ -1,0 +1,2 @@
+pub mod EvalLemmas
+pub mod FittingLemmas

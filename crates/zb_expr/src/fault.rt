@@ -1,0 +1,32 @@
+ghost use Rattle.std.specs.Prelude.{◌≡◌};
+ghost use Rattle.zb_expr.specs.declared.fault.EvalFault.TheVariants.{Memory};
+
+use std::alloc::{AllocError, AllocFailed};
+
+/// Why an expression was given no value.
+#[derive(Clone, Copy, Debug, PartialEq, Eq)]
+pub enum EvalFault {
+    /// A name has no value.
+    Unknown,
+    /// An operand or a member is of the wrong kind.
+    Kind,
+    /// A whole number is outside 64 bits.
+    Overflow,
+    Memory,
+}
+
+impl From<AllocError> for EvalFault {
+    ghost from_gives = { λ _ fault. fault ≡ Memory };
+
+    fn from(_: AllocError) -> Self {
+        EvalFault::Memory
+    }
+}
+
+impl<T: Drop> From<AllocFailed<T>> for EvalFault {
+    ghost from_gives = { λ _ fault. fault ≡ Memory };
+
+    fn from(_: AllocFailed<T>) -> Self {
+        EvalFault::Memory
+    }
+}
