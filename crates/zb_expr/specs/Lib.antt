@@ -1,1 +1,4 @@
+pub mod Grammar
 pub mod Outcome
+pub mod Reading
+pub mod Spelling

@@ -1,5 +1,6 @@
 ghost use Rattle.std.specs.Prelude.{◌≡◌};
 ghost use Rattle.zb_expr.specs.declared.fault.EvalFault.TheVariants.{Memory};
+ghost use Rattle.zb_expr.specs.declared.fault.ExprFault.TheVariants as expr_faults;
 
 use std::alloc::{AllocError, AllocFailed};
 
@@ -28,5 +29,29 @@ impl<T: Drop> From<AllocFailed<T>> for EvalFault {
 
     fn from(_: AllocFailed<T>) -> Self {
         EvalFault::Memory
+    }
+}
+
+/// Why a text was not read as an expression.
+#[derive(Clone, Copy, Debug, PartialEq, Eq)]
+pub enum ExprFault {
+    /// It is none.
+    NotExpr,
+    Memory,
+}
+
+impl From<AllocError> for ExprFault {
+    ghost from_gives = { λ _ fault. fault ≡ expr_faults.Memory };
+
+    fn from(_: AllocError) -> Self {
+        ExprFault::Memory
+    }
+}
+
+impl<T: Drop> From<AllocFailed<T>> for ExprFault {
+    ghost from_gives = { λ _ fault. fault ≡ expr_faults.Memory };
+
+    fn from(_: AllocFailed<T>) -> Self {
+        ExprFault::Memory
     }
 }

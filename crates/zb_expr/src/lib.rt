@@ -1,11 +1,22 @@
-//! Expressions: their values, where names have values.
+//! Expressions: how they are read off texts, and their values, where names have values.
 #![tactic(auto)]
 
+mod bytes;
+mod class;
 mod env;
 mod evaluation;
 mod fault;
 mod operators;
+mod parsing;
+mod part;
+mod reading;
+mod splitting;
+#[cfg(test)]
+mod tests;
+mod token;
+mod tokens;
 
 pub use env::Env;
 pub use evaluation::eval;
-pub use fault::EvalFault;
+pub use fault::{EvalFault, ExprFault};
+pub use reading::parse;
