@@ -11,8 +11,6 @@ mod parsing;
 mod part;
 mod reading;
 mod splitting;
-#[cfg(test)]
-mod tests;
 mod token;
 mod tokens;
 

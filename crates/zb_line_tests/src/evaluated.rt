@@ -1,6 +1,8 @@
-use crate::{EvalFault, ExprFault, eval, parse};
-use std::alloc::Global;
+// Texts that are expressions, with their values and faults, and texts that are none.
+use std::alloc::{AllocError, Global};
+use std::process::Abort;
 use zb_base::{Text, Value, Vars};
+use zb_expr::{EvalFault, ExprFault, eval, parse};
 
 // Variables of which a is 7.
 fn some_vars(alloc: Global) -> Vars {
@@ -66,6 +68,32 @@ fn values(rt: HostRuntime) {
     assert!(rt; has_fault(alloc, "9223372036854775807 + 1", EvalFault::Overflow));
     assert!(rt; has_fault(alloc, "false and b", EvalFault::Unknown));
     assert!(rt; has_fault(alloc, "1 = \"1\"", EvalFault::Kind));
+}
+
+// The text of 1 in so many pairs of parentheses.
+fn nested(alloc: Global, depth: usize) -> Result<String, AllocError> {
+    let mut text = String::new(alloc);
+    for _ in 0..depth {
+        text.push_str("(")?;
+    }
+    text.push_str("1")?;
+    for _ in 0..depth {
+        text.push_str(")")?;
+    }
+    Ok(text)
+}
+
+// The value of 1 in so many pairs of parentheses.
+fn value_in(rt: &impl Abort, alloc: Global, depth: usize) -> Option<i64> {
+    let text = nested(alloc, depth).expect(rt, "memory");
+    number_of(alloc, text.as_str())
+}
+
+#[test]
+fn at_most_64_pairs_of_parentheses(rt: HostRuntime) {
+    let alloc = rt.alloc();
+    assert!(rt; value_in(&rt, alloc, 64) == Some(1));
+    assert!(rt; value_in(&rt, alloc, 65).is_none());
 }
 
 #[test]
