@@ -3,6 +3,8 @@
 #![tactic(auto)]
 
 #[cfg(test)]
+mod evaluated;
+#[cfg(test)]
 mod expressions;
 #[cfg(test)]
 mod lines;

@@ -1,0 +1,9 @@
+pub mod CompleteLemmas
+pub mod EvalLemmas
+pub mod ExprLemmas
+pub mod FittingLemmas
+pub mod LevelLemmas
+pub mod ParsingLemmas
+pub mod SoundLemmas
+pub mod SplittingLemmas
+pub mod Worked

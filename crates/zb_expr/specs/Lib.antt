@@ -1,0 +1,4 @@
+pub mod Grammar
+pub mod Outcome
+pub mod Reading
+pub mod Spelling

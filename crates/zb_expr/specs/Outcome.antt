@@ -1,0 +1,28 @@
+-- What was answered, against the value of an expression or its first fault.
+use Rattle.std.specs.Prelude.{◌≡◌, ℕ, ℤ, List, Option, Result, Ok, Err}
+use Rattle.zb_base.specs.Results.{◌>>=◌}
+use Rattle.zb_base.specs.declared.value.Value.{Value}
+use Rattle.zb_process.specs.Expr.{ValueFault, Unknown, Kind, Overflow, values_of, whole_numbers}
+use Rattle.zb_process.specs.Tree.{Trees}
+use Rattle.zb_expr.specs.declared.fault.EvalFault.{EvalFault}
+use Rattle.zb_expr.specs.declared.fault.EvalFault.TheVariants as faults
+
+-- the fault that was told is this one, unless memory ran out
+abbrev pub IsTold : {A : Type 0} → EvalFault → Result A ValueFault → Type 0
+IsTold faults.Unknown is = is ≡ Err Unknown
+IsTold faults.Kind is = is ≡ Err Kind
+IsTold faults.Overflow is = is ≡ Err Overflow
+IsTold faults.Memory is = Unit {0}
+
+-- what was answered, seen by view, is this value, or the fault that was told
+abbrev pub EvaluatesAs : {A B : Type 0} → (A → B) → Result A EvalFault → Result B ValueFault → Type 0
+EvaluatesAs view (Ok x) is = is ≡ Ok (view x)
+EvaluatesAs view (Err e) is = IsTold e is
+
+-- the same of an answer as it is
+abbrev pub Evaluates : {A : Type 0} → Result A EvalFault → Result A ValueFault → Type 0
+Evaluates answer is = EvaluatesAs (λ x. x) answer is
+
+-- the whole numbers that members are, where names have these values
+abbrev pub list_of : (List ℕ → Option Value) → Trees → Result (List ℤ) ValueFault
+list_of names members = values_of names members >>= whole_numbers
