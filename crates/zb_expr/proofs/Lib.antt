@@ -1,9 +1,10 @@
+pub mod CodeLemmas
 pub mod CompleteLemmas
-pub mod EvalLemmas
 pub mod ExprLemmas
 pub mod FittingLemmas
 pub mod LevelLemmas
 pub mod ParsingLemmas
+pub mod RunLemmas
 pub mod SoundLemmas
 pub mod SplittingLemmas
 pub mod Worked

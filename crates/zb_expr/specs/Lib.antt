@@ -1,4 +1,6 @@
 pub mod Grammar
+pub mod Instructions
 pub mod Outcome
+pub mod Postfix
 pub mod Reading
 pub mod Spelling

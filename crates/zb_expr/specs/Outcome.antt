@@ -1,9 +1,6 @@
 -- What was answered, against the value of an expression or its first fault.
-use Rattle.std.specs.Prelude.{◌≡◌, ℕ, ℤ, List, Option, Result, Ok, Err}
-use Rattle.zb_base.specs.Results.{◌>>=◌}
-use Rattle.zb_base.specs.declared.value.Value.{Value}
-use Rattle.zb_process.specs.Expr.{ValueFault, Unknown, Kind, Overflow, values_of, whole_numbers}
-use Rattle.zb_process.specs.Tree.{Trees}
+use Rattle.std.specs.Prelude.{◌≡◌, Result, Ok, Err}
+use Rattle.zb_process.specs.Expr.{ValueFault, Unknown, Kind, Overflow}
 use Rattle.zb_expr.specs.declared.fault.EvalFault.{EvalFault}
 use Rattle.zb_expr.specs.declared.fault.EvalFault.TheVariants as faults
 
@@ -22,7 +19,3 @@ EvaluatesAs view (Err e) is = IsTold e is
 -- the same of an answer as it is
 abbrev pub Evaluates : {A : Type 0} → Result A EvalFault → Result A ValueFault → Type 0
 Evaluates answer is = EvaluatesAs (λ x. x) answer is
-
--- the whole numbers that members are, where names have these values
-abbrev pub list_of : (List ℕ → Option Value) → Trees → Result (List ℤ) ValueFault
-list_of names members = values_of names members >>= whole_numbers

@@ -1,20 +1,27 @@
-//! Expressions: how they are read off texts, and their values, where names have values.
+//! Expressions: how they are read off texts and compiled, and their values, where names have values.
 #![tactic(auto)]
 
 mod bytes;
 mod class;
+mod code;
+mod compiling;
 mod env;
 mod evaluation;
 mod fault;
+mod instruction;
 mod operators;
 mod parsing;
 mod part;
 mod reading;
+mod running;
 mod splitting;
 mod token;
 mod tokens;
 
+pub use code::Code;
+pub use compiling::compile;
 pub use env::Env;
 pub use evaluation::eval;
 pub use fault::{EvalFault, ExprFault};
 pub use reading::parse;
+pub use running::run;

@@ -1,7 +1,7 @@
 use Rattle.std.proofs.Common.{◌≡◌, drop}
 use Rattle.zb_process.specs.Expr.{whole_numbers}
-use Rattle.zb_expr.proofs.EvalLemmas.{with_front}
-use Rattle.zb_expr.proofs.evaluation.numbers_of.Given as goal
+use Rattle.zb_expr.proofs.RunLemmas.{with_front}
+use Rattle.zb_expr.proofs.running.numbers_of.Given as goal
 
 -- the numbers so far, and those of the values that are left, are all of them
 abbrev pub invariant-loop-value : goal.invariant-loop-value
