@@ -7,7 +7,7 @@ use Rattle.zb_expr.specs.declared.token.Token.{Token}
 use Rattle.zb_expr.specs.declared.token.Token.TheVariants as tokens
 use Rattle.zb_expr.specs.Grammar.{Form, Forms, Alone, Group, Negation, Minus, Members, Binary, none, more, level, level_of, left_level, IsFormed, AreFormed, around, around_members, written, written_behind, form_tree, form_trees}
 use Rattle.zb_expr.specs.Reading.{TokenReader, first_token, operator_in, ends_list, chain_at, more_members_at, part_at, part_with, with_member, no_members}
-use Rattle.zb_expr.proofs.LevelLemmas.{level_of-few, left_level-least, level-some, operator_on-none, operator_on-some}
+use Rattle.zb_expr.proofs.LevelLemmas.{level_of-between, left_level-least, level-some, operator_on-none, operator_on-some}
 use Rattle.zb_expr.proofs.ParsingLemmas.{chain-next}
 
 -- the part that a form is read as
@@ -128,7 +128,7 @@ mutual
       rw (inside, all)
   read-on (Minus a) room least n rest formed few tight stops total =
       let all : n ≡ room = omega arith in
-      let inside = whole-read a (read-on a) room 6 rest formed.1 (omega arith) formed.0 (λ o e. omega (arith, level_of-few o)) in
+      let inside = whole-read a (read-on a) room 6 rest formed.1 (omega arith) formed.0 (λ o e. omega (arith, (level_of-between o).1)) in
       rw (inside, all)
   read-on (Members none) room least n rest formed few tight stops total =
       let all : n ≡ room = omega arith in

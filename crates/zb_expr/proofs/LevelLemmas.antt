@@ -7,33 +7,19 @@ use Rattle.zb_expr.specs.Grammar.{Form, Alone, Group, Negation, Minus, Members, 
 use Rattle.zb_expr.specs.Reading.{operator_on}
 
 -- each operator binds at least a little, and less than a sign
-pub level_of-some : (o : Operator) → 1 ≤ level_of o
+pub level_of-between : (o : Operator) → (1 ≤ level_of o) × (level_of o ≤ 5)
 unfolding level_of
-level_of-some operators.Add = lit≤ tt
-level_of-some operators.Subtract = lit≤ tt
-level_of-some operators.Multiply = lit≤ tt
-level_of-some operators.Equal = lit≤ tt
-level_of-some operators.NotEqual = lit≤ tt
-level_of-some operators.Less = lit≤ tt
-level_of-some operators.AtMost = lit≤ tt
-level_of-some operators.Greater = lit≤ tt
-level_of-some operators.AtLeast = lit≤ tt
-level_of-some operators.And = lit≤ tt
-level_of-some operators.Or = lit≤ tt
-
-pub level_of-few : (o : Operator) → level_of o ≤ 5
-unfolding level_of
-level_of-few operators.Add = lit≤ tt
-level_of-few operators.Subtract = lit≤ tt
-level_of-few operators.Multiply = lit≤ tt
-level_of-few operators.Equal = lit≤ tt
-level_of-few operators.NotEqual = lit≤ tt
-level_of-few operators.Less = lit≤ tt
-level_of-few operators.AtMost = lit≤ tt
-level_of-few operators.Greater = lit≤ tt
-level_of-few operators.AtLeast = lit≤ tt
-level_of-few operators.And = lit≤ tt
-level_of-few operators.Or = lit≤ tt
+level_of-between operators.Add = (lit≤ tt, lit≤ tt)
+level_of-between operators.Subtract = (lit≤ tt, lit≤ tt)
+level_of-between operators.Multiply = (lit≤ tt, lit≤ tt)
+level_of-between operators.Equal = (lit≤ tt, lit≤ tt)
+level_of-between operators.NotEqual = (lit≤ tt, lit≤ tt)
+level_of-between operators.Less = (lit≤ tt, lit≤ tt)
+level_of-between operators.AtMost = (lit≤ tt, lit≤ tt)
+level_of-between operators.Greater = (lit≤ tt, lit≤ tt)
+level_of-between operators.AtLeast = (lit≤ tt, lit≤ tt)
+level_of-between operators.And = (lit≤ tt, lit≤ tt)
+level_of-between operators.Or = (lit≤ tt, lit≤ tt)
 
 -- the left operand binds at least as tightly as the operator
 pub left_level-least : (o : Operator) → level_of o ≤ left_level o
@@ -57,7 +43,7 @@ level-some (Group a) = lit≤ tt
 level-some (Negation a) = lit≤ tt
 level-some (Minus a) = lit≤ tt
 level-some (Members ms) = lit≤ tt
-level-some (Binary o a b) = level_of-some o
+level-some (Binary o a b) = (level_of-between o).0
 
 -- an operator that is too loose doesn't go on
 pub operator_on-none : (least tight : ℕ) (found : Option Operator) → ((o : Operator) → found ≡ Some o → level_of o < least) → operator_on least tight found ≡ None

@@ -11,7 +11,7 @@ use Rattle.zb_expr.specs.declared.token.Token.{Token}
 use Rattle.zb_expr.specs.declared.token.Token.TheVariants as tokens
 use Rattle.zb_expr.specs.Grammar.{Form, Forms, Alone, Group, Negation, Minus, Members, Binary, none, more, level, level_of, left_level, IsFormed, AreFormed, around, around_members, written, written_behind, AreExpression}
 use Rattle.zb_expr.specs.Reading.{TokenReader, first_token, operator_in, ends_list, operator_on, where_on, chain_at, more_members_at, all_members_at, closed_at, behind_close, part_made, listed_of, operand_at, part_at, part_with, part_alone, part_joined, part_grouped, part_negated, part_minus, part_listed, with_member, no_members, whole_tree, tree_read}
-use Rattle.zb_expr.proofs.LevelLemmas.{level_of-few, level-some}
+use Rattle.zb_expr.proofs.LevelLemmas.{level_of-between, level-some}
 use Rattle.zb_expr.proofs.CompleteLemmas.{Stops, part_of, with_all, with_all-is, whole-read, read-on}
 
 -- the tokens are those of a form that has less than so many around, and binds so tightly at least
@@ -222,7 +222,7 @@ chain_by inner room sound n least on f p ts rest None e fits k formed few tight 
 chain_by inner room sound n least on f p ts rest (Some o) e false k formed few tight h = absurd cc
 chain_by inner room sound n least on f p ts rest (Some o) e true k formed few tight h =
     let x = bound (inner (level_of o + 1) (drop 1 ts)) (λ x. chain_at inner room n least (part_joined o (part_of f) x.0) x.1) (p, rest) h in
-    let right = sound (level_of o + 1) (drop 1 ts) x.0.0 x.0.1 (omega (arith, level_of-few o)) x.1 in
+    let right = sound (level_of o + 1) (drop 1 ts) x.0.0 x.0.1 (omega (arith, (level_of-between o).1)) x.1 in
     let go = going_on least (level f) (operator_in (first_token ts)) o e in
     let less : around f < room = grind (arith, nat_tests) in
     let IsRest : Part → Type 0 = λ q. chain_at inner room n least (part_joined o (part_of f) q) x.0.1 ≡ Some (p, rest) in

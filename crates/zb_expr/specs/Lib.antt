@@ -1,5 +1,6 @@
 pub mod Grammar
 pub mod Instructions
+pub mod Operand
 pub mod Outcome
 pub mod Postfix
 pub mod Reading

@@ -9,6 +9,7 @@ mod env;
 mod evaluation;
 mod fault;
 mod instruction;
+mod operand;
 mod operators;
 mod parsing;
 mod part;

@@ -7,10 +7,11 @@ ghost use Rattle.zb_expr.specs.Postfix.{trees_behind};
 
 use crate::code::Code;
 use crate::instruction::Instruction;
+use crate::operand::Operand;
 use crate::operators::{apply, negative_of, opposite_of};
 use crate::{Env, EvalFault};
 use std::alloc::Global;
-use zb_base::{List, Text, TryCopy, Value};
+use zb_base::{List, Text, Value};
 
 /// The value of the expression that was compiled, where names have the values that they have in `env`.
 /// All of its operands are evaluated, left to right, and the first fault is told.
@@ -21,17 +22,17 @@ pub fn run<E: Env>(alloc: Global, code: &Code, env: &E) -> Result<Value, EvalFau
 {
     let mut stack = run_all(alloc, code.instructions(), env)?;
     match stack.pop() {
-        Some(value) => Ok(value),
+        Some(operand) => Ok(operand.into_value(alloc)?),
         None => unreachable!(),
     }
 }
 
 // The values that instructions leave on a stack that was empty.
-fn run_all<E: Env>(
+fn run_all<'a, E: Env>(
     alloc: Global,
-    instructions: &[Instruction],
-    env: &E,
-) -> Result<Vec<Value>, EvalFault>
+    instructions: &'a [Instruction],
+    env: &'a E,
+) -> Result<Vec<Operand<'a>>, EvalFault>
     ensures { (trees : _) → trees_behind [] instructions.now ≡ Some trees → EvaluatesAs (λ stack. stack.items) result (values_of (E.values env.now) (trees_of trees)) }
 {
     let mut stack = Vec::new(alloc);
@@ -45,50 +46,50 @@ fn run_all<E: Env>(
 }
 
 // The value of an instruction over those of its operands.
-fn run_one<E: Env>(
+fn run_one<'a, E: Env>(
     alloc: Global,
-    instruction: &Instruction,
-    operands: &[Value],
-    env: &E,
-) -> Result<Value, EvalFault>
+    instruction: &'a Instruction,
+    operands: &[Operand<'a>],
+    env: &'a E,
+) -> Result<Operand<'a>, EvalFault>
     ensures { Evaluates result (value_over (E.values env.now) instruction.now operands.now) }
 {
     match instruction {
-        Instruction::Constant(value) => Ok(value.copy(alloc)?),
-        Instruction::Name(name) => look_up(alloc, name, env),
-        Instruction::List(_) => Ok(Value::List(numbers_of(alloc, operands)?)),
+        Instruction::Constant(value) => Ok(Operand::lent(value)),
+        Instruction::Name(name) => look_up(name, env),
+        Instruction::List(_) => Ok(Operand::made(Value::List(numbers_of(alloc, operands)?))),
         Instruction::Not => match operands {
-            [operand] => opposite_of(operand),
+            [operand] => Ok(Operand::made(opposite_of(operand.value())?)),
             _ => Err(EvalFault::Kind),
         },
         Instruction::Minus => match operands {
-            [operand] => negative_of(operand),
+            [operand] => Ok(Operand::made(negative_of(operand.value())?)),
             _ => Err(EvalFault::Kind),
         },
         Instruction::Binary(operator) => match operands {
-            [left, right] => apply(*operator, left, right),
+            [left, right] => Ok(Operand::made(apply(*operator, left.value(), right.value())?)),
             _ => Err(EvalFault::Kind),
         },
     }
 }
 
 // The value that a name has.
-fn look_up<E: Env>(alloc: Global, name: &Text, env: &E) -> Result<Value, EvalFault>
+fn look_up<'a, E: Env>(name: &Text, env: &'a E) -> Result<Operand<'a>, EvalFault>
     ensures { Evaluates result (known (E.values env.now name.now)) }
 {
     match env.look(name.as_str()) {
-        Some(value) => Ok(value.copy(alloc)?),
+        Some(value) => Ok(Operand::lent(value)),
         None => Err(EvalFault::Unknown),
     }
 }
 
-// The whole numbers that all of these values are.
-fn numbers_of(alloc: Global, values: &[Value]) -> Result<List<i64>, EvalFault>
-    ensures { Evaluates result (whole_numbers values.now) }
+// The whole numbers that all of these operands are.
+fn numbers_of(alloc: Global, operands: &[Operand<'_>]) -> Result<List<i64>, EvalFault>
+    ensures { Evaluates result (whole_numbers operands.now) }
 {
-    let mut numbers = List::with_capacity(alloc, values.len())?;
-    for value in values {
-        let Value::Int(number) = value else {
+    let mut numbers = List::with_capacity(alloc, operands.len())?;
+    for operand in operands {
+        let Value::Int(number) = operand.value() else {
             return Err(EvalFault::Kind);
         };
         numbers.push(*number)?;

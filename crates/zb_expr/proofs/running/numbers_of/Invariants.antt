@@ -4,5 +4,5 @@ use Rattle.zb_expr.proofs.RunLemmas.{with_front}
 use Rattle.zb_expr.proofs.running.numbers_of.Given as goal
 
 -- the numbers so far, and those of the values that are left, are all of them
-abbrev pub invariant-loop-value : goal.invariant-loop-value
-invariant-loop-value l = with_front l.numbers (whole_numbers (drop l.value-index l.values)) ≡ whole_numbers l.values
+abbrev pub invariant-loop-operand : goal.invariant-loop-operand
+invariant-loop-operand l = with_front l.numbers (whole_numbers (drop l.operand-index l.operands)) ≡ whole_numbers l.operands

@@ -27,4 +27,4 @@ returns-clause-value g c =
     let names = g.E.Env.values c.args.env.now in
     let is = c.instructions.result.now in
     let written : trees_behind [] is ≡ Some (tree_written is ∷ []) = one-written is c.instructions.ensures.one in
-    rw (← c.instructions.ensures.tree) (alone_last names (tree_written is) c.in_ok-stack.stack.items c.pop.new.self.items c.in-Some.value (c.in_ok-stack.ensures (tree_written is ∷ []) written) c.in-Some.ensures.items)
+    rw (← c.instructions.ensures.tree, c.in_ok-into_value-in-Some.ensures) (alone_last names (tree_written is) c.in_ok-stack.stack.items c.pop.new.self.items c.in-Some.operand (c.in_ok-stack.ensures (tree_written is ∷ []) written) c.in-Some.ensures.items)
