@@ -8,12 +8,14 @@ use Rattle.zb_expr.specs.declared.fault.ExprFault.{ExprFault}
 use Rattle.zb_expr.specs.declared.fault.ExprFault.TheVariants as faults
 use Rattle.zb_expr.specs.declared.token.Token.{Token}
 use Rattle.zb_expr.specs.Reading.{ComesAs, expr_read, tree_read}
-use Rattle.zb_expr.specs.Spelling.{IsExpr, tokens_of}
+use Rattle.zb_expr.specs.Lexical.{IsExpr}
+use Rattle.zb_expr.specs.Spelling.{tokens_of}
+use Rattle.zb_expr.proofs.LexicalLemmas.{split-spelled, spelled-split}
 use Rattle.zb_expr.proofs.SoundLemmas.{tree_read-is, tree_read-of}
 
 split_by : (text : List ℕ) (tree : Tree) → length text ≤ 4096 → (found : Option (List Token)) → tokens_of text ≡ found → (found >>= tree_read) ≡ Some tree → IsExpr text tree
 split_by text tree short None e h = absurd cc
-split_by text tree short (Some ts) e h = record { short = short; parts = ts; split = e; are = tree_read-is ts tree h }
+split_by text tree short (Some ts) e h = record { short = short; parts = ts; spelled = spelled-split text ts e; are = tree_read-is ts tree h }
 
 read_by : (text : List ℕ) (tree : Tree) (long : Bool) → nat_lt 4096 (length text) ≡ long → (if long then None else tokens_of text >>= tree_read) ≡ Some tree → IsExpr text tree
 read_by text tree true e h = absurd cc
@@ -30,7 +32,7 @@ pub expr_read-of : (text : List ℕ) (tree : Tree) → IsExpr text tree → expr
 expr_read-of text tree h =
     let short : length text ≤ 4096 = h.short in
     let few : nat_lt 4096 (length text) ≡ false = grind (arith, nat_tests) in
-    rw (few, h.split) (tree_read-of h.parts tree h.are)
+    rw (few, split-spelled text h.parts h.spelled) (tree_read-of h.parts tree h.are)
 
 -- so a result that is what is read says what the grammar has
 pub ok_of : (text : List ℕ) (r : Result Tree ExprFault) → ComesAs (λ tree. tree) (expr_read text) r → IfOk r (λ tree. IsExpr text tree)

@@ -3,6 +3,7 @@ pub mod CompleteLemmas
 pub mod ExprLemmas
 pub mod FittingLemmas
 pub mod LevelLemmas
+pub mod LexicalLemmas
 pub mod ParsingLemmas
 pub mod RunLemmas
 pub mod SoundLemmas

@@ -58,7 +58,8 @@ decimal_after-next n (x ∷ ds) (suc i) d h = decimal_after-next n ds i d (omega
 
 pub ruleset numbers = (decimal_after-next)
 
-where_some_left : {A : Type 0} (left : List ℕ) (x : A) (f : List ℕ → Option A) → 0 < length left → where_left left x f ≡ f left
+-- where a byte is left, the rest follows
+pub where_some_left : {A : Type 0} (left : List ℕ) (x : A) (f : List ℕ → Option A) → 0 < length left → where_left left x f ≡ f left
 where_some_left [] x f h = absurd (omega arith)
 where_some_left (b ∷ bs) x f h = refl
 

@@ -1,5 +1,6 @@
 pub mod Grammar
 pub mod Instructions
+pub mod Lexical
 pub mod Operand
 pub mod Outcome
 pub mod Postfix

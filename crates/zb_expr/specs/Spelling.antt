@@ -1,11 +1,10 @@
--- How the text of an expression is split into tokens: numbers and words are as long as can be, and spaces stand between tokens alone.
-use Rattle.std.specs.Prelude.{◌≡◌, ℕ, zero, suc, ◌+◌, ◌-◌, ◌*◌, ◌^◌, ◌≤◌, nat_lt, ◌==◌, pos, Bool, true, false, not, ◌&&◌, ◌||◌, Option, None, Some, List, [], ◌∷◌, ◌++◌, length, take, drop, codes, if◌then◌else◌}
+-- How the text of an expression is split into tokens, from left to right. That these are the tokens that the text is spelled by (Lexical) is proved.
+use Rattle.std.specs.Prelude.{ℕ, zero, suc, ◌+◌, ◌-◌, ◌*◌, ◌^◌, nat_lt, ◌==◌, pos, Bool, true, false, not, ◌&&◌, ◌||◌, Option, None, Some, List, [], ◌∷◌, ◌++◌, length, take, drop, codes, if◌then◌else◌}
 use Rattle.std.specs.List.{prefix_len}
 use Rattle.std.specs.Str.{is_utf8}
 use Rattle.std.specs.Ordering.{nat_cmp, is_eq}
 use Rattle.std.specs.Cmp.Lexicographic.{slice_cmp}
 use Rattle.zb_format.specs.Reading.{◌>>=◌}
-use Rattle.zb_process.specs.Tree.{Tree}
 use Rattle.zb_process.specs.declared.operator.Operator.{Operator}
 use Rattle.zb_process.specs.declared.operator.Operator.TheVariants as operators
 use Rattle.zb_expr.specs.declared.class.Class.{Class}
@@ -13,7 +12,6 @@ use Rattle.zb_expr.specs.declared.class.Class.TheVariants as classes
 use Rattle.zb_expr.specs.declared.token.Leaf.TheVariants as leaves
 use Rattle.zb_expr.specs.declared.token.Token.{Token}
 use Rattle.zb_expr.specs.declared.token.Token.TheVariants as tokens
-use Rattle.zb_expr.specs.Grammar.{AreExpression}
 
 -- from one byte to another
 abbrev pub is_byte_between : ℕ → ℕ → ℕ → Bool
@@ -140,10 +138,3 @@ tokens_after (suc n) so_far bytes = token_at bytes >>= (λ x. where_left x.1 (so
 -- the tokens of a text
 abbrev pub tokens_of : List ℕ → Option (List Token)
 tokens_of text = tokens_after (length text) [] text
-
--- the text is an expression, which has this tree
-pub record IsExpr (text : List ℕ) (tree : Tree) : Type 0 where
-  pub short : length text ≤ 4096
-  pub parts : List Token
-  pub split : tokens_of text ≡ Some parts
-  pub are : AreExpression parts tree

@@ -2,7 +2,7 @@ ghost use Rattle.std.specs.Prelude.{◌≡◌, IfOk, IsErrOf};
 ghost use Rattle.zb_process.specs.Tree.{Tree};
 ghost use Rattle.zb_expr.specs.declared.fault.ExprFault.TheVariants.{NotExpr};
 ghost use Rattle.zb_expr.specs.Reading.{ComesAs, expr_read};
-ghost use Rattle.zb_expr.specs.Spelling.{IsExpr};
+ghost use Rattle.zb_expr.specs.Lexical.{IsExpr};
 
 use crate::ExprFault;
 use crate::parsing::expr_of_tokens;
