@@ -24,7 +24,7 @@ abbrev pub escaped : List ℕ → List ℕ
 escaped [] = []
 escaped (b ∷ bs) = if b == 34 || b == 92 then 92 ∷ b ∷ escaped bs else b ∷ escaped bs
 
--- a token stands at the front of a text, with these bytes behind it: a number or a word is as long as can be, and so is a sign (own)
+-- a token stands at the front of a text, as long as can be, with these bytes behind it (own)
 pub data Stands (t : Token) (text behind : List ℕ) : Type 0 where
   number : (d : ℕ) (ds : List ℕ) → text ≡ (d ∷ ds) ++ behind → are_in classes.Digit (d ∷ ds) ≡ true → stops classes.Digit behind ≡ true → number_token (d ∷ ds) ≡ Some t → Stands t text behind
   word : (b : ℕ) (bs : List ℕ) → text ≡ (b ∷ bs) ++ behind → begins_name b ≡ true → are_in classes.Word (b ∷ bs) ≡ true → stops classes.Word behind ≡ true → word_token (b ∷ bs) ≡ t → Stands t text behind

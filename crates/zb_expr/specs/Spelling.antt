@@ -1,4 +1,4 @@
--- How the text of an expression is split into tokens, from left to right. That these are the tokens that the text is spelled by (Lexical) is proved.
+-- How a text is split into tokens, from left to right. That it is spelled by these tokens is proved.
 use Rattle.std.specs.Prelude.{ℕ, zero, suc, ◌+◌, ◌-◌, ◌*◌, ◌^◌, nat_lt, ◌==◌, pos, Bool, true, false, not, ◌&&◌, ◌||◌, Option, None, Some, List, [], ◌∷◌, ◌++◌, length, take, drop, codes, if◌then◌else◌}
 use Rattle.std.specs.List.{prefix_len}
 use Rattle.std.specs.Str.{is_utf8}
@@ -75,7 +75,7 @@ word_token w =
 abbrev pub text_token : List ℕ → Option Token
 text_token t = if is_utf8 t then Some (tokens.Leaf (leaves.Text t)) else None
 
--- the bytes up to the next quote, behind these, and the bytes behind the quote; behind a backslash stands a quote or a backslash, which is meant itself
+-- the bytes up to the next quote, behind these, and the bytes behind the quote; a backslash stands before what is meant itself
 abbrev pub quoted_after : Bool → List ℕ → List ℕ → Option (List ℕ × List ℕ)
 quoted_after escaped so_far [] = None
 quoted_after true so_far (b ∷ bs) = if b == 34 || b == 92 then quoted_after false (so_far ++ b ∷ []) bs else None
