@@ -7,9 +7,12 @@ use Rattle.serde_json.specs.Data.{Data, null, Members, no_members, member}
 use Rattle.serde_json.specs.Find.{get, as_str, as_object}
 use Rattle.zb_base.specs.declared.vars.Variable.{Variable}
 use Rattle.zb_process.specs.declared.model.Model.{Model}
-use Rattle.zb_reader.specs.Layout.{place_in_model, model_of}
+use Rattle.zb_reader.specs.Layout.{model_of}
+use Rattle.zb_reader.specs.Leaves.{unsigned_of, is_short, is_between}
+use Rattle.zb_wire.specs.Built.{unbuilt_place}
+use Rattle.zb_reader.specs.Shapes.{place_in_model}
 use Rattle.zb_wire.specs.First.{first_told}
-use Rattle.zb_wire.specs.Variables.{unsigned_of, all_variables, variables_of}
+use Rattle.zb_wire.specs.Variables.{all_variables, variables_of}
 use Rattle.zb_wire.specs.declared.given.Given.{Given}
 use Rattle.zb_wire.specs.declared.kind.Kind.{Kind}
 use Rattle.zb_wire.specs.declared.kind.Kind.TheVariants as kinds
@@ -48,21 +51,14 @@ abbrev pub unless_good : Bool → List ℕ → Option LineFault
 unless_good good field = if good then None else Some (field_fault field)
 
 -- FIELD (own): the value isn't of this kind, a text (RFC 8259, section 7), a whole number from 0 (RFC 8259, section
--- 6), an object whose members are of the kinds that variables may have (own), or a model by its layout
+-- 6), an object whose members are of the kinds that variables may have (own), or a model by its layout, of which
+-- then each node and each flow is built
 abbrev pub kind_fault : List ℕ → Kind → Data → Option LineFault
 kind_fault field (kinds.Text most) d = unless_good (is_some (as_str d)) field
 kind_fault field (kinds.Number least most) d = unless_good (is_some (unsigned_of d)) field
 kind_fault field kinds.Partition d = unless_good (is_some (unsigned_of d)) field
 kind_fault field kinds.Variables d = unless_good (option_map_or all_variables (as_object d) false) field
-kind_fault field kinds.Model d = option_map (place_fault field) (place_in_model d)
-
--- a text of at most so many bytes
-abbrev pub is_short : ℕ → Data → Bool
-is_short most d = option_map_or (λ s. nat_le (length s) most) (as_str d) false
-
--- a whole number from the first of these to the second
-abbrev pub is_between : ℕ → ℕ → Data → Bool
-is_between least most d = option_map_or (λ n. nat_le least n && nat_le n most) (unsigned_of d) false
+kind_fault field kinds.Model d = option_map (place_fault field) (option_or (place_in_model d) (unbuilt_place d))
 
 -- the variables that an object stands for
 abbrev pub variables_in : Data → Option (List Variable)
