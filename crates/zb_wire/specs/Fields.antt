@@ -72,17 +72,29 @@ allows given kinds.Partition d = is_between 1 given.partitions d
 allows given kinds.Variables d = is_some (variables_in d)
 allows given kinds.Model d = true
 
--- FIELD (own): a field is missing, or its value isn't of its kind
-abbrev pub wrong_field : Data → FieldRule → Option LineFault
-wrong_field d f = option_map_or (kind_fault f.name f.kind) (get f.name d) (if f.needed then Some (missing_fault f.name f.kind) else None)
+-- FIELD (own): a field is missing, or this value of it isn't of its kind
+abbrev pub wrong_with : FieldRule → Option Data → Option LineFault
+wrong_with f found = option_map_or (kind_fault f.name f.kind) found (if f.needed then Some (missing_fault f.name f.kind) else None)
 
--- a field is within its limits, or it isn't there
+-- the same of a field of this value
+abbrev pub wrong_field : Data → FieldRule → Option LineFault
+wrong_field d f = wrong_with f (get f.name d)
+
+-- a field has a value within its limits, or none
+abbrev pub allows_found : Given → FieldRule → Option Data → Bool
+allows_found given f found = option_map_or (allows given f.kind) found true
+
+-- the same of a field of this value
 abbrev pub is_within : Given → Data → FieldRule → Bool
-is_within given d f = option_map_or (allows given f.kind) (get f.name d) true
+is_within given d f = allows_found given f (get f.name d)
 
 -- RANGE (own): a field is outside its limits
+abbrev pub outside_with : Given → FieldRule → Option Data → Option LineFault
+outside_with given f found = if allows_found given f found then None else Some (faults.Range f.name)
+
+-- the same of a field of this value
 abbrev pub field_outside : Given → Data → FieldRule → Option LineFault
-field_outside given d f = if is_within given d f then None else Some (faults.Range f.name)
+field_outside given d f = outside_with given f (get f.name d)
 
 -- op, or one of the fields
 abbrev pub is_known : List FieldRule → List ℕ → Bool
