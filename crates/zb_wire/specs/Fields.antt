@@ -1,5 +1,5 @@
 -- The fields of a request's line, what each may hold, and what is wrong with a line that has others.
-use Rattle.std.specs.Prelude.{ℕ, List, [], length, codes, Bool, true, false, ◌&&◌, ◌||◌, min, nat_le, is_some, if◌then◌else◌, Option, Some, None, option_map, option_and_then, unwrap_or}
+use Rattle.std.specs.Prelude.{ℕ, List, [], codes, Bool, true, false, ◌||◌, min, is_some, if◌then◌else◌, Option, Some, None, option_map, option_and_then, unwrap_or}
 use Rattle.std.specs.Option.{option_map_or, option_or}
 use Rattle.std.specs.List.{list_any}
 use Rattle.std.specs.Str.{bytes_eq}
