@@ -37,19 +37,23 @@ a_flag = contents.Leaf leaves.Flag
 abbrev pub a_source : Content
 a_source = contents.Leaf (leaves.Source longest_other)
 
--- the fields that have an event's definition (BPMN 2.0.2, 10.5.5)
+-- the field that has the definition of a timer (BPMN 2.0.2, 10.5.5)
 abbrev pub timer : List ℕ
 timer = codes "timerEventDefinition"
 
+-- that of a message (BPMN 2.0.2, 10.5.5)
 abbrev pub message : List ℕ
 message = codes "messageEventDefinition"
 
+-- that of an error (BPMN 2.0.2, 10.5.5)
 abbrev pub error : List ℕ
 error = codes "errorEventDefinition"
 
+-- that of a compensation (BPMN 2.0.2, 10.5.5)
 abbrev pub compensate : List ℕ
 compensate = codes "compensateEventDefinition"
 
+-- that of a termination (BPMN 2.0.2, 10.5.5)
 abbrev pub terminate : List ℕ
 terminate = codes "terminateEventDefinition"
 
