@@ -1,1 +1,3 @@
 pub mod PointerLemmas
+pub mod PlaceLemmas
+pub mod SourceLemmas

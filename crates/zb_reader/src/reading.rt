@@ -1,20 +1,26 @@
 ghost use Rattle.std.specs.Prelude.{◌≡◌, IfOk};
 ghost use Rattle.serde_json.specs.View.{view};
-ghost use Rattle.zb_reader.specs.Layout.{place_in_model, model_of};
+ghost use Rattle.zb_reader.specs.Layout.{model_of};
+ghost use Rattle.zb_reader.specs.Shapes.{place_in_model};
 
-use crate::layout::{Layout, place_in};
+use crate::making::FromJson;
+use crate::placing::place_in_part;
+use crate::table::Part;
 use serde_json::Value as Json;
 use std::alloc::{AllocError, Global};
 use zb_base::Text;
 use zb_process::Model;
 
+// A model has nodes, and these have parts that have no others.
+const LEVELS: u32 = 3;
+
 /// Where a value first fails to be a model, if it does: a JSON pointer (RFC 6901), empty for the whole value. It
 /// takes time in proportion to the value.
-#[tactic(auto, unfolding(crate::specs::Layout::place_in_model))]
+#[tactic(auto, unfolding(crate::specs::Shapes::place_in_model))]
 pub fn model_place(alloc: Global, value: &Json) -> Result<Option<Text>, AllocError>
     ensures { IfOk result (λ place. place ≡ place_in_model (view value.now)) }
 {
-    place_in::<Model>(alloc, value)
+    place_in_part(alloc, LEVELS, Part::Model, value)
 }
 
 /// The model that a value is, where no place fails. It takes time in proportion to the value.

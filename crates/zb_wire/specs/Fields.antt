@@ -1,5 +1,5 @@
 -- The fields of a request's line, what each may hold, and what is wrong with a line that has others.
-use Rattle.std.specs.Prelude.{ℕ, List, [], length, codes, Bool, true, false, ◌&&◌, ◌||◌, min, nat_le, is_some, if◌then◌else◌, Option, Some, None, option_map, option_and_then, unwrap_or}
+use Rattle.std.specs.Prelude.{ℕ, List, [], codes, Bool, true, false, ◌||◌, min, is_some, if◌then◌else◌, Option, Some, None, option_map, option_and_then, unwrap_or}
 use Rattle.std.specs.Option.{option_map_or, option_or}
 use Rattle.std.specs.List.{list_any}
 use Rattle.std.specs.Str.{bytes_eq}
@@ -7,9 +7,12 @@ use Rattle.serde_json.specs.Data.{Data, null, Members, no_members, member}
 use Rattle.serde_json.specs.Find.{get, as_str, as_object}
 use Rattle.zb_base.specs.declared.vars.Variable.{Variable}
 use Rattle.zb_process.specs.declared.model.Model.{Model}
-use Rattle.zb_reader.specs.Layout.{place_in_model, model_of}
+use Rattle.zb_reader.specs.Layout.{model_of}
+use Rattle.zb_reader.specs.Leaves.{unsigned_of, is_short, is_between}
+use Rattle.zb_wire.specs.Built.{unbuilt_place}
+use Rattle.zb_reader.specs.Shapes.{place_in_model}
 use Rattle.zb_wire.specs.First.{first_told}
-use Rattle.zb_wire.specs.Variables.{unsigned_of, all_variables, variables_of}
+use Rattle.zb_wire.specs.Variables.{all_variables, variables_of}
 use Rattle.zb_wire.specs.declared.given.Given.{Given}
 use Rattle.zb_wire.specs.declared.kind.Kind.{Kind}
 use Rattle.zb_wire.specs.declared.kind.Kind.TheVariants as kinds
@@ -48,21 +51,14 @@ abbrev pub unless_good : Bool → List ℕ → Option LineFault
 unless_good good field = if good then None else Some (field_fault field)
 
 -- FIELD (own): the value isn't of this kind, a text (RFC 8259, section 7), a whole number from 0 (RFC 8259, section
--- 6), an object whose members are of the kinds that variables may have (own), or a model by its layout
+-- 6), an object whose members are of the kinds that variables may have (own), or a model by its layout, of which
+-- then each node and each flow is built
 abbrev pub kind_fault : List ℕ → Kind → Data → Option LineFault
 kind_fault field (kinds.Text most) d = unless_good (is_some (as_str d)) field
 kind_fault field (kinds.Number least most) d = unless_good (is_some (unsigned_of d)) field
 kind_fault field kinds.Partition d = unless_good (is_some (unsigned_of d)) field
 kind_fault field kinds.Variables d = unless_good (option_map_or all_variables (as_object d) false) field
-kind_fault field kinds.Model d = option_map (place_fault field) (place_in_model d)
-
--- a text of at most so many bytes
-abbrev pub is_short : ℕ → Data → Bool
-is_short most d = option_map_or (λ s. nat_le (length s) most) (as_str d) false
-
--- a whole number from the first of these to the second
-abbrev pub is_between : ℕ → ℕ → Data → Bool
-is_between least most d = option_map_or (λ n. nat_le least n && nat_le n most) (unsigned_of d) false
+kind_fault field kinds.Model d = option_map (place_fault field) (option_or (place_in_model d) (unbuilt_place d))
 
 -- the variables that an object stands for
 abbrev pub variables_in : Data → Option (List Variable)
@@ -76,17 +72,29 @@ allows given kinds.Partition d = is_between 1 given.partitions d
 allows given kinds.Variables d = is_some (variables_in d)
 allows given kinds.Model d = true
 
--- FIELD (own): a field is missing, or its value isn't of its kind
-abbrev pub wrong_field : Data → FieldRule → Option LineFault
-wrong_field d f = option_map_or (kind_fault f.name f.kind) (get f.name d) (if f.needed then Some (missing_fault f.name f.kind) else None)
+-- FIELD (own): a field is missing, or this value of it isn't of its kind
+abbrev pub wrong_with : FieldRule → Option Data → Option LineFault
+wrong_with f found = option_map_or (kind_fault f.name f.kind) found (if f.needed then Some (missing_fault f.name f.kind) else None)
 
--- a field is within its limits, or it isn't there
+-- the same of a field of this value
+abbrev pub wrong_field : Data → FieldRule → Option LineFault
+wrong_field d f = wrong_with f (get f.name d)
+
+-- a field has a value within its limits, or none
+abbrev pub allows_found : Given → FieldRule → Option Data → Bool
+allows_found given f found = option_map_or (allows given f.kind) found true
+
+-- the same of a field of this value
 abbrev pub is_within : Given → Data → FieldRule → Bool
-is_within given d f = option_map_or (allows given f.kind) (get f.name d) true
+is_within given d f = allows_found given f (get f.name d)
 
 -- RANGE (own): a field is outside its limits
+abbrev pub outside_with : Given → FieldRule → Option Data → Option LineFault
+outside_with given f found = if allows_found given f found then None else Some (faults.Range f.name)
+
+-- the same of a field of this value
 abbrev pub field_outside : Given → Data → FieldRule → Option LineFault
-field_outside given d f = if is_within given d f then None else Some (faults.Range f.name)
+field_outside given d f = outside_with given f (get f.name d)
 
 -- op, or one of the fields
 abbrev pub is_known : List FieldRule → List ℕ → Bool

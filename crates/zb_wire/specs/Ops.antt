@@ -5,7 +5,7 @@ use Rattle.std.specs.Str.{bytes_eq}
 use Rattle.serde_json.specs.Data.{Data}
 use Rattle.zb_exchange_records.specs.declared.message.MessagePublish.{MessagePublish}
 use Rattle.zb_instance_records.specs.declared.instance.ProcessInstanceCreationCreate.{ProcessInstanceCreationCreate}
-use Rattle.zb_reader.specs.Layout.{text_in}
+use Rattle.zb_reader.specs.Kinds.{text_in}
 use Rattle.zb_wire.specs.Variables.{longest_name}
 use Rattle.zb_wire.specs.Fields.{must, may, count_at, short_count_at, variables_of_field, model_at}
 use Rattle.zb_wire.specs.Op.{Op}

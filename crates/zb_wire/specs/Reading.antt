@@ -1,5 +1,6 @@
 -- What the private functions that read a line promise one another.
-use Rattle.std.specs.Prelude.{◌≡◌, Result, Ok, Err}
+use Rattle.std.specs.Prelude.{◌≡◌, ℕ, List, Option, option_map, Result, Ok, Err}
+use denote.Bor.{Bor}
 use Rattle.serde_json.specs.Data.{Data}
 use Rattle.serde_json.specs.Errors.{IsMemory}
 use Rattle.serde_json.specs.View.{view}
@@ -19,3 +20,11 @@ abbrev pub Blames : LineFault → Error → Type 0
 Blames faults.NotJson e = ¬ (IsMemory e)
 Blames faults.Memory e = IsMemory e
 Blames fault e = ⊥
+
+-- the value of a field, where it was found
+abbrev pub data_of : Option (Bor Value) → Option Data
+data_of found = option_map (λ value. view value.now) found
+
+-- the fault of a field of this name that is outside its limits
+abbrev pub range_of : Option (Bor (List ℕ)) → Option LineFault
+range_of name = option_map (λ n. faults.Range n.now) name

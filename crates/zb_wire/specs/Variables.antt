@@ -2,7 +2,8 @@
 -- bits with sign, a truth value, a text or a list of such numbers.
 use Rattle.std.specs.Prelude.{ℕ, ℤ, List, [], ◌∷◌, length, Bool, true, false, ◌&&◌, ◌||◌, nat_le, is_some, if◌then◌else◌, Option, Some, None, option_map, option_and_then}
 use Rattle.serde_json.specs.Data.{Data, null, boolean, number, string, array, object, Items, no_items, item, Members, no_members, member}
-use Rattle.serde_json.specs.Find.{as_number, as_u64, as_i64}
+use Rattle.serde_json.specs.Find.{as_number, as_i64}
+use Rattle.zb_reader.specs.Leaves.{unsigned_of}
 use Rattle.zb_base.specs.declared.value.Value.{Value}
 use Rattle.zb_base.specs.declared.value.Value.TheVariants as values
 use Rattle.zb_base.specs.declared.vars.Variable.{Variable}
@@ -14,10 +15,6 @@ longest_name = 255
 -- the text of a variable has at most so many bytes (own)
 abbrev pub longest_text : ℕ
 longest_text = 32768
-
--- the number of 64 bits without sign that a value is (RFC 8259, section 6)
-abbrev pub unsigned_of : Data → Option ℕ
-unsigned_of d = option_and_then as_u64 (as_number d)
 
 -- the number of 64 bits with sign that a value is (RFC 8259, section 6)
 abbrev pub signed_of : Data → Option ℤ

@@ -1,7 +1,9 @@
-ghost use Rattle.std.specs.Prelude.{◌≡◌, IfOk, option_map, map};
+ghost use Rattle.std.specs.Prelude.{◌≡◌, None, IfOk, option_map, map};
+ghost use Rattle.std.specs.Option.{option_or};
 ghost use Rattle.serde_json.specs.View.{view, members_view};
 ghost use Rattle.zb_wire.specs.Fields as spec;
 ghost use Rattle.zb_wire.specs.First.{first_told};
+ghost use Rattle.zb_wire.specs.Reading.{data_of, range_of};
 ghost use Rattle.zb_wire.specs.Table.{field_of};
 
 use crate::faults::{field_fault, range_fault};
@@ -29,49 +31,42 @@ impl Field {
         }
     }
 
-    // What is wrong with the field in a value: it is missing, or not of its kind.
-    fn wrong(self, alloc: Global, value: &Json) -> Result<Option<LineFault>, AllocError>
-        ensures { IfOk result (λ fault. fault ≡ spec.wrong_field (view value.now) (field_of self)) }
+    // What is wrong with the field where this is its value, if there is one: it is missing, or not of its kind.
+    fn wrong(self, alloc: Global, found: Option<&Json>) -> Result<Option<LineFault>, AllocError>
+        ensures { IfOk result (λ fault. fault
+            ≡ spec.wrong_with (field_of self) (data_of found.entry)) }
     {
         match self {
-            Field::Must(name, kind) => match value.get(name) {
-                Some(found) => kind.fault(alloc, name, found),
+            Field::Must(name, kind) => match found {
+                Some(value) => kind.fault(alloc, name, value),
                 None => Ok(Some(kind.missing(alloc, name)?)),
             },
-            Field::May(name, kind) => match value.get(name) {
-                Some(found) => kind.fault(alloc, name, found),
+            Field::May(name, kind) => match found {
+                Some(value) => kind.fault(alloc, name, value),
                 None => Ok(None),
             },
         }
     }
 
-    // Whether the field is within its limits, or isn't there.
-    fn is_within(self, given: Given, value: &Json) -> bool
-        ensures { result ≡ spec.is_within given (view value.now) (field_of self) }
+    // Whether this value is within the limits of the field, or there is none.
+    fn allows(self, given: Given, found: Option<&Json>) -> bool
+        ensures { result ≡ spec.allows_found given (field_of self) (data_of found.entry) }
     {
         match self {
-            Field::Must(name, kind) | Field::May(name, kind) => match value.get(name) {
-                Some(found) => kind.allows(given, found),
+            Field::Must(_, kind) | Field::May(_, kind) => match found {
+                Some(value) => kind.allows(given, value),
                 None => true,
             },
         }
     }
+}
 
-    // The fault of the field where it is outside its limits.
-    fn outside(
-        self,
-        alloc: Global,
-        given: Given,
-        value: &Json,
-    ) -> Result<Option<LineFault>, AllocError>
-        ensures { IfOk result (λ fault. fault
-            ≡ spec.field_outside given (view value.now) (field_of self)) }
-    {
-        if self.is_within(given, value) {
-            return Ok(None);
-        }
-        Ok(Some(range_fault(alloc, self.name())?))
-    }
+// What is wrong with the fields of a line: the fault of the first that is missing or of the wrong kind, and where
+// there is none the first that is outside its limits.
+#[derive(Drop)]
+struct Judged {
+    wrong: Option<LineFault>,
+    outside: Option<&'static str>,
 }
 
 /// What is wrong with a value that has no such fields, these being its members. It takes time in proportion
@@ -87,48 +82,58 @@ pub fn fault_in(
     ensures { IfOk result (λ fault. fault ≡ spec.fault_in given (map field_of fields.now)
         (members_view members.now.entries) (view value.now)) }
 {
-    if let Some(fault) = first_wrong(alloc, fields, value)? {
+    let Judged { wrong, outside } = judge(alloc, given, fields, value)?;
+    if let Some(fault) = wrong {
         return Ok(Some(fault));
     }
     if let Some(field) = first_unknown(fields, members) {
         return Ok(Some(field_fault(alloc, field)?));
     }
-    first_outside(alloc, given, fields, value)
-}
-
-// The fault of the first field that is missing or of the wrong kind.
-fn first_wrong(
-    alloc: Global,
-    fields: &[Field],
-    value: &Json,
-) -> Result<Option<LineFault>, AllocError>
-    ensures { IfOk result (λ fault. fault
-        ≡ first_told (spec.wrong_field (view value.now)) (map field_of fields.now)) }
-{
-    for field in fields {
-        if let Some(fault) = field.wrong(alloc, value)? {
-            return Ok(Some(fault));
-        }
+    match outside {
+        Some(field) => Ok(Some(range_fault(alloc, field)?)),
+        None => Ok(None),
     }
-    Ok(None)
 }
 
-// The fault of the first field that is outside its limits.
-fn first_outside(
-    alloc: Global,
-    given: Given,
-    fields: &[Field],
-    value: &Json,
-) -> Result<Option<LineFault>, AllocError>
-    ensures { IfOk result (λ fault. fault
+// What is wrong with the fields of a line.
+fn judge(alloc: Global, given: Given, fields: &[Field], value: &Json) -> Result<Judged, AllocError>
+    ensures wrong { IfOk result (λ judged. judged.wrong
+        ≡ first_told (spec.wrong_field (view value.now)) (map field_of fields.now)) }
+    ensures outside { IfOk result (λ judged. judged.wrong ≡ None → range_of judged.outside
         ≡ first_told (spec.field_outside given (view value.now)) (map field_of fields.now)) }
 {
+    let mut outside = None;
     for field in fields {
-        if let Some(fault) = field.outside(alloc, given, value)? {
-            return Ok(Some(fault));
+        let found = value.get(field.name());
+        if let Some(fault) = field.wrong(alloc, found)? {
+            return Ok(Judged {
+                wrong: Some(fault),
+                outside: None,
+            });
         }
+        outside = first_outside(outside, *field, given, found);
     }
-    Ok(None)
+    Ok(Judged {
+        wrong: None,
+        outside,
+    })
+}
+
+// The first field outside its limits: the one that was found before, or else this one by its value.
+fn first_outside(
+    outside: Option<&'static str>,
+    field: Field,
+    given: Given,
+    found: Option<&Json>,
+) -> Option<&'static str>
+    ensures { range_of result ≡ option_or (range_of outside.entry)
+        (spec.outside_with given (field_of field) (data_of found.entry)) }
+{
+    match outside {
+        Some(name) => Some(name),
+        None if field.allows(given, found) => None,
+        None => Some(field.name()),
+    }
 }
 
 // The first member, in byte order, that is neither `op` nor one of the fields.

@@ -1,15 +1,19 @@
-ghost use Rattle.std.specs.Prelude.{◌≡◌, IfOk, if◌then◌else◌, Some, None, option_map};
+ghost use Rattle.std.specs.Prelude.{◌≡◌, IfOk};
+ghost use Rattle.std.specs.Option.{option_or};
 ghost use Rattle.serde_json.specs.View.{view};
-ghost use Rattle.zb_reader.specs.Layout.{place_in_model};
+ghost use Rattle.zb_reader.specs.Shapes.{place_in_model};
+ghost use Rattle.zb_wire.specs.Built.{unbuilt_place};
 ghost use Rattle.zb_wire.specs.Fields as spec;
+ghost use Rattle.zb_wire.specs.declared.kind.Kind.TheVariants as kinds;
 
+use crate::built::unbuilt_place;
 use crate::faults::{field_fault, place_fault};
 use crate::variables::{all_variables, all_within};
 use crate::{Given, LineFault};
 use serde_json::Value as Json;
 use std::alloc::{AllocError, Global};
 use zb_model::Text;
-use zb_reader::model_place;
+use zb_reader::{is_between, is_short, model_place};
 
 /// What the value of a field may be, with its limits.
 #[derive(Clone, Copy)]
@@ -84,27 +88,24 @@ fn unless(alloc: Global, good: bool, field: &str) -> Result<Option<LineFault>, A
     Ok(Some(field_fault(alloc, field)?))
 }
 
-// The fault of a field whose value is no model.
+// The fault of a field whose value is no model, or one that isn't built.
 fn model_fault(alloc: Global, field: &str, value: &Json) -> Result<Option<LineFault>, AllocError>
     ensures { IfOk result (λ fault. fault
-        ≡ option_map (spec.place_fault field.now) (place_in_model (view value.now))) }
+        ≡ spec.kind_fault field.now kinds.Model (view value.now)) }
 {
-    match model_place(alloc, value)? {
+    match refused_place(alloc, value)? {
         Some(path) => Ok(Some(place_fault(alloc, field, path)?)),
         None => Ok(None),
     }
 }
 
-fn is_short(value: &Json, most: usize) -> bool
-    ensures { result ≡ spec.is_short most (view value.now) }
+// Where a value fails to be a model that is built.
+fn refused_place(alloc: Global, value: &Json) -> Result<Option<Text>, AllocError>
+    ensures { IfOk result (λ place. place
+        ≡ option_or (place_in_model (view value.now)) (unbuilt_place (view value.now))) }
 {
-    value.as_str().is_some_and(|text| text.len() <= most)
-}
-
-fn is_between(value: &Json, least: u64, most: u64) -> bool
-    ensures { result ≡ spec.is_between least most (view value.now) }
-{
-    value
-        .as_u64()
-        .is_some_and(|number| least <= number && number <= most)
+    match model_place(alloc, value)? {
+        Some(path) => Ok(Some(path)),
+        None => unbuilt_place(alloc, value),
+    }
 }

@@ -1,6 +1,7 @@
 //! Lines to requests.
 #![tactic(auto)]
 
+mod built;
 mod faults;
 mod fields;
 mod given;

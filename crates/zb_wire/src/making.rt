@@ -2,17 +2,18 @@ ghost use Rattle.std.specs.Prelude.{◌≡◌, IfOk};
 ghost use Rattle.serde_json.specs.View.{view};
 ghost use Rattle.zb_wire.specs.Ops.{creation_of, message_of};
 
-use crate::values::{count_at, short_count_at, text_at, variables_at};
+use crate::values::{count_at, short_count_at, variables_at};
 use serde_json::Value as Json;
 use std::alloc::{AllocError, Global};
 use zb_model::{MessagePublish, ProcessInstanceCreationCreate, Text};
+use zb_reader::text_in;
 
 /// The instance that the fields of a create ask for.
 pub fn creation_in(alloc: Global, value: &Json) -> Result<ProcessInstanceCreationCreate, AllocError>
     ensures { IfOk result (λ creation. creation ≡ creation_of (view value.now)) }
 {
     Ok(ProcessInstanceCreationCreate {
-        process: Text::of(alloc, text_at(value, "process"))?,
+        process: Text::of(alloc, text_in(value, "process"))?,
         version: short_count_at(value, "version"),
         variables: variables_at(alloc, value, "variables")?,
     })
@@ -23,10 +24,10 @@ pub fn message_in(alloc: Global, value: &Json) -> Result<MessagePublish, AllocEr
     ensures { IfOk result (λ message. message ≡ message_of (view value.now)) }
 {
     Ok(MessagePublish {
-        name: Text::of(alloc, text_at(value, "name"))?,
-        correlation_key: Text::of(alloc, text_at(value, "correlationKey"))?,
+        name: Text::of(alloc, text_in(value, "name"))?,
+        correlation_key: Text::of(alloc, text_in(value, "correlationKey"))?,
         time_to_live: count_at(value, "timeToLive"),
-        id: Text::of(alloc, text_at(value, "messageId"))?,
+        id: Text::of(alloc, text_in(value, "messageId"))?,
         variables: variables_at(alloc, value, "variables")?,
     })
 }

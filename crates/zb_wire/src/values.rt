@@ -1,4 +1,3 @@
-ghost use Rattle.zb_reader.specs.Layout.{text_in};
 ghost use Rattle.std.specs.Prelude.{◌≡◌, IfOk};
 ghost use Rattle.serde_json.specs.View.{view};
 ghost use Rattle.zb_wire.specs.Fields as spec;
@@ -8,13 +7,6 @@ use serde_json::Value as Json;
 use std::alloc::{AllocError, Global};
 use zb_model::{Model, Vars};
 use zb_reader::read_model;
-
-/// The text of a field, and the empty one where it isn't there.
-pub fn text_at<'v>(value: &'v Json, field: &str) -> &'v str
-    ensures { result.now ≡ text_in field.now (view value.now) }
-{
-    value.get(field).and_then(Json::as_str).unwrap_or("")
-}
 
 /// The number of a field, and 0 where it isn't there.
 pub fn count_at(value: &Json, field: &str) -> u64
