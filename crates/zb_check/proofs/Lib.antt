@@ -1,2 +1,3 @@
-pub mod IdLemmas
+pub mod LookLemmas
+pub mod BehindLemmas
 pub mod FaultLemmas

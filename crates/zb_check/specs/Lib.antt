@@ -1,1 +1,5 @@
+pub mod Notes
+pub mod Counts
+pub mod Parts
+pub mod Compensation
 pub mod Checking

@@ -1,10 +1,14 @@
-ghost use Rattle.std.specs.Prelude.{◌≡◌};
+ghost use Rattle.std.specs.Prelude.{◌≡◌, IfOk};
 ghost use Rattle.std.specs.Option.{option_copied};
 ghost use Rattle.zb_faults.specs.Faults.{first_fault, offender};
 ghost use Rattle.zb_check.specs.Checking.{Checks};
 ghost use Rattle.zb_check.specs.declared.checking.ModelFault.TheVariants as faults;
 
-use crate::faults::{bad_start, dangling, double_id, empty_id, flow_end, no_incoming, too_large};
+use crate::boundaries::{bad_attachment, bad_compensation, bad_error};
+use crate::flows::{bad_condition, bad_event_gateway, crossing, dangling, flow_end, no_incoming};
+use crate::naming::{double_id, empty_id};
+use crate::parts::Parts;
+use crate::scopes::{bad_parent, bad_start, too_large};
 use std::alloc::{AllocError, Global};
 use zb_base::{Text, TryCopy};
 use zb_faults::Fault;
@@ -27,23 +31,33 @@ impl From<AllocError> for ModelFault {
 }
 
 // The faults, in the order in which they are looked for.
-const FAULTS: [Fault; 7] = [
+const FAULTS: [Fault; 14] = [
     Fault::EmptyId,
     Fault::DoubleId,
+    Fault::BadParent,
     Fault::Dangling,
+    Fault::Crossing,
     Fault::Start,
     Fault::FlowEnd,
     Fault::NoIncoming,
+    Fault::Attach,
+    Fault::Condition,
+    Fault::EventGate,
+    Fault::Compensation,
+    Fault::Error,
     Fault::Limit,
 ];
 
-/// Finds the first fault of a model. It compares the ids with each other and the flows with the nodes, so it
-/// takes as many steps as the square of the model's size. Only the id in its answer takes memory.
+/// Finds the first fault of a model. It takes memory for the places of the model's ids, and a time that grows with
+/// the model's size and its logarithm; error boundary events alone are compared with each other.
+#[tactic(auto, unfolding(zb_faults::specs::Faults::first_fault))]
 pub fn check(alloc: Global, model: &Model) -> Result<(), ModelFault>
     ensures { Checks result (first_fault model.now) }
 {
+    let parts = Parts::of(alloc, model)?;
     for fault in FAULTS {
-        if let Some(id) = offender(fault, model) {
+        let found = offender(alloc, fault, &parts)?;
+        if let Some(id) = found {
             let id = id.copy(alloc)?;
             return Err(ModelFault::Bad { fault, id });
         }
@@ -52,16 +66,27 @@ pub fn check(alloc: Global, model: &Model) -> Result<(), ModelFault>
 }
 
 // The id of the first offender of a fault.
-fn offender(fault: Fault, model: &Model) -> Option<&Text>
-    ensures { option_copied result ≡ offender fault model.now }
+fn offender<'a>(
+    alloc: Global,
+    fault: Fault,
+    parts: &Parts<'a>,
+) -> Result<Option<&'a Text>, AllocError>
+    ensures { IfOk result (λ found. option_copied found ≡ offender fault parts.now) }
 {
     match fault {
-        Fault::EmptyId => empty_id(model),
-        Fault::DoubleId => double_id(model),
-        Fault::Dangling => dangling(model),
-        Fault::Start => bad_start(model),
-        Fault::FlowEnd => flow_end(model),
-        Fault::NoIncoming => no_incoming(model),
-        Fault::Limit => too_large(model),
+        Fault::EmptyId => empty_id(alloc, parts),
+        Fault::DoubleId => double_id(alloc, parts),
+        Fault::BadParent => bad_parent(alloc, parts.nodes()),
+        Fault::Dangling => Ok(dangling(parts)),
+        Fault::Crossing => Ok(crossing(parts)),
+        Fault::Start => Ok(bad_start(alloc, parts)),
+        Fault::FlowEnd => Ok(flow_end(parts)),
+        Fault::NoIncoming => Ok(no_incoming(parts)),
+        Fault::Attach => Ok(bad_attachment(parts)),
+        Fault::Condition => Ok(bad_condition(parts)),
+        Fault::EventGate => bad_event_gateway(alloc, parts),
+        Fault::Compensation => bad_compensation(alloc, parts),
+        Fault::Error => Ok(bad_error(parts.nodes())),
+        Fault::Limit => too_large(alloc, parts),
     }
 }

@@ -1,12 +1,15 @@
-// Look-ups by id among nodes and flows.
-ghost use Rattle.std.specs.Prelude.{◌≡◌, ℕ, List, [], ◌∷◌, ◌++◌, map};
+// What has an id, and what is found by it.
+ghost use Rattle.std.specs.Prelude.{◌≡◌, ℕ, List, IfOk, OnOk, map, ◌++◌};
 ghost use Rattle.std.specs.List.{find};
 ghost use Rattle.std.specs.Option.{option_copied};
 ghost use Rattle.std.specs.Str.{bytes_eq};
-ghost use Rattle.zb_faults.specs.Faults.{has_id, repeated};
+ghost use Rattle.zb_faults.specs.Elements.{ids_of};
+ghost use Rattle.zb_check.specs.Notes.{noted};
 
+use crate::notes::Notes;
+use std::alloc::{AllocError, Global};
 use zb_base::Text;
-use zb_process::{Flow, Node};
+use zb_process::{Flow, Model, Node};
 
 /// What has an id.
 pub trait HasId {
@@ -32,54 +35,34 @@ impl HasId for Flow {
     }
 }
 
-/// Whether one of these has the id. It goes through all of them.
-pub fn has_id<T: HasId>(items: &[T], id: &Text) -> bool
-    ensures { result ≡ has_id id.now (map T.id_of items.now) }
+/// The first one of these with each id.
+pub fn by_id<'a, T: HasId>(alloc: Global, items: &'a [T]) -> Result<Notes<'a, &'a T>, AllocError>
+    ensures { IfOk result (λ index. (id : List ℕ) → option_copied (noted index id) ≡ find (λ x. bytes_eq (T.id_of x) id) items.now) }
+{
+    let mut index = Notes::empty(alloc);
+    for item in items {
+        index.keep(item.id(), item)?;
+    }
+    Ok(index)
+}
+
+/// The ids of a model, in order: the process, the nodes, the flows.
+pub fn ids_of<'a>(alloc: Global, model: &'a Model) -> Result<Vec<&'a Text>, AllocError>
+    ensures { IfOk result (λ ids. map (λ id. id.now) ids.items ≡ ids_of model.now) }
+{
+    let mut ids = Vec::new(alloc);
+    ids.push(&model.process)?;
+    push_ids(&mut ids, model.nodes.as_slice())?;
+    push_ids(&mut ids, model.flows.as_slice())?;
+    Ok(ids)
+}
+
+// Adds the ids of these at the end.
+fn push_ids<'a, T: HasId>(ids: &mut Vec<&'a Text>, items: &'a [T]) -> Result<(), AllocError>
+    ensures { OnOk result (map (λ id. id.now) ids.new.items ≡ map (λ id. id.now) ids.old.items ++ map T.id_of items.now) }
 {
     for item in items {
-        if item.id().as_str() == id.as_str() {
-            return true;
-        }
+        ids.push(item.id())?;
     }
-    false
-}
-
-/// The first id that is empty.
-pub fn first_empty<T: HasId>(items: &[T]) -> Option<&Text>
-    ensures { option_copied result ≡ find (λ id. bytes_eq id []) (map T.id_of items.now) }
-{
-    for item in items {
-        if is_empty(item.id()) {
-            return Some(item.id());
-        }
-    }
-    None
-}
-
-/// The first id that the process, a node or an earlier one of these has. It compares each id with all those.
-pub fn first_used<'a, T: HasId>(process: &Text, nodes: &[Node], items: &'a [T]) -> Option<&'a Text>
-    ensures { option_copied result
-        ≡ repeated (process.now ∷ map (λ n. n.id) nodes.now) (map T.id_of items.now) }
-{
-    for (place, item) in items.iter().enumerate() {
-        let id = item.id();
-        if is_used(process, nodes, &items[..place], id) {
-            return Some(id);
-        }
-    }
-    None
-}
-
-// Whether the process, a node or one of these has the id.
-fn is_used<T: HasId>(process: &Text, nodes: &[Node], items: &[T], id: &Text) -> bool
-    ensures { result ≡ has_id id.now (process.now ∷ map (λ n. n.id) nodes.now ++ map T.id_of items.now) }
-{
-    process.as_str() == id.as_str() || has_id(nodes, id) || has_id(items, id)
-}
-
-/// Whether an id is empty.
-pub fn is_empty(id: &Text) -> bool
-    ensures { result ≡ bytes_eq id.now [] }
-{
-    id.as_str().is_empty()
+    Ok(())
 }

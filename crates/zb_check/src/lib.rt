@@ -1,8 +1,16 @@
 //! What is wrong with a process model.
 #![tactic(auto)]
 
+mod boundaries;
 mod checking;
-mod faults;
+mod counting;
+mod counts;
+mod flows;
 mod ids;
+mod kinds;
+mod naming;
+mod notes;
+mod parts;
+mod scopes;
 
 pub use checking::{ModelFault, check};

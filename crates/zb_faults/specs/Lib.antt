@@ -1,1 +1,3 @@
+pub mod Elements
 pub mod Faults
+pub mod FaultLaws

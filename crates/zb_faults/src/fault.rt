@@ -7,15 +7,29 @@ pub enum Fault {
     EmptyId,
     /// An id was used before.
     DoubleId,
+    /// A node's parent is no subprocess in front of it.
+    BadParent,
     /// An end of a flow is no node.
     Dangling,
-    /// A process hasn't exactly one start event.
+    /// The ends of a flow have different parents.
+    Crossing,
+    /// A process or subprocess hasn't exactly one start event, or a subprocess has one that a message triggers.
     Start,
-    /// A flow leads into a start event or out of an end event.
+    /// A flow leads into a start event or a boundary event, or out of an end event.
     FlowEnd,
-    /// No flow leads to a node that is no start event.
+    /// No flow leads to a node that is no start event, no boundary event and no handler.
     NoIncoming,
-    /// There are too many nodes or flows.
+    /// A boundary event isn't attached to an activity of its scope.
+    Attach,
+    /// A condition stands where none may, or is missing, or a default is no flow out of its gateway without one.
+    Condition,
+    /// An event gateway has fewer than two flows, or one that leads to no catch event of its own.
+    EventGate,
+    /// A compensation event has no handler of its own or has flows, or a handler has no compensation event.
+    Compensation,
+    /// Two error events of an activity have one code, or one doesn't end its activity.
+    Error,
+    /// There are too many nodes, flows or subprocesses one in the other.
     Limit,
 }
 
@@ -29,10 +43,17 @@ impl Fault {
         match self {
             Fault::EmptyId => "EMPTY_ID",
             Fault::DoubleId => "DOUBLE_ID",
+            Fault::BadParent => "BAD_PARENT",
             Fault::Dangling => "DANGLING",
+            Fault::Crossing => "CROSSING",
             Fault::Start => "START",
             Fault::FlowEnd => "FLOW_END",
             Fault::NoIncoming => "NO_INCOMING",
+            Fault::Attach => "ATTACH",
+            Fault::Condition => "CONDITION",
+            Fault::EventGate => "EVENT_GATE",
+            Fault::Compensation => "COMPENSATION",
+            Fault::Error => "ERROR",
             Fault::Limit => "LIMIT",
         }
     }
@@ -44,10 +65,17 @@ impl Fault {
         match self {
             Fault::EmptyId => 1,
             Fault::DoubleId => 2,
+            Fault::BadParent => 3,
             Fault::Dangling => 4,
+            Fault::Crossing => 5,
             Fault::Start => 6,
             Fault::FlowEnd => 7,
             Fault::NoIncoming => 8,
+            Fault::Attach => 9,
+            Fault::Condition => 10,
+            Fault::EventGate => 11,
+            Fault::Compensation => 12,
+            Fault::Error => 13,
             Fault::Limit => 14,
         }
     }

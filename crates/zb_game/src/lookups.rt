@@ -3,7 +3,7 @@ ghost use Rattle.std.specs.Prelude.{◌≡◌, ◌==◌, ◌&&◌, []};
 ghost use Rattle.std.specs.Option.{option_copied};
 ghost use Rattle.std.specs.Str.{bytes_eq};
 ghost use Rattle.std.specs.List.{find, list_any};
-ghost use Rattle.zb_faults.specs.Faults.{is_start};
+ghost use Rattle.zb_faults.specs.Elements.{is_start};
 ghost use Rattle.zb_tokens.specs.Board.{is_spot, node_with, spot_of, start_in};
 ghost use Rattle.zb_tokens.specs.MoveEnter.{comes_to};
 

@@ -93,9 +93,11 @@ create : created 1 deployed_events (record { process = codes "p"; version = 0; v
 create = refl
 
 good : first_fault process ≡ None
+unfolding first_fault
 good = refl
 
 no_start : first_fault (record { process = codes "p"; tag = []; nodes = []; flows = [] }) ≡ Some (faults.Start, codes "p")
+unfolding first_fault
 no_start = refl
 
 no_start_text : fault_text faults.Start (codes "p") ≡ codes "START: p"
@@ -132,7 +134,7 @@ abbrev whole_play : List Event
 whole_play = before ++ turns (true ∷ true ∷ true ∷ true ∷ true ∷ true ∷ true ∷ true ∷ true ∷ true ∷ true ∷ true ∷ true ∷ true ∷ []) before
 
 each_applies : all_apply 1 [] whole_play ≡ true
-unfolding turn
+unfolding turn first_fault
 each_applies = refl
 
 -- the key of partition 1 with a counter
@@ -169,6 +171,7 @@ fork = record {
 }
 
 fork_is_good : first_fault fork ≡ None
+unfolding first_fault
 fork_is_good = refl
 
 abbrev fork_begun : List Event
@@ -185,6 +188,7 @@ unfolding turn
 fork_play = refl
 
 fork_applies : all_apply 1 [] (fork_begun ++ fork_plays) ≡ true
+unfolding first_fault
 fork_applies = refl
 
 -- two instances at once
@@ -206,4 +210,5 @@ unfolding turn
 both_play = refl
 
 both_apply : all_apply 1 [] (two_begun ++ two_play) ≡ true
+unfolding first_fault
 both_apply = refl

@@ -64,6 +64,59 @@ pub fn straight(rt: &impl Abort, alloc: Global, last: NodeKind) -> Model {
     process(rt, alloc, nodes, flows)
 }
 
+// A flow with this id from one node to another.
+fn flow(rt: &impl Abort, alloc: Global, id: &str, from: &str, to: &str) -> Flow {
+    Flow {
+        id: text(rt, alloc, id),
+        from: text(rt, alloc, from),
+        to: text(rt, alloc, to),
+        condition: None,
+    }
+}
+
+/// The process `p` of these nodes, each an id, a kind, a parent and an activity to which it is attached, and these
+/// flows, each an id and two ends.
+pub fn drawn(
+    rt: &impl Abort,
+    alloc: Global,
+    nodes: &[(&str, NodeKind, &str, &str)],
+    flows: &[(&str, &str, &str)],
+) -> Model {
+    let mut made = List::empty(alloc);
+    for (id, kind, parent, attached) in nodes {
+        let mut next = node(rt, alloc, id, *kind);
+        next.parent = text(rt, alloc, parent);
+        next.attached = text(rt, alloc, attached);
+        made.push(next).expect(rt, "memory");
+    }
+    let mut drawn = List::empty(alloc);
+    for (id, from, to) in flows {
+        drawn
+            .push(flow(rt, alloc, id, from, to))
+            .expect(rt, "memory");
+    }
+    process(rt, alloc, made, drawn)
+}
+
+/// The process `p`: start event `s`, end event `e`, and so many flows between them.
+pub fn many_flows(rt: &impl Abort, alloc: Global, count: u32) -> Model {
+    let mut nodes = List::empty(alloc);
+    nodes
+        .push(node(rt, alloc, "s", NodeKind::StartEvent))
+        .expect(rt, "memory");
+    nodes
+        .push(node(rt, alloc, "e", NodeKind::EndEvent))
+        .expect(rt, "memory");
+    let mut flows = List::empty(alloc);
+    for n in 0..count {
+        let id = format!(in alloc; "{n}").expect(rt, "memory");
+        flows
+            .push(flow(rt, alloc, id.as_str(), "s", "e"))
+            .expect(rt, "memory");
+    }
+    process(rt, alloc, nodes, flows)
+}
+
 /// The command that makes an instance of the latest version of `p`, without variables.
 pub fn begun(rt: &impl Abort, alloc: Global) -> ProcessInstanceCreationCreate {
     ProcessInstanceCreationCreate {

@@ -6,7 +6,8 @@ use Rattle.std.specs.Str.{bytes_eq}
 use Rattle.zb_process.specs.declared.model.Model.{Model}
 use Rattle.zb_process.specs.declared.model.Node.{Node}
 use Rattle.zb_instance_records.specs.declared.instance.Role.TheVariants as roles
-use Rattle.zb_faults.specs.Faults.{is_start}
+use Rattle.zb_faults.specs.Elements.{is_start}
+pub use Rattle.zb_faults.specs.Elements.{node_with}
 use Rattle.zb_tokens.specs.declared.board.Cell.{Cell}
 use Rattle.zb_tokens.specs.declared.board.Token.{Token}
 use Rattle.zb_tokens.specs.declared.board.Spot.{Spot}
@@ -29,10 +30,6 @@ cell_at b key = find (λ c. c.key == key) b.cells
 -- the model of a definition
 abbrev pub model_under : Board → ℕ → Option Model
 model_under b key = option_map (λ d. d.model) (find (λ d. d.key == key) b.models)
-
--- the node with an id
-abbrev pub node_with : Model → List ℕ → Option Node
-node_with m id = find (λ n. bytes_eq n.id id) m.nodes
 
 -- the ids of the flows out of a node, in the order of the model (BPMN 2.0.2, 8.4.13)
 abbrev pub flows_out : Model → List ℕ → List (List ℕ)

@@ -1,12 +1,16 @@
-use Rattle.std.proofs.Common.{sym, ◌∙◌}
-use Rattle.zb_faults.specs.Faults.{all_faults}
+use Rattle.std.proofs.Common.{sym, ap, ◌∙◌}
+use Rattle.std.specs.Option.{option_copied}
+use Rattle.zb_faults.specs.Faults.{all_faults, first_fault}
 use Rattle.zb_check.proofs.FaultLemmas.{first_of_here, first_of_later}
 use Rattle.zb_check.proofs.checking.check.Goals as goal
 
 pub returns-in-Some : goal.returns-in-Some
+unfolding first_fault
 returns-in-Some c =
-    sym c.loop-fault.invariant ∙ first_of_here c.args.model.now all_faults c.loop-fault.fault-index _ c.loop-fault-test.true c.in-Some.id.now c.in_ok-id.id c.in_ok-id.ensures (sym c.in-Some.ensures)
+    sym c.loop-fault.invariant
+    ∙ first_of_here c.args.model.now all_faults c.loop-fault.fault-index _ c.loop-fault-test.true c.in_ok-parts.parts c.in_ok-parts.ensures (option_copied c.in_ok-found.found) c.in_ok-found.ensures _ c.in_ok-id.id c.in_ok-id.ensures (ap option_copied c.in-Some.is)
 
 pub loop-fault-preserved : goal.loop-fault-preserved
+unfolding first_fault
 loop-fault-preserved c =
-    sym (first_of_later c.args.model.now all_faults c.loop-fault.fault-index _ c.loop-fault-test.true (sym c.in_default.ensures)) ∙ c.loop-fault.invariant
+    sym (first_of_later c.args.model.now all_faults c.loop-fault.fault-index _ c.loop-fault-test.true c.in_ok-parts.parts c.in_ok-parts.ensures (option_copied c.in_ok-found.found) c.in_ok-found.ensures (ap option_copied c.in_default.is)) ∙ c.loop-fault.invariant
