@@ -1,0 +1,4 @@
+pub mod Places
+pub mod PlacesAt
+pub mod Links
+pub mod IsGraph

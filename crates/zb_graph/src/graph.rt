@@ -1,0 +1,174 @@
+ghost use Rattle.std.specs.Prelude.{◌≡◌, ◌<◌, ◌^◌, ◌&&◌, List, ℕ, All, Some, IfOk, filter, length, map, position, slice_get};
+ghost use Rattle.std.specs.List.{find};
+ghost use Rattle.std.specs.Option.{option_and_then, option_copied};
+ghost use Rattle.std.specs.Str.{bytes_eq};
+ghost use Rattle.zb_faults.specs.Faults.{is_start};
+ghost use Rattle.zb_graph.specs.Places.{places};
+ghost use Rattle.zb_graph.specs.Links.{bounds_of, id_at, ins_of, outs_of};
+
+use crate::label::{FlowId, Host, NodeId, Origin, Started, Target};
+use crate::places::{Places, places_by};
+use std::alloc::{AllocError, Global};
+use std::marker::Model;
+use zb_base::TryCopy;
+use zb_process::{Flow, Model as ProcessModel, Node};
+
+/// A process model, whose nodes and flows have their places in its lists as numbers. Contracts see the model.
+#[derive(Drop)]
+pub struct Graph {
+    model: ProcessModel,
+    // Where the nodes of each id stand.
+    nodes: Places,
+    // Where the flows of each id stand.
+    flows: Places,
+    // Where the flows out of each node stand, and those into it.
+    outs: Places,
+    ins: Places,
+    // Where the boundary events at each activity stand.
+    bounds: Places,
+    // Where the start events of each scope stand.
+    starts: Places,
+}
+
+impl Model for Graph {
+    ghost use Rattle.zb_process.specs.declared.model.Model.{Model};
+    ghost use Rattle.zb_process.specs.contracts.model.Model as process;
+
+    ghost Value = { Model };
+
+    ghost coded = { process.the_row.coded };
+
+    ghost use Rattle.zb_graph.specs.IsGraph.{IsGraph};
+
+    ghost view = { λ g. g.model };
+
+    ghost invariant = { λ g. IsGraph g.model g.nodes g.flows g.outs g.ins g.bounds g.starts };
+}
+
+/// The graph of a model. It takes a step for each node and each flow, on average.
+pub fn compile(alloc: Global, model: ProcessModel) -> Result<Graph, AllocError>
+    requires nodes { length model.nodes < 2 ^ 32 }
+    requires flows { length model.flows < 2 ^ 32 }
+    ensures { IfOk result (λ graph. graph ≡ model) }
+{
+    let nodes = model.nodes.as_slice();
+    let flows = model.flows.as_slice();
+    let node_ids = places_by::<Node, NodeId>(alloc, nodes)?;
+    let flow_ids = places_by::<Flow, FlowId>(alloc, flows)?;
+    let outs = places_by::<Flow, Origin>(alloc, flows)?;
+    let ins = places_by::<Flow, Target>(alloc, flows)?;
+    let bounds = places_by::<Node, Host>(alloc, nodes)?;
+    let starts = places_by::<Node, Started>(alloc, nodes)?;
+    Ok(Graph {
+        model,
+        nodes: node_ids,
+        flows: flow_ids,
+        outs,
+        ins,
+        bounds,
+        starts,
+    })
+}
+
+impl TryCopy for Graph {
+    fn copy(&self, alloc: Global) -> Result<Graph, AllocError> {
+        let _indexed = &self.nodes;
+        compile(alloc, self.model.copy(alloc)?)
+    }
+}
+
+impl Graph {
+    /// The model that it was made of.
+    pub fn model(&self) -> &ProcessModel
+        ensures { result.now ≡ self.now }
+    {
+        &self.model
+    }
+
+    /// The number of the node with an id: the place of the first one. It takes constant time on average.
+    pub fn number(&self, id: &str) -> Option<u32>
+        ensures { result ≡ position (λ n. bytes_eq n.id id.now) self.now.nodes }
+    {
+        self.nodes.at(id).first().copied()
+    }
+
+    /// The node with a number.
+    pub fn node(&self, n: u32) -> &Node
+        requires { n < length self.now.nodes }
+        ensures { slice_get self.now.nodes n ≡ Some result.now }
+    {
+        &self.model.nodes.as_slice()[n as usize]
+    }
+
+    /// The flow with a number.
+    pub fn flow(&self, n: u32) -> &Flow
+        requires { n < length self.now.flows }
+        ensures { slice_get self.now.flows n ≡ Some result.now }
+    {
+        &self.model.flows.as_slice()[n as usize]
+    }
+
+    /// The numbers of the flows out of a node, in the order of the model. It takes constant time on average, as do
+    /// `ins` and `bounds`.
+    pub fn outs(&self, n: u32) -> &[u32]
+        requires { n < length self.now.nodes }
+        ensures { result.now ≡ outs_of self.now (id_at self.now n) }
+    {
+        self.outs_of(self.node(n).id.as_str())
+    }
+
+    /// The numbers of the flows into a node, in the order of the model.
+    pub fn ins(&self, n: u32) -> &[u32]
+        requires { n < length self.now.nodes }
+        ensures { result.now ≡ ins_of self.now (id_at self.now n) }
+    {
+        self.ins.at(self.node(n).id.as_str())
+    }
+
+    /// The numbers of the boundary events at a node, in the order of the model.
+    pub fn bounds(&self, n: u32) -> &[u32]
+        requires { n < length self.now.nodes }
+        ensures { result.now ≡ bounds_of self.now (id_at self.now n) }
+    {
+        self.bounds.at(self.node(n).id.as_str())
+    }
+
+    /// The node with an id. It takes constant time on average, as do the other questions by a name.
+    pub fn node_with(&self, id: &str) -> Option<&Node>
+        ensures { option_copied result ≡ find (λ n. bytes_eq n.id id.now) self.now.nodes }
+    {
+        first_of(self.nodes.at(id), self.model.nodes.as_slice())
+    }
+
+    /// The flow with an id.
+    pub fn flow_with(&self, id: &str) -> Option<&Flow>
+        ensures { option_copied result ≡ find (λ f. bytes_eq f.id id.now) self.now.flows }
+    {
+        first_of(self.flows.at(id), self.model.flows.as_slice())
+    }
+
+    /// The numbers of the flows out of the node with an id, in the order of the model.
+    pub fn outs_of(&self, id: &str) -> &[u32]
+        ensures places { result.now ≡ outs_of self.now id.now }
+        ensures flows { map (slice_get self.now.flows) result.now ≡ map Some (filter (λ f. bytes_eq f.from id.now) self.now.flows) }
+    {
+        self.outs.at(id)
+    }
+
+    /// The start event of a scope: the id of a subprocess, or the empty text at the top.
+    pub fn start_in(&self, scope: &str) -> Option<&Node>
+        ensures { option_copied result ≡ find (λ n. is_start n.kind && bytes_eq n.parent scope.now) self.now.nodes }
+    {
+        first_of(self.starts.at(scope), self.model.nodes.as_slice())
+    }
+}
+
+// The item at the first of some places.
+fn first_of<'a, T>(places: &[u32], items: &'a [T]) -> Option<&'a T>
+    ensures { option_copied result ≡ option_and_then (slice_get items.now) (slice_get places.now 0) }
+{
+    match places.first() {
+        Some(place) => items.get(*place as usize),
+        None => None,
+    }
+}

@@ -1,0 +1,92 @@
+// By which name what stands in a list is found.
+ghost use Rattle.std.specs.Prelude.{◌≡◌, ◌&&◌, ℕ, List, Bool, false};
+ghost use Rattle.std.specs.Option.{option_map_or};
+ghost use Rattle.std.specs.Str.{bytes_eq};
+ghost use Rattle.zb_faults.specs.Faults.{is_start};
+
+use zb_process::{Flow, Node, NodeKind};
+
+/// A name that the items of a list may have.
+pub trait Label<T> {
+    ghost has_name: { T → List ℕ → Bool };
+
+    fn name(item: &T) -> Option<&str>
+        ensures { (name : List ℕ) → option_map_or (λ n. bytes_eq n.now name) result false ≡ has_name item.now name };
+}
+
+/// A node's id.
+pub struct NodeId;
+
+impl Label<Node> for NodeId {
+    ghost has_name = { λ n name. bytes_eq n.id name };
+
+    fn name(node: &Node) -> Option<&str> {
+        Some(node.id.as_str())
+    }
+}
+
+/// The activity at whose boundary a node stands.
+pub struct Host;
+
+impl Label<Node> for Host {
+    ghost has_name = { λ n name. bytes_eq n.attached name };
+
+    fn name(node: &Node) -> Option<&str> {
+        Some(node.attached.as_str())
+    }
+}
+
+/// The scope that a start event starts.
+pub struct Started;
+
+impl Label<Node> for Started {
+    ghost has_name = { λ n name. is_start n.kind && bytes_eq n.parent name };
+
+    fn name(node: &Node) -> Option<&str> {
+        if is_start(node.kind) {
+            Some(node.parent.as_str())
+        } else {
+            None
+        }
+    }
+}
+
+/// A flow's id.
+pub struct FlowId;
+
+impl Label<Flow> for FlowId {
+    ghost has_name = { λ f name. bytes_eq f.id name };
+
+    fn name(flow: &Flow) -> Option<&str> {
+        Some(flow.id.as_str())
+    }
+}
+
+/// The node that a flow comes from.
+pub struct Origin;
+
+impl Label<Flow> for Origin {
+    ghost has_name = { λ f name. bytes_eq f.from name };
+
+    fn name(flow: &Flow) -> Option<&str> {
+        Some(flow.from.as_str())
+    }
+}
+
+/// The node that a flow leads to.
+pub struct Target;
+
+impl Label<Flow> for Target {
+    ghost has_name = { λ f name. bytes_eq f.to name };
+
+    fn name(flow: &Flow) -> Option<&str> {
+        Some(flow.to.as_str())
+    }
+}
+
+// Whether a node of this kind is a start event.
+fn is_start(kind: NodeKind) -> bool
+    ensures { result ≡ is_start kind }
+{
+    matches!(kind, NodeKind::StartEvent | NodeKind::MessageStartEvent)
+}
