@@ -2,7 +2,7 @@
 use Rattle.std.specs.Prelude.{◌≡◌, ℕ, ◌<◌, ◌^◌, ◌&&◌, List, length}
 use Rattle.std.specs.Str.{bytes_eq}
 use Rattle.zb_process.specs.declared.model.Model.{Model}
-use Rattle.zb_faults.specs.Faults.{is_start}
+use Rattle.zb_faults.specs.Elements.{is_start}
 use Rattle.zb_graph.specs.declared.places.Places.{Places}
 use Rattle.zb_graph.specs.Places.{places}
 use Rattle.zb_graph.specs.PlacesAt.{places_at}

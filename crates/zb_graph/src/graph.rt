@@ -2,7 +2,7 @@ ghost use Rattle.std.specs.Prelude.{◌≡◌, ◌<◌, ◌^◌, ◌&&◌, List,
 ghost use Rattle.std.specs.List.{find};
 ghost use Rattle.std.specs.Option.{option_and_then, option_copied};
 ghost use Rattle.std.specs.Str.{bytes_eq};
-ghost use Rattle.zb_faults.specs.Faults.{is_start};
+ghost use Rattle.zb_faults.specs.Elements.{is_start};
 ghost use Rattle.zb_graph.specs.Places.{places};
 ghost use Rattle.zb_graph.specs.Links.{bounds_of, id_at, ins_of, outs_of};
 

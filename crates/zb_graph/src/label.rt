@@ -2,7 +2,7 @@
 ghost use Rattle.std.specs.Prelude.{◌≡◌, ◌&&◌, ℕ, List, Bool, false};
 ghost use Rattle.std.specs.Option.{option_map_or};
 ghost use Rattle.std.specs.Str.{bytes_eq};
-ghost use Rattle.zb_faults.specs.Faults.{is_start};
+ghost use Rattle.zb_faults.specs.Elements.{is_start};
 
 use zb_process::{Flow, Node, NodeKind};
 
