@@ -2,7 +2,7 @@
 use Rattle.std.proofs.Common.{◌≡◌, ℕ, List, Option, Some, None, refl, sym}
 use Rattle.zb_process.specs.Tree.{Tree}
 use Rattle.zb_expr.specs.Reading.{expr_read}
-use Rattle.zb_expr.specs.Spelling.{IsExpr}
+use Rattle.zb_expr.specs.Lexical.{IsExpr}
 use Rattle.zb_expr.proofs.ExprLemmas.{expr_read-is, expr_read-of}
 
 none_by : (text : List ℕ) (o : Option Tree) → expr_read text ≡ o → ((tree : Tree) → IsExpr text tree → ⊥) → None ≡ expr_read text

@@ -2,7 +2,7 @@ use Rattle.std.proofs.Common.{◌&&◌, List, ap, ◌∙◌}
 use Rattle.std.specs.Str.{bytes_eq}
 use Rattle.zb_process.specs.declared.model.Node.{Node}
 use Rattle.zb_process.specs.declared.model.Flow.{Flow}
-use Rattle.zb_faults.specs.Faults.{is_start}
+use Rattle.zb_faults.specs.Elements.{is_start}
 use Rattle.zb_graph.specs.Places.{places}
 use Rattle.zb_graph.proofs.graph.compile.Goals as goal
 
