@@ -11,7 +11,7 @@ use Rattle.zb_expr.specs.declared.token.Token.{Token}
 use Rattle.zb_expr.specs.declared.token.Token.TheVariants as tokens
 use Rattle.zb_expr.specs.Spelling.{is_in, is_decimal, begins_name, first_byte, run_of, behind_run, number_token, word_token, text_token, quoted_after, sign_alone, long_sign, sign_by, sign_at, with_behind, text_at_quote, token_by, token_at, where_left, tokens_after, tokens_of}
 use Rattle.zb_expr.proofs.SplittingLemmas.{where_some_left}
-use Rattle.zb_expr.specs.Lexical.{are_in, stops, escaped, Stands, number, word, quoted, sign, long, AreSpelled}
+use Rattle.zb_expr.specs.Lexical.{are_in, stops, backslashed, BeginsWith, number, word, quoted, sign, long, AreSpelled}
 
 both_true : (a b : Bool) → (a && b) ≡ true → (a ≡ true) × (b ≡ true)
 both_true true true h = (refl, refl)
@@ -62,11 +62,11 @@ run-split : (class : Class) (bs : List ℕ) → bs ≡ run_of class bs ++ behind
 run-split class bs = sym (take-append-drop (prefix_len (is_in class) bs) bs)
 
 -- a text in quotes, with what stands behind it
-quoted-on : (content so_far rest : List ℕ) → quoted_after false so_far (escaped content ++ 34 ∷ rest) ≡ Some (so_far ++ content, rest)
+quoted-on : (content so_far rest : List ℕ) → quoted_after false so_far (backslashed content ++ 34 ∷ rest) ≡ Some (so_far ++ content, rest)
 quoted-on [] so_far rest = rw (append-nil so_far) refl
 quoted-on (b ∷ bs) so_far rest = by_byte (b == 34) (b == 92) refl refl (quoted-on bs (so_far ++ b ∷ []) rest ∙ ap (λ (c : List ℕ). Some (c, rest)) (append_assoc so_far (b ∷ []) bs))
   where
-    by_byte : (q s : Bool) → (b == 34) ≡ q → (b == 92) ≡ s → quoted_after false (so_far ++ b ∷ []) (escaped bs ++ 34 ∷ rest) ≡ Some (so_far ++ b ∷ bs, rest) → quoted_after false so_far ((if (b == 34) || (b == 92) then 92 ∷ b ∷ escaped bs else b ∷ escaped bs) ++ 34 ∷ rest) ≡ Some (so_far ++ b ∷ bs, rest)
+    by_byte : (q s : Bool) → (b == 34) ≡ q → (b == 92) ≡ s → quoted_after false (so_far ++ b ∷ []) (backslashed bs ++ 34 ∷ rest) ≡ Some (so_far ++ b ∷ bs, rest) → quoted_after false so_far ((if (b == 34) || (b == 92) then 92 ∷ b ∷ backslashed bs else b ∷ backslashed bs) ++ 34 ∷ rest) ≡ Some (so_far ++ b ∷ bs, rest)
     by_byte true s e f h = rw e (rw e h)
     by_byte false true e f h = rw (e, f) (rw (e, f) h)
     by_byte false false e f h = rw (e, f) (rw (e, f) h)
@@ -76,8 +76,8 @@ some_pair p q h = cc
 
 -- what was read up to a quote, from bytes that are left
 abbrev pub Left : Bool → List ℕ → List ℕ → List ℕ → List ℕ → Type 0
-Left false bs so_far c rest = (content : List ℕ) × (c ≡ so_far ++ content) × (bs ≡ escaped content ++ 34 ∷ rest)
-Left true bs so_far c rest = (content : List ℕ) × (c ≡ so_far ++ content) × (92 ∷ bs ≡ escaped content ++ 34 ∷ rest)
+Left false bs so_far c rest = (content : List ℕ) × (c ≡ so_far ++ content) × (bs ≡ backslashed content ++ 34 ∷ rest)
+Left true bs so_far c rest = (content : List ℕ) × (c ≡ so_far ++ content) × (92 ∷ bs ≡ backslashed content ++ 34 ∷ rest)
 
 escaped_by : (b : ℕ) (bs so_far c rest : List ℕ) (special : Bool) → ((b == 34) || (b == 92)) ≡ special → (if special then quoted_after false (so_far ++ b ∷ []) bs else None) ≡ Some (c, rest) → (quoted_after false (so_far ++ b ∷ []) bs ≡ Some (c, rest) → Left false bs (so_far ++ b ∷ []) c rest) → Left true (b ∷ bs) so_far c rest
 escaped_by b bs so_far c rest false e h k = absurd cc
@@ -137,7 +137,7 @@ sign_at_byte : (b : ℕ) (bs : List ℕ) → is_decimal b ≡ false → begins_n
 sign_at_byte b bs h k l = rw (h, k, l) refl
 
 -- a token that stands at the front is read
-pub read-standing : (t : Token) (text behind : List ℕ) → Stands t text behind → token_at text ≡ Some (t, behind)
+pub read-standing : (t : Token) (text behind : List ℕ) → BeginsWith t text behind → token_at text ≡ Some (t, behind)
 unfolding token_at
 read-standing t text behind (number d ds e all ends is) =
     rw e (number_by d ((d ∷ ds) ++ behind) (d ∷ ds) behind t (both_true (is_decimal d) (are_in classes.Digit ds) all).0 (run-front classes.Digit (d ∷ ds) behind all ends) (run-rest classes.Digit (d ∷ ds) behind all ends) is)
@@ -167,7 +167,7 @@ quote_gives (Some x) behind t h =
     let both = behind_gives (text_token x.0) x.1 behind t h in
     (x.0, ap (λ (r : List ℕ). Some (x.0, r)) both.1, both.0)
 
-sign_by_gives : (b : ℕ) (bs behind : List ℕ) (t : Token) (found : Option Operator) → long_sign b (first_byte bs) ≡ found → sign_by found b bs ≡ Some (t, behind) → Stands t (b ∷ bs) behind
+sign_by_gives : (b : ℕ) (bs behind : List ℕ) (t : Token) (found : Option Operator) → long_sign b (first_byte bs) ≡ found → sign_by found b bs ≡ Some (t, behind) → BeginsWith t (b ∷ bs) behind
 sign_by_gives b bs behind t None e h =
     let both = behind_gives (sign_alone b) bs behind t h in
     sign b (ap (λ (r : List ℕ). b ∷ r) both.1) (subst (λ (r : List ℕ). long_sign b (first_byte r) ≡ None) both.1 e) both.0
@@ -179,7 +179,7 @@ sign_by_gives b (c ∷ cs) behind t (Some o) e h =
 joined_same : (xs ys us vs : List ℕ) → xs ≡ us → ys ≡ vs → xs ++ ys ≡ us ++ vs
 joined_same xs ys us vs h k = rw (h, k) refl
 
-standing_by : (t : Token) (b : ℕ) (bs behind : List ℕ) (d n q : Bool) → is_decimal b ≡ d → begins_name b ≡ n → (b == 34) ≡ q → (if d then with_behind (number_token (run_of classes.Digit (b ∷ bs))) (behind_run classes.Digit (b ∷ bs)) else (if n then Some (word_token (run_of classes.Word (b ∷ bs)), behind_run classes.Word (b ∷ bs)) else (if q then text_at_quote bs else sign_at b bs))) ≡ Some (t, behind) → Stands t (b ∷ bs) behind
+standing_by : (t : Token) (b : ℕ) (bs behind : List ℕ) (d n q : Bool) → is_decimal b ≡ d → begins_name b ≡ n → (b == 34) ≡ q → (if d then with_behind (number_token (run_of classes.Digit (b ∷ bs))) (behind_run classes.Digit (b ∷ bs)) else (if n then Some (word_token (run_of classes.Word (b ∷ bs)), behind_run classes.Word (b ∷ bs)) else (if q then text_at_quote bs else sign_at b bs))) ≡ Some (t, behind) → BeginsWith t (b ∷ bs) behind
 standing_by t b bs behind true n q e f g h =
     let both = behind_gives (number_token (run_of classes.Digit (b ∷ bs))) (behind_run classes.Digit (b ∷ bs)) behind t h in
     let run = run_first classes.Digit b bs e in
@@ -198,16 +198,16 @@ standing_by t b bs behind false false true e f g h =
 standing_by t b bs behind false false false e f g h = sign_by_gives b bs behind t (long_sign b (first_byte bs)) refl h
 
 -- a token that is read stands at the front
-pub standing-read : (t : Token) (text behind : List ℕ) → token_at text ≡ Some (t, behind) → Stands t text behind
+pub standing-read : (t : Token) (text behind : List ℕ) → token_at text ≡ Some (t, behind) → BeginsWith t text behind
 unfolding token_at
 standing-read t [] behind h = absurd cc
 standing-read t (b ∷ bs) behind h = standing_by t b bs behind (is_decimal b) (begins_name b) (b == 34) refl refl refl h
 
 -- behind a token fewer bytes are left
-stands-shorter : (t : Token) (text behind : List ℕ) → Stands t text behind → length behind < length text
+stands-shorter : (t : Token) (text behind : List ℕ) → BeginsWith t text behind → length behind < length text
 stands-shorter t text behind (number d ds e all ends is) = rw e (omega (arith, length-append ds behind))
 stands-shorter t text behind (word b bs e begins all ends is) = rw e (omega (arith, length-append bs behind))
-stands-shorter t text behind (quoted content e is) = rw e (omega (arith, length-append (escaped content) (34 ∷ behind)))
+stands-shorter t text behind (quoted content e is) = rw e (omega (arith, length-append (backslashed content) (34 ∷ behind)))
 stands-shorter t text behind (sign b e short is) = rw e (omega arith)
 stands-shorter t text behind (long b c o e is same) = rw e (omega arith)
 
@@ -234,12 +234,12 @@ token_gives : (found : Option (Token × List ℕ)) (n : ℕ) (so_far all : List 
 token_gives None n so_far all h = absurd cc
 token_gives (Some x) n so_far all h = (x.0, x.1, refl, h)
 
-one_more_spelled : (t : Token) (text left : List ℕ) (so_far all us : List Token) → Stands t text left → all ≡ (so_far ++ t ∷ []) ++ us → AreSpelled us (behind_run classes.Space left) → (ts : List Token) × (all ≡ so_far ++ ts) × AreSpelled ts text
+one_more_spelled : (t : Token) (text left : List ℕ) (so_far all us : List Token) → BeginsWith t text left → all ≡ (so_far ++ t ∷ []) ++ us → AreSpelled us (behind_run classes.Space left) → (ts : List Token) × (all ≡ so_far ++ ts) × AreSpelled ts text
 one_more_spelled t text left so_far all [] stands e h = absurd h
 one_more_spelled t text left so_far all (u ∷ us) stands e h =
-    (t ∷ u ∷ us, e ∙ append_assoc so_far (t ∷ []) (u ∷ us), (run_of classes.Space left, behind_run classes.Space left, subst (λ (r : List ℕ). Stands t text r) (run-split classes.Space left) stands, run-all classes.Space left, run-stops classes.Space left, h))
+    (t ∷ u ∷ us, e ∙ append_assoc so_far (t ∷ []) (u ∷ us), (run_of classes.Space left, behind_run classes.Space left, subst (λ (r : List ℕ). BeginsWith t text r) (run-split classes.Space left) stands, run-all classes.Space left, run-stops classes.Space left, h))
 
-left_by : (n : ℕ) (t : Token) (text behind : List ℕ) (so_far all : List Token) → Stands t text behind → where_left behind (so_far ++ t ∷ []) (λ left. tokens_after n (so_far ++ t ∷ []) (behind_run classes.Space left)) ≡ Some all → ((left : List ℕ) → tokens_after n (so_far ++ t ∷ []) left ≡ Some all → (us : List Token) × (all ≡ (so_far ++ t ∷ []) ++ us) × AreSpelled us left) → (ts : List Token) × (all ≡ so_far ++ ts) × AreSpelled ts text
+left_by : (n : ℕ) (t : Token) (text behind : List ℕ) (so_far all : List Token) → BeginsWith t text behind → where_left behind (so_far ++ t ∷ []) (λ left. tokens_after n (so_far ++ t ∷ []) (behind_run classes.Space left)) ≡ Some all → ((left : List ℕ) → tokens_after n (so_far ++ t ∷ []) left ≡ Some all → (us : List Token) × (all ≡ (so_far ++ t ∷ []) ++ us) × AreSpelled us left) → (ts : List Token) × (all ≡ so_far ++ ts) × AreSpelled ts text
 left_by n t text [] so_far all stands h others = (t ∷ [], sym cc, stands)
 left_by n t text (b ∷ bs) so_far all stands h others =
     let found = others (behind_run classes.Space (b ∷ bs)) h in
