@@ -1,11 +1,8 @@
 -- What is found by what stands in front of it, item by item.
-use Rattle.std.proofs.Common.{◌≤◌, ◌||◌, ◌&&◌, not, map, arith, length-take, ◌≡◌, ℕ, ◌+◌, ◌<◌, List, [], ◌∷◌, ◌++◌, take, drop, reverse, length, get_or, Option, Some, None, Bool, true, false, cond, refl, ap, bytes_eq, sym, ◌∙◌}
-use Rattle.std.specs.List.{list_any}
+use Rattle.std.proofs.Common.{◌≤◌, map, arith, length-take, ◌≡◌, ℕ, ◌+◌, ◌<◌, List, [], ◌∷◌, take, drop, reverse, length, get_or, Some, Bool, true, false, cond, ap, bytes_eq, sym, ◌∙◌}
 use Rattle.std.proofs.lemmas.List.{take_more, drop_more, reverse-append, get_or-map, length-map, length-reverse}
-use Rattle.std.proofs.lemmas.List.Folds.{list_any-append}
 use Rattle.zb_process.specs.declared.model.Node.{Node}
-use Rattle.zb_faults.specs.Elements.{is_error_boundary}
-use Rattle.zb_faults.specs.Faults.{find_behind, depth_among, catches_error, catches_badly}
+use Rattle.zb_faults.specs.Faults.{find_behind, depth_among}
 
 -- at a place, where the test of the item there is known
 module _ {A : Type 0} (test : List A → A → Bool) (xs : List A) (i : ℕ) (x : A) (passes : Bool) (within : i < length xs) (is : x ≡ get_or xs i x) (tested : passes ≡ test (reverse (take i xs)) x) where
@@ -24,21 +21,6 @@ module _ {A : Type 0} (test : List A → A → Bool) (xs : List A) (i : ℕ) (x 
 
   pub found_later : passes ≡ false → find_behind test (reverse (take i xs)) (drop i xs) ≡ find_behind test (reverse (take (i + 1) xs)) (drop (i + 1) xs)
   found_later so = step ∙ ap (λ t. cond t (Some x) (find_behind test (reverse (take (i + 1) xs)) (drop (i + 1) xs))) so
-
-or_last : (a b : Bool) → (a || (b || false)) ≡ (b || a)
-or_last true true = refl
-or_last true false = refl
-or_last false true = refl
-or_last false false = refl
-
--- one of them passes, whichever way they stand
-pub any_reversed : {A : Type 0} (p : A → Bool) (xs : List A) → list_any p (reverse xs) ≡ list_any p xs
-any_reversed p [] = refl
-any_reversed p (x ∷ xs) = ap (list_any p) (reverse-append (x ∷ []) xs) ∙ (list_any-append p (reverse xs) (x ∷ []) ∙ (ap (λ t. t || (p x || false)) (any_reversed p xs) ∙ or_last (list_any p xs) (p x)))
-
--- an error event is as bad, whichever way those in front of it stand
-pub catches_reversed : (xs : List Node) (n : Node) → catches_badly (reverse xs) n ≡ catches_badly xs n
-catches_reversed xs n = ap (λ t. is_error_boundary n.kind && (not n.cancel || t)) (any_reversed _ xs)
 
 -- an item of a list, and what is made of it
 pub within_mapped : {A B : Type 0} (f : A → B) (xs : List A) (i : ℕ) → i < length xs → i < length (map f xs)

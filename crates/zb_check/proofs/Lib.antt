@@ -1,3 +1,4 @@
 pub mod LookLemmas
 pub mod BehindLemmas
 pub mod FaultLemmas
+pub mod PairLemmas

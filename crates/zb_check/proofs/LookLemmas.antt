@@ -1,5 +1,5 @@
 -- What is found among some items and one more.
-use Rattle.std.proofs.Common.{◌≡◌, ℕ, ◌+◌, ◌<◌, List, [], ◌∷◌, ◌++◌, take, drop, length, get_or, Option, Some, None, Bool, true, false, cond, refl, ap, sym, ◌∙◌, Bor, count_by, nat_lt, is_some, ◌||◌, arith}
+use Rattle.std.proofs.Common.{◌≡◌, ℕ, ◌+◌, ◌<◌, List, [], ◌∷◌, take, drop, length, get_or, Option, Some, None, Bool, true, false, cond, refl, ap, sym, ◌∙◌, Bor, count_by, nat_lt, is_some, ◌||◌, arith}
 use Rattle.std.specs.List.{find, list_any}
 use Rattle.std.specs.Option.{option_copied, option_or}
 use Rattle.std.proofs.lemmas.List.{drop_more, take_more}

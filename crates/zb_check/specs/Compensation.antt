@@ -1,5 +1,5 @@
 -- What is known of a node of compensation.
-use Rattle.std.specs.Prelude.{ℕ, List, Bool, false, ◌&&◌, ◌||◌, not}
+use Rattle.std.specs.Prelude.{Bool, false, ◌&&◌, ◌||◌, not}
 use Rattle.std.specs.Option.{option_map_or}
 use Rattle.zb_process.specs.declared.model.Model.{Model}
 use Rattle.zb_process.specs.declared.model.Node.{Node}

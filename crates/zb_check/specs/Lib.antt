@@ -1,4 +1,5 @@
 pub mod Notes
+pub mod Pairs
 pub mod Counts
 pub mod Parts
 pub mod Compensation

@@ -2,19 +2,21 @@
 ghost use Rattle.std.specs.Prelude.{◌≡◌, ℕ, List, [], ◌||◌, ◌&&◌, not, is_some, false, option_map, IfOk, OnOk};
 ghost use Rattle.std.specs.Option.{option_copied, option_map_or};
 ghost use Rattle.std.specs.Str.{bytes_eq};
-ghost use Rattle.zb_faults.specs.Elements.{node_with, is_compensation_boundary};
+ghost use Rattle.zb_faults.specs.Elements.{node_with, is_compensation_boundary, is_error_boundary};
 ghost use Rattle.zb_faults.specs.Faults.{find_behind, is_attached, bad_attachment, bad_compensation, bad_error};
-ghost use Rattle.zb_faults.specs.Faults.{catches_error, catches_badly, has_flows, is_forgotten, is_handler_in};
+ghost use Rattle.zb_faults.specs.Faults.{catches_badly, has_flows, is_forgotten, is_handler_in};
 ghost use Rattle.zb_check.specs.Compensation.{is_bad_by};
 ghost use Rattle.zb_check.specs.Notes.{noted};
+ghost use Rattle.zb_check.specs.Pairs.{is_noted};
 
-use crate::kinds::{
-    is_activity, is_boundary, is_compensation_boundary, is_error_boundary, is_service_task,
-};
 use crate::notes::{Notes, note_where};
+use crate::pairs::Pairs;
 use crate::parts::Parts;
 use std::alloc::{AllocError, Global};
 use zb_base::Text;
+use zb_faults::{
+    is_activity, is_boundary, is_compensation_boundary, is_error_boundary, is_service_task,
+};
 use zb_process::Node;
 
 /// The first boundary event that isn't attached to an activity of its scope.
@@ -65,7 +67,8 @@ fn is_compensated_badly(
     activities: &Notes<'_, ()>,
     node: &Node,
 ) -> bool
-    ensures { result ≡ is_bad_by parts.now node.now (is_some (noted handlers.now node.now.name)) (is_some (noted activities.now node.now.attached)) }
+    ensures { result ≡ is_bad_by parts.now node.now (is_some (noted handlers.now node.now.name))
+        (is_some (noted activities.now node.now.attached)) }
 {
     let is_known = handlers.get(&node.name).is_some() || activities.get(&node.attached).is_some();
     let is_bad = !names_handler(parts, node) || has_flows(parts, node) || is_known;
@@ -74,7 +77,8 @@ fn is_compensated_badly(
 
 // Whether a compensation event names a handler in its scope.
 fn names_handler(parts: &Parts<'_>, node: &Node) -> bool
-    ensures { result ≡ option_map_or (is_handler_in parts.now node.now.parent) (node_with parts.now node.now.name) false }
+    ensures { result
+        ≡ option_map_or (is_handler_in parts.now node.now.parent) (node_with parts.now node.now.name) false }
 {
     match parts.node(&node.name) {
         Some(handler) => is_handler_in(parts, &node.parent, handler),
@@ -117,7 +121,8 @@ fn note_compensation<'a>(
     ensures handlers { OnOk result ((q : List ℕ) → is_some (noted handlers.new q)
         ≡ ((is_compensation_boundary node.now.kind && bytes_eq node.now.name q) || is_some (noted handlers.old q))) }
     ensures activities { OnOk result ((q : List ℕ) → is_some (noted activities.new q)
-        ≡ ((is_compensation_boundary node.now.kind && bytes_eq node.now.attached q) || is_some (noted activities.old q))) }
+        ≡ ((is_compensation_boundary node.now.kind && bytes_eq node.now.attached q)
+        || is_some (noted activities.old q))) }
 {
     note_where(handlers, &node.name, is_compensation_boundary(node.kind))?;
     note_where(
@@ -128,32 +133,36 @@ fn note_compensation<'a>(
 }
 
 /// The first error event that doesn't end its activity, or has the activity and the code of one in front of it.
-/// It compares the error events with each other.
-pub fn bad_error(nodes: &[Node]) -> Option<&Text>
-    ensures { option_copied result ≡ option_map (λ n. n.id) (find_behind catches_badly [] nodes.now) }
+pub fn bad_error<'a>(alloc: Global, nodes: &'a [Node]) -> Result<Option<&'a Text>, AllocError>
+    ensures { IfOk result (λ found. option_copied found
+        ≡ option_map (λ n. n.id) (find_behind catches_badly [] nodes.now)) }
 {
-    for (place, node) in nodes.iter().enumerate() {
-        if catches_badly(&nodes[..place], node) {
-            return Some(&node.id);
+    let mut caught = Pairs::empty(alloc);
+    for node in nodes {
+        if catches_badly(&caught, node) {
+            return Ok(Some(&node.id));
         }
+        note_error(alloc, &mut caught, node)?;
     }
-    None
+    Ok(None)
 }
 
-// Whether this is an error event that doesn't end its activity, or catches what one of these does.
-fn catches_badly(before: &[Node], node: &Node) -> bool
-    ensures { result ≡ catches_badly before.now node.now }
+// Whether this is an error event that doesn't end its activity, or catches one of these codes of these activities.
+fn catches_badly(caught: &Pairs<'_>, node: &Node) -> bool
+    ensures { result ≡ (is_error_boundary node.now.kind
+        && (not node.now.cancel || is_noted caught.now node.now.attached node.now.name)) }
 {
-    is_error_boundary(node.kind) && (!node.cancel || catches_error(before, node))
+    is_error_boundary(node.kind) && (!node.cancel || caught.has(&node.attached, &node.name))
 }
 
-// Whether one of these is an error event of the activity of this one, with its code.
-fn catches_error(before: &[Node], node: &Node) -> bool
-    ensures { result ≡ catches_error before.now node.now.attached node.now.name }
+// Notes the activity of an error event with its code.
+fn note_error<'a>(alloc: Global, caught: &mut Pairs<'a>, node: &'a Node) -> Result<(), AllocError>
+    ensures { OnOk result ((p q : List ℕ) → is_noted caught.new p q
+        ≡ ((is_error_boundary node.now.kind && (bytes_eq node.now.attached p && bytes_eq node.now.name q))
+        || is_noted caught.old p q)) }
 {
-    before.iter().any(|other| {
-        is_error_boundary(other.kind)
-            && other.attached.as_str() == node.attached.as_str()
-            && other.name.as_str() == node.name.as_str()
-    })
+    if is_error_boundary(node.kind) {
+        return caught.put(alloc, &node.attached, &node.name);
+    }
+    Ok(())
 }

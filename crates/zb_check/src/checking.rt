@@ -49,7 +49,7 @@ const FAULTS: [Fault; 14] = [
 ];
 
 /// Finds the first fault of a model. It takes memory for the places of the model's ids, and a time that grows with
-/// the model's size and its logarithm; error boundary events alone are compared with each other.
+/// the model's size times its logarithm.
 #[tactic(auto, unfolding(zb_faults::specs::Faults::first_fault))]
 pub fn check(alloc: Global, model: &Model) -> Result<(), ModelFault>
     ensures { Checks result (first_fault model.now) }
@@ -74,7 +74,7 @@ fn offender<'a>(
     ensures { IfOk result (λ found. option_copied found ≡ offender fault parts.now) }
 {
     match fault {
-        Fault::EmptyId => empty_id(alloc, parts),
+        Fault::EmptyId => Ok(empty_id(parts)),
         Fault::DoubleId => double_id(alloc, parts),
         Fault::BadParent => bad_parent(alloc, parts.nodes()),
         Fault::Dangling => Ok(dangling(parts)),
@@ -86,7 +86,7 @@ fn offender<'a>(
         Fault::Condition => Ok(bad_condition(parts)),
         Fault::EventGate => bad_event_gateway(alloc, parts),
         Fault::Compensation => bad_compensation(alloc, parts),
-        Fault::Error => Ok(bad_error(parts.nodes())),
+        Fault::Error => bad_error(alloc, parts.nodes()),
         Fault::Limit => too_large(alloc, parts),
     }
 }

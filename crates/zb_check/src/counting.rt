@@ -26,7 +26,8 @@ pub fn count_named<'a, T, N: Naming<T>>(
     items: &'a [T],
     naming: &N,
 ) -> Result<Notes<'a, usize>, AllocError>
-    ensures { IfOk result (λ counts. (id : List ℕ) → count_in counts id ≡ count_by (λ x. N.names naming.now x && bytes_eq (N.named naming.now x) id) items.now) }
+    ensures { IfOk result (λ counts. (id : List ℕ) → count_in counts id
+        ≡ count_by (λ x. N.names naming.now x && bytes_eq (N.named naming.now x) id) items.now) }
 {
     let mut counts = Notes::empty(alloc);
     for item in items {

@@ -3,10 +3,10 @@ ghost use Rattle.std.specs.Prelude.{IfOk};
 ghost use Rattle.zb_check.specs.Counts.{Counted};
 
 use crate::counting::{Naming, count_named};
-use crate::kinds::{is_boundary, is_compensation_boundary, is_message_start, is_start};
 use crate::notes::Notes;
 use std::alloc::{AllocError, Global};
 use zb_base::Text;
+use zb_faults::{is_boundary, is_compensation_boundary, is_message_start, is_start};
 use zb_process::{Flow, Model, Node};
 
 /// How often each id is named.

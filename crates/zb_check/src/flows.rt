@@ -10,14 +10,14 @@ ghost use Rattle.zb_faults.specs.Faults.{dangling, crossing, flow_end, no_incomi
 ghost use Rattle.zb_faults.specs.Faults.{has_bad_default, has_bad_condition, bad_condition, strays, lacks_alternatives};
 
 use crate::counting::{Naming, count_named};
-use crate::kinds::{
-    is_boundary, is_catch, is_end_kind, is_event_gateway, is_exclusive_gateway, is_start,
-};
 use crate::naming::is_empty;
 use crate::notes::Notes;
 use crate::parts::Parts;
 use std::alloc::{AllocError, Global};
 use zb_base::Text;
+use zb_faults::{
+    is_boundary, is_catch, is_end_kind, is_event_gateway, is_exclusive_gateway, is_start,
+};
 use zb_process::{Flow, Node, NodeKind};
 
 /// The first flow an end of which is no node.
@@ -127,7 +127,8 @@ fn has_bad_default(parts: &Parts<'_>, node: &Node) -> bool
 
 // The first flow that has no condition where it needs one, or one where there may be none.
 fn misplaced_condition<'a>(parts: &Parts<'a>) -> Option<&'a Text>
-    ensures { option_copied result ≡ option_map (λ f. f.id) (find (λ f. option_map_or (has_bad_condition parts.now f) (node_with parts.now f.from) false) parts.now.flows) }
+    ensures { option_copied result ≡ option_map (λ f. f.id)
+        (find (λ f. option_map_or (has_bad_condition parts.now f) (node_with parts.now f.from) false) parts.now.flows) }
 {
     let flows = parts.flows();
     flows

@@ -37,7 +37,8 @@ impl HasId for Flow {
 
 /// The first one of these with each id.
 pub fn by_id<'a, T: HasId>(alloc: Global, items: &'a [T]) -> Result<Notes<'a, &'a T>, AllocError>
-    ensures { IfOk result (λ index. (id : List ℕ) → option_copied (noted index id) ≡ find (λ x. bytes_eq (T.id_of x) id) items.now) }
+    ensures { IfOk result (λ index. (id : List ℕ)
+        → option_copied (noted index id) ≡ find (λ x. bytes_eq (T.id_of x) id) items.now) }
 {
     let mut index = Notes::empty(alloc);
     for item in items {
@@ -59,7 +60,8 @@ pub fn ids_of<'a>(alloc: Global, model: &'a Model) -> Result<Vec<&'a Text>, Allo
 
 // Adds the ids of these at the end.
 fn push_ids<'a, T: HasId>(ids: &mut Vec<&'a Text>, items: &'a [T]) -> Result<(), AllocError>
-    ensures { OnOk result (map (λ id. id.now) ids.new.items ≡ map (λ id. id.now) ids.old.items ++ map T.id_of items.now) }
+    ensures { OnOk result (map (λ id. id.now) ids.new.items
+        ≡ map (λ id. id.now) ids.old.items ++ map T.id_of items.now) }
 {
     for item in items {
         ids.push(item.id())?;

@@ -7,9 +7,9 @@ mod counting;
 mod counts;
 mod flows;
 mod ids;
-mod kinds;
 mod naming;
 mod notes;
+mod pairs;
 mod parts;
 mod scopes;
 

@@ -11,19 +11,17 @@ use std::alloc::{AllocError, Global};
 use zb_base::Text;
 
 /// The first id that is empty.
-pub fn empty_id<'a>(alloc: Global, parts: &Parts<'a>) -> Result<Option<&'a Text>, AllocError>
-    ensures { IfOk result (λ found. option_copied found ≡ empty_id parts.now) }
+pub fn empty_id<'a>(parts: &Parts<'a>) -> Option<&'a Text>
+    ensures { option_copied result ≡ empty_id parts.now }
 {
-    let ids = parts.ids(alloc)?;
-    Ok(first_empty(ids.as_slice()))
+    first_empty(parts.ids())
 }
 
 /// The first id that was used before.
 pub fn double_id<'a>(alloc: Global, parts: &Parts<'a>) -> Result<Option<&'a Text>, AllocError>
     ensures { IfOk result (λ found. option_copied found ≡ double_id parts.now) }
 {
-    let ids = parts.ids(alloc)?;
-    first_used(alloc, ids.as_slice())
+    first_used(alloc, parts.ids())
 }
 
 // The first id that is empty.

@@ -35,7 +35,8 @@ impl<'a, V: Copy> Notes<'a, V> {
 
     /// Notes a value under an id, in place of what was there.
     pub fn put(&mut self, id: &'a Text, value: V) -> Result<(), AllocError>
-        ensures { OnOk result ((q : List ℕ) → noted self.new q ≡ cond (bytes_eq id.now q) (Some value) (noted self.old q)) }
+        ensures { OnOk result ((q : List ℕ)
+            → noted self.new q ≡ cond (bytes_eq id.now q) (Some value) (noted self.old q)) }
     {
         self.values.insert(id.as_str(), value)?;
         Ok(())
@@ -43,7 +44,8 @@ impl<'a, V: Copy> Notes<'a, V> {
 
     /// Notes a value under an id, where nothing was.
     pub fn keep(&mut self, id: &'a Text, value: V) -> Result<(), AllocError>
-        ensures { OnOk result ((q : List ℕ) → noted self.new q ≡ option_or (noted self.old q) (cond (bytes_eq id.now q) (Some value) None)) }
+        ensures { OnOk result ((q : List ℕ)
+            → noted self.new q ≡ option_or (noted self.old q) (cond (bytes_eq id.now q) (Some value) None)) }
     {
         if self.get(id).is_some() {
             return Ok(());
@@ -63,7 +65,8 @@ impl<'a> Notes<'a, usize> {
     /// Counts an id once more.
     pub fn add(&mut self, id: &'a Text) -> Result<(), AllocError>
         requires { count_in self.old id.now + 1 < 2 ^ 64 }
-        ensures { OnOk result ((q : List ℕ) → count_in self.new q ≡ count_in self.old q + cond (bytes_eq id.now q) 1 0) }
+        ensures { OnOk result ((q : List ℕ)
+            → count_in self.new q ≡ count_in self.old q + cond (bytes_eq id.now q) 1 0) }
     {
         let counted = self.count(id);
         self.put(id, counted + 1)
@@ -77,7 +80,8 @@ pub fn note_where<'a>(
     id: &'a Text,
     holds: bool,
 ) -> Result<(), AllocError>
-    ensures { OnOk result ((q : List ℕ) → is_some (noted notes.new q) ≡ ((holds && bytes_eq id.now q) || is_some (noted notes.old q))) }
+    ensures { OnOk result ((q : List ℕ)
+        → is_some (noted notes.new q) ≡ ((holds && bytes_eq id.now q) || is_some (noted notes.old q))) }
 {
     if holds {
         return notes.put(id, ());

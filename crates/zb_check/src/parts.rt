@@ -1,7 +1,8 @@
 // A model, and what is looked up in it.
 ghost use Rattle.std.specs.Prelude.{◌≡◌, map, IfOk};
 ghost use Rattle.std.specs.Option.{option_copied};
-ghost use Rattle.zb_faults.specs.Elements.{ids_of, node_with, flow_with, incoming, outgoing, is_start, is_message_start};
+ghost use Rattle.zb_faults.specs.Elements.{ids_of, node_with, flow_with, incoming, outgoing};
+ghost use Rattle.zb_faults.specs.Elements.{is_start, is_message_start};
 ghost use Rattle.zb_faults.specs.Faults.{starts_in, has_boundary, names_handler};
 
 use crate::counts::Counts;
@@ -16,6 +17,7 @@ use zb_process::{Flow, Model as ProcessModel, Node};
 #[derive(Drop)]
 pub struct Parts<'a> {
     model: &'a ProcessModel,
+    ids: Vec<&'a Text>,
     nodes: Notes<'a, &'a Node>,
     flows: Notes<'a, &'a Flow>,
     counts: Counts<'a>,
@@ -32,7 +34,7 @@ impl<'a> Model for Parts<'a> {
 
     ghost view = { λ p. p.model.now };
 
-    ghost invariant = { λ p. HasParts p.model.now p.nodes p.flows p.counts };
+    ghost invariant = { λ p. HasParts p.model.now p.ids.items p.nodes p.flows p.counts };
 }
 
 #[tactic(auto, using(crate::proofs::LookLemmas::some_counted))]
@@ -45,6 +47,7 @@ impl<'a> Parts<'a> {
         let flows = model.flows.as_slice();
         Ok(Parts {
             model,
+            ids: ids_of(alloc, model)?,
             nodes: by_id(alloc, nodes)?,
             flows: by_id(alloc, flows)?,
             counts: Counts::of(alloc, model)?,
@@ -73,10 +76,10 @@ impl<'a> Parts<'a> {
     }
 
     /// The ids, in order: the process, the nodes, the flows.
-    pub fn ids(&self, alloc: Global) -> Result<Vec<&'a Text>, AllocError>
-        ensures { IfOk result (λ ids. map (λ id. id.now) ids.items ≡ ids_of self.now) }
+    pub fn ids(&self) -> &[&'a Text]
+        ensures { map (λ id. id.now) result.now ≡ ids_of self.now }
     {
-        ids_of(alloc, self.model)
+        self.ids.as_slice()
     }
 
     /// The node with an id.

@@ -6,12 +6,12 @@ ghost use Rattle.std.specs.Str.{bytes_eq};
 ghost use Rattle.zb_faults.specs.Faults.{find_behind, starts_badly, bad_start, lacks_parent, is_too_deep, too_large};
 ghost use Rattle.zb_check.specs.Notes.{noted};
 
-use crate::kinds::is_subprocess;
 use crate::naming::is_empty;
 use crate::notes::{Notes, note_where};
 use crate::parts::Parts;
 use std::alloc::{AllocError, Global};
 use zb_base::Text;
+use zb_faults::is_subprocess;
 use zb_process::Node;
 
 // How many nodes a model may have.
@@ -25,7 +25,8 @@ const MOST_NESTED: usize = 16;
 
 /// The first node whose parent is no subprocess in front of it.
 pub fn bad_parent<'a>(alloc: Global, nodes: &'a [Node]) -> Result<Option<&'a Text>, AllocError>
-    ensures { IfOk result (λ found. option_copied found ≡ option_map (λ n. n.id) (find_behind lacks_parent [] nodes.now)) }
+    ensures { IfOk result (λ found. option_copied found
+        ≡ option_map (λ n. n.id) (find_behind lacks_parent [] nodes.now)) }
 {
     let mut subprocesses = Notes::empty(alloc);
     for node in nodes {

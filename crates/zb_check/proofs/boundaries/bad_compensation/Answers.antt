@@ -1,4 +1,4 @@
-use Rattle.std.proofs.Common.{◌≡◌, ℕ, List, [], ◌&&◌, ◌||◌, take, reverse, is_some, bytes_eq, sym, ap, ◌∙◌}
+use Rattle.std.proofs.Common.{[], ◌&&◌, ◌||◌, take, reverse, is_some, bytes_eq, sym, ap, ◌∙◌}
 use Rattle.std.specs.Option.{option_map}
 use Rattle.zb_process.specs.declared.model.Node.{Node}
 use Rattle.zb_faults.specs.Elements.{is_compensation_boundary}

@@ -1,5 +1,4 @@
-use Rattle.std.proofs.Common.{◌≡◌, ℕ, ◌+◌, ◌<◌, List, [], ◌∷◌, ◌++◌, take, length, get_or, Option, Some, None, Bool, true, false, cond, refl, ap, sym, ◌∙◌, Bor}
-use Rattle.std.specs.List.{find}
+use Rattle.std.proofs.Common.{Some, None, cond, ap, sym, ◌∙◌}
 use Rattle.std.specs.Option.{option_copied, option_or}
 use Rattle.std.specs.Str.{bytes_eq}
 use Rattle.zb_check.specs.Notes.{noted}

@@ -1,5 +1,4 @@
-use Rattle.std.proofs.Common.{◌≡◌, ℕ, List, ◌+◌, ◌<◌, ◌||◌, map, take, reverse, length, get_or, is_some, bytes_eq, sym, ap, ◌∙◌, Bor}
-use Rattle.std.proofs.lemmas.List.{get_or-map}
+use Rattle.std.proofs.Common.{ℕ, List, ◌||◌, map, is_some, bytes_eq, sym, ap, ◌∙◌, Bor}
 use Rattle.zb_faults.specs.Faults.{has_id}
 use Rattle.zb_check.specs.Notes.{noted}
 use Rattle.zb_check.proofs.LookLemmas.{some_put}

@@ -1,4 +1,4 @@
-use Rattle.std.proofs.Common.{take, reverse, arith}
+use Rattle.std.proofs.Common.{arith}
 use Rattle.std.proofs.lemmas.Grind.{common_steps}
 use Rattle.zb_check.proofs.BehindLemmas.{depth_within}
 use Rattle.zb_check.proofs.scopes.is_deep.Goals as goal

@@ -1,4 +1,4 @@
-// What kinds of nodes there are.
+// What kinds of nodes there are (BPMN 2.0.2, chapter 10).
 ghost use Rattle.std.specs.Prelude.{◌≡◌};
 ghost use Rattle.zb_faults.specs.Elements.{is_start, is_message_start, is_end_kind, is_boundary, is_error_boundary, is_compensation_boundary, is_catch, is_subprocess, is_service_task, is_activity, is_exclusive_gateway, is_event_gateway};
 

@@ -1,0 +1,26 @@
+use Rattle.std.proofs.Common.{ℕ, List, Option, Some, false, is_some, bytes_eq, ◌||◌, ap, ◌∙◌, rules}
+use Rattle.std.specs.Option.{option_map_or}
+use Rattle.std.specs.BTreeMap as tree
+use Rattle.std.specs.Map.{update}
+use Rattle.std.specs.Ordering.{nat_cmp}
+use Rattle.std.specs.Cmp.Lexicographic.{slice_cmp}
+use Rattle.std.proofs.lemmas.Map.Text.{btree_map_updates_str}
+use Rattle.zb_check.specs.declared.notes.Notes.{Notes}
+use Rattle.zb_check.specs.Notes.{noted}
+use Rattle.zb_check.specs.Pairs.{notes_at}
+use Rattle.zb_check.proofs.LookLemmas.{some_put}
+use Rattle.zb_check.proofs.PairLemmas.{noted_under}
+use Rattle.zb_check.proofs.pairs.Pairs.put.Goals as goal
+
+pub returns-in_ok-put-in-Some : goal.returns-in_ok-put-in-Some
+returns-in_ok-put-in-Some c = λ p q.
+    let has = λ (n : Notes Unit) (s : List ℕ). is_some (noted n s) in
+    let old = notes_at c.args.self.now in
+    let lent = c.get_mut.follows.lender c.put.new.self in
+    let new = λ (first : List ℕ). tree.get_by (λ k. slice_cmp nat_cmp first k.now) lent in
+    let updates = btree_map_updates_str c.as_str.result.now c.args.self.now.seconds lent (Some c.put.new.self) ((c.get_mut.follows.holds c.put.new.self).3 (search rules)) p ∙ ap (λ n. update bytes_eq old n (Some c.put.new.self) p) c.as_str.ensures in
+    let added =
+    ap is_some (c.in_ok-put-in-Some.ensures q)
+    ∙ (some_put (bytes_eq c.args.second.now q) _ _
+    ∙ ap (λ (o : Option (Notes Unit)). bytes_eq c.args.second.now q || option_map_or (λ n. has n q) o false) (c.in-Some.ensures.value ∙ ap old c.as_str.ensures)) in
+    noted_under has old new c.args.first.now c.args.second.now p q c.put.new.self updates added
