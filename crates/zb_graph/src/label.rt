@@ -4,7 +4,8 @@ ghost use Rattle.std.specs.Option.{option_map_or};
 ghost use Rattle.std.specs.Str.{bytes_eq};
 ghost use Rattle.zb_faults.specs.Elements.{is_start};
 
-use zb_process::{Flow, Node, NodeKind};
+use zb_faults::is_start;
+use zb_process::{Flow, Node};
 
 /// A name that the items of a list may have.
 pub trait Label<T> {
@@ -82,11 +83,4 @@ impl Label<Flow> for Target {
     fn name(flow: &Flow) -> Option<&str> {
         Some(flow.to.as_str())
     }
-}
-
-// Whether a node of this kind is a start event.
-fn is_start(kind: NodeKind) -> bool
-    ensures { result ≡ is_start kind }
-{
-    matches!(kind, NodeKind::StartEvent | NodeKind::MessageStartEvent)
 }
