@@ -1,14 +1,22 @@
 -- The flows out of a node.
-use Rattle.std.proofs.Common.{◌≡◌, ℕ, suc, ◌==◌, false, List, [], ◌∷◌, length, map, filter, refl, sym, arith}
+use Rattle.std.proofs.Common.{◌≡◌, ℕ, zero, suc, ◌+◌, ◌<◌, ◌==◌, Bool, true, false, if◌then◌else◌, List, [], ◌∷◌, ◌++◌, length, take, drop, get_or, slice_get, map, filter, Option, Some, refl, sym, ap, subst, ◌∙◌, arith}
+use Rattle.std.proofs.lemmas.List.{take_more, drop_more, length-map, map-append}
+use Rattle.std.proofs.lemmas.Option.{slice_get_within}
 use Rattle.std.proofs.lemmas.Bool.Decides.{nat_tests}
 use Rattle.std.specs.Str.{bytes_eq}
 use Rattle.zb_tokens.specs.Edits.{is_none_of}
 use Rattle.zb_tokens.specs.MoveLeave.{are_among}
 use Rattle.zb_process.specs.declared.model.Flow.{Flow}
+use Rattle.zb_process.specs.declared.model.Model.{Model}
+use Rattle.zb_game.specs.Searches.{left_after}
 
--- the ids of those of the flows that go out of a node
-abbrev pub ids_out : List ℕ → List Flow → List (List ℕ)
-ids_out node flows = map (λ f. f.id) (filter (λ f. bytes_eq f.from node) flows)
+-- the flows of a model that go out of a node
+abbrev pub flows_from : Model → List ℕ → List Flow
+flows_from m node = filter (λ f. bytes_eq f.from node) m.flows
+
+-- the ids of some flows
+abbrev pub ids_of_flows : List Flow → List (List ℕ)
+ids_of_flows flows = map (λ f. f.id) flows
 
 -- a list with a member is not empty
 pub suc_not : (n : ℕ) → (suc n == 0) ≡ false
@@ -23,6 +31,49 @@ are_among-none (id ∷ ids) = sym (suc_not (length ids))
 pub is_none_of-length : {A : Type 0} (xs : List A) → is_none_of xs ≡ (length xs == 0)
 is_none_of-length [] = refl
 is_none_of-length (x ∷ xs) = sym (suc_not (length xs))
+
+-- what some numbers name, one by one
+pub named_at : {A : Type 0} (named : ℕ → Option A) (numbers : List ℕ) (items : List A) (i : ℕ) → map named numbers ≡ map Some items → i < length numbers → (x : A) × (named (get_or numbers i 0) ≡ Some x) × (get_or items i x ≡ x) × (i < length items)
+named_at named [] items i same within = absurd (omega arith)
+named_at named (n ∷ numbers) [] i same within = absurd (cc)
+named_at named (n ∷ numbers) (x ∷ items) zero same within = let here : named n ≡ Some x = cc in (x, here, refl, omega arith)
+named_at {A} named (n ∷ numbers) (x ∷ items) (suc i) same within =
+    let rest : map named numbers ≡ map {A = A} Some items = cc in
+    let at = named_at named numbers items i rest (omega arith) in
+    (at.0, at.1, at.2, omega (arith, at.3))
+
+-- as many numbers as there are flows out of a node
+pub many : (m : Model) (node : List ℕ) (numbers : List ℕ) → map (slice_get m.flows) numbers ≡ map Some (flows_from m node) → length numbers ≡ length (flows_from m node)
+many m node numbers out = sym (length-map numbers (slice_get m.flows)) ∙ (ap length out ∙ length-map (flows_from m node) Some)
+
+-- the numbers of the flows out of a node, and the flow at one of them
+module _ (m : Model) (node : List ℕ) (numbers : List ℕ) (i : ℕ) (out : map (slice_get m.flows) numbers ≡ map Some (flows_from m node)) (within : i < length numbers) where
+  pub is_flow : get_or numbers i 0 < length m.flows
+  is_flow = let at = named_at (slice_get m.flows) numbers (flows_from m node) i out within in slice_get_within m.flows (get_or numbers i 0) at.0 at.1
+
+  module _ (flow : Flow) (there : slice_get m.flows (get_or numbers i 0) ≡ Some flow) where
+    stands : (get_or (flows_from m node) i flow ≡ flow) × (i < length (flows_from m node))
+    stands =
+        let at = named_at (slice_get m.flows) numbers (flows_from m node) i out within in
+        let same : at.0 ≡ flow = (let e : Some at.0 ≡ Some flow = sym at.1 ∙ there in cc) in
+        (subst (λ (f : Flow). get_or (flows_from m node) i f ≡ f) same at.2, at.3)
+
+    -- with the id of one more
+    pub ids_more : ids_of_flows (take (i + 1) (flows_from m node)) ≡ ids_of_flows (take i (flows_from m node)) ++ flow.id ∷ []
+    ids_more = ap ids_of_flows (take_more (flows_from m node) i flow stands.1 ∙ ap (λ (f : Flow). take i (flows_from m node) ++ f ∷ []) stands.0) ∙ map-append (λ (f : Flow). f.id) (take i (flows_from m node)) (flow ∷ [])
+
+    -- with one fewer that is left
+    pub ids_left : ids_of_flows (drop i (flows_from m node)) ≡ flow.id ∷ ids_of_flows (drop (i + 1) (flows_from m node))
+    ids_left = ap ids_of_flows (drop_more (flows_from m node) i flow stands.1 ∙ ap (λ (f : Flow). f ∷ drop (i + 1) (flows_from m node)) stands.0)
+
+-- what is still sought once an id was met
+pub among_left : (ids : List (List ℕ)) (id : List ℕ) (rest : List (List ℕ)) → are_among (left_after ids id) rest ≡ are_among ids (id ∷ rest)
+among_left [] id rest = refl
+among_left (first ∷ ids) id rest = by_test (bytes_eq first id)
+  where
+    by_test : (t : Bool) → are_among (if t then ids else first ∷ ids) rest ≡ (if t then are_among ids rest else are_among (first ∷ ids) rest)
+    by_test true = refl
+    by_test false = refl
 
 -- for functions that ask whether there are any
 pub ruleset compared = (are_among-none, is_none_of-length)

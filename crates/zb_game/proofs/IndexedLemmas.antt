@@ -3,7 +3,7 @@ use Rattle.std.proofs.Common.{◌≡◌, ℕ, suc, ◌+◌, ◌-◌, ◌^◌, �
 use Rattle.std.specs.Option.{option_map_or}
 use Rattle.std.specs.List.{find}
 use Rattle.std.proofs.lemmas.Bool.Decides.{nat_tests}
-use Rattle.std.proofs.lemmas.List.Elements.{All-nil, All-push, All-set, All-weaker, All-append, All-take, All-drop}
+use Rattle.std.proofs.lemmas.List.Elements.{All-push, All-set, All-weaker, All-append, All-take, All-drop}
 use Rattle.zb_process.specs.declared.model.Model.{Model}
 use Rattle.zb_base.specs.declared.vars.Variable.{Variable}
 use Rattle.zb_table.specs.Rows.{are_below, with_row, without}
@@ -14,7 +14,6 @@ use Rattle.zb_tokens.specs.declared.board.Deployed.{Deployed}
 use Rattle.zb_tokens.specs.declared.board.Phase.{Phase}
 use Rattle.zb_tokens.specs.declared.board.Phase.TheVariants as phases
 use Rattle.zb_tokens.specs.Board.{Board, cell_at, model_under, is_root, is_empty}
-use Rattle.zb_tokens.specs.Game.{empty_board}
 use Rattle.zb_tokens.specs.EffectLaws.{mapped_from}
 use Rattle.zb_game.specs.declared.inside.Inside.{Inside}
 use Rattle.zb_game.specs.Inside.{counted_in, number_in}
@@ -97,15 +96,6 @@ full_on b b' scope le is =
 -- a cell is among the ready ones unless it rests
 abbrev pub IsSeen : Board → List ℕ → Cell → Type 0
 IsSeen b ready c = rests_in b c c.phase ≡ false → is_ready ready c.key ≡ true
-
--- nothing on the board, and nothing kept
-pub kept_empty : IsIndexed empty_board [] []
-kept_empty = record {
-  models_ascend = tt;
-  cells_ascend = tt;
-  counted = λ scope. omega arith;
-  awake = All-nil (IsSeen empty_board []);
-}
 
 module _ (b : Board) (inside : List Inside) (ready : List ℕ) (kept : IsIndexed b inside ready) where
   -- a scope that something is in has a number, and there is one more

@@ -24,7 +24,7 @@ use crate::inside::Inside;
 use std::alloc::{AllocError, AllocFailed, Global};
 use std::marker::Model;
 use zb_base::{Key, TryCopy};
-use zb_process::Model as ProcessModel;
+use zb_graph::Graph;
 use zb_table::{Table, row_among};
 use zb_tokens::{Cell, Deployed, Move, Token};
 
@@ -125,7 +125,7 @@ impl Game {
     /// Whether a move fits the board. Where the keys of the models and of the cells ascend, a cell or a model costs
     /// the logarithm of how many there are, and what is in a cell that of how many scopes there are; where they
     /// don't, each is searched for from the front. An entry goes through the tokens up to the first that has come,
-    /// and up the scopes. What concerns a node goes through the nodes and the flows of its model.
+    /// and up the scopes. A node or a flow of a model is found by its id in constant time, on average.
     pub fn fits(&self, m: &Move) -> bool
         ensures { result ≡ fits self.now m.now }
     {
@@ -193,7 +193,7 @@ impl Game {
         ensures { result ≡ option_map_or (λ m. bytes_eq m.process id.now) (model_under self.now definition) false }
     {
         match self.model(definition) {
-            Some(model) => model.process.as_str() == id,
+            Some(model) => model.model().process.as_str() == id,
             None => false,
         }
     }
@@ -205,12 +205,13 @@ impl Game {
         row_among(key, &self.cells, self.ascends)
     }
 
-    // The model of a definition, found by halves where the keys ascend.
-    fn model(&self, definition: Key) -> Option<&ProcessModel>
+    /// The model of a definition, as a graph. It takes the logarithm of how many models there are, where their keys
+    /// ascend.
+    pub fn model(&self, definition: Key) -> Option<&Graph>
         ensures { option_copied result ≡ model_under self.now definition }
     {
         match row_among(definition, &self.models, self.ascends) {
-            Some(deployed) => Some(&deployed.model),
+            Some(deployed) => Some(deployed.model.graph()),
             None => None,
         }
     }

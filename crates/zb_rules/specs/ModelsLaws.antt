@@ -1,10 +1,11 @@
--- Laws of the models of a board: the definitions of a log stand on it, under keys that were named.
-use Rattle.std.proofs.Common.{◌≡◌, ℕ, ◌≤◌, ◌==◌, List, [], ◌∷◌, ◌++◌, Bool, true, false, if◌then◌else◌, IsTrue, is_some, not, Option, Some, None, option_map, All, refl, sym, ap, ◌∙◌, subst, arith, append-nil}
+-- Laws of the models of a board: the definitions of a log and no others stand on it, under keys that were named.
+use Rattle.std.proofs.Common.{◌≡◌, ℕ, ◌≤◌, ◌==◌, List, [], ◌∷◌, ◌++◌, Bool, true, false, if◌then◌else◌, IsTrue, is_some, not, Option, Some, None, option_map, map, ◌||◌, All, refl, sym, ap, ◌∙◌, subst, arith, append-nil}
 use Rattle.std.specs.Option.{option_map_or, option_or}
-use Rattle.std.specs.List.{find}
+use Rattle.std.specs.List.{find, list_any}
 use Rattle.std.specs.Str.{bytes_eq}
 use Rattle.std.proofs.lemmas.Bool.Decides.{nat_tests}
 use Rattle.std.proofs.lemmas.List.Elements.{All-nil, All-cons, All-append, All-weaker}
+use Rattle.std.proofs.lemmas.List.{map-append}
 use Rattle.std.proofs.lemmas.List.Folds.{find-append}
 use Rattle.zb_process.specs.declared.model.Model.{Model}
 use Rattle.zb_model.specs.declared.record.Event.{Event}
@@ -28,7 +29,7 @@ use Rattle.zb_tokens.specs.MoveAssign.{with_variable}
 use Rattle.zb_tokens.specs.Game.{empty_board, played}
 use Rattle.zb_tokens.specs.ForcedLaws.{same_bytes}
 use Rattle.zb_rules.specs.Shown.{shown, after_shown, board_of}
-use Rattle.zb_rules.specs.Applies.{all_apply, is_process_of}
+use Rattle.zb_rules.specs.Applies.{all_apply, has_definition, is_process_of}
 use Rattle.zb_rules.specs.CellsLaws.{mapped_holds, chained_holds}
 use Rattle.zb_rules.specs.AppliedLaws.{Advances, holds_of_all}
 use Rattle.zb_rules.specs.KeysLaws.{first_named}
@@ -152,3 +153,41 @@ knows_first p = record {
 -- the board of a log whose events apply
 pub board_knows : (p : ℕ) (es : List Event) (b : Board) → IsTrue (all_apply p [] es) → board_of es ≡ Some b → Knows p es b
 board_knows p es b apply is = holds_of_all p (Knows p) (knows_on p) es b (knows_first p) apply is
+
+-- the models stand under the keys of the definitions, in their order
+abbrev HasSameKeys : List Event → Board → Type 0
+HasSameKeys es b = map (λ (d : Deployed). d.key) b.models ≡ map (λ (d : Definition). d.key) (definitions es)
+
+told_same : (e : Event) → map (λ (d : Deployed). d.key) (models_told e) ≡ map (λ (d : Definition). d.key) (definition_told e)
+told_same (events.ProcessCreated e) = refl
+told_same e = refl
+
+same_on : (p : ℕ) (before : List Event) (b : Board) (e : Event) (after : Board) → Advances p before b e after → HasSameKeys before b → HasSameKeys (before ++ e ∷ []) after
+same_on p before b e after h same =
+    ap (map (λ (d : Deployed). d.key)) (models_more p before b e after h)
+    ∙ (map-append (λ (d : Deployed). d.key) b.models (models_told e)
+    ∙ (ap (λ (keys : List ℕ). keys ++ map (λ (d : Deployed). d.key) (models_told e)) same
+    ∙ (ap (λ (keys : List ℕ). map (λ (d : Definition). d.key) (definitions before) ++ keys) (told_same e)
+    ∙ (sym (map-append (λ (d : Definition). d.key) (definitions before) (definition_told e)) ∙ sym (ap (map (λ (d : Definition). d.key)) (definitions_more before e))))))
+
+-- a key among those of some things
+any_of_keys : {A : Type 0} (key_in : A → ℕ) (key : ℕ) (xs : List A) → list_any (λ x. key_in x == key) xs ≡ list_any (λ k. k == key) (map key_in xs)
+any_of_keys key_in key [] = refl
+any_of_keys key_in key (x ∷ xs) = ap (λ (t : Bool). (key_in x == key) || t) (any_of_keys key_in key xs)
+
+found_among : (key : ℕ) (models : List Deployed) → is_some (option_map (λ (d : Deployed). d.model) (find (λ (d : Deployed). d.key == key) models)) ≡ list_any (λ (d : Deployed). d.key == key) models
+found_among key [] = refl
+found_among key (d ∷ models) = by_test (d.key == key) (found_among key models)
+  where
+    by_test : (t : Bool) → is_some (option_map (λ (x : Deployed). x.model) (find (λ (x : Deployed). x.key == key) models)) ≡ list_any (λ (x : Deployed). x.key == key) models
+        → is_some (option_map (λ (x : Deployed). x.model) (if t then Some d else find (λ (x : Deployed). x.key == key) models)) ≡ (t || list_any (λ (x : Deployed). x.key == key) models)
+    by_test true later = refl
+    by_test false later = later
+
+-- a model is on the board of a log whose events apply exactly where its definition is there
+pub is_there_where_defined : (p : ℕ) (es : List Event) (b : Board) (key : ℕ) → IsTrue (all_apply p [] es) → board_of es ≡ Some b → is_some (model_under b key) ≡ has_definition key es
+is_there_where_defined p es b key apply is =
+    let same : HasSameKeys es b = holds_of_all p HasSameKeys (same_on p) es b refl apply is in
+    found_among key b.models
+    ∙ (any_of_keys (λ (d : Deployed). d.key) key b.models
+    ∙ (ap (list_any (λ k. k == key)) same ∙ sym (any_of_keys (λ (d : Definition). d.key) key (definitions es))))

@@ -2,6 +2,7 @@ use crate::models::straight;
 use std::alloc::Global;
 use std::process::Abort;
 use zb_game::{Game, GameFault};
+use zb_graph::{BoxedGraph, compile};
 use zb_model::{Key, NodeKind, TryCopy};
 use zb_tokens::{Deployed, Move, Start};
 
@@ -9,9 +10,10 @@ use zb_tokens::{Deployed, Move, Start};
 fn started(rt: &impl Abort, alloc: Global, last: NodeKind) -> Game {
     let mut game = Game::empty(alloc);
     let definition = Key::new(1);
+    let graph = compile(alloc, straight(rt, alloc, last)).expect(rt, "memory");
     let stand = Move::Stand(Deployed {
         key: definition,
-        model: straight(rt, alloc, last),
+        model: BoxedGraph::new(alloc, graph).expect(rt, "memory"),
     });
     assert!(rt; game.make(alloc, stand) == Ok(()));
     let key = Key::new(2);

@@ -1,4 +1,6 @@
 // Models for tests, and an instance of one.
+ghost use Rattle.std.specs.Prelude.{◌≡◌, length};
+
 use std::alloc::Global;
 use std::process::Abort;
 use zb_model::{
@@ -30,7 +32,10 @@ fn node(rt: &impl Abort, alloc: Global, id: &str, kind: NodeKind) -> Node {
 }
 
 // The process `p` of these nodes and flows.
-fn process(rt: &impl Abort, alloc: Global, nodes: List<Node>, flows: List<Flow>) -> Model {
+fn process(rt: &impl Abort, alloc: Global, nodes: List<Node>, flows: List<Flow>) -> Model
+    ensures nodes { result.nodes ≡ nodes }
+    ensures flows { result.flows ≡ flows }
+{
     Model {
         process: text(rt, alloc, "p"),
         tag: Text::empty(alloc),
@@ -47,7 +52,10 @@ pub fn lone(rt: &impl Abort, alloc: Global, id: &str, kind: NodeKind) -> Model {
 }
 
 /// The process `p`: start event `s`, flow `f`, and a last node `e` of this kind.
-pub fn straight(rt: &impl Abort, alloc: Global, last: NodeKind) -> Model {
+pub fn straight(rt: &impl Abort, alloc: Global, last: NodeKind) -> Model
+    ensures nodes { length result.nodes ≡ 2 }
+    ensures flows { length result.flows ≡ 1 }
+{
     let mut nodes = List::empty(alloc);
     nodes
         .push(node(rt, alloc, "s", NodeKind::StartEvent))

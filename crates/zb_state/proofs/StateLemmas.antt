@@ -1,5 +1,5 @@
 -- A state with an event more.
-use Rattle.std.proofs.Common.{◌≡◌, ℕ, ◌+◌, ◌<◌, ◌≤◌, ◌==◌, nat_le, max, Option, Some, None, is_some, is_none, option_map, Bool, true, false, ◌&&◌, if◌then◌else◌, Result, Ok, Err, OnOk, OnErr, List, [], ◌∷◌, ◌++◌, IsTrue, ◌↔◌, not, refl, sym, ap, subst, ◌∙◌, arith, append-nil}
+use Rattle.std.proofs.Common.{◌≡◌, ℕ, ◌+◌, ◌<◌, ◌≤◌, ◌==◌, nat_le, max, Option, Some, None, is_some, is_none, option_map, Bool, true, false, ◌&&◌, if◌then◌else◌, Result, Ok, Err, OnOk, OnErr, List, [], ◌∷◌, ◌++◌, IsTrue, not, refl, sym, ap, subst, ◌∙◌, arith, append-nil}
 use Rattle.std.specs.Prelude.{⊤}
 use Rattle.std.specs.Cmp.Derive.{both_true}
 use Rattle.std.specs.List.{find, list_any}
@@ -22,7 +22,7 @@ use Rattle.zb_tokens.specs.Board.{Board}
 use Rattle.zb_rules.specs.Shown.{shown, after_shown, board_of, event_of}
 use Rattle.zb_rules.specs.Applies.{applies, holds_own, may_fit}
 use Rattle.zb_rules.specs.StepLaws.{all_apply_more}
-use Rattle.zb_rules.specs.Settling.{turn_of, HasQuietGame}
+use Rattle.zb_rules.specs.Settling.{turn_of}
 use Rattle.zb_tokens.specs.Forced.{next_mover, move_of}
 use Rattle.zb_tokens.specs.declared.board.Move.{Move}
 use Rattle.zb_tokens.specs.declared.board.Mover.{Mover}
@@ -141,21 +141,6 @@ state_more es e old mid new is same applied played change counter noted = record
 -- the board of some events is one alone
 pub same_board : (o : Option Board) (a b : Board) → o ≡ Some a → o ≡ Some b → a ≡ b
 same_board o a b first second = let e : Some a ≡ Some b = sym first ∙ second in cc
-
-none_is : {A : Type 0} (o : Option A) → IsTrue (not (is_some o)) → o ≡ None
-none_is None none = refl
-none_is (Some a) none = absurd (cc)
-
-none_told : {A : Type 0} (o : Option A) → o ≡ None → IsTrue (not (is_some o))
-none_told None none = refl
-none_told (Some a) none = absurd (cc)
-
--- nobody moves next where the game is quiet, and only there
-pub quiet_told : (es : List Event) (b : Board) → board_of es ≡ Some b → IsTrue (not (is_some (next_mover b))) ↔ HasQuietGame es
-quiet_told es b is = (
-  λ none. record { board = b; is = is; quiet = none_is (next_mover b) none },
-  λ (told : HasQuietGame es). let same = same_board (board_of es) told.board b told.is is in none_told (next_mover b) (subst (λ (x : Board). next_mover x ≡ None) same told.quiet),
-)
 
 -- an event that meets its own condition applies where its move fits the board
 pub applies_by : (p : ℕ) (es : List Event) (e : Event) (b : Board) → holds_own p es e ≡ true → board_of es ≡ Some b → applies p es e ≡ may_fit (shown es e) b

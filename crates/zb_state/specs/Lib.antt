@@ -1,2 +1,3 @@
 pub mod Change
 pub mod State
+pub mod Small

@@ -6,9 +6,11 @@ ghost use Rattle.zb_rules.specs.Applies.{may_fit};
 ghost use Rattle.zb_tokens.specs.Game.{fits, played};
 ghost use Rattle.zb_rules.specs.Shown.{shown, after_shown, event_of};
 ghost use Rattle.zb_tokens.specs.declared.board.Move.TheVariants as moves;
+ghost use Rattle.zb_state.specs.Small.{IsSmall, HasSmallModel};
 
 use std::alloc::{AllocError, Global};
 use zb_game::{Game, GameFault};
+use zb_graph::{BoxedGraph, compile};
 use zb_model::{
     ElementActivated, ElementActivating, ElementCompleted, Event, Key, List, ProcessCreated, Role,
     SequenceFlowTaken, TableFault, Text, TryCopy, VariableCreated,
@@ -17,8 +19,9 @@ use zb_tokens::{Assigned, Deployed, Enter, Leave, Move, Start, Take};
 
 /// Makes the move that the event shows, if it shows one. At `NotApplicable`, exactly where it doesn't fit,
 /// nothing has changed; after `Memory` the game is only dropped. It costs a copy of the event's texts, its
-/// model and its value, and what `Game::make` does.
+/// model, which becomes a graph, and its value, and what `Game::make` does.
 pub fn play(alloc: Global, event: &Event, game: &mut Game) -> Result<(), TableFault>
+    requires { HasSmallModel event.now }
     ensures fit { (before : List Event) → OnOk result (IsTrue (may_fit (shown before event.now) game.old)) }
     ensures played { (before : List Event) → OnOk result (after_shown game.old (shown before event.now) ≡ Some game.new) }
     ensures illegal { (before : List Event) → IsErrOf result TableFault.NotApplicable → IsFalse (may_fit (shown before event.now) game.old) }
@@ -62,6 +65,7 @@ fn make(alloc: Global, shown: Move, game: &mut Game) -> Result<(), TableFault>
 
 // The move that the event shows, if it shows one.
 fn shown(alloc: Global, event: &Event) -> Result<Option<Move>, AllocError>
+    requires { HasSmallModel event.now }
     ensures { (before : List Event) → IfOk result (λ move. move ≡ shown before event.now) }
 {
     match event {
@@ -76,12 +80,15 @@ fn shown(alloc: Global, event: &Event) -> Result<Option<Move>, AllocError>
     }
 }
 
+// The model of a process stands, as a graph.
 fn stand_of(alloc: Global, process: &ProcessCreated) -> Result<Move, AllocError>
+    requires { IsSmall process.now.model }
     ensures { IfOk result (λ move. Some move ≡ shown [] (events.ProcessCreated process.now)) }
 {
+    let graph = compile(alloc, process.model.copy(alloc)?)?;
     Ok(Move::Stand(Deployed {
         key: process.key,
-        model: process.model.copy(alloc)?,
+        model: BoxedGraph::new(alloc, graph)?,
     }))
 }
 

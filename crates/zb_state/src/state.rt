@@ -1,6 +1,6 @@
 ghost use Rattle.std.specs.Prelude.{◌≡◌, ◌↔◌, ◌==◌, nat_le, ◌&&◌, ◌<◌, ◌+◌, ◌^◌, max, false, ℕ, List, [], ◌∷◌, ◌++◌, IsTrue, IsFalse, IsErrOf, IfOk, OnOk, Some, is_none, is_some, option_map};
 ghost use Rattle.std.specs.List.{list_any};
-ghost use Rattle.std.specs.Option.{option_map_or};
+ghost use Rattle.std.specs.Option.{option_copied, option_map_or};
 ghost use Rattle.zb_base.specs.Key.{key_of};
 ghost use Rattle.zb_model.specs.declared.record.Event.{Event};
 ghost use Rattle.zb_views.specs.View.{greatest_counter, next_key};
@@ -13,10 +13,11 @@ ghost use Rattle.zb_views.specs.Definitions.{definitions, definition_for, greate
 ghost use Rattle.zb_faults.specs.Faults.{is_well_formed};
 ghost use Rattle.zb_rules.specs.Settling.{turn_of, HasQuietGame};
 ghost use Rattle.zb_rules.specs.Sound.{HasKeys};
-ghost use Rattle.zb_tokens.specs.Board.{Board};
+ghost use Rattle.zb_tokens.specs.Board.{Board, model_under};
 ghost use Rattle.zb_tokens.specs.Forced.{next_mover};
 ghost use Rattle.zb_rules.specs.Shown.{shown, after_shown, board_of};
 ghost use Rattle.zb_table.specs.Rows.{are_below};
+ghost use Rattle.zb_state.specs.Small.{HasSmallModel};
 ghost use Rattle.zb_state.specs.Change.{with_change, definition_of_change, instance_of_change, IsNext, HasNextKey, Draws};
 
 use crate::buffered::{self, Buffered};
@@ -27,6 +28,7 @@ use crate::moves::{event_of, play, shows_move};
 use std::alloc::{AllocError, Global};
 use zb_check::{ModelFault, check};
 use zb_game::Game;
+use zb_graph::Graph;
 use zb_model::{
     ElementActivating, Event, Key, MessagePublish, Model as ProcessModel, Moment, PartitionId,
     Role, TableFault, TryCopy,
@@ -181,6 +183,15 @@ impl State {
         self.game.copy(alloc)
     }
 
+    /// The model of a definition, as a graph; `None` where the definition isn't there. It takes the logarithm of how
+    /// many definitions there are, where their keys ascend.
+    pub fn graph(&self, definition: Key) -> Option<&Graph>
+        ensures model { (es : List Event) (b : Board) → IsStateOf es self.now → board_of es ≡ Some b → option_copied result ≡ model_under b definition }
+        ensures there { (es : List Event) → IsStateOf es self.now → is_some result ≡ has_definition definition es }
+    {
+        self.game.model(definition)
+    }
+
     /// Who moves next; `None` where the game is quiet. It costs what `Game::next_mover` does, and nothing where nobody
     /// was forced when it was last asked and no move was made since.
     pub fn next_mover(&mut self) -> Option<Mover>
@@ -235,6 +246,7 @@ impl State {
     fn meets_own(&self, alloc: Global, event: &Event) -> Result<bool, AllocError>
         ensures own { (es : List Event) → IsStateOf es self.now → IfOk result (λ meets. meets ≡ holds_own (partition_of self.now) es event.now) }
         ensures next { IfOk result (λ meets. IsTrue meets → HasNextKey (partition_of self.now) self.now.counter event.now) }
+        ensures small { IfOk result (λ meets. IsTrue meets → HasSmallModel event.now) }
     {
         match event {
             Event::ProcessCreated(process) => is_well_formed(alloc, &process.model),

@@ -1,6 +1,6 @@
 use zb_base::{Key, List, Text, Value, Vars};
+use zb_graph::BoxedGraph;
 use zb_instance_records::Role;
-use zb_process::Model;
 
 /// Where a cell is in its life.
 #[derive(Clone, Copy, Debug, PartialEq, Eq)]
@@ -68,11 +68,11 @@ pub struct Token {
     pub spot: Spot,
 }
 
-/// A model under the key of its definition.
+/// A model under the key of its definition. It is kept as a graph.
 #[derive(Drop)]
 pub struct Deployed {
     pub key: Key,
-    pub model: Model,
+    pub model: BoxedGraph,
 }
 
 /// A variable of a cell, and its value.

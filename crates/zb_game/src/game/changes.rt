@@ -19,7 +19,8 @@ impl Game {
     pub(super) fn add_model(&mut self, deployed: Deployed) -> Result<(), AllocError>
         ensures { OnOk result (self.new ≡ record self.old { models = self.old.models ++ deployed ∷ [] }) }
     {
-        let ascends = self.ascends && comes_last(deployed.key, &self.models);
+        let key = deployed.key;
+        let ascends = self.ascends && comes_last(key, &self.models);
         self.ascends = false;
         self.models.push(deployed)?;
         self.ascends = ascends;

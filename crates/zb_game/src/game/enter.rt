@@ -5,12 +5,12 @@ ghost use Rattle.zb_game.specs.Searches.{lets_in};
 
 use crate::edits::new_cell;
 use crate::flows::leads_to;
-use crate::lookups::{has_coming, node_in};
+use crate::lookups::has_coming;
 use crate::places::place_of_token;
 use crate::{Game, GameFault};
 use std::alloc::Global;
 use zb_base::Key;
-use zb_process::Model;
+use zb_graph::Graph;
 use zb_tokens::Enter;
 
 impl Game {
@@ -43,7 +43,7 @@ impl Game {
         ensures { result ≡ has_way self.now definition node.now via.now }
     {
         match self.model(definition) {
-            Some(model) => { node_in(model, node).is_some() && arrives(model, node, via) }
+            Some(model) => model.node_with(node).is_some() && arrives(model, node, via),
             None => false,
         }
     }
@@ -69,7 +69,7 @@ impl Game {
 }
 
 // Whether a token before a node has come, or the flow of one leads to the node.
-fn arrives(model: &Model, node: &str, via: &str) -> bool
+fn arrives(model: &Graph, node: &str, via: &str) -> bool
     ensures { result ≡ arrives model.now node.now via.now }
 {
     via.is_empty() || leads_to(model, via, node)

@@ -4,11 +4,12 @@ ghost use Rattle.zb_tokens.specs.MoveFinish.{fits_finish, node_goes_on, is_done,
 ghost use Rattle.zb_game.specs.Indexed.{goes_on_at};
 
 use crate::inside::counted_in;
-use crate::lookups::{has_cell_in, has_token_in, node_in};
+use crate::lookups::{has_cell_in, has_token_in};
 use crate::{Game, GameFault};
 use std::alloc::Global;
 use zb_base::{Key, List};
-use zb_process::{Model, NodeKind};
+use zb_graph::Graph;
+use zb_process::NodeKind;
 use zb_tokens::{Cell, Phase};
 
 impl Game {
@@ -65,10 +66,10 @@ impl Game {
 }
 
 // Whether the node with an id is there, and waits for nothing.
-pub(super) fn goes_on_at(model: &Model, id: &str) -> bool
+pub(super) fn goes_on_at(model: &Graph, id: &str) -> bool
     ensures { result ≡ goes_on_at model.now id.now }
 {
-    match node_in(model, id) {
+    match model.node_with(id) {
         Some(node) => waits_for_nothing(node.kind),
         None => false,
     }

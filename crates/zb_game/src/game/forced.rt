@@ -4,9 +4,8 @@ ghost use Rattle.zb_tokens.specs.Forced.{can_enter, entry_at, goes_on_in, is_for
 ghost use Rattle.zb_game.specs.Searches.{enters_by, is_forced_at, is_newer, key_in, newest_key};
 
 use crate::Game;
-use crate::lookups::flow_in;
 use zb_base::Key;
-use zb_process::Model;
+use zb_graph::Graph;
 use zb_table::Query;
 use zb_tokens::{Cell, Mover, Phase, Spot, Token};
 
@@ -106,12 +105,12 @@ impl Game {
     }
 
     // Whether a token can enter the node that it has come to in a model.
-    fn can_enter_in(&self, model: &Model, token: &Token) -> bool
+    fn can_enter_in(&self, model: &Graph, token: &Token) -> bool
         ensures { result ≡ enters_by self.now token.now.scope (entry_at model.now token.now.spot) }
     {
         match &token.spot {
             Spot::BeforeNode(node) => self.may_enter(token.scope, node.as_str(), ""),
-            Spot::OnFlow(id) => match flow_in(model, id.as_str()) {
+            Spot::OnFlow(id) => match model.flow_with(id.as_str()) {
                 Some(flow) => self.may_enter(token.scope, flow.to.as_str(), id.as_str()),
                 None => false,
             },

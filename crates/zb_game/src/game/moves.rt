@@ -3,15 +3,14 @@ ghost use Rattle.zb_tokens.specs.Forced.{entry_at, entry_of, move_in, move_of, t
 ghost use Rattle.zb_game.specs.Searches.{entry_by};
 
 use crate::Game;
-use crate::lookups::flow_in;
 use std::alloc::{AllocError, Global};
 use zb_base::{Key, Text, TryCopy};
-use zb_process::Model;
+use zb_graph::Graph;
 use zb_tokens::{Cell, Enter, Leave, Move, Mover, Phase, Spot, Take, Token};
 
 impl Game {
     /// The move of a mover, where a cell that begins gets this key; `None` where the mover isn't there or does
-    /// nothing. A cell or a model is found as in `fits`; it goes through the flows of a model, and the texts of the
+    /// nothing. A cell or a model is found as in `fits`; it goes through the flows out of a node, and the texts of the
     /// move are copied.
     pub fn move_of(&self, alloc: Global, key: Key, mover: Mover) -> Result<Option<Move>, AllocError>
         ensures { (moment : ℕ) → IfOk result (λ move. move ≡ move_of self.now moment key mover) }
@@ -77,7 +76,7 @@ fn take_first(alloc: Global, key: Key, owed: &[Text]) -> Result<Option<Move>, Al
 // How a token in a model enters the node that it has come to.
 fn entry_in(
     alloc: Global,
-    model: &Model,
+    model: &Graph,
     key: Key,
     token: &Token,
 ) -> Result<Option<Move>, AllocError>
@@ -95,7 +94,7 @@ fn entry_in(
                 via,
             })))
         }
-        Spot::OnFlow(id) => match flow_in(model, id.as_str()) {
+        Spot::OnFlow(id) => match model.flow_with(id.as_str()) {
             Some(flow) => {
                 let node = flow.to.copy(alloc)?;
                 let via = id.copy(alloc)?;

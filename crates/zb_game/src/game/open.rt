@@ -2,7 +2,6 @@ ghost use Rattle.std.specs.Prelude.{◌≡◌, ◌∷◌, [], Some, None, IfOk, 
 ghost use Rattle.std.specs.Option.{option_map_or};
 ghost use Rattle.zb_tokens.specs.MoveOpen.{fits_open, first_tokens, opens, play_open};
 
-use crate::lookups::start_in;
 use crate::{Game, GameFault};
 use std::alloc::Global;
 use zb_base::{Key, List, TryCopy};
@@ -64,7 +63,7 @@ impl Game {
         let Some(model) = self.model(cell.definition) else {
             return Err(GameFault::Illegal);
         };
-        let Some(start) = start_in(model) else {
+        let Some(start) = model.start_in("") else {
             return Ok(None);
         };
         let id = start.id.copy(alloc)?;

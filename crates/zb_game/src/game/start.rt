@@ -24,7 +24,7 @@ impl Game {
         let Some(model) = self.model(s.definition) else {
             return Err(GameFault::Illegal);
         };
-        let node = model.process.copy(alloc)?;
+        let node = model.model().process.copy(alloc)?;
         let cell = new_cell(alloc, s.key, Key::new(0), s.definition, node, false);
         self.add_cell(cell)?;
         Ok(())

@@ -1,8 +1,8 @@
 use Rattle.std.proofs.Common.{◌≡◌, drop}
 use Rattle.zb_tokens.specs.MoveLeave.{are_among}
-use Rattle.zb_game.proofs.FlowLemmas.{ids_out}
+use Rattle.zb_game.proofs.FlowLemmas.{flows_from, ids_of_flows}
 use Rattle.zb_game.proofs.flows.are_among_flows.Given as goal
 
 -- the ids that are left are sought among the flows that are left
-abbrev pub invariant-loop-flow : goal.invariant-loop-flow
-invariant-loop-flow l = are_among l.rest (ids_out l.node (drop l.flow-index l.flow-items)) ≡ are_among l.ids (ids_out l.node l.flow-items)
+abbrev pub invariant-loop-number : goal.invariant-loop-number
+invariant-loop-number l = are_among l.rest (ids_of_flows (drop l.number-index (flows_from l.model l.node))) ≡ are_among l.ids (ids_of_flows (flows_from l.model l.node))

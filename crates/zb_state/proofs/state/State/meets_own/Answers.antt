@@ -1,6 +1,10 @@
 use Rattle.std.proofs.Common.{◌∙◌}
 use Rattle.zb_table.proofs.Growing.{has_row}
+use Rattle.zb_state.proofs.SmallLemmas.{small_where_formed}
 use Rattle.zb_state.proofs.state.State.meets_own.Goals as goal
+
+pub returns-in-ProcessCreated-clause-small : goal.returns-in-ProcessCreated-clause-small
+returns-in-ProcessCreated-clause-small c = small_where_formed c.is_well_formed.result c.args.event.now c.in-ProcessCreated.process c.in-ProcessCreated.is c.is_well_formed.ensures
 
 pub returns-in-MessageExpired-clause-own : goal.returns-in-MessageExpired-clause-own
 returns-in-MessageExpired-clause-own c = λ es is. rw (c.in-MessageExpired.is, is.messages) (c.contains.ensures ∙ has_row (λ m. m.key) c.in-MessageExpired.key c.args.self.now.messages)
