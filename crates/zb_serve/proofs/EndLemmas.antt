@@ -1,39 +1,45 @@
--- How a run ends.
-use Rattle.std.proofs.Common.{◌≡◌, ◌⊎◌, ℕ, zero, suc, ◌+◌, ◌-◌, ◌<◌, ◌≤◌, List, [], ◌∷◌, ◌++◌, length, nat_lt, Bool, true, false, All, IsTrue, IsFalse, Option, Some, None, option_map, Ok, refl, sym, ◌∙◌, ap, subst, inl, inr, ⊎_elim, arith}
+-- How a run of one session and one partition ends.
+use Rattle.std.proofs.Common.{◌≡◌, ◌⊎◌, ℕ, zero, suc, ◌+◌, ◌-◌, ◌<◌, ◌≤◌, List, [], ◌∷◌, ◌++◌, length, take, nat_lt, Bool, true, false, All, IsTrue, IsFalse, Option, Some, None, option_map, Ok, refl, sym, ◌∙◌, ap, subst, inl, inr, ⊎_elim, arith}
 use Rattle.std.proofs.lemmas.Bool.{false≢true}
 use Rattle.std.proofs.lemmas.Bool.Decides.{nat_tests}
 use Rattle.std.proofs.lemmas.List.Elements.{All-nil, All-cons}
-use Rattle.std.specs.List.{range_with_len, slice_get}
+use Rattle.std.specs.List.{sum_by, range_with_len, slice_get}
 use Rattle.zb_disk.specs.Cause.{Rose}
 use Rattle.zb_model.specs.declared.record.Batch.{Batch}
 use Rattle.zb_rules.specs.Step.{IsStep, AreStepsOn}
 use Rattle.zb_world.specs.Entries.{Entry, IsPartitionOf, as_entry, entries_of, part_of}
+use Rattle.zb_lines.specs.Taken.{TakesBytes}
 use Rattle.zb_world.specs.EntryLaws.{part_of_entries, places_of_entries}
 use Rattle.zb_store.specs.Calls.{IsByFirstCall}
 use Rattle.zb_store.specs.Log.{extent}
 use Rattle.zb_store.specs.Stands.{Stands}
 use Rattle.zb_partition.specs.Log.{bodies_of, AreBatches, IsApplied}
 use Rattle.zb_partition.specs.Stopping.{frame_of, HasRoomFor}
-use Rattle.zb_serve.specs.Ends.{Told, LogEnds, OfNumber, EachFrom}
-use Rattle.zb_serve.specs.Ledger.{AreMadeBatches}
-use Rattle.zb_wire.specs.declared.request.Request.{Request}
-use Rattle.zb_wire.specs.Request.{request_of}
-use Rattle.zb_serve.specs.Hours.{Hours, given_of, IsReadingOf, RunSetting}
-use Rattle.zb_serve.specs.Reply.{Answer, IsAnswer}
-use Rattle.zb_serve.specs.Serial.{place_behind, IsNextEntry, AreMadeFor, found_in, entries_made, AreSerial}
-use Rattle.zb_serve.specs.Log.{Course, course_of, OpenedLog, log_in, batch_of, IsKept, IsFront, IsLeftOf, IsLog}
+use Rattle.zb_desk.specs.Numbered.{OfNumber, EachFrom}
+use Rattle.zb_desk.specs.Serial.{place_behind, IsNextEntry, AreMadeFor}
+use Rattle.zb_session.specs.Hours.{IsReadingOf}
+use Rattle.zb_session.specs.Answer.{Answer, found_in, entries_made, AreSerial}
+use Rattle.zb_session.specs.Session.{Streams, SessionEnds, SessionRun, AreWritten, CutsOff, IsFirstCut, IsLeftUndone, IsEndOf, HasServed, most_taken}
+use Rattle.zb_session.specs.declared.session.End.{End}
+use Rattle.zb_session.specs.declared.session.End.TheVariants as endings
+use Rattle.zb_engine.specs.Ledger.{AreMadeBatches, IsLeftOver, IsFront}
+use Rattle.zb_serve.specs.Setting.{RunSetting}
+use Rattle.zb_serve.specs.Ends.{Told, LogEnds}
+use Rattle.zb_serve.specs.Log.{Course, course_of, OpenedLog, log_in, batch_of, IsKept, IsLeftOf, IsLog}
 use Rattle.zb_serve.specs.History.{stamps_of}
 use Rattle.zb_serve.specs.Served.{HasRun, MayEnd, IsWhyUndone, IsUndone, answers_of}
 use Rattle.zb_serve.specs.Cause.{rank_of, comes_before}
 use Rattle.zb_serve.specs.Order.{HasFailed, WasMet}
-use Rattle.zb_serve.specs.Serving.{RunStart, Now, session_ends, log_ends, ends_alone, crashes_alone}
-use Rattle.zb_serve.specs.Session.{SessionRun, IsSent, most_taken}
+use Rattle.zb_serve.specs.Session.{IsSent}
+use Rattle.zb_serve.specs.Running.{ends_alone, crashes_alone}
 use Rattle.zb_serve.specs.declared.run.Cause.{Cause}
 use Rattle.zb_serve.specs.declared.run.Cause.TheVariants as causes
 use Rattle.zb_serve.proofs.ListLemmas.{append_none}
-use Rattle.zb_serve.proofs.SerialLemmas.{place_none}
 use Rattle.zb_serve.proofs.HistoryLemmas.{run_goes_on, cut_at_end}
-use Rattle.zb_serve.proofs.StreamLemmas.{IsStream}
+
+-- the one log has as many frames as it has batches, so this is the first place behind it
+place_none : (opened : List Batch) → place_behind (opened ∷ []) [] ≡ length opened
+place_none opened = let alone : sum_by length (opened ∷ []) ≡ 0 + length opened = refl in omega (arith, alone)
 
 -- the file stands for the log, whatever a crash leaves, or the disk was hurt
 pub record IsHeld (told : Told) (ends : LogEnds) (images : List ℕ → Type 0) (cause : Cause) (unlogged : Option Batch) (log : List Batch) : Type 0 where
@@ -48,63 +54,42 @@ held_stands told ends images cause unlogged log file crash = record {
 }
 
 -- what a cause says, and that nothing that comes before it was met
-pub record IsNamed (told : Told) (limit : ℕ) (start : RunStart) (now : Now) (log : List Batch) (unlogged : Option Batch) (unserved : List (List ℕ)) (at_end : Bool) (cause : Cause) : Type 0 where
+pub record IsNamed (told : Told) (limit : ℕ) (sides : SessionEnds) (ends : LogEnds) (log : List Batch) (unlogged : Option Batch) (run : SessionRun) (cause : Cause) : Type 0 where
   pub status : MayEnd 1 1 cause
-  pub done : cause ≡ causes.Done → IsTrue at_end × (unserved ≡ [])
-  pub source_fault : cause ≡ causes.SourceFault 1 → Rose start.source.faults now.source.faults × (unserved ≡ [])
-  pub sink_fault : cause ≡ causes.SinkFault 1 → Rose start.sink.faults now.sink.faults
-  pub input_full : cause ≡ causes.InputFull 1 → (now.source.given ≡ start.source.given + most_taken) × (at_end ≡ false) × (unserved ≡ [])
-  pub disk_fault : (batch : Option Batch) → cause ≡ causes.DiskFault 1 batch → Rose start.disk.faults now.disk.faults × (batch ≡ unlogged) × HasRoomFor limit log batch
+  pub done : cause ≡ causes.Done → IsTrue run.ended × (run.unserved ≡ [])
+  pub source_fault : cause ≡ causes.SourceFault 1 → Rose sides.source.faults sides.source_after.faults × (run.unserved ≡ [])
+  pub sink_fault : cause ≡ causes.SinkFault 1 → Rose sides.sink.faults sides.sink_after.faults
+  pub input_full : cause ≡ causes.InputFull 1 → (length run.taken ≡ most_taken) × (run.ended ≡ false) × (run.unserved ≡ [])
+  pub disk_fault : (batch : Option Batch) → cause ≡ causes.DiskFault 1 batch → Rose ends.disk.faults ends.disk_after.faults × (batch ≡ unlogged) × HasRoomFor limit log batch
   pub log_full : (length_told frame most : ℕ) → cause ≡ causes.LogFull 1 length_told frame most
       → (length_told ≡ extent (bodies_of log)) × (most ≡ limit) × (most < length_told + frame)
       × ((batch : Batch) × (unlogged ≡ Some batch) × (frame ≡ frame_of batch))
-  pub no_disk_fault : 1 < rank_of cause → IsTrue told.disk_counts → now.disk.faults ≡ start.disk.faults
+  pub no_disk_fault : 1 < rank_of cause → IsTrue told.disk_counts → ends.disk_after.faults ≡ ends.disk.faults
   pub room : 2 < rank_of cause → (batch : Batch) → unlogged ≡ Some batch → extent (bodies_of (log ++ batch ∷ [])) ≤ limit
-  pub no_source_fault : 4 < rank_of cause → IsTrue told.source_counts → now.source.faults ≡ start.source.faults
-  pub no_sink_fault : 5 < rank_of cause → IsTrue told.sink_counts → now.sink.faults ≡ start.sink.faults
-  pub not_full : 6 < rank_of cause → at_end ≡ true
+  pub no_source_fault : 4 < rank_of cause → IsTrue told.source_counts → sides.source_after.faults ≡ sides.source.faults
+  pub no_sink_fault : 5 < rank_of cause → IsTrue told.sink_counts → sides.sink_after.faults ≡ sides.sink.faults
+  pub not_full : 6 < rank_of cause → run.ended ≡ true
 
 -- a run that wasn't cut off, of whose streams none failed and whose session isn't full, served every line
-whole_served : (told : Told) (limit : ℕ) (start : RunStart) (now : Now) (log : List Batch) (unlogged : Option Batch) (unserved : List (List ℕ)) (at_end : Bool) (cause : Cause)
-    → IsNamed told limit start now log unlogged unserved at_end cause → IsFalse (comes_before cause (causes.SourceFault 1)) → (Rose start.source.faults now.source.faults → ⊥)
-    → (Rose start.sink.faults now.sink.faults → ⊥) → now.source.given < start.source.given + most_taken → IsTrue at_end × (unserved ≡ [])
-whole_served told limit start now log unlogged unserved at_end causes.Done named uncut source sink few = named.done refl
-whole_served told limit start now log unlogged unserved at_end (causes.SourceFault session) named uncut source sink few =
+pub whole_served : (told : Told) (limit : ℕ) (sides : SessionEnds) (ends : LogEnds) (log : List Batch) (unlogged : Option Batch) (run : SessionRun) (cause : Cause)
+    → IsNamed told limit sides ends log unlogged run cause → IsFalse (comes_before cause (causes.SourceFault 1)) → (Rose sides.source.faults sides.source_after.faults → ⊥)
+    → (Rose sides.sink.faults sides.sink_after.faults → ⊥) → length run.taken < most_taken → IsTrue run.ended × (run.unserved ≡ [])
+whole_served told limit sides ends log unlogged run causes.Done named uncut source sink few = named.done refl
+whole_served told limit sides ends log unlogged run (causes.SourceFault session) named uncut source sink few =
     let one : session ≡ 1 = omega (arith, named.status.0, named.status.1) in
     absurd (source (named.source_fault (ap causes.SourceFault one)).0)
-whole_served told limit start now log unlogged unserved at_end (causes.SinkFault session) named uncut source sink few =
+whole_served told limit sides ends log unlogged run (causes.SinkFault session) named uncut source sink few =
     let one : session ≡ 1 = omega (arith, named.status.0, named.status.1) in
     absurd (sink (named.sink_fault (ap causes.SinkFault one)))
-whole_served told limit start now log unlogged unserved at_end (causes.InputFull session) named uncut source sink few =
+whole_served told limit sides ends log unlogged run (causes.InputFull session) named uncut source sink few =
     let one : session ≡ 1 = omega (arith, named.status.0, named.status.1) in
     let full = named.input_full (ap causes.InputFull one) in
     absurd (omega (arith, few, full.0))
-whole_served told limit start now log unlogged unserved at_end causes.Memory named uncut source sink few = absurd (false≢true (sym uncut))
-whole_served told limit start now log unlogged unserved at_end (causes.DiskFault partition batch) named uncut source sink few = absurd (false≢true (sym uncut))
-whole_served told limit start now log unlogged unserved at_end (causes.LogFull partition length_told frame most) named uncut source sink few = absurd (false≢true (sym uncut))
-whole_served told limit start now log unlogged unserved at_end causes.Usage named uncut source sink few = absurd (false≢true (sym uncut))
-whole_served told limit start now log unlogged unserved at_end (causes.BadLog partition frame) named uncut source sink few = absurd (false≢true (sym uncut))
-
--- a batch that isn't in the log is a step on it, and begins behind it
-abbrev pub IsLeftOver : List Batch → Batch → Type 0
-IsLeftOver log batch = IsStep 1 1 log batch × (batch.begin ≡ length log)
-
--- the first line that wasn't served made these batches and the one that isn't in the log, or memory ran out
-pub record IsFirst (hours : Hours) (opened : List Batch) (answers : List Answer) (served unserved : List (List ℕ)) (cause : Cause) (silent : List Batch) (unlogged : Option Batch) : Type 0 where
-  pub line : List ℕ
-  pub lines : List (List ℕ)
-  pub first : unserved ≡ line ∷ lines
-  pub request : Request
-  pub asks : request_of (given_of hours 1 (length served + 1)) line ≡ Ok request
-  pub reading : ℕ
-  pub read : IsReadingOf hours (found_in answers ++ Ok request ∷ []) reading
-  pub made : AreMadeFor (opened ∷ []) request reading (entries_made answers) (entries_of 1 silent)
-  pub next : (batch : Batch) → unlogged ≡ Some batch → IsNextEntry (opened ∷ []) request reading (entries_made answers) (entries_of 1 silent) (as_entry 1 batch)
-  pub why : IsWhyUndone cause unlogged
-
--- nothing was left undone, or the first line that wasn't served
-abbrev pub IsLeftUndone : Hours → List Batch → List Answer → (served unserved : List (List ℕ)) → Cause → List Batch → Option Batch → Type 0
-IsLeftUndone hours opened answers served unserved cause silent unlogged = ((silent ≡ []) × (unlogged ≡ None)) ⊎ IsFirst hours opened answers served unserved cause silent unlogged
+whole_served told limit sides ends log unlogged run causes.Memory named uncut source sink few = absurd (false≢true (sym uncut))
+whole_served told limit sides ends log unlogged run (causes.DiskFault partition batch) named uncut source sink few = absurd (false≢true (sym uncut))
+whole_served told limit sides ends log unlogged run (causes.LogFull partition length_told frame most) named uncut source sink few = absurd (false≢true (sym uncut))
+whole_served told limit sides ends log unlogged run causes.Usage named uncut source sink few = absurd (false≢true (sym uncut))
+whole_served told limit sides ends log unlogged run (causes.BadLog partition frame) named uncut source sink few = absurd (false≢true (sym uncut))
 
 some_same : {A : Type 0} (x y : A) → Some x ≡ Some y → x ≡ y
 some_same x y e = cc
@@ -135,18 +120,15 @@ no_failure : (counts : Bool) (before after : ℕ) → HasFailed counts before af
 no_failure counts before after failed same = absurd (omega (arith, same failed.0, failed.1))
 
 -- the run of one session over one log, in which a batch was made last and isn't in the log
-module _ (told : Told) (setting : RunSetting) (start : RunStart) (now : Now) (cause : Cause) (opened made : List Batch) (unlogged : Option Batch) (opened_at : ℕ) where
+module _ (told : Told) (setting : RunSetting) (sides : SessionEnds) (ends : LogEnds) (cause : Cause) (opened made : List Batch) (unlogged : Option Batch) (opened_at : ℕ) where
   abbrev entries : List Entry
   entries = entries_of 1 made
 
   abbrev course : Course
   course = course_of told setting 1 entries (option_map (as_entry 1) unlogged) cause
 
-  abbrev opening : OpenedLog
+  abbrev pub opening : OpenedLog
   opening = record { batches = opened; moment = opened_at }
-
-  abbrev ends : LogEnds
-  ends = log_ends start now
 
   -- its part is what was made
   part : part_of 1 entries ≡ made
@@ -166,25 +148,25 @@ module _ (told : Told) (setting : RunSetting) (start : RunStart) (now : Now) (ca
       (subst (λ (u : Option Batch). IsKept told ends cause u (opened ++ made) file) (sym (batch_alone unlogged)) is)
 
   -- of the causes that were met none comes before the one that is told
-  none_first : (run : SessionRun) (unserved : List (List ℕ)) → IsNamed told setting.limit start now (opened ++ made) unlogged unserved run.ended cause → (other : Cause)
-      → WasMet course (ends_alone start now) (run ∷ []) (opening ∷ []) other → IsFalse (comes_before other cause)
-  none_first run unserved named (causes.DiskFault partition batch) met =
-      not_told _ _ (λ before. no_failure told.disk_counts start.disk.faults now.disk.faults (of_one ends partition _ met) (named.no_disk_fault before)) _ refl
-  none_first run unserved named (causes.LogFull partition length_told frame most) met =
+  pub none_first : (run : SessionRun) → IsNamed told setting.limit sides ends (opened ++ made) unlogged run cause → (other : Cause)
+      → WasMet course (ends_alone sides ends) (run ∷ []) (opening ∷ []) other → IsFalse (comes_before other cause)
+  none_first run named (causes.DiskFault partition batch) met =
+      not_told _ _ (λ before. no_failure told.disk_counts ends.disk.faults ends.disk_after.faults (of_one ends partition _ met) (named.no_disk_fault before)) _ refl
+  none_first run named (causes.LogFull partition length_told frame most) met =
       let one : partition ≡ 1 = number_of_one opening partition _ met.2 in
       let mine : batch_of 1 course.unlogged ≡ Some met.0 = subst (λ (p : ℕ). batch_of p course.unlogged ≡ Some met.0) one met.1 in
       let over_it : setting.limit < extent (bodies_of (log_in course 1 opening ++ met.0 ∷ [])) =
       subst (λ (p : ℕ). setting.limit < extent (bodies_of (log_in course p opening ++ met.0 ∷ []))) one (of_one opening partition _ met.2) in
       let full : setting.limit < extent (bodies_of ((opened ++ made) ++ met.0 ∷ [])) = subst (λ (l : List Batch). setting.limit < extent (bodies_of (l ++ met.0 ∷ []))) log over_it in
       not_told 2 (rank_of cause) (λ (before : 2 < rank_of cause). absurd (omega (arith, full, named.room before met.0 (sym (batch_alone unlogged) ∙ mine)))) _ refl
-  none_first run unserved named (causes.SourceFault session) met =
-      not_told _ _ (λ before. no_failure told.source_counts start.source.faults now.source.faults (of_one (session_ends start now) session _ met) (named.no_source_fault before)) _ refl
-  none_first run unserved named (causes.SinkFault session) met =
-      not_told _ _ (λ before. no_failure told.sink_counts start.sink.faults now.sink.faults (of_one (session_ends start now) session _ met) (named.no_sink_fault before)) _ refl
-  none_first run unserved named (causes.InputFull session) met =
+  none_first run named (causes.SourceFault session) met =
+      not_told _ _ (λ before. no_failure told.source_counts sides.source.faults sides.source_after.faults (of_one sides session _ met) (named.no_source_fault before)) _ refl
+  none_first run named (causes.SinkFault session) met =
+      not_told _ _ (λ before. no_failure told.sink_counts sides.sink.faults sides.sink_after.faults (of_one sides session _ met) (named.no_sink_fault before)) _ refl
+  none_first run named (causes.InputFull session) met =
       let full = of_one run session _ met in
       not_told _ _ (λ before. let ended = named.not_full before in let more = full.1 in absurd (cc)) _ refl
-  none_first run unserved named causes.Done met = last cause
+  none_first run named causes.Done met = last cause
     where
       last : (cause : Cause) → IsFalse (comes_before causes.Done cause)
       last causes.Done = refl
@@ -196,38 +178,38 @@ module _ (told : Told) (setting : RunSetting) (start : RunStart) (now : Now) (ca
       last causes.Memory = refl
       last (causes.LogFull partition length_told frame limit) = refl
       last (causes.InputFull session) = refl
-  none_first run unserved named causes.Memory met = absurd met
-  none_first run unserved named causes.Usage met = absurd met
-  none_first run unserved named (causes.BadLog partition frame) met = absurd met
+  none_first run named causes.Memory met = absurd met
+  none_first run named causes.Usage met = absurd met
+  none_first run named (causes.BadLog partition frame) met = absurd met
 
   -- its entries are of the one partition, and have their places
-  within : (made : List Batch) → All (λ entry. IsPartitionOf 1 entry.partition) (entries_of 1 made)
+  pub within : (made : List Batch) → All (λ entry. IsPartitionOf 1 entry.partition) (entries_of 1 made)
   within [] = All-nil (λ entry. IsPartitionOf 1 entry.partition)
   within (batch ∷ made) = All-cons (λ entry. IsPartitionOf 1 entry.partition) (as_entry 1 batch) (entries_of 1 made) (omega arith, omega arith) (within made)
 
-  stamped : (places : List ℕ) → AreMadeBatches setting.limit opened made places → places ∷ [] ≡ stamps_of 1 (place_behind (opened ∷ []) []) entries
+  pub stamped : (places : List ℕ) → AreMadeBatches setting.limit opened made places → places ∷ [] ≡ stamps_of 1 (place_behind (opened ∷ []) []) entries
   stamped places are =
       let first : length opened ≡ place_behind (opened ∷ []) [] = sym (place_none opened) in
       ap (λ (l : List ℕ). l ∷ []) (are.stamps ∙ (ap (λ (n : ℕ). range_with_len n (length made)) first ∙ sym (places_of_entries 1 (place_behind (opened ∷ []) []) made)))
 
   -- its log
-  is_log : (before images : List ℕ → Type 0) (since : ℕ → List ℕ → Type 0) (places : List ℕ) (unserved : List (List ℕ)) (at_end : Bool)
-      → (IsTrue told.images → IsByFirstCall start.disk.moment opened_at)
-      → (IsTrue told.disk → Stands start.disk.contents (bodies_of opened)) → IsApplied 1 opened → AreMadeBatches setting.limit opened made places
+  pub is_log : (before images : List ℕ → Type 0) (since : ℕ → List ℕ → Type 0) (places : List ℕ) (run : SessionRun)
+      → (IsTrue told.images → IsByFirstCall ends.disk.moment opened_at)
+      → (IsTrue told.disk → Stands ends.disk.contents (bodies_of opened)) → IsApplied 1 opened → AreMadeBatches setting.limit opened made places
       → IsHeld told ends images cause unlogged (opened ++ made)
       → (IsTrue told.images → (image : List ℕ) → since opened_at image → IsFront opened made image ⊎ IsKept told ends cause unlogged (opened ++ made) image)
-      → (IsTrue told.images → (image : List ℕ) → since start.disk.moment image → before image ⊎ since opened_at image)
-      → IsNamed told setting.limit start now (opened ++ made) unlogged unserved at_end cause
+      → (IsTrue told.images → (image : List ℕ) → since ends.disk.moment image → before image ⊎ since opened_at image)
+      → IsNamed told setting.limit sides ends (opened ++ made) unlogged run cause
       → ((batch : Batch) → unlogged ≡ Some batch → IsLeftOver (opened ++ made) batch)
       → IsLog course (crashes_alone before images since) 1 ends opening
-  is_log before images since places unserved at_end by_first stood applied are held ever earlier named left = record {
+  is_log before images since places run by_first stood applied are held ever earlier named left = record {
     stood = stood;
     applied = applied;
     by_first = by_first;
     fit = subst AreBatches (sym log) are.fit;
     steps = subst (λ (l : List Batch). AreStepsOn 1 1 opened l) (sym part) are.steps;
     next = λ batch is. subst (λ (l : List Batch). IsStep 1 1 l batch) (sym log) (left batch (sym (batch_alone unlogged) ∙ is)).0;
-    contents = λ t. kept now.disk.contents (held.file t);
+    contents = λ t. kept ends.disk_after.contents (held.file t);
     disk_fault = λ batch e.
         let f = named.disk_fault batch e in
         (f.0, f.1 ∙ sym (batch_alone unlogged), subst (λ (l : List Batch). HasRoomFor setting.limit l batch) (sym log) f.2);
@@ -254,15 +236,13 @@ module _ (told : Told) (setting : RunSetting) (start : RunStart) (now : Now) (ca
   why_alone (causes.SinkFault session) unlogged why = absurd why
   why_alone (causes.InputFull session) unlogged why = absurd why
 
-  next_entry : (P : Entry → Type 0) (unlogged : Option Batch) → ((batch : Batch) → unlogged ≡ Some batch → P (as_entry 1 batch)) → (entry : Entry) → option_map (as_entry 1) unlogged ≡ Some entry → P entry
-  next_entry P None next entry is = absurd (cc)
-  next_entry P (Some batch) next entry is = let same : as_entry 1 batch ≡ entry = cc in subst P same (next batch refl)
-
-  undone_of : (run : SessionRun) (silent : List Batch) → IsLeftUndone setting.hours opened run.answers run.served run.unserved cause silent unlogged → IsUndone course (opened ∷ []) (run ∷ []) (entries_of 1 silent)
-  undone_of run silent (inl (silent_none, none)) = inl (ap (entries_of 1) silent_none, ap (option_map (as_entry 1)) none)
-  undone_of run silent (inr first) =
+  pub undone_of : (run : SessionRun) (rest : List Entry) (end : End) → IsLeftUndone setting.hours (opened ∷ []) run rest (option_map (as_entry 1) unlogged) end → (CutsOff end → IsWhyUndone cause unlogged)
+      → IsUndone course (opened ∷ []) (run ∷ []) rest
+  undone_of run rest end (inl none) why = inl none
+  undone_of run rest end (inr (first, cuts)) why =
       let alone : run.answers ≡ answers_of (run ∷ []) = append_none run.answers in
       let logs : List (List Batch) = opened ∷ [] in
+      let cut = first.cut in
       inr (
         1,
         (
@@ -273,85 +253,13 @@ module _ (told : Told) (setting : RunSetting) (start : RunStart) (now : Now) (ca
             line = first.line;
             lines = first.lines;
             first = first.first;
-            request = first.request;
-            asks = first.asks;
-            reading = first.reading;
-            read = subst (λ (answers : List Answer). IsReadingOf setting.hours (found_in answers ++ Ok first.request ∷ []) first.reading) alone first.read;
-            made = subst (λ (answers : List Answer). AreMadeFor logs first.request first.reading (entries_made answers) (entries_of 1 silent)) alone first.made;
-            next = next_entry (λ entry. IsNextEntry logs first.request first.reading (entries_made (answers_of (run ∷ []))) (entries_of 1 silent) entry) unlogged
-                (λ batch is. subst (λ (answers : List Answer). IsNextEntry logs first.request first.reading (entries_made answers) (entries_of 1 silent) (as_entry 1 batch)) alone (first.next batch is));
-            why = why_alone cause unlogged first.why;
+            request = cut.request;
+            asks = cut.asks;
+            reading = cut.reading;
+            read = subst (λ (answers : List Answer). IsReadingOf setting.hours (found_in answers ++ Ok cut.request ∷ []) cut.reading) alone cut.read;
+            made = subst (λ (answers : List Answer). AreMadeFor logs cut.request cut.reading (entries_made answers) rest) alone cut.made;
+            next = λ entry is. subst (λ (answers : List Answer). IsNextEntry logs cut.request cut.reading (entries_made answers) rest entry) alone (cut.next entry is);
+            why = why_alone cause unlogged (why cuts);
           },
         ),
       )
-
--- a run is over
-pub over : (told : Told) (setting : RunSetting) (start : RunStart) (now : Now) (before images : List ℕ → Type 0) (since : ℕ → List ℕ → Type 0) (places : List ℕ) (cause : Cause)
-    (served unserved : List (List ℕ)) (at_end : Bool) (answers : List Answer) (opened made silent : List Batch) (unlogged : Option Batch) (opened_at : ℕ)
-    → (IsTrue told.images → IsByFirstCall start.disk.moment opened_at)
-    → entries_made answers ++ entries_of 1 silent ≡ entries_of 1 made
-    → IsStream told.source start.source now.source served unserved at_end
-    → EachFrom (λ n. IsAnswer (given_of setting.hours 1 n)) 1 served answers
-    → AreSerial setting.hours (opened ∷ []) answers
-    → (IsTrue told.sink → IsSent told 1 (session_ends start now) cause answers)
-    → (IsTrue told.disk → Stands start.disk.contents (bodies_of opened))
-    → IsApplied 1 opened
-    → AreMadeBatches setting.limit opened made places
-    → IsHeld told (log_ends start now) images cause unlogged (opened ++ made)
-    → (IsTrue told.images → (image : List ℕ) → since opened_at image → IsFront opened made image ⊎ IsKept told (log_ends start now) cause unlogged (opened ++ made) image)
-    → (IsTrue told.images → (image : List ℕ) → since start.disk.moment image → before image ⊎ since opened_at image)
-    → IsNamed told setting.limit start now (opened ++ made) unlogged unserved at_end cause
-    → IsLeftUndone setting.hours opened answers served unserved cause silent unlogged
-    → ((batch : Batch) → unlogged ≡ Some batch → IsLeftOver (opened ++ made) batch)
-    → HasRun told setting (ends_alone start now) (crashes_alone before images since) cause (places ∷ [])
-over told setting start now before images since places cause served unserved at_end answers opened made silent unlogged opened_at by_first split stream replied serial sent stood applied are_made held ever earlier named undone left =
-    let run : SessionRun = record {
-      taken = stream.taken;
-      lines = stream.lines;
-      rest = stream.rest;
-      ended = at_end;
-      served = served;
-      answers = answers;
-      unserved = unserved;
-    } in
-    let alone : answers ≡ answers_of (run ∷ []) = append_none answers in
-    let goes_on = run_goes_on setting.limit opened made places are_made in (
-      entries_of 1 made,
-      option_map (as_entry 1) unlogged,
-      record {
-        logs = opening told setting start now cause opened made unlogged opened_at ∷ [];
-        runs = run ∷ [];
-        rest = entries_of 1 silent;
-        status = named.status;
-        first_met = none_first told setting start now cause opened made unlogged opened_at run unserved named;
-        within = within told setting start now cause opened made unlogged opened_at made;
-        stamped = stamped told setting start now cause opened made unlogged opened_at places are_made;
-        are_logs = (is_log told setting start now cause opened made unlogged opened_at before images since places unserved at_end by_first stood applied are_made held ever earlier named left, tt);
-        history = goes_on;
-        sessions = (
-          record {
-            takes = stream.takes;
-            lines = stream.are;
-            within = stream.within;
-            to_end = stream.to_end;
-            first = stream.first;
-            answers = replied;
-            sent = sent;
-            done = named.done;
-            whole = λ uncut source sink few.
-                whole_served told setting.limit start now (opened ++ made) unlogged unserved at_end cause named uncut source sink (omega (arith, few, stream.takes.given));
-            source_fault = named.source_fault;
-            sink_fault = named.sink_fault;
-            input_full = λ e.
-                let full = named.input_full e in
-                (omega (arith, full.0, stream.takes.given), full.1, full.2);
-          },
-          tt,
-        );
-        all = sym split ∙ ap (λ (given : List Answer). entries_made given ++ entries_of 1 silent) alone;
-        serial = subst (AreSerial setting.hours (opened ∷ [])) alone serial;
-        undone = undone_of told setting start now cause opened made unlogged opened_at run silent undone;
-        crash_cut = λ tells base is has kept one are.
-            cut_at_end told (log_ends start now) (λ number. images) cause unlogged opened made left (held.crash tells) base has (goes_on base is has).0 kept one are;
-      },
-    )

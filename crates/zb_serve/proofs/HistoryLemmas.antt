@@ -14,7 +14,7 @@ use Rattle.zb_world.specs.EntryLaws.{part_of_entries, part_of_joined}
 use Rattle.zb_world.specs.HistoryLaws.{history_of_one, history_joined, log_goes_on, whole_is_cut}
 use Rattle.zb_world.specs.OnceLaws.{happens_once}
 use Rattle.zb_serve.specs.Ends.{Told, LogEnds}
-use Rattle.zb_serve.specs.Ledger.{IsStamped, AreMadeBatches}
+use Rattle.zb_engine.specs.Ledger.{IsStamped, AreMadeBatches}
 use Rattle.zb_serve.specs.Log.{IsKept}
 use Rattle.zb_serve.specs.History.{parts_of, GoesOnWith, AreCut, AreImages}
 use Rattle.zb_serve.specs.declared.run.Cause.{Cause}

@@ -1,15 +1,8 @@
-pub mod AnswerLemmas
-pub mod SerialLemmas
-pub mod ClockLemmas
 pub mod HaltLemmas
-pub mod ResultLemmas
+pub mod ClockLemmas
 pub mod ListLemmas
-pub mod LogLemmas
 pub mod OpeningLemmas
 pub mod HistoryLemmas
 pub mod EndLemmas
 pub mod SingleLemmas
-pub mod StopLemmas
-pub mod StreamLemmas
-pub mod TickLemmas
-pub mod TurnLemmas
+pub mod OverLemmas

@@ -1,31 +1,7 @@
 -- Laws of lists that grow at their end.
-use Rattle.std.proofs.Common.{◌≡◌, ℕ, zero, suc, ◌+◌, List, [], ◌∷◌, ◌++◌, length, sym, ap, ◌∙◌, subst, arith}
+use Rattle.std.proofs.Common.{◌≡◌, List, [], ◌++◌, sym}
 use Rattle.std.proofs.lemmas.List.{append-nil}
-use Rattle.std.specs.List.{AllZip, range_with_len}
-use Rattle.zb_serve.specs.Ends.{EachFrom}
-
--- one number more
-pub range_with_len_more : (a n : ℕ) → range_with_len a (suc n) ≡ range_with_len a n ++ (a + n) ∷ []
-range_with_len_more a zero = ap (λ k. k ∷ []) (omega arith)
-range_with_len_more a (suc n) =
-    let last : (a + 1) + n ≡ a + suc n = omega arith in
-    ap (λ ks. a ∷ ks) (range_with_len_more (a + 1) n ∙ ap (λ k. range_with_len (a + 1) n ++ k ∷ []) last)
-
--- one pair more
-pub AllZip_more : {A B : Type 0} (R : A → B → Type 0) (xs : List A) (ys : List B) (x : A) (y : B) → AllZip R xs ys → R x y → AllZip R (xs ++ x ∷ []) (ys ++ y ∷ [])
-AllZip_more R [] [] x y zip here = (here, tt)
-AllZip_more R (a ∷ xs) (b ∷ ys) x y zip here = (zip.0, AllZip_more R xs ys x y zip.1 here)
-AllZip_more R [] (b ∷ ys) x y zip here = absurd zip
-AllZip_more R (a ∷ xs) [] x y zip here = absurd zip
 
 -- nothing more
 pub append_none : {A : Type 0} (xs : List A) → xs ≡ xs ++ []
 append_none xs = sym (append-nil xs)
-
--- one numbered pair more
-pub EachFrom_more : {A B : Type 0} (R : ℕ → A → B → Type 0) (n : ℕ) (xs : List A) (ys : List B) (x : A) (y : B) → EachFrom R n xs ys → R (n + length xs) x y → EachFrom R n (xs ++ x ∷ []) (ys ++ y ∷ [])
-EachFrom_more R n [] [] x y each here = (let first : n + 0 ≡ n = omega arith in subst (λ (k : ℕ). R k x y) first here, tt)
-EachFrom_more R n (a ∷ xs) (b ∷ ys) x y each here =
-    (each.0, EachFrom_more R (suc n) xs ys x y each.1 (let behind : n + length (a ∷ xs) ≡ suc n + length xs = omega arith in subst (λ (k : ℕ). R k x y) behind here))
-EachFrom_more R n [] (b ∷ ys) x y each here = absurd each
-EachFrom_more R n (a ∷ xs) [] x y each here = absurd each

@@ -4,12 +4,16 @@ use Rattle.std.proofs.Math.ListN.{set}
 use Rattle.std.specs.List.{AllZip}
 use Rattle.zb_disk.specs.declared.disk.Disk.{Ghosts}
 use Rattle.zb_store.specs.declared.volume.Volume.{Volume}
-use Rattle.zb_serve.specs.Ends.{Devices, Told, told_of, SessionEnds, LogEnds, RunEnds, ends_of, Crashes, crashes_of, EachFrom, IsSafe}
-use Rattle.zb_serve.specs.Hours.{RunSetting}
+use Rattle.zb_desk.specs.Numbered.{EachFrom}
+use Rattle.zb_session.specs.Session.{SessionEnds}
+use Rattle.zb_session.specs.declared.session.Session.{Session}
+use Rattle.zb_engine.specs.Solo.{slots_in}
+use Rattle.zb_serve.specs.Ends.{Devices, Told, told_of, LogEnds, RunEnds, ends_of, Crashes, crashes_of, IsSafe}
+use Rattle.zb_serve.specs.Setting.{RunSetting}
 use Rattle.zb_serve.specs.Log.{Course, course_of, OpenedLog, IsLog}
-use Rattle.zb_serve.specs.Served.{Serves, MayEnd, FailsToOpen, IsRun, slots_in, slots_of_all}
-use Rattle.zb_serve.specs.Serving.{start_of, now_of, session_ends, log_ends, ends_alone, crashes_alone}
-use Rattle.zb_serve.specs.declared.run.Session.{Session}
+use Rattle.zb_serve.specs.Served.{Serves, MayEnd, FailsToOpen, IsRun, slots_of_all}
+use Rattle.zb_session.specs.Session.{session_ends}
+use Rattle.zb_serve.specs.Running.{log_ends, ends_alone, crashes_alone}
 use Rattle.zb_serve.proofs.EndLemmas.{of_one}
 use Rattle.zb_serve.specs.declared.run.Cause.{Cause}
 use Rattle.zb_serve.specs.declared.run.Cause.TheVariants as causes
@@ -106,11 +110,6 @@ run_told told setting sessions first new old cause [] t run = run
 run_told told setting sessions first new old cause (stamp ∷ stamps) t run =
     (run.0, run.1, serves_told (course_of told setting 1 run.0 run.1 cause) sessions first new old (stamp ∷ stamps) t run.2)
 
--- a run of planned words isn't a question of usage
-pub never_usage : (told : Told) (setting : RunSetting) (ends : RunEnds) (crashes : Crashes) (cause : Cause) (stamps : List (List ℕ)) → IsRun told setting ends crashes cause stamps → cause ≡ causes.Usage → ⊥
-never_usage told setting ends crashes cause [] run is = subst (FailsToOpen told ends.logs) is run.0
-never_usage told setting ends crashes cause (stamp ∷ stamps) run is = subst (MayEnd (length ends.sessions) (length ends.logs)) is run.2.status
-
 -- what crashes leave of the one volume's log is told by its number
 crashes_told : {D : Type 0} (disks : Ghosts D) (old new : Volume D)
     → IsTold (crashes_of disks (old ∷ []) (new ∷ [])) (crashes_alone (disks.images old.log) (disks.images new.log) (disks.since new.log))
@@ -125,11 +124,11 @@ crashes_told disks old new = record {
 pub run_single : {S K D : Type 0} (devices : Devices S K D) (setting : RunSetting) (old new : Session S K) (olds news : List (Session S K)) (volume volume' : Volume D) (volumes volumes' : List (Volume D))
     (cause : Cause) (stamps : List (List ℕ)) → olds ≡ old ∷ [] → news ≡ new ∷ [] → volumes ≡ volume ∷ [] → volumes' ≡ volume' ∷ []
     → IsRun (told_of devices) setting
-    (ends_alone (start_of (devices.source.view old.source) (devices.sink.view old.sink) (devices.disk.view volume.log)) (now_of (devices.source.view new.source) (devices.sink.view new.sink) (devices.disk.view volume'.log)))
+    (ends_alone (session_ends (devices.source.view old.source) (devices.source.view new.source) (devices.sink.view old.sink) (devices.sink.view new.sink)) (log_ends (devices.disk.view volume.log) (devices.disk.view volume'.log)))
     (crashes_alone (devices.disk.images volume.log) (devices.disk.images volume'.log) (devices.disk.since volume'.log)) cause stamps
     → IsRun (told_of devices) setting (ends_of devices olds news volumes volumes') (crashes_of devices.disk volumes volumes') cause stamps
 run_single devices setting old new olds news volume volume' volumes volumes' cause stamps e1 e2 e3 e4 run =
-    let start = start_of (devices.source.view old.source) (devices.sink.view old.sink) (devices.disk.view volume.log) in
-    let now = now_of (devices.source.view new.source) (devices.sink.view new.sink) (devices.disk.view volume'.log) in
-    rw (e1, e2, e3, e4) (run_told (told_of devices) setting (session_ends start now ∷ []) (log_ends start now) (crashes_of devices.disk (volume ∷ []) (volume' ∷ []))
+    let session = session_ends (devices.source.view old.source) (devices.source.view new.source) (devices.sink.view old.sink) (devices.sink.view new.sink) in
+    let log = log_ends (devices.disk.view volume.log) (devices.disk.view volume'.log) in
+    rw (e1, e2, e3, e4) (run_told (told_of devices) setting (session ∷ []) log (crashes_of devices.disk (volume ∷ []) (volume' ∷ []))
     (crashes_alone (devices.disk.images volume.log) (devices.disk.images volume'.log) (devices.disk.since volume'.log)) cause stamps (crashes_told devices.disk volume volume') run)

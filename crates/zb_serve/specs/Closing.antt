@@ -3,12 +3,12 @@ use Rattle.std.specs.Prelude.{◌≡◌, ◌≢◌, ℕ, List, [], length, map, 
 use Rattle.std.specs.List.{AllZip}
 use Rattle.zb_store.specs.declared.volume.Volume.{Volume}
 use Rattle.zb_words.specs.declared.plan.Plan.{Plan}
-use Rattle.zb_serve.specs.Hours.{setting_of}
+use Rattle.zb_serve.specs.Setting.{setting_of}
 use Rattle.zb_serve.specs.Words.{IsPlanned}
 use Rattle.zb_serve.specs.Ends.{Devices, told_of, ends_of, crashes_of, IsSafe}
 use Rattle.zb_serve.specs.Cause.{status_of}
 use Rattle.zb_serve.specs.Served.{IsRun, slots_of_all}
-use Rattle.zb_serve.specs.declared.run.Session.{Session}
+use Rattle.zb_session.specs.declared.session.Session.{Session}
 use Rattle.zb_serve.specs.declared.run.Closed.{Closed}
 use Rattle.zb_serve.specs.declared.run.Cause.TheVariants as causes
 

@@ -1,20 +1,14 @@
 -- What was handed to a run and what it handed back, as plain data.
-use Rattle.std.specs.Prelude.{◌≡◌, ◌<◌, ◌≤◌, ◌-◌, ℕ, suc, List, [], ◌∷◌, length, Bool, slice_get, Some}
+use Rattle.std.specs.Prelude.{◌<◌, ℕ, List, [], ◌∷◌, length, Bool}
 use Rattle.zb_disk.specs.Disk.{DiskView}
 use Rattle.zb_disk.specs.declared.disk.Disk as disk_trait
 use Rattle.zb_outside.specs.declared.source.Source as source_trait
 use Rattle.zb_outside.specs.declared.sink.Sink as sink_trait
 use Rattle.zb_store.specs.Calls.{LeftByOpening}
-use Rattle.zb_outside.specs.Stream.{SourceView, SinkView}
-use Rattle.zb_serve.specs.declared.run.Session.{Session}
+use Rattle.zb_desk.specs.Numbered.{OfNumber}
+use Rattle.zb_session.specs.Session.{SessionEnds, Streams}
+use Rattle.zb_session.specs.declared.session.Session.{Session}
 use Rattle.zb_store.specs.declared.volume.Volume.{Volume}
-
--- one session's streams, as the run began and as it ended
-pub record SessionEnds : Type 0 where
-  pub source : SourceView
-  pub source_after : SourceView
-  pub sink : SinkView
-  pub sink_after : SinkView
 
 -- one volume's log, as the run began and as it ended
 pub record LogEnds : Type 0 where
@@ -88,17 +82,6 @@ logs_ends disks (old ∷ olds) [] = []
 pub record IsSafe {D : Type 0} (disks : disk_trait.Ghosts D) (old new : Volume D) : Type 0 where
   pub now : 1 < length (disks.view old.log).contents → (image : List ℕ) → disks.images new.log image → disks.images old.log image
   pub ever : (image : List ℕ) → disks.since new.log (disks.view old.log).moment image → LeftByOpening (disks.view old.log).contents (disks.images old.log) image
-
--- R holds of the members at each place, and of the place's number, where the first has the number n
-abbrev pub EachFrom : {A B : Type 0} → (ℕ → A → B → Type 0) → ℕ → List A → List B → Type 0
-EachFrom R n [] [] = Unit {0}
-EachFrom R n (x ∷ xs) (y ∷ ys) = R n x y × EachFrom R (suc n) xs ys
-EachFrom R n [] (y ∷ ys) = ⊥
-EachFrom R n (x ∷ xs) [] = ⊥
-
--- the member with this number, from 1, has P
-abbrev pub OfNumber : {A : Type 0} → List A → ℕ → (A → Type 0) → Type 0
-OfNumber {A} members number P = (member : A) × (1 ≤ number) × (slice_get members (number - 1) ≡ Some member) × P member
 
 -- what crashes may leave of the log of each partition, by its number: as the run began, now, and what one might have left
 -- at some moment since one

@@ -1,14 +1,11 @@
 pub mod Words
-pub mod Hours
-pub mod Reply
-pub mod Serial
+pub mod Setting
 pub mod Cause
 pub mod Ends
 pub mod Session
 pub mod Log
 pub mod History
 pub mod Served
-pub mod Ledger
-pub mod Serving
+pub mod Running
 pub mod Closing
 pub mod Order

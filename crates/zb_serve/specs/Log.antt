@@ -1,5 +1,5 @@
 -- A partition's log in a run.
-use Rattle.std.specs.Prelude.{◌≡◌, ◌⊎◌, ◌<◌, ◌≤◌, ◌+◌, ℕ, List, [], ◌∷◌, ◌++◌, take, IsTrue, Bool, true, false, Option, Some, None}
+use Rattle.std.specs.Prelude.{◌≡◌, ◌⊎◌, ◌<◌, ◌≤◌, ◌+◌, ℕ, List, [], ◌∷◌, ◌++◌, IsTrue, Bool, true, false, Option, Some, None}
 use Rattle.zb_disk.specs.Cause.{Rose}
 use Rattle.zb_model.specs.declared.record.Batch.{Batch}
 use Rattle.zb_model.specs.RecordFits.{IsBatch}
@@ -11,8 +11,9 @@ use Rattle.zb_world.specs.Entries.{Entry, is_of, part_of}
 use Rattle.zb_partition.specs.Log.{bodies_of, AreBatches, IsApplied}
 use Rattle.zb_partition.specs.Stopping.{frame_of, HasRoomFor}
 use Rattle.zb_serve.specs.Ends.{LogEnds, Told, Crashes}
-use Rattle.zb_serve.specs.Hours.{RunSetting}
-use Rattle.zb_serve.specs.Serial.{log_behind}
+use Rattle.zb_desk.specs.Serial.{log_behind}
+use Rattle.zb_engine.specs.Ledger.{IsFront}
+use Rattle.zb_serve.specs.Setting.{RunSetting}
 use Rattle.zb_serve.specs.declared.run.Cause.{Cause}
 use Rattle.zb_serve.specs.declared.run.Cause.TheVariants as causes
 
@@ -67,10 +68,6 @@ abbrev pub IsKept : Told → LogEnds → Cause → Option Batch → List Batch �
 IsKept told ends cause unlogged log file = Stands file (bodies_of log)
     ⊎ (((batch : Batch) × (unlogged ≡ Some batch) × IsBatch batch × Stands file (bodies_of (log ++ batch ∷ [])))
     × IsDiskHurt told ends cause)
-
--- a file stands for a front of a log that grew, which has all batches that were there at opening
-abbrev pub IsFront : List Batch → List Batch → List ℕ → Type 0
-IsFront opened made file = (k : ℕ) × Stands file (bodies_of (opened ++ take k made))
 
 -- a file is what the run left of the log of the partition with this number
 abbrev pub IsLeftOf : Course → (number : ℕ) → LogEnds → OpenedLog → List ℕ → Type 0

@@ -3,8 +3,9 @@ use Rattle.std.specs.Prelude.{◌≡◌, ◌<◌, ℕ, List, [], ◌∷◌, ◌+
 use Rattle.zb_model.specs.declared.record.Batch.{Batch}
 use Rattle.zb_store.specs.Log.{extent}
 use Rattle.zb_partition.specs.Log.{bodies_of}
-use Rattle.zb_serve.specs.Ends.{RunEnds, OfNumber}
-use Rattle.zb_serve.specs.Session.{SessionRun, most_taken}
+use Rattle.zb_desk.specs.Numbered.{OfNumber}
+use Rattle.zb_session.specs.Session.{SessionRun, most_taken}
+use Rattle.zb_serve.specs.Ends.{RunEnds}
 use Rattle.zb_serve.specs.Log.{Course, OpenedLog, log_in, batch_of}
 use Rattle.zb_serve.specs.declared.run.Cause.{Cause}
 use Rattle.zb_serve.specs.declared.run.Cause.TheVariants as causes

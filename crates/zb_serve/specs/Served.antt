@@ -9,13 +9,17 @@ use Rattle.zb_wire.specs.declared.request.Request.{Request}
 use Rattle.zb_wire.specs.Request.{request_of}
 use Rattle.zb_partition.specs.Log.{IsBadAt}
 use Rattle.zb_store.specs.declared.volume.Volume.{Volume}
-use Rattle.zb_serve.specs.Ends.{RunEnds, LogEnds, Told, Crashes, EachFrom, OfNumber}
+use Rattle.zb_desk.specs.Numbered.{EachFrom, OfNumber}
+use Rattle.zb_desk.specs.Serial.{place_behind, IsNextEntry, AreMadeFor}
+use Rattle.zb_session.specs.Hours.{given_of, IsReadingOf}
+use Rattle.zb_session.specs.Answer.{Answer, found_in, entries_made, AreSerial}
+use Rattle.zb_session.specs.Session.{SessionRun}
+use Rattle.zb_engine.specs.Solo.{slots_in}
+use Rattle.zb_serve.specs.Ends.{RunEnds, LogEnds, Told, Crashes}
 use Rattle.zb_serve.specs.Cause.{comes_before}
 use Rattle.zb_serve.specs.Order.{WasMet}
-use Rattle.zb_serve.specs.Hours.{given_of, IsReadingOf, RunSetting}
-use Rattle.zb_serve.specs.Reply.{Answer}
-use Rattle.zb_serve.specs.Serial.{place_behind, found_in, entries_made, IsNextEntry, AreMadeFor, AreSerial}
-use Rattle.zb_serve.specs.Session.{SessionRun, IsSession}
+use Rattle.zb_serve.specs.Setting.{RunSetting}
+use Rattle.zb_serve.specs.Session.{IsSession}
 use Rattle.zb_serve.specs.Log.{Course, course_of, OpenedLog, IsLog}
 use Rattle.zb_serve.specs.History.{parts_of, stamps_of, GoesOnWith, AreCut, AreImages}
 use Rattle.zb_serve.specs.declared.run.Cause.{Cause}
@@ -138,10 +142,6 @@ HasRun told setting ends crashes cause stamps = (entries : List Entry) × (unlog
 abbrev pub IsRun : Told → RunSetting → RunEnds → Crashes → Cause → List (List ℕ) → Type 0
 IsRun told setting ends crashes cause [] = FailsToOpen told ends.logs cause × AllByRecursion (IsSpared told) ends.logs
 IsRun told setting ends crashes cause (first ∷ more) = HasRun told setting ends crashes cause (first ∷ more)
-
--- the slots for snapshots of a volume, and of each one
-abbrev pub slots_in : {D : Type 0} → Volume D → D × D
-slots_in volume = (volume.snap_a, volume.snap_b)
 
 -- the slots for snapshots of each volume
 abbrev pub slots_of_all : {D : Type 0} → List (Volume D) → List (D × D)

@@ -1,43 +1,17 @@
--- A session: the lines of a source, what each led to, and the replies.
-use Rattle.std.specs.Prelude.{◌≡◌, ◌⊎◌, ◌<◌, ◌≤◌, ◌^◌, ℕ, List, [], ◌∷◌, ◌++◌, length, take, Bool, true, false, IsTrue, IsFalse}
-use Rattle.std.specs.List.{flat_map}
+-- A session in a run: the lines of a source, what each led to, and the replies.
+use Rattle.std.specs.Prelude.{◌≡◌, ◌⊎◌, ◌<◌, ◌≤◌, ℕ, List, [], ◌∷◌, ◌++◌, length, take, false, IsTrue, IsFalse}
 use Rattle.zb_disk.specs.Cause.{Rose}
 use Rattle.zb_lines.specs.Taken.{TakesBytes}
 use Rattle.zb_lines.specs.Line.{AreLines}
-use Rattle.zb_serve.specs.Hours.{given_of}
-use Rattle.zb_serve.specs.Reply.{Answer, IsAnswer}
+use Rattle.zb_desk.specs.Numbered.{EachFrom}
+use Rattle.zb_session.specs.Hours.{given_of}
+use Rattle.zb_session.specs.Answer.{Answer, IsAnswer}
+use Rattle.zb_session.specs.Session.{SessionEnds, SessionRun, replies_of, last_line, most_taken}
 use Rattle.zb_serve.specs.Log.{Course}
-use Rattle.zb_serve.specs.Ends.{SessionEnds, Told, EachFrom}
+use Rattle.zb_serve.specs.Ends.{Told}
 use Rattle.zb_serve.specs.Cause.{comes_before}
 use Rattle.zb_serve.specs.declared.run.Cause.{Cause}
 use Rattle.zb_serve.specs.declared.run.Cause.TheVariants as causes
-
--- a session takes at most so many bytes
-unfoldable pub most_taken : ℕ
-most_taken = 2 ^ 40
-
--- the replies, in order
-abbrev pub replies_of : List Answer → List ℕ
-replies_of answers = flat_map (λ answer. answer.reply) answers
-
--- the bytes behind the last newline are a line where the source was read to its end and there are any
-abbrev pub last_line : Bool → List ℕ → List (List ℕ)
-last_line true (byte ∷ rest) = (byte ∷ rest) ∷ []
-last_line true [] = []
-last_line false rest = []
-
--- a session's part of a run
-pub record SessionRun : Type 0 where
-  -- the bytes that it took from its source: lines, and a rest behind the last newline
-  pub taken : List ℕ
-  pub lines : List (List ℕ)
-  pub rest : List ℕ
-  -- whether the source was read to its end
-  pub ended : Bool
-  -- the lines that were served, what each led to, and the lines that were not
-  pub served : List (List ℕ)
-  pub answers : List Answer
-  pub unserved : List (List ℕ)
 
 -- why a reply of the session with this number is missing, or cut short: its sink failed, and the run's cause is that
 -- or one that is told before it, or its sink's calls take memory, and the cause is want of it

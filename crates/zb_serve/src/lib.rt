@@ -1,14 +1,10 @@
-//! The server: the lines of sessions, what they lead to in the logs of partitions, and the replies.
+//! The server: sessions over the partitions of a run, and the top call.
 #![tactic(auto)]
 
-mod answer;
-mod dial;
-mod ledger;
-mod line;
 mod run;
 mod running;
-mod session;
 mod top;
 
-pub use run::{Cause, Closed, Session};
+pub use run::{Cause, Closed};
 pub use top::{plan_for, serve, serve_alone};
+pub use zb_session::Session;

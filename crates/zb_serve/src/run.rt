@@ -1,7 +1,8 @@
 ghost use Rattle.std.specs.Prelude.{◌≡◌};
 
 use std::fmt;
-use zb_model::{Batch, Stop};
+use zb_model::Batch;
+use zb_session::Session;
 use zb_store::Volume;
 
 /// The number of the one session that is served so far.
@@ -9,30 +10,6 @@ pub const SESSION: u32 = 1;
 
 /// The number of the one partition that there is so far.
 pub const PARTITION: u32 = 1;
-
-/// Why the serving of a session ended.
-#[derive(Clone, Copy, Debug, PartialEq, Eq)]
-pub enum End {
-    /// Its source was read to its end, and every line has its reply.
-    Done,
-    /// Its source failed.
-    SourceFault,
-    /// Its sink failed.
-    SinkFault,
-    /// It took as many bytes as a session may.
-    InputFull,
-    /// There was no memory.
-    Memory,
-    /// The partition stopped.
-    Stopped(Stop),
-}
-
-/// A client: where its lines come from, and where the replies go.
-#[derive(Drop)]
-pub struct Session<S, K> {
-    pub source: S,
-    pub sink: K,
-}
 
 /// Why a run ended. Sessions and partitions are numbered from 1.
 #[derive(Drop)]

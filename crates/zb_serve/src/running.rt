@@ -1,27 +1,27 @@
-ghost use Rattle.std.specs.Prelude.{◌≡◌, ◌<◌, ◌≤◌, ◌^◌, List, ℕ, [], ◌∷◌, length, map, MatchOption, Option, IsTrue, vec_len, vec_capacity};
-ghost use Rattle.zb_model.specs.declared.record.Batch.{Batch};
-ghost use Rattle.zb_store.specs.Calls.{OnlyOpens, Settles};
-ghost use Rattle.zb_store.specs.Stands.{Stands};
+ghost use Rattle.std.specs.Prelude.{◌≡◌, ◌≤◌, ◌^◌, ◌<◌, ◌∷◌, [], None, Option, map, IsTrue, is_some, vec_len, vec_capacity};
 ghost use Rattle.zb_words.specs.declared.plan.ClockKind.TheVariants as kinds;
-ghost use Rattle.zb_partition.specs.Log.{bodies_of, IsApplied};
-ghost use Rattle.zb_partition.specs.Partition.{disk_of, slots_of};
-ghost use Rattle.zb_serve.specs.Hours.{setting_of};
-ghost use Rattle.zb_serve.specs.Ledger.{IsOpen};
+ghost use Rattle.zb_session.specs.Hours.{Hours};
+ghost use Rattle.zb_session.specs.Session.{session_ends, streams_of, facts_of, IsOver};
+ghost use Rattle.zb_session.specs.Serving.{AreAt, clocks_of};
+ghost use Rattle.zb_engine.specs.Ledger.{Opening};
+ghost use Rattle.zb_engine.specs.Solo.{IsOpenedAs, HasMade, HasEnded, slots_in};
+ghost use Rattle.zb_serve.specs.Setting.{setting_of};
 ghost use Rattle.zb_serve.specs.Ends.{told, IsSafe};
-ghost use Rattle.zb_serve.specs.Served.{IsRun, slots_in};
-ghost use Rattle.zb_serve.specs.Serving.{now_of, start_of, ends_alone, crashes_alone, cause_of, open_cause_of};
+ghost use Rattle.zb_serve.specs.Served.{IsRun};
+ghost use Rattle.zb_serve.specs.Running.{log_ends, ends_alone, crashes_alone};
+ghost use Rattle.zb_model.specs.declared.record.Batch.{Batch as Record};
+ghost use Rattle.zb_serve.specs.Running.{cause_of, stop_cause_of, failed_at, open_cause_of, is_by_hand};
 
-use crate::dial::Dial;
-use crate::ledger::Ledger;
-use crate::run::{Cause, End, PARTITION, SESSION, Session};
-use crate::session::serve_session;
+use crate::run::{Cause, PARTITION, SESSION};
 use std::alloc::{AllocError, Global};
 use zb_disk::Disk;
+use zb_engine::Solo;
 use zb_model::{Batch, PartitionId, Stop};
 use zb_outside::{Clock, Sink, Source};
 use zb_partition::{OpenFault, Partition};
+use zb_session::{Dial, End, Session, serve_session};
 use zb_store::Volume;
-use zb_words::Plan;
+use zb_words::{ClockKind, Plan};
 
 /// How a run of one session over one partition ended.
 pub struct Ran<D> {
@@ -43,13 +43,17 @@ pub fn run<S: Source, K: Sink, D: Disk, C: Clock>(
     requires { plan.limit ≤ 2 ^ 32 }
     ensures unread { result.stamps.items ≡ [] → session.new ≡ session.old }
     ensures slots { slots_in result.volume ≡ slots_in volume }
-    ensures spared { result.stamps.items ≡ [] → IsTrue D.tells_images → IsSafe D.Disk volume result.volume }
+    ensures spared { result.stamps.items ≡ [] → IsTrue D.tells_images
+        → IsSafe D.Disk volume result.volume }
     ensures run { IsRun
-        (told S.tells S.counts_failures K.Sink D.Disk) (setting_of plan C.tells (C.moments clock.old))
+        (told S.tells S.counts_failures K.Sink D.Disk)
+        (setting_of plan C.tells (C.moments clock.old))
         (ends_alone
-        (start_of (S.view session.old.source) (K.view session.old.sink) (D.view volume.log))
-        (now_of (S.view session.new.source) (K.view session.new.sink) (D.view result.volume.log)))
-        (crashes_alone (D.images volume.log) (D.images result.volume.log) (D.since result.volume.log))
+        (session_ends (S.view session.old.source) (S.view session.new.source)
+        (K.view session.old.sink) (K.view session.new.sink))
+        (log_ends (D.view volume.log) (D.view result.volume.log)))
+        (crashes_alone (D.images volume.log) (D.images result.volume.log)
+        (D.since result.volume.log))
         result.cause (map (λ list. list.items) result.stamps.items) }
     ensures untouched { plan.clock ≡ kinds.Manual → clock.new ≡ clock.old }
     ensures moments { C.moments clock.new ≡ C.moments clock.old }
@@ -84,78 +88,133 @@ fn serve_partition<S: Source, K: Sink, D: Disk, C: Clock>(
 ) -> Ran<D>
     requires room { vec_len stamps < vec_capacity stamps }
     requires none { stamps.items ≡ [] }
-    requires opened { (opened : List Batch) × IsOpen plan.limit partition opened × IsApplied 1 opened }
+    requires opened { (opening : Opening D) × IsOpenedAs opening partition }
     ensures some { ¬ (result.stamps.items ≡ []) }
-    ensures slots { slots_in result.volume ≡ slots_of partition }
 
-    // For every disk that the partition may have been opened from.
-    ensures run { (disk : D) (opened : List Batch) → IsOpen plan.limit partition opened → IsApplied 1 opened
-        → (IsTrue D.tells → Stands (D.view disk).contents (bodies_of opened))
-        → OnlyOpens D.tells D.tells_images D.view D.images D.since disk (disk_of partition)
-        → (IsTrue D.tells_images → Settles (D.view disk).moment (D.view (disk_of partition)).moment
-        (D.images disk) (D.since (disk_of partition)) (λ image. Stands image (bodies_of opened)))
-        → (IsTrue D.counts_failures → (D.view (disk_of partition)).faults ≡ (D.view disk).faults)
+    // However it may have been opened.
+    ensures slots { (opening : Opening D) → IsOpenedAs opening partition
+        → slots_in result.volume ≡ slots_in opening.volume }
+    ensures run { (opening : Opening D) → IsOpenedAs opening partition → opening.limit ≡ plan.limit
         → IsRun
-        (told S.tells S.counts_failures K.Sink D.Disk) (setting_of plan C.tells (C.moments clock.old))
+        (told S.tells S.counts_failures K.Sink D.Disk)
+        (setting_of plan C.tells (C.moments clock.old))
         (ends_alone
-        (start_of (S.view session.old.source) (K.view session.old.sink) (D.view disk))
-        (now_of (S.view session.new.source) (K.view session.new.sink) (D.view result.volume.log)))
-        (crashes_alone (D.images disk) (D.images result.volume.log) (D.since result.volume.log))
+        (session_ends (S.view session.old.source) (S.view session.new.source)
+        (K.view session.old.sink) (K.view session.new.sink))
+        (log_ends (D.view opening.volume.log) (D.view result.volume.log)))
+        (crashes_alone (D.images opening.volume.log) (D.images result.volume.log)
+        (D.since result.volume.log))
         result.cause (map (λ list. list.items) result.stamps.items) }
     ensures untouched { plan.clock ≡ kinds.Manual → clock.new ≡ clock.old }
     ensures moments { C.moments clock.new ≡ C.moments clock.old }
 {
-    let mut ledger = Ledger {
-        partition,
-        stamps: Vec::new(alloc),
-    };
-    let mut dial = Dial::new(plan.clock);
-    let end = serve_session(alloc, session, &mut ledger, &mut dial, clock);
-    let (stopped, places) = ledger.close();
+    let mut solo = Solo::new(alloc, partition);
+    let mut dial = Dial::new(goes_by_hand(plan.clock));
+    let end = serve_solo(alloc, session, &mut solo, &mut dial, clock);
+    let stop = solo.stop();
+    let (stopped, places) = solo.close();
     stamps.push_reserved(places);
     Ran {
-        cause: cause(end, stopped.in_writing),
+        cause: cause(end, stop, stopped.in_writing),
         volume: stopped.volume,
         stamps,
     }
 }
 
-// Why a run ends whose one session ended so, with the batch that was in writing.
-fn cause(end: End, in_writing: Option<Batch>) -> Cause
-    ensures { result ≡ cause_of in_writing end }
+// Serves the lines of a session by the engine of one thread, in words of that engine.
+fn serve_solo<S: Source, K: Sink, D: Disk, C: Clock>(
+    alloc: Global,
+    session: &mut Session<S, K>,
+    solo: &mut Solo<D>,
+    dial: &mut Dial,
+    clock: &mut C,
+) -> End
+    requires { (opening : Opening D) × (hours : Hours) × HasMade opening [] solo.old
+        × AreAt hours [] (clocks_of dial.old C.tells (C.moments clock.old)) }
+    ensures over { (opening : Opening D) (hours : Hours) → HasMade opening [] solo.old
+        → AreAt hours [] (clocks_of dial.old C.tells (C.moments clock.old))
+        → IsOver (streams_of S.tells S.counts_failures K.Sink) hours (opening.batches ∷ [])
+        (session_ends (S.view session.old.source) (S.view session.new.source)
+        (K.view session.old.sink) (K.view session.new.sink))
+        (facts_of (λ made. HasMade opening made solo.new)
+        (λ made left stop. HasEnded opening made left stop solo.new)) result }
+    ensures moments { C.moments clock.new ≡ C.moments clock.old }
+    ensures untouched { IsTrue (is_some dial.old) → clock.new ≡ clock.old }
 {
-    match cause_but_disk(end) {
-        Some(cause) => cause,
-        None => Cause::DiskFault {
-            partition: PARTITION,
-            in_writing,
-        },
+    serve_session(alloc, session, solo, dial, clock)
+}
+
+// Whether a run goes by a clock that is moved by hand.
+fn goes_by_hand(clock: ClockKind) -> bool
+    ensures { result ≡ is_by_hand clock }
+{
+    match clock {
+        ClockKind::Manual => true,
+        ClockKind::Real => false,
     }
 }
 
-// Why a run ends whose one session ended so; `None` where the disk failed.
-fn cause_but_disk(end: End) -> Option<Cause>
-    ensures { MatchOption result (end ≡ End.Stopped Stop.DiskFault) (λ cause. (in_writing : Option Batch) → cause ≡ cause_of in_writing end) }
+// Why a run ends whose one session ended so, with the stop of a partition, if there was one, and the batch that was
+// in writing.
+fn cause(end: End, stop: Option<(PartitionId, Stop)>, in_writing: Option<Batch>) -> Cause
+    ensures { result ≡ cause_of in_writing stop end }
+{
+    match failed_at(end, &stop) {
+        Some(partition) => Cause::DiskFault {
+            partition,
+            in_writing,
+        },
+        None => other_cause(end, stop),
+    }
+}
+
+// The partition whose disk failed, where that ended the run.
+fn failed_at(end: End, stop: &Option<(PartitionId, Stop)>) -> Option<u32>
+    ensures { result ≡ failed_at end stop.now }
 {
     match end {
-        End::Done => Some(Cause::Done),
-        End::SourceFault => Some(Cause::SourceFault { session: SESSION }),
-        End::SinkFault => Some(Cause::SinkFault { session: SESSION }),
-        End::InputFull => Some(Cause::InputFull { session: SESSION }),
-        End::Memory | End::Stopped(Stop::Memory) => Some(Cause::Memory),
-        End::Stopped(Stop::DiskFault) => None,
-        End::Stopped(
-            Stop::LogFull {
-                length,
-                frame,
-                limit,
-            },
-        ) => Some(Cause::LogFull {
-            partition: PARTITION,
+        End::Stopped => match stop {
+            Some((partition, Stop::DiskFault)) => Some(partition.number()),
+            _ => None,
+        },
+        _ => None,
+    }
+}
+
+// Why a run ends where no disk failed.
+fn other_cause(end: End, stop: Option<(PartitionId, Stop)>) -> Cause
+    ensures { failed_at end stop ≡ None → (in_writing : Option Record) → result ≡ cause_of in_writing stop end }
+{
+    match end {
+        End::Done => Cause::Done,
+        End::SourceFault => Cause::SourceFault { session: SESSION },
+        End::SinkFault => Cause::SinkFault { session: SESSION },
+        End::InputFull => Cause::InputFull { session: SESSION },
+        End::Memory => Cause::Memory,
+        End::Stopped => full_at(stop),
+    }
+}
+
+// Why a run ends whose partition stopped, where its disk didn't fail.
+fn full_at(stop: Option<(PartitionId, Stop)>) -> Cause
+    ensures { failed_at End.Stopped stop ≡ None → (in_writing : Option Record) → result ≡ stop_cause_of in_writing stop }
+{
+    let Some((partition, stop)) = stop else {
+        return Cause::Memory;
+    };
+    let partition = partition.number();
+    match stop {
+        Stop::LogFull {
             length,
             frame,
             limit,
-        }),
+        } => Cause::LogFull {
+            partition,
+            length,
+            frame,
+            limit,
+        },
+        Stop::DiskFault | Stop::Memory => Cause::Memory,
     }
 }
 

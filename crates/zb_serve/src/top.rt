@@ -7,13 +7,14 @@ ghost use Rattle.zb_serve.specs.Ends.{devices_of};
 ghost use Rattle.zb_serve.specs.Cause.{status_of};
 ghost use Rattle.zb_serve.specs.Closing.{Closes, clock_at_hand};
 
-use crate::run::{Cause, Closed, Session};
+use crate::run::{Cause, Closed};
 use crate::running::{Ran, run};
 use std::alloc::Global;
 use std::sync::Wait;
 use std::thread::Threads;
 use zb_disk::Disk;
 use zb_outside::{Clock, Door, Sink, Source};
+use zb_session::Session;
 use zb_store::Volume;
 use zb_words::{Plan, plan_of};
 
@@ -38,12 +39,14 @@ where
     C: Clock,
     G: Door,
     requires { length sessions.items < 2 ^ 32 }
-    ensures closed { Closes (devices_of S.Source K.Sink D.Disk) (clock_at_hand C.tells (C.moments clock.old)) (map string_bytes words.now)
+    ensures closed { Closes (devices_of S.Source K.Sink D.Disk)
+        (clock_at_hand C.tells (C.moments clock.old)) (map string_bytes words.now)
         sessions.items volumes.items result }
 
     // The clock is read under a plan that goes by it alone, and not where the words can't be served.
     ensures unasked { result.cause ≡ Cause.Usage → clock.new ≡ clock.old }
-    ensures untouched { (plan : Plan) → IsPlan (map string_bytes words.now) plan → plan.clock ≡ kinds.Manual → clock.new ≡ clock.old }
+    ensures untouched { (plan : Plan) → IsPlan (map string_bytes words.now) plan
+        → plan.clock ≡ kinds.Manual → clock.new ≡ clock.old }
     ensures moments { C.moments clock.new ≡ C.moments clock.old }
 {
     let _ = rt;
@@ -60,12 +63,14 @@ pub fn serve_alone<S: Source, K: Sink, D: Disk, C: Clock>(
     clock: &mut C,
 ) -> Closed<S, K, D>
     requires { length sessions.items < 2 ^ 32 }
-    ensures closed { Closes (devices_of S.Source K.Sink D.Disk) (clock_at_hand C.tells (C.moments clock.old)) (map string_bytes words.now)
+    ensures closed { Closes (devices_of S.Source K.Sink D.Disk)
+        (clock_at_hand C.tells (C.moments clock.old)) (map string_bytes words.now)
         sessions.items volumes.items result }
 
     // The clock is read under a plan that goes by it alone, and not where the words can't be served.
     ensures unasked { result.cause ≡ Cause.Usage → clock.new ≡ clock.old }
-    ensures untouched { (plan : Plan) → IsPlan (map string_bytes words.now) plan → plan.clock ≡ kinds.Manual → clock.new ≡ clock.old }
+    ensures untouched { (plan : Plan) → IsPlan (map string_bytes words.now) plan
+        → plan.clock ≡ kinds.Manual → clock.new ≡ clock.old }
     ensures moments { C.moments clock.new ≡ C.moments clock.old }
 {
     let Some(plan) = plan_for(words, sessions.len(), volumes.len()) else {
@@ -86,7 +91,8 @@ pub fn serve_alone<S: Source, K: Sink, D: Disk, C: Clock>(
 /// The plan of these words, where so many sessions and volumes can be served by it.
 pub fn plan_for(words: &[String], sessions: usize, volumes: usize) -> Option<Plan>
     ensures planned { IfSome result (IsPlanned (map string_bytes words.now) sessions volumes) }
-    ensures unplanned { IfNone result ((plan : Plan) → IsPlanned (map string_bytes words.now) sessions volumes plan → ⊥) }
+    ensures unplanned { IfNone result ((plan : Plan)
+        → IsPlanned (map string_bytes words.now) sessions volumes plan → ⊥) }
     ensures limit { IfSome result (λ plan. plan.limit ≤ 2 ^ 32) }
 {
     if sessions != 1 || volumes != 1 {

@@ -1,10 +1,11 @@
-use Rattle.std.proofs.Common.{ℕ, ◌∙◌, subst, inl, ⊎_elim, arith}
+use Rattle.std.proofs.Common.{◌≡◌, ℕ, [], refl, sym, ◌∙◌, subst, inl, ⊎_elim, arith}
 use Rattle.zb_partition.specs.Log.{IsApplied, IsBadAt}
 use Rattle.zb_serve.specs.Ends.{told}
-use Rattle.zb_serve.specs.Ledger.{IsOpen}
-use Rattle.zb_serve.proofs.OpeningLemmas.{fails_to_open, opened_ever}
+use Rattle.zb_engine.specs.Ledger.{IsOpen}
+use Rattle.zb_serve.proofs.OpeningLemmas.{fails_to_open, opened_as, opened_ever}
 use Rattle.zb_serve.proofs.running.run.Goals as goal
 
+-- there was no memory to open it
 pub returns-in-Err-clause-spared : goal.returns-in-Err-clause-spared
 returns-in-Err-clause-spared g c = λ none tells. record {
   now = λ long image left. left;
@@ -31,12 +32,25 @@ pub serve_partition-requires-clause-opened : goal.serve_partition-requires-claus
 serve_partition-requires-clause-opened g c =
     let said = c.in-Ok-open.ensures in
     let is_open : IsOpen c.args.plan.limit c.in-Ok-open.partition said.opened.0 = record { has = said.opened.1.has; live = said.live; place = said.place ∙ c.new.ensures; most = said.limit } in
-    (said.opened.0, is_open, subst (λ (p : ℕ). IsApplied p said.opened.0) c.new.ensures said.opened.1.applied)
+    let applied = subst (λ (p : ℕ). IsApplied p said.opened.0) c.new.ensures said.opened.1.applied in
+    let o = opened_as c.args.volume c.args.plan.limit said.opened.0 c.in-Ok-open.partition is_open said.opened.1.stood applied said.opens.later said.steady
+    (λ tells. said.settled tells said.opened.0 (said.opened.1.stood (g.met.D.Disk.images_told tells))) said.slots in
+    (record { volume = c.args.volume; limit = c.args.plan.limit; batches = said.opened.0; moment = o.0 }, o.1)
 
 pub returns-in-Ok-open-clause-run : goal.returns-in-Ok-open-clause-run
 returns-in-Ok-open-clause-run g c =
     let said = c.in-Ok-open.ensures in
     let is_open : IsOpen c.args.plan.limit c.in-Ok-open.partition said.opened.0 = record { has = said.opened.1.has; live = said.live; place = said.place ∙ c.new.ensures; most = said.limit } in
     let applied = subst (λ (p : ℕ). IsApplied p said.opened.0) c.new.ensures said.opened.1.applied in
-    c.serve_partition.ensures.run c.args.volume.log said.opened.0 is_open applied said.opened.1.stood said.opens
-    (λ tells. said.settled tells said.opened.0 (said.opened.1.stood (g.met.D.Disk.images_told tells))) said.steady
+    let o = opened_as c.args.volume c.args.plan.limit said.opened.0 c.in-Ok-open.partition is_open said.opened.1.stood applied said.opens.later said.steady
+    (λ tells. said.settled tells said.opened.0 (said.opened.1.stood (g.met.D.Disk.images_told tells))) said.slots in
+    c.serve_partition.ensures.run (record { volume = c.args.volume; limit = c.args.plan.limit; batches = said.opened.0; moment = o.0 }) o.1 refl
+
+pub returns-in-Ok-open-clause-slots : goal.returns-in-Ok-open-clause-slots
+returns-in-Ok-open-clause-slots g c =
+    let said = c.in-Ok-open.ensures in
+    let is_open : IsOpen c.args.plan.limit c.in-Ok-open.partition said.opened.0 = record { has = said.opened.1.has; live = said.live; place = said.place ∙ c.new.ensures; most = said.limit } in
+    let applied = subst (λ (p : ℕ). IsApplied p said.opened.0) c.new.ensures said.opened.1.applied in
+    let o = opened_as c.args.volume c.args.plan.limit said.opened.0 c.in-Ok-open.partition is_open said.opened.1.stood applied said.opens.later said.steady
+    (λ tells. said.settled tells said.opened.0 (said.opened.1.stood (g.met.D.Disk.images_told tells))) said.slots in
+    c.serve_partition.ensures.slots (record { volume = c.args.volume; limit = c.args.plan.limit; batches = said.opened.0; moment = o.0 }) o.1

@@ -5,7 +5,7 @@ use Rattle.zb_words.specs.declared.plan.Plan.{Plan}
 use Rattle.zb_words.proofs.WordLaws.{one_plan}
 use Rattle.zb_serve.specs.Words.{IsPlanned}
 use Rattle.zb_serve.specs.Ends.{devices_of}
-use Rattle.zb_serve.specs.Hours.{setting_of}
+use Rattle.zb_serve.specs.Setting.{setting_of}
 use Rattle.zb_serve.proofs.SingleLemmas.{one_member, one_set, one_taken, one_put, run_single, safe_same, safe_single, slots_single}
 use Rattle.zb_serve.proofs.top.serve_alone.Goals as goal
 

@@ -1,0 +1,4 @@
+pub mod Numbered
+pub mod Serial
+pub mod Replies
+pub mod Asking

@@ -1,0 +1,30 @@
+-- The reply to a request, by its entries alone.
+use Rattle.std.specs.Prelude.{ℕ, List, [], ◌∷◌, length, Option, Some, None}
+use Rattle.zb_model.specs.declared.record.Command.{Command}
+use Rattle.zb_world.specs.Entries.{Entry}
+use Rattle.zb_wire.specs.declared.request.Request.{Request}
+use Rattle.zb_wire.specs.declared.request.Request.TheVariants as requests
+use Rattle.zb_wire.specs.Asked.{command_of}
+use Rattle.zb_reply.specs.declared.reply.Reply.{Reply}
+use Rattle.zb_reply.specs.declared.reply.Reply.TheVariants as replies
+use Rattle.zb_reply.specs.Reply.{answer_of}
+
+-- the reply to a client's command: what its one batch came to
+abbrev pub reply_of_one : List Entry → Option Reply
+reply_of_one (entry ∷ []) = answer_of entry.batch
+reply_of_one _ = None
+
+-- the reply to the clock's ops: a tick tells how many its entries are, an advance the reading
+abbrev pub clocked_reply : Request → ℕ → List Entry → Option Reply
+clocked_reply requests.Tick reading entries = Some (replies.Tick (length entries))
+clocked_reply (requests.Advance ms) reading entries = Some (replies.Advance reading)
+clocked_reply _ reading entries = None
+
+-- the reply to a request that made these entries, by the command of a client that it has, if it has one
+abbrev pub reply_if : Option Command → Request → ℕ → List Entry → Option Reply
+reply_if (Some command) request reading entries = reply_of_one entries
+reply_if None request reading entries = clocked_reply request reading entries
+
+-- the reply to a request that made these entries
+abbrev pub reply_to : Request → ℕ → List Entry → Option Reply
+reply_to request reading entries = reply_if (command_of request) request reading entries

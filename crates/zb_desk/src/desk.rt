@@ -1,0 +1,40 @@
+ghost use Rattle.std.specs.Prelude.{◌≡◌, ℕ, List, length, Option, IfOk, IfErr};
+ghost use Rattle.zb_model.specs.declared.record.Batch.{Batch};
+ghost use Rattle.zb_model.specs.declared.stop.Stop.{Stop as Halt};
+ghost use Rattle.zb_world.specs.Entries.{Entry};
+ghost use Rattle.zb_desk.specs.Asking.{IsAsked, IsCut};
+
+use std::alloc::Global;
+use zb_model::{Moment, Stop};
+use zb_reply::Reply;
+use zb_wire::Request;
+
+/// What requests can be asked of: the logs of some partitions, and what carries requests out on them.
+pub trait Desk {
+    /// What it began with.
+    ghost Begun: { Type 0 };
+
+    /// The batches that each of its logs had then.
+    ghost logs: { Begun → List (List Batch) };
+
+    /// It began so, and has made these entries since.
+    ghost has: { Begun → List Entry → Self → Type 0 };
+
+    /// It began so, made these entries and stopped, with the entry that was made last and isn't in its log, if there
+    /// is one.
+    ghost stopped: { Begun → List Entry → Option Entry → Halt → Self → Type 0 };
+
+    /// How many partitions it has.
+    fn partitions(&self) -> u32
+        ensures { (begun : Begun) (made : List Entry) → has begun made self.now → result ≡ length (logs begun) };
+
+    /// Carries a request out at a reading of the clock: at `Ok` its entries are in the logs, and this is the reply
+    /// to them. After an `Err` it has stopped, and is only closed.
+    fn ask(&mut self, alloc: Global, reading: Moment, request: Request) -> Result<Reply, Stop>
+        requires { (begun : Begun) × (made : List Entry) × has begun made self.old }
+        ensures asked { (begun : Begun) (made : List Entry) → has begun made self.old
+            → IfOk result (IsAsked (logs begun) request reading made (λ entries. has begun entries self.new)) }
+        ensures cut { (begun : Begun) (made : List Entry) → has begun made self.old
+            → IfErr result (λ stop. IsCut (logs begun) request reading made
+            (λ entries unlogged. stopped begun entries unlogged stop self.new)) };
+}

@@ -1,0 +1,7 @@
+//! What requests can be asked of: the commands that a request asks for, the reply to it, and the trait of what carries
+//! it out.
+#![tactic(auto)]
+
+mod desk;
+
+pub use desk::Desk;

@@ -1,0 +1,84 @@
+ghost use Rattle.std.specs.Prelude.{◌≡◌, ◌∷◌, []};
+ghost use Rattle.zb_partition.specs.Partition.{slots_of, in_writing};
+ghost use Rattle.zb_engine.specs.Ledger.{Opening, disk_in};
+ghost use Rattle.zb_engine.specs.Solo.{slots_in, IsOpenedAs, HasMade, HasEnded, ledger_in, kept_in};
+
+use crate::asking::carry_out;
+use crate::ledger::Ledger;
+use std::alloc::Global;
+use zb_desk::Desk;
+use zb_disk::Disk;
+use zb_model::{Moment, PartitionId, Stop};
+use zb_partition::{Partition, Stopped};
+use zb_reply::Reply;
+use zb_wire::Request;
+
+// The number of the one partition that there is so far.
+const PARTITION: u32 = 1;
+
+/// The partitions of a run, of which there is one so far, for one thread. A request is carried out on them by
+/// `Desk::ask`, which waits for nobody.
+#[derive(Drop)]
+pub struct Solo<D: Disk> {
+    ledger: Ledger<D>,
+    // Why it stopped, if it did.
+    kept: Option<Stop>,
+}
+
+impl<D: Disk> Solo<D> {
+    /// The engine over a partition that was opened.
+    pub fn new(alloc: Global, partition: Partition<D>) -> Solo<D>
+        ensures { (opening : Opening D) → IsOpenedAs opening partition → HasMade opening [] result }
+    {
+        Solo {
+            ledger: Ledger {
+                partition,
+                stamps: Vec::new(alloc),
+            },
+            kept: None,
+        }
+    }
+
+    /// The stop that ended the run, with the partition that met it, if there was one. A want of memory that no
+    /// partition met is told of partition 1.
+    pub fn stop(&self) -> Option<(PartitionId, Stop)>
+        ensures { result ≡ kept_in self.now }
+    {
+        let stop = self.kept?;
+        Some((PartitionId::new(PARTITION), stop))
+    }
+
+    /// What is left of the partition, and the places that its batches of this run have. It takes no memory.
+    pub fn close(self) -> (Stopped<D>, Vec<u64>)
+        ensures log { result.0.volume.log ≡ disk_in (ledger_in self) }
+        ensures slots { slots_in result.0.volume ≡ slots_of (ledger_in self).partition }
+        ensures in_writing { result.0.in_writing ≡ in_writing (ledger_in self).partition }
+        ensures stamps { result.1 ≡ (ledger_in self).stamps }
+    {
+        self.ledger.close()
+    }
+}
+
+impl<D: Disk> Desk for Solo<D> {
+    ghost Begun = { Opening D };
+
+    ghost logs = { λ opening. opening.batches ∷ [] };
+
+    ghost has = { HasMade };
+
+    ghost stopped = { HasEnded };
+
+    fn partitions(&self) -> u32 {
+        PARTITION
+    }
+
+    fn ask(&mut self, alloc: Global, reading: Moment, request: Request) -> Result<Reply, Stop> {
+        match carry_out(alloc, &mut self.ledger, reading, request) {
+            Ok(reply) => Ok(reply),
+            Err(stop) => {
+                self.kept = Some(stop);
+                Err(stop)
+            }
+        }
+    }
+}

@@ -1,0 +1,104 @@
+-- A run of one session and one partition that is over.
+use Rattle.std.proofs.Common.{◌≡◌, ◌⊎◌, ℕ, zero, suc, ◌+◌, ◌-◌, ◌<◌, ◌≤◌, List, [], ◌∷◌, ◌++◌, length, take, nat_lt, Bool, true, false, All, IsTrue, IsFalse, Option, Some, None, option_map, Ok, refl, sym, ◌∙◌, ap, subst, inl, inr, ⊎_elim, arith}
+use Rattle.std.proofs.lemmas.Bool.{false≢true}
+use Rattle.std.proofs.lemmas.Bool.Decides.{nat_tests}
+use Rattle.std.proofs.lemmas.List.Elements.{All-nil, All-cons}
+use Rattle.std.specs.List.{sum_by, range_with_len, slice_get}
+use Rattle.zb_disk.specs.Cause.{Rose}
+use Rattle.zb_model.specs.declared.record.Batch.{Batch}
+use Rattle.zb_rules.specs.Step.{IsStep, AreStepsOn}
+use Rattle.zb_world.specs.Entries.{Entry, IsPartitionOf, as_entry, entries_of, part_of}
+use Rattle.zb_lines.specs.Taken.{TakesBytes}
+use Rattle.zb_world.specs.EntryLaws.{part_of_entries, places_of_entries}
+use Rattle.zb_store.specs.Calls.{IsByFirstCall}
+use Rattle.zb_store.specs.Log.{extent}
+use Rattle.zb_store.specs.Stands.{Stands}
+use Rattle.zb_partition.specs.Log.{bodies_of, AreBatches, IsApplied}
+use Rattle.zb_partition.specs.Stopping.{frame_of, HasRoomFor}
+use Rattle.zb_desk.specs.Numbered.{OfNumber, EachFrom}
+use Rattle.zb_desk.specs.Serial.{place_behind, IsNextEntry, AreMadeFor}
+use Rattle.zb_session.specs.Hours.{IsReadingOf}
+use Rattle.zb_session.specs.Answer.{Answer, found_in, entries_made, AreSerial}
+use Rattle.zb_session.specs.Session.{Streams, SessionEnds, SessionRun, AreWritten, CutsOff, IsFirstCut, IsLeftUndone, IsEndOf, HasServed, most_taken}
+use Rattle.zb_session.specs.declared.session.End.{End}
+use Rattle.zb_session.specs.declared.session.End.TheVariants as endings
+use Rattle.zb_engine.specs.Ledger.{AreMadeBatches, IsLeftOver, IsFront}
+use Rattle.zb_serve.specs.Setting.{RunSetting}
+use Rattle.zb_serve.specs.Ends.{Told, LogEnds}
+use Rattle.zb_serve.specs.Log.{Course, course_of, OpenedLog, log_in, batch_of, IsKept, IsLeftOf, IsLog}
+use Rattle.zb_serve.specs.History.{stamps_of}
+use Rattle.zb_serve.specs.Served.{HasRun, MayEnd, IsWhyUndone, IsUndone, answers_of}
+use Rattle.zb_serve.specs.Cause.{rank_of, comes_before}
+use Rattle.zb_serve.specs.Order.{HasFailed, WasMet}
+use Rattle.zb_serve.specs.Session.{IsSent}
+use Rattle.zb_serve.specs.Running.{ends_alone, crashes_alone}
+use Rattle.zb_serve.specs.declared.run.Cause.{Cause}
+use Rattle.zb_serve.specs.declared.run.Cause.TheVariants as causes
+use Rattle.zb_serve.proofs.ListLemmas.{append_none}
+use Rattle.zb_serve.proofs.HistoryLemmas.{run_goes_on, cut_at_end}
+use Rattle.zb_serve.proofs.EndLemmas.{IsHeld, IsNamed, whole_served, opening, none_first, within, stamped, is_log, undone_of}
+
+-- what the session wrote
+sent_as : (streams : Streams) (told : Told) (sides : SessionEnds) (end : End) (cause : Cause) (answers : List Answer) → told.sink_memory ≡ streams.sink_memory → (end ≡ endings.SinkFault → cause ≡ causes.SinkFault 1) → (end ≡ endings.Memory → cause ≡ causes.Memory)
+    → AreWritten streams sides end answers → IsSent told 1 sides cause answers
+sent_as streams told sides end cause answers memory failed forgot (inl whole) = inl whole
+sent_as streams told sides end cause answers memory failed forgot (inr (front, last, n, is, written, inl (rose, e))) = inr (front, last, n, is, written, inl (rose, inl (failed e)))
+sent_as streams told sides end cause answers memory failed forgot (inr (front, last, n, is, written, inr (takes, e))) = inr (front, last, n, is, written, inr (subst IsTrue (sym memory) takes, forgot e))
+
+-- a run is over
+pub over : (streams : Streams) (told : Told) (setting : RunSetting) (sides : SessionEnds) (log : LogEnds) (before images : List ℕ → Type 0) (since : ℕ → List ℕ → Type 0) (places : List ℕ) (end : End) (cause : Cause)
+    (run : SessionRun) (opened made : List Batch) (rest : List Entry) (unlogged : Option Batch) (opened_at : ℕ)
+    → told.source ≡ streams.source_tells → told.sink ≡ streams.sink_tells → told.sink_memory ≡ streams.sink_memory
+    → HasServed streams setting.hours (opened ∷ []) sides run end
+    → (end ≡ endings.SinkFault → cause ≡ causes.SinkFault 1) → (end ≡ endings.Memory → cause ≡ causes.Memory)
+    → IsLeftUndone setting.hours (opened ∷ []) run rest (option_map (as_entry 1) unlogged) end → (CutsOff end → IsWhyUndone cause unlogged)
+    → entries_made run.answers ++ rest ≡ entries_of 1 made
+    → (IsTrue told.images → IsByFirstCall log.disk.moment opened_at)
+    → (IsTrue told.disk → Stands log.disk.contents (bodies_of opened))
+    → IsApplied 1 opened
+    → AreMadeBatches setting.limit opened made places
+    → IsHeld told log images cause unlogged (opened ++ made)
+    → (IsTrue told.images → (image : List ℕ) → since opened_at image → IsFront opened made image ⊎ IsKept told log cause unlogged (opened ++ made) image)
+    → (IsTrue told.images → (image : List ℕ) → since log.disk.moment image → before image ⊎ since opened_at image)
+    → IsNamed told setting.limit sides log (opened ++ made) unlogged run cause
+    → ((batch : Batch) → unlogged ≡ Some batch → IsLeftOver (opened ++ made) batch)
+    → HasRun told setting (ends_alone sides log) (crashes_alone before images since) cause (places ∷ [])
+over streams told setting sides log before images since places end cause run opened made rest unlogged opened_at tells_source tells_sink takes_memory served failed forgot undone why split by_first stood applied are_made held ever earlier named left =
+    let alone : run.answers ≡ answers_of (run ∷ []) = append_none run.answers in
+    let goes_on = run_goes_on setting.limit opened made places are_made in (
+      entries_of 1 made,
+      option_map (as_entry 1) unlogged,
+      record {
+        logs = opening told setting sides log cause opened made unlogged opened_at ∷ [];
+        runs = run ∷ [];
+        rest = rest;
+        status = named.status;
+        first_met = none_first told setting sides log cause opened made unlogged opened_at run named;
+        within = within told setting sides log cause opened made unlogged opened_at made;
+        stamped = stamped told setting sides log cause opened made unlogged opened_at places are_made;
+        are_logs = (is_log told setting sides log cause opened made unlogged opened_at before images since places run by_first stood applied are_made held ever earlier named left, tt);
+        history = goes_on;
+        sessions = (
+          record {
+            takes = subst (λ (t : Bool). TakesBytes t sides.source sides.source_after run.taken) (sym tells_source) served.takes;
+            lines = served.lines;
+            within = served.within;
+            to_end = λ ended t. served.to_end ended (subst IsTrue tells_source t);
+            first = served.first;
+            answers = served.answers;
+            sent = λ t. sent_as streams told sides end cause run.answers takes_memory failed forgot (served.sent (subst IsTrue tells_sink t));
+            done = named.done;
+            whole = λ uncut source sink few. whole_served told setting.limit sides log (opened ++ made) unlogged run cause named uncut source sink few;
+            source_fault = named.source_fault;
+            sink_fault = named.sink_fault;
+            input_full = named.input_full;
+          },
+          tt,
+        );
+        all = sym split ∙ ap (λ (given : List Answer). entries_made given ++ rest) alone;
+        serial = subst (AreSerial setting.hours (opened ∷ [])) alone served.serial;
+        undone = undone_of told setting sides log cause opened made unlogged opened_at run rest end undone why;
+        crash_cut = λ tells base is has kept one are.
+            cut_at_end told log (λ number. images) cause unlogged opened made left (held.crash tells) base has (goes_on base is has).0 kept one are;
+      },
+    )

@@ -1,0 +1,61 @@
+use Rattle.std.proofs.Common.{arith, refl, ◌+◌, ◌∙◌, sym, subst, IsTrue, []}
+use Rattle.zb_lines.specs.TakenLaws.{takes_nothing}
+use Rattle.zb_session.specs.Hours.{Hours}
+use Rattle.zb_session.specs.Session.{most_taken, streams_of}
+use Rattle.zb_session.specs.Serving.{AreAt, began_of, clocks_of, facts_by, service_of, stand_of, first_stand, IsServing}
+use Rattle.zb_session.proofs.TurnLemmas.{few, serving_first}
+use Rattle.zb_session.proofs.EndLemmas.{stops_memory, goes_over, goes_next}
+use Rattle.zb_session.proofs.serving.serve_session.Goals as goal
+
+pub returns-in-Err-clause-over : goal.returns-in-Err-clause-over
+returns-in-Err-clause-over g c = λ begun hours has at.
+    let began = began_of hours (g.A.Desk.logs begun) (g.S.Source.view c.args.session.now.source) (g.K.Sink.view c.args.session.now.sink) in
+    stops_memory _ began _
+    (serving_first (streams_of g.S.Source.tells g.S.Source.counts_failures g.K.Sink) began _ (facts_by g.A.Desk begun c.args.desk.now) has at)
+    most_taken _ _ (takes_nothing _ _) (omega arith) (λ t. refl)
+
+pub loop-number-init : goal.loop-number-init
+loop-number-init g c = (
+  λ begun hours has at.
+      rw (c.in-Ok.ensures.reader, c.in-Ok.ensures.budget) (serving_first (streams_of g.S.Source.tells g.S.Source.counts_failures g.K.Sink)
+      (began_of hours (g.A.Desk.logs begun) (g.S.Source.view c.args.session.now.source) (g.K.Sink.view c.args.session.now.sink))
+      (clocks_of c.args.dial.now g.C.Clock.tells (g.C.Clock.moments c.args.clock.now)) (facts_by g.A.Desk begun c.args.desk.now) has at),
+  refl,
+  refl,
+  λ by_hand. refl,
+)
+
+pub serve_next-requires : goal.serve_next-requires
+serve_next-requires g c =
+    let k = c.requires in
+    (k.0, k.1, _, _, c.loop-number.invariant.0 k.0 k.1 k.2 k.3)
+
+pub returns-in-Ok-false-clause-over : goal.returns-in-Ok-false-clause-over
+returns-in-Ok-false-clause-over g c = λ begun hours has at.
+    let began = began_of hours (g.A.Desk.logs begun) (g.S.Source.view c.args.session.now.source) (g.K.Sink.view c.args.session.now.sink) in
+    goes_over _ began
+    (stand_of (g.S.Source.view c.serve_next.new.session.source)
+    (service_of (g.K.Sink.view c.serve_next.new.session.sink) (clocks_of c.serve_next.new.dial g.C.Clock.tells (g.C.Clock.moments c.serve_next.new.clock)) (facts_by g.A.Desk begun c.serve_next.new.desk))
+    c.serve_next.new.intake.reader c.serve_next.new.intake.budget (c.loop-number.number + 1)) _ c.in-Ok-false.field-0-test
+    (c.in-Ok-false.ensures.goes_on begun hours _ _ (c.loop-number.invariant.0 begun hours has at))
+
+pub unreachable-requires : goal.unreachable-requires
+unreachable-requires g c =
+    let k = c.requires in
+    let s = c.loop-number.invariant.0 k.0 k.1 k.2 k.3 in
+    let bound = g.met.S.Source.bounded c.loop-number.session.source in
+    omega (arith, few _ _ _ s)
+
+pub loop-number-preserved : goal.loop-number-preserved
+loop-number-preserved g c =
+    let i = c.loop-number.invariant in
+    let said = c.in-Ok-true.ensures in (
+      λ begun hours has at. goes_next _ _ _ _ c.in-Ok-true.field-0-test (said.goes_on begun hours _ _ (i.0 begun hours has at)),
+      said.kind ∙ i.1,
+      said.moments ∙ i.2,
+      λ by_hand. said.untouched (subst IsTrue (sym i.1) by_hand) ∙ i.3 by_hand,
+    )
+
+-- the run is over
+pub returns-in-Err-serve_next-clause-over : goal.returns-in-Err-serve_next-clause-over
+returns-in-Err-serve_next-clause-over g c = λ begun hours has at. c.in-Err-serve_next.ensures.goes_on begun hours _ _ (c.loop-number.invariant.0 begun hours has at)

@@ -1,0 +1,62 @@
+-- What a line is answered, and which answers are those of the serial run.
+use Rattle.std.specs.Prelude.{◌≡◌, ℕ, List, [], ◌∷◌, ◌++◌, map, Some, None, Result, Ok, Err}
+use Rattle.std.specs.List.{flat_map}
+use Rattle.zb_model.specs.declared.record.Batch.{Batch}
+use Rattle.zb_rules.specs.Step.{EachOn}
+use Rattle.zb_world.specs.Entries.{Entry}
+use Rattle.zb_wire.specs.declared.given.Given.{Given}
+use Rattle.zb_wire.specs.declared.request.Request.{Request}
+use Rattle.zb_wire.specs.declared.request.LineFault.{LineFault}
+use Rattle.zb_wire.specs.Request.{request_of}
+use Rattle.zb_reply.specs.declared.reply.Reply.{Reply}
+use Rattle.zb_reply.specs.declared.reply.Reply.TheVariants as replies
+use Rattle.zb_reply.specs.Reply.{line_of}
+use Rattle.zb_desk.specs.Serial.{IsCarriedOut}
+use Rattle.zb_desk.specs.Replies.{reply_to}
+use Rattle.zb_session.specs.Hours.{Hours, IsReadingOf}
+
+-- what a line led to: what it was found to be, the reading of the clock that its request was served at, the entries that
+-- it made, and the line of its reply
+pub record Answer : Type 0 where
+  pub asked : Result Request LineFault
+  pub reading : ℕ
+  pub entries : List Entry
+  pub reply : List ℕ
+
+-- this line is the reply to a request that made these entries; no unit of work was done for it
+pub record IsReplyTo (request : Request) (reading : ℕ) (entries : List Entry) (line : List ℕ) : Type 0 where
+  pub reply : Reply
+  pub told : reply_to request reading entries ≡ Some reply
+  pub written : line ≡ line_of reply (Some 0)
+
+-- a line with this number that is no request is answered by its fault, and makes no entry
+abbrev pub IsReplyBy : ℕ → Answer → Result Request LineFault → Type 0
+IsReplyBy number answer (Ok request) = IsReplyTo request answer.reading answer.entries answer.reply
+IsReplyBy number answer (Err fault) = (answer.entries ≡ []) × (answer.reply ≡ line_of (replies.Fault number fault) None)
+
+-- this is what a line led to, which was read by its number, the number of partitions, and the kind of the clock
+pub record IsAnswer (given : Given) (line : List ℕ) (answer : Answer) : Type 0 where
+  pub found : request_of given line ≡ answer.asked
+  pub replied : IsReplyBy given.number answer answer.asked
+
+-- the entries of these answers, in order
+abbrev pub entries_made : List Answer → List Entry
+entries_made answers = flat_map (λ answer. answer.entries) answers
+
+-- what the lines of these answers were found to be
+abbrev pub found_in : List Answer → List (Result Request LineFault)
+found_in answers = map (λ answer. answer.asked) answers
+
+-- behind these answers a line was served: a request at a reading of the clock, by its entries, and no other line
+abbrev pub IsServedAs : Hours → List (List Batch) → List Answer → Answer → Result Request LineFault → Type 0
+IsServedAs hours logs before answer (Ok request) = IsReadingOf hours (found_in before ++ answer.asked ∷ []) answer.reading
+    × IsCarriedOut logs request answer.reading (entries_made before) answer.entries
+IsServedAs hours logs before answer (Err fault) = answer.entries ≡ []
+
+-- behind these answers this one was served
+abbrev pub IsServed : Hours → List (List Batch) → List Answer → Answer → Type 0
+IsServed hours logs before answer = IsServedAs hours logs before answer answer.asked
+
+-- these answers are those of the serial run: each was served behind those before it
+abbrev pub AreSerial : Hours → List (List Batch) → List Answer → Type 0
+AreSerial hours logs answers = EachOn (IsServed hours logs) [] answers

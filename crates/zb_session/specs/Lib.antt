@@ -1,0 +1,4 @@
+pub mod Hours
+pub mod Answer
+pub mod Session
+pub mod Serving
