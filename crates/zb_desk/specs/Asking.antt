@@ -1,23 +1,40 @@
--- What asking for a request leads to.
-use Rattle.std.specs.Prelude.{◌≡◌, ℕ, List, ◌++◌, Option, Some}
-use Rattle.zb_model.specs.declared.record.Batch.{Batch}
+-- What asking for a request leads to, and what doing units of work does.
+use Rattle.std.specs.Prelude.{◌≡◌, ℕ, List, ◌++◌, length, Option, Some}
 use Rattle.zb_world.specs.Entries.{Entry}
 use Rattle.zb_wire.specs.declared.request.Request.{Request}
-use Rattle.zb_reply.specs.declared.reply.Reply.{Reply}
-use Rattle.zb_desk.specs.Serial.{IsNextEntry, AreMadeFor, IsCarriedOut}
+use Rattle.zb_desk.specs.declared.answered.Answered.{Answered}
+use Rattle.zb_desk.specs.Serial.{Basis, units_in, IsNextEntry, AreMadeFor, IsCarriedOut, IsNextUnit, AreUnits, AreAllUnits}
 use Rattle.zb_desk.specs.Replies.{reply_to}
 
--- behind earlier entries a request was carried out at a reading: its entries are there too, and it has this reply
-pub record IsAsked (logs : List (List Batch)) (request : Request) (reading : ℕ) (earlier : List Entry) (has : List Entry → Type 0) (reply : Reply) : Type 0 where
+-- behind earlier entries a request was carried out at a reading: its entries are there too, and this is what it is answered, with
+-- the units of work that were done behind it
+pub record IsAsked (basis : Basis) (request : Request) (reading : ℕ) (earlier : List Entry) (has : List Entry → Type 0) (answered : Answered) : Type 0 where
   pub entries : List Entry
-  pub done : IsCarriedOut logs request reading earlier entries
-  pub told : reply_to request reading entries ≡ Some reply
+  pub done : IsCarriedOut basis request reading earlier entries
+  pub told : reply_to request reading entries ≡ Some answered.reply
+  pub units : answered.units ≡ length (units_in entries)
   pub holds : has (earlier ++ entries)
 
 -- behind earlier entries a request was cut off once it had made these, and the one that isn't in its log, if there is one
-pub record IsCut (logs : List (List Batch)) (request : Request) (reading : ℕ) (earlier : List Entry) (stopped : List Entry → Option Entry → Type 0) : Type 0 where
+pub record IsCut (basis : Basis) (request : Request) (reading : ℕ) (earlier : List Entry) (stopped : List Entry → Option Entry → Type 0) : Type 0 where
   pub entries : List Entry
-  pub made : AreMadeFor logs request reading earlier entries
+  pub made : AreMadeFor basis request reading earlier entries
   pub unlogged : Option Entry
-  pub next : (entry : Entry) → unlogged ≡ Some entry → IsNextEntry logs request reading earlier entries entry
+  pub next : (entry : Entry) → unlogged ≡ Some entry → IsNextEntry basis request reading earlier entries entry
   pub holds : stopped (earlier ++ entries) unlogged
+
+-- behind earlier entries so many units of work were done at a reading, and no more come
+pub record IsDelivered (basis : Basis) (reading : ℕ) (earlier : List Entry) (has : List Entry → Type 0) (count : ℕ) : Type 0 where
+  pub units : List Entry
+  pub done : AreAllUnits basis reading earlier units
+  pub told : count ≡ length units
+  pub holds : has (earlier ++ units)
+
+-- behind earlier entries the doing of units was cut off, once these were done, with the one that isn't in its log, if
+-- there is one
+pub record IsDeliveryCut (basis : Basis) (reading : ℕ) (earlier : List Entry) (stopped : List Entry → Option Entry → Type 0) : Type 0 where
+  pub units : List Entry
+  pub made : AreUnits basis reading earlier units
+  pub unlogged : Option Entry
+  pub next : (entry : Entry) → unlogged ≡ Some entry → IsNextUnit basis reading earlier units entry
+  pub holds : stopped (earlier ++ units) unlogged

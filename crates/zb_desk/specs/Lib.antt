@@ -1,4 +1,5 @@
 pub mod Numbered
 pub mod Serial
+pub mod SerialLaws
 pub mod Replies
 pub mod Asking

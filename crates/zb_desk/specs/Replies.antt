@@ -8,6 +8,7 @@ use Rattle.zb_wire.specs.Asked.{command_of}
 use Rattle.zb_reply.specs.declared.reply.Reply.{Reply}
 use Rattle.zb_reply.specs.declared.reply.Reply.TheVariants as replies
 use Rattle.zb_reply.specs.Reply.{answer_of}
+use Rattle.zb_desk.specs.Serial.{asked_in}
 
 -- the reply to a client's command: what its one batch came to
 abbrev pub reply_of_one : List Entry → Option Reply
@@ -20,11 +21,11 @@ clocked_reply requests.Tick reading entries = Some (replies.Tick (length entries
 clocked_reply (requests.Advance ms) reading entries = Some (replies.Advance reading)
 clocked_reply _ reading entries = None
 
--- the reply to a request that made these entries, by the command of a client that it has, if it has one
+-- the reply to a request that asked for these entries, by the command of a client that it has, if it has one
 abbrev pub reply_if : Option Command → Request → ℕ → List Entry → Option Reply
 reply_if (Some command) request reading entries = reply_of_one entries
 reply_if None request reading entries = clocked_reply request reading entries
 
--- the reply to a request that made these entries
+-- the reply to a request that these entries were made for, by those of them that it asked for itself
 abbrev pub reply_to : Request → ℕ → List Entry → Option Reply
-reply_to request reading entries = reply_if (command_of request) request reading entries
+reply_to request reading entries = reply_if (command_of request) request reading (asked_in entries)

@@ -1,12 +1,14 @@
--- The serial run: which command comes next, and what a request leads to by it.
-use Rattle.std.specs.Prelude.{◌≡◌, ◌+◌, nat_lt, max, if◌then◌else◌, ℕ, suc, List, [], ◌∷◌, ◌++◌, length, Option, Some, None, option_map}
-use Rattle.std.specs.List.{sum_by}
+-- The serial run: which command comes next, units of work included, and what a request leads to by it.
+use Rattle.std.specs.Prelude.{◌≡◌, ◌+◌, nat_lt, max, if◌then◌else◌, ℕ, suc, List, [], ◌∷◌, ◌++◌, length, filter, Bool, true, false, not, Option, Some, None, option_map}
+use Rattle.std.specs.List.{sum_by, list_any}
 use Rattle.std.specs.Option.{option_or}
 use Rattle.zb_model.specs.declared.record.Batch.{Batch}
 use Rattle.zb_model.specs.declared.record.Command.{Command}
+use Rattle.zb_model.specs.declared.record.Command.TheVariants as commands
 use Rattle.zb_views.specs.View.{events_of, moment_of_last}
 use Rattle.zb_rules.specs.Step.{EachOn}
 use Rattle.zb_rules.specs.Due.{due_command}
+use Rattle.zb_rules.specs.Continue.{is_quiet}
 use Rattle.zb_world.specs.Entries.{Entry, part_of}
 use Rattle.zb_wire.specs.declared.request.Request.{Request}
 use Rattle.zb_wire.specs.declared.request.Request.TheVariants as requests
@@ -48,25 +50,85 @@ abbrev pub next_by : Option Command → List (List Batch) → Request → ℕ �
 next_by (Some command) logs request reading earlier done = once command done
 next_by None logs request reading earlier done = clocked logs request reading earlier done
 
--- the command that a request asks for next at a reading, and its partition, behind the entries before it and those that
--- were done for it
-abbrev pub next_of : List (List Batch) → Request → ℕ → (earlier done : List Entry) → Option (ℕ × Command)
-next_of logs request reading earlier done = next_by (command_of request) logs request reading earlier done
+-- the command that a request itself asks for next at a reading, and its partition
+abbrev pub next_asked : List (List Batch) → Request → ℕ → (earlier done : List Entry) → Option (ℕ × Command)
+next_asked logs request reading earlier done = next_by (command_of request) logs request reading earlier done
 
--- this is the entry that comes next for a request: of the command that it asks for, at the larger one of the last moment
--- of its log and the reading, and it begins at its own place
-pub record IsNextEntry (logs : List (List Batch)) (request : Request) (reading : ℕ) (earlier done : List Entry)
-    (entry : Entry) : Type 0 where
-  pub command : next_of logs request reading earlier done ≡ Some (entry.partition, entry.batch.command)
+-- a unit of work is a command that nobody asks for: the engine goes on where a batch was full (own)
+abbrev pub is_unit_command : Command → Bool
+is_unit_command commands.ProcessInstanceBatchContinue = true
+is_unit_command _ = false
+
+-- the entry is a unit of work
+abbrev pub is_unit : Entry → Bool
+is_unit entry = is_unit_command entry.batch.command
+
+-- the entries that are units of work
+abbrev pub units_in : List Entry → List Entry
+units_in entries = filter is_unit entries
+
+-- and those that were asked for
+abbrev pub asked_in : List Entry → List Entry
+asked_in entries = filter (λ entry. not (is_unit entry)) entries
+
+-- the next unit of work behind some entries, with its partition, of the logs from partition p on: the first one whose game isn't quiet goes on
+abbrev pub unit_in_logs : (p : ℕ) → List (List Batch) → List Entry → Option (ℕ × Command)
+unit_in_logs p [] entries = None
+unit_in_logs p (log ∷ logs) entries =
+    if is_quiet (events_of (log_behind p log entries)) then unit_in_logs (suc p) logs entries else Some (p, commands.ProcessInstanceBatchContinue)
+
+-- what a run goes by as it begins: the logs as they were opened, and how many units of work are done behind a request
+pub record Basis : Type 0 where
+  pub logs : List (List Batch)
+  pub units : ℕ
+
+-- what a run goes by, by its parts
+abbrev pub basis_of : List (List Batch) → ℕ → Basis
+basis_of logs units = record { logs = logs; units = units }
+
+-- the next unit of work behind some entries, where so many were done so far; None where no more are done, or where every game is quiet
+abbrev pub next_unit : Basis → ℕ → List Entry → Option (ℕ × Command)
+next_unit basis count entries = if nat_lt count basis.units then unit_in_logs 1 basis.logs entries else None
+
+-- the command that comes next for a request at a reading, and its partition, behind the entries before it and those that
+-- were done for it: what it asks for, and then units of work
+abbrev pub next_of : Basis → Request → ℕ → (earlier done : List Entry) → Option (ℕ × Command)
+next_of basis request reading earlier done =
+    option_or (if list_any is_unit done then None else next_asked basis.logs request reading earlier done)
+    (next_unit basis (length (units_in done)) (earlier ++ done))
+
+-- this is the entry of a command that comes next behind some entries: at the larger one of the last moment of its log and
+-- the reading, and it begins at its own place
+pub record IsEntryBy (logs : List (List Batch)) (next : Option (ℕ × Command)) (reading : ℕ) (behind : List Entry) (entry : Entry) : Type 0 where
+  pub command : next ≡ Some (entry.partition, entry.batch.command)
   pub moment : OfNumber logs entry.partition
-      (λ opened. entry.batch.moment ≡ max (moment_of_last (log_behind entry.partition opened (earlier ++ done))) reading)
-  pub begin : entry.batch.begin ≡ place_behind logs (earlier ++ done)
+      (λ opened. entry.batch.moment ≡ max (moment_of_last (log_behind entry.partition opened behind)) reading)
+  pub begin : entry.batch.begin ≡ place_behind logs behind
+
+-- this is the entry that comes next for a request
+abbrev pub IsNextEntry : Basis → Request → ℕ → (earlier done : List Entry) → Entry → Type 0
+IsNextEntry basis request reading earlier done entry =
+    IsEntryBy basis.logs (next_of basis request reading earlier done) reading (earlier ++ done) entry
 
 -- these entries came one after the other for a request, behind those before it
-abbrev pub AreMadeFor : List (List Batch) → Request → ℕ → (earlier entries : List Entry) → Type 0
-AreMadeFor logs request reading earlier entries = EachOn (IsNextEntry logs request reading earlier) [] entries
+abbrev pub AreMadeFor : Basis → Request → ℕ → (earlier entries : List Entry) → Type 0
+AreMadeFor basis request reading earlier entries = EachOn (IsNextEntry basis request reading earlier) [] entries
 
--- a request was carried out at a reading by these entries: it asks for no more
-pub record IsCarriedOut (logs : List (List Batch)) (request : Request) (reading : ℕ) (earlier entries : List Entry) : Type 0 where
-  pub made : AreMadeFor logs request reading earlier entries
-  pub all : next_of logs request reading earlier entries ≡ None
+-- a request was carried out at a reading by these entries: no more come for it
+pub record IsCarriedOut (basis : Basis) (request : Request) (reading : ℕ) (earlier entries : List Entry) : Type 0 where
+  pub made : AreMadeFor basis request reading earlier entries
+  pub all : next_of basis request reading earlier entries ≡ None
+
+-- this is the unit of work that is done next at a reading, for no request
+abbrev pub IsNextUnit : Basis → ℕ → (earlier done : List Entry) → Entry → Type 0
+IsNextUnit basis reading earlier done entry =
+    IsEntryBy basis.logs (next_unit basis (length done) (earlier ++ done)) reading (earlier ++ done) entry
+
+-- these units of work were done one after the other behind some entries
+abbrev pub AreUnits : Basis → ℕ → (earlier units : List Entry) → Type 0
+AreUnits basis reading earlier units = EachOn (IsNextUnit basis reading earlier) [] units
+
+-- these units of work were done, and no more come
+pub record AreAllUnits (basis : Basis) (reading : ℕ) (earlier units : List Entry) : Type 0 where
+  pub made : AreUnits basis reading earlier units
+  pub all : next_unit basis (length units) (earlier ++ units) ≡ None

@@ -1,12 +1,12 @@
 ghost use Rattle.std.specs.Prelude.{◌≡◌, ℕ, List, length, Option, IfOk, IfErr};
-ghost use Rattle.zb_model.specs.declared.record.Batch.{Batch};
 ghost use Rattle.zb_model.specs.declared.stop.Stop.{Stop as Halt};
 ghost use Rattle.zb_world.specs.Entries.{Entry};
+ghost use Rattle.zb_desk.specs.Serial.{Basis};
 ghost use Rattle.zb_desk.specs.Asking.{IsAsked, IsCut};
 
+use crate::answered::Answered;
 use std::alloc::Global;
 use zb_model::{Moment, Stop};
-use zb_reply::Reply;
 use zb_wire::Request;
 
 /// What requests can be asked of: the logs of some partitions, and what carries requests out on them.
@@ -14,8 +14,8 @@ pub trait Desk {
     /// What it began with.
     ghost Begun: { Type 0 };
 
-    /// The batches that each of its logs had then.
-    ghost logs: { Begun → List (List Batch) };
+    /// The batches that each of its logs had then, and how many units of work it does behind a request.
+    ghost basis: { Begun → Basis };
 
     /// It began so, and has made these entries since.
     ghost has: { Begun → List Entry → Self → Type 0 };
@@ -26,15 +26,15 @@ pub trait Desk {
 
     /// How many partitions it has.
     fn partitions(&self) -> u32
-        ensures { (begun : Begun) (made : List Entry) → has begun made self.now → result ≡ length (logs begun) };
+        ensures { (begun : Begun) (made : List Entry) → has begun made self.now → result ≡ length (basis begun).logs };
 
-    /// Carries a request out at a reading of the clock: at `Ok` its entries are in the logs, and this is the reply
-    /// to them. After an `Err` it has stopped, and is only closed.
-    fn ask(&mut self, alloc: Global, reading: Moment, request: Request) -> Result<Reply, Stop>
+    /// Carries a request out at a reading of the clock, and does the units of work behind it: at `Ok` its entries are
+    /// in the logs, and this is what it is answered. After an `Err` it has stopped, and is only closed.
+    fn ask(&mut self, alloc: Global, reading: Moment, request: Request) -> Result<Answered, Stop>
         requires { (begun : Begun) × (made : List Entry) × has begun made self.old }
         ensures asked { (begun : Begun) (made : List Entry) → has begun made self.old
-            → IfOk result (IsAsked (logs begun) request reading made (λ entries. has begun entries self.new)) }
+            → IfOk result (IsAsked (basis begun) request reading made (λ entries. has begun entries self.new)) }
         ensures cut { (begun : Begun) (made : List Entry) → has begun made self.old
-            → IfErr result (λ stop. IsCut (logs begun) request reading made
+            → IfErr result (λ stop. IsCut (basis begun) request reading made
             (λ entries unlogged. stopped begun entries unlogged stop self.new)) };
 }

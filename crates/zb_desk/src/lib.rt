@@ -2,6 +2,8 @@
 //! it out.
 #![tactic(auto)]
 
+mod answered;
 mod desk;
 
+pub use answered::Answered;
 pub use desk::Desk;

@@ -3,5 +3,6 @@ pub mod SerialLemmas
 pub mod ResultLemmas
 pub mod ListLemmas
 pub mod LogLemmas
-pub mod TickLemmas
+pub mod WorkLemmas
+pub mod WorkRunLemmas
 pub mod SoloLemmas

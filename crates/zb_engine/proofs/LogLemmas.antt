@@ -212,8 +212,14 @@ pub holds_then : {D : Type 0} {disks : Ghosts D} (account : Account D) (ledger :
 holds_then account ledger more again holds =
     subst (λ (made : List Batch). HasAccount (account_of account.opening made) ledger) (append_assoc account.made more again) holds
 
--- a command that stopped a ledger behind an account did so behind it with nothing more
-pub refused_same : {D : Type 0} {disks : Ghosts D} (account : Account D) (reading : ℕ) (command : Command) (stop : Stop) (ledger : Ledger D disks) → HasRefused account reading command stop ledger
-    → HasRefused (with_more account []) reading command stop ledger
-refused_same account reading command stop ledger refused =
-    subst (λ (made : List Batch). HasRefused (account_of account.opening made) reading command stop ledger) (append_none account.made) refused
+-- the same of a ledger that was stopped
+pub stopped_then : {D : Type 0} {disks : Ghosts D} (account : Account D) (ledger : Ledger D disks) (more again : List Batch) (refused : Option Batch) (stop : Stop) → HasStopped (with_more (with_more account more) again) refused stop ledger
+    → HasStopped (with_more account (more ++ again)) refused stop ledger
+stopped_then account ledger more again refused stop stopped =
+    subst (λ (made : List Batch). HasStopped (account_of account.opening made) refused stop ledger) (append_assoc account.made more again) stopped
+
+-- a ledger that was stopped behind an account was so behind it with nothing more
+pub stopped_same : {D : Type 0} {disks : Ghosts D} (account : Account D) (refused : Option Batch) (stop : Stop) (ledger : Ledger D disks) → HasStopped account refused stop ledger
+    → HasStopped (with_more account []) refused stop ledger
+stopped_same account refused stop ledger stopped =
+    subst (λ (made : List Batch). HasStopped (account_of account.opening made) refused stop ledger) (append_none account.made) stopped

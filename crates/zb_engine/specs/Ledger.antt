@@ -1,37 +1,45 @@
 -- What is known of a partition's ledger, from the beginning of the run on.
-use Rattle.std.specs.Prelude.{◌≡◌, ◌⊎◌, ◌≤◌, max, ℕ, List, [], ◌∷◌, ◌++◌, length, take, IsTrue, Option, Some}
+use Rattle.std.specs.Prelude.{◌≡◌, ◌⊎◌, ◌≤◌, ◌<◌, max, if◌then◌else◌, ℕ, List, [], ◌∷◌, ◌++◌, length, take, IsTrue, Option, Some, None}
 use Rattle.std.specs.List.{AllZip, range_with_len}
 use Rattle.zb_disk.specs.Disk.{DiskView}
 use Rattle.zb_disk.specs.declared.disk.Disk.{Ghosts}
 use Rattle.zb_model.specs.declared.record.Batch.{Batch}
 use Rattle.zb_model.specs.declared.record.Command.{Command}
+use Rattle.zb_model.specs.declared.record.Command.TheVariants as commands
 use Rattle.zb_model.specs.declared.stop.Stop.{Stop}
 use Rattle.zb_model.specs.declared.stop.Stop.TheVariants as stops
 use Rattle.zb_store.specs.Calls.{IsByFirstCall}
 use Rattle.zb_store.specs.Log.{extent}
 use Rattle.zb_store.specs.Stands.{Stands}
 use Rattle.zb_store.specs.declared.volume.Volume.{Volume}
-use Rattle.zb_views.specs.View.{moment_of_last}
-use Rattle.zb_rules.specs.Step.{IsStep, AreStepsOn}
+use Rattle.zb_views.specs.View.{events_of, moment_of_last}
+use Rattle.zb_rules.specs.Due.{due_command}
+use Rattle.zb_rules.specs.Continue.{is_quiet}
+use Rattle.zb_rules.specs.Step.{IsStep, EachOn, AreStepsOn}
 use Rattle.zb_world.specs.Entries.{as_entry, entries_of}
 use Rattle.zb_wire.specs.declared.request.Request.{Request}
-use Rattle.zb_wire.specs.declared.request.Request.TheVariants as requests
+use Rattle.zb_wire.specs.Asked.{command_of}
 use Rattle.zb_reply.specs.declared.reply.Reply.{Reply}
 use Rattle.zb_partition.specs.Log.{bodies_of, AreBatches, IsApplied}
 use Rattle.zb_partition.specs.Partition.{disk_of, partition_number_of, limit_of, is_live, in_writing, HasLog}
 use Rattle.zb_partition.specs.declared.partition.Partition.{Partition}
 use Rattle.zb_partition.specs.Stopping.{IsLeft, IsHurt, IsStepOf, IsStopCause}
-use Rattle.zb_desk.specs.Serial.{IsNextEntry, AreMadeFor, IsCarriedOut}
-use Rattle.zb_desk.specs.Replies.{reply_to}
+use Rattle.zb_desk.specs.Serial.{Basis, basis_of, units_in, IsNextEntry, AreMadeFor, IsCarriedOut}
+use Rattle.zb_desk.specs.SerialLaws.{AreAsked}
+use Rattle.zb_desk.specs.Replies.{reply_if, reply_to}
+use Rattle.zb_desk.specs.declared.answered.Answered.{Answered}
 use Rattle.zb_engine.specs.declared.ledger.Ledger.{Ledger}
+use Rattle.zb_engine.specs.declared.work.Work.{Work}
+use Rattle.zb_engine.specs.declared.work.Work.TheVariants as works
 
--- how a log was opened: its volume as the run began, how many bytes the log may have, the batches that it had, and the
--- moment of its disk at which it was open
+-- how a log was opened: its volume as the run began, how many bytes the log may have, the batches that it had, the
+-- moment of its disk at which it was open, and how many units of work are done behind a request
 pub record Opening (D : Type 0) : Type 0 where
   pub volume : Volume D
   pub limit : ℕ
   pub batches : List Batch
   pub moment : ℕ
+  pub units : ℕ
 
 -- what a ledger began with, and the batches made since
 pub record Account (D : Type 0) : Type 0 where
@@ -145,24 +153,62 @@ pub record HasRefused {D : Type 0} {disks : Ghosts D} (account : Account D) (rea
   pub next : (batch : Batch) → refused ≡ Some batch → IsStepOf 1 1 (log_of account) (max (moment_of_last (log_of account)) reading) (length (log_of account)) command batch
   pub stopped : HasStopped account refused stop ledger
 
--- a tick was carried out at a reading by so many batches
-pub record IsTicked {D : Type 0} {disks : Ghosts D} (account : Account D) (reading due : ℕ) (ledger : Ledger D disks) : Type 0 where
+-- the command that a partition with this log carries out next by itself at a reading
+abbrev pub command_by : Work → ℕ → List Batch → Option Command
+command_by works.Due reading log = due_command reading (events_of log)
+command_by works.Units reading log = if is_quiet (events_of log) then None else Some commands.ProcessInstanceBatchContinue
+
+-- this batch is made next by itself, behind what an account has and some batches more
+pub record IsMadeBy {D : Type 0} (account : Account D) (work : Work) (reading : ℕ) (done : List Batch) (batch : Batch) : Type 0 where
+  pub command : command_by work reading (log_of (with_more account done)) ≡ Some batch.command
+  pub moment : batch.moment ≡ max (moment_of_last (log_of (with_more account done))) reading
+  pub begin : batch.begin ≡ length (log_of (with_more account done))
+
+-- these batches were made by themselves, one after the other
+abbrev pub AreMadeBy : {D : Type 0} → Account D → Work → ℕ → List Batch → Type 0
+AreMadeBy account work reading more = EachOn (IsMadeBy account work reading) [] more
+
+-- so many batches were made by themselves, at most so many as may be; no more come, or they are as many
+pub record IsWorked {D : Type 0} {disks : Ghosts D} (account : Account D) (work : Work) (reading most count : ℕ) (ledger : Ledger D disks) : Type 0 where
   pub more : List Batch
-  pub count : due ≡ length more
-  pub done : IsCarriedOut (account.opening.batches ∷ []) requests.Tick reading (entries_of 1 account.made) (entries_of 1 more)
+  pub counted : count ≡ length more
+  pub few : length more ≤ most
+  pub each : AreMadeBy account work reading more
+  pub all : (length more ≡ most) ⊎ ((length more < most) × (command_by work reading (log_of (with_more account more)) ≡ None))
   pub holds : HasAccount (with_more account more) ledger
 
--- a request was carried out at a reading, and this is the reply to it
+-- the ledger was stopped once these batches were made by themselves, with the one that isn't in the log, if there is one
+pub record IsWorkCut {D : Type 0} {disks : Ghosts D} (account : Account D) (work : Work) (reading most : ℕ) (stop : Stop) (ledger : Ledger D disks) : Type 0 where
+  pub more : List Batch
+  pub few : length more < most
+  pub each : AreMadeBy account work reading more
+  pub refused : Option Batch
+  pub next : (batch : Batch) → refused ≡ Some batch → IsMadeBy account work reading more batch
+  pub stopped : HasStopped (with_more account more) refused stop ledger
+
+-- what a run with one log goes by, that was opened so
+abbrev pub basis_in : {D : Type 0} → Opening D → Basis
+basis_in opening = basis_of (opening.batches ∷ []) opening.units
+
+-- what a request itself asks for was done at a reading, and this is the reply to it
 pub record IsDone {D : Type 0} {disks : Ghosts D} (account : Account D) (request : Request) (reading : ℕ) (reply : Reply) (ledger : Ledger D disks) : Type 0 where
   pub more : List Batch
-  pub done : IsCarriedOut (account.opening.batches ∷ []) request reading (entries_of 1 account.made) (entries_of 1 more)
-  pub told : reply_to request reading (entries_of 1 more) ≡ Some reply
+  pub done : AreAsked (account.opening.batches ∷ []) request reading (entries_of 1 account.made) (entries_of 1 more)
+  pub told : reply_if (command_of request) request reading (entries_of 1 more) ≡ Some reply
+  pub holds : HasAccount (with_more account more) ledger
+
+-- a request was carried out at a reading, with the units of work behind it, and this is what it is answered
+pub record IsAnsweredBy {D : Type 0} {disks : Ghosts D} (account : Account D) (request : Request) (reading : ℕ) (answered : Answered) (ledger : Ledger D disks) : Type 0 where
+  pub more : List Batch
+  pub done : IsCarriedOut (basis_in account.opening) request reading (entries_of 1 account.made) (entries_of 1 more)
+  pub told : reply_to request reading (entries_of 1 more) ≡ Some answered.reply
+  pub units : answered.units ≡ length (units_in (entries_of 1 more))
   pub holds : HasAccount (with_more account more) ledger
 
 -- a request stopped the ledger once it had made these batches, and the one that isn't in the log, if there is one
 pub record IsCutOff {D : Type 0} {disks : Ghosts D} (account : Account D) (request : Request) (reading : ℕ) (stop : Stop) (ledger : Ledger D disks) : Type 0 where
   pub more : List Batch
-  pub each : AreMadeFor (account.opening.batches ∷ []) request reading (entries_of 1 account.made) (entries_of 1 more)
+  pub each : AreMadeFor (basis_in account.opening) request reading (entries_of 1 account.made) (entries_of 1 more)
   pub refused : Option Batch
-  pub next : (batch : Batch) → refused ≡ Some batch → IsNextEntry (account.opening.batches ∷ []) request reading (entries_of 1 account.made) (entries_of 1 more) (as_entry 1 batch)
+  pub next : (batch : Batch) → refused ≡ Some batch → IsNextEntry (basis_in account.opening) request reading (entries_of 1 account.made) (entries_of 1 more) (as_entry 1 batch)
   pub stopped : HasStopped (with_more account more) refused stop ledger

@@ -41,6 +41,7 @@ pub record HasMade {D : Type 0} {disks : Ghosts D} (opening : Opening D) (entrie
   pub holds : HasAccount (account_of opening made) (ledger_in solo)
   pub slots : slots_of (ledger_in solo).partition ≡ slots_in opening.volume
   pub goes_on : kept_in solo ≡ None
+  pub bound : solo.units ≡ opening.units
 
 -- its log was opened so, it made these entries, and then it stopped, with the one that was made last and isn't in its
 -- log, if there is one

@@ -3,18 +3,47 @@ ghost use Rattle.zb_wire.specs.declared.request.Request.TheVariants as requests;
 ghost use Rattle.zb_wire.specs.Asked.{command_of};
 ghost use Rattle.zb_reply.specs.Reply.{answer_of};
 ghost use Rattle.zb_partition.specs.Partition.{slots_of};
-ghost use Rattle.zb_engine.specs.Ledger.{Account, HasAccount, IsDone, IsCutOff};
+ghost use Rattle.zb_engine.specs.Ledger.{Account, HasAccount, IsDone, IsAnsweredBy, IsCutOff};
 
 use crate::ledger::Ledger;
+use crate::work::Work;
 use std::alloc::{AllocError, Global};
+use zb_desk::Answered;
 use zb_disk::Disk;
 use zb_model::{Batch, Moment, Stop};
 use zb_reply::Reply;
 use zb_wire::Request;
 
-/// Carries a request out at a reading of the clock, and answers the reply to what it led to. The clauses hold for
-/// every account of the ledger.
-pub fn carry_out<D: Disk>(
+// A tick makes at most so many batches.
+const MOST_DUE: u64 = 1000;
+
+/// Carries a request out at a reading of the clock, and does at most so many units of work behind it. The clauses
+/// hold for every account of the ledger that allows as many.
+pub fn answer<D: Disk>(
+    alloc: Global,
+    ledger: &mut Ledger<D>,
+    units: u64,
+    reading: Moment,
+    request: Request,
+) -> Result<Answered, Stop>
+    requires known { (account : Account D) × HasAccount account ledger.old }
+    ensures answered { (account : Account D) → HasAccount account ledger.old → account.opening.units ≡ units
+        → IfOk result (λ answered. IsAnsweredBy account request reading answered ledger.new) }
+    ensures cut { (account : Account D) → HasAccount account ledger.old → account.opening.units ≡ units
+        → IfErr result (λ stop. IsCutOff account request reading stop ledger.new) }
+    ensures slots { slots_of ledger.new.partition ≡ slots_of ledger.old.partition }
+{
+    match carry_out(alloc, ledger, reading, request) {
+        Ok(reply) => match ledger.work(alloc, Work::Units, reading, units) {
+            Ok(units) => Ok(Answered { reply, units }),
+            Err(stop) => Err(stop),
+        },
+        Err(stop) => Err(stop),
+    }
+}
+
+// Does what a request itself asks for at a reading of the clock, and answers the reply to what it led to.
+fn carry_out<D: Disk>(
     alloc: Global,
     ledger: &mut Ledger<D>,
     reading: Moment,
@@ -43,7 +72,7 @@ fn tick<D: Disk>(alloc: Global, ledger: &mut Ledger<D>, reading: Moment) -> Resu
         → IfErr result (λ stop. IsCutOff account requests.Tick reading stop ledger.new) }
     ensures slots { slots_of ledger.new.partition ≡ slots_of ledger.old.partition }
 {
-    match ledger.tick(alloc, reading) {
+    match ledger.work(alloc, Work::Due, reading, MOST_DUE) {
         Ok(due) => Ok(Reply::Tick(due)),
         Err(stop) => Err(stop),
     }

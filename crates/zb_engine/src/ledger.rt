@@ -1,17 +1,15 @@
-ghost use Rattle.std.specs.Prelude.{◌≡◌, max, IfErr, IfOk, OnOk};
+ghost use Rattle.std.specs.Prelude.{◌≡◌, max, List, IfErr, IfOk, OnOk};
 ghost use Rattle.zb_model.specs.declared.record.Batch.{Batch};
 ghost use Rattle.zb_rules.specs.Own.{IsSupported};
-ghost use Rattle.zb_partition.specs.Partition.{disk_of, slots_of, in_writing};
-ghost use Rattle.zb_wire.specs.declared.request.Request.TheVariants as requests;
-ghost use Rattle.zb_engine.specs.Ledger.{Account, HasAccount, IsCommitted, HasRefused, IsTicked, IsCutOff};
+ghost use Rattle.zb_partition.specs.Partition.{disk_of, slots_of, in_writing, HasLog};
+ghost use Rattle.zb_engine.specs.Ledger.{Account, HasAccount, IsCommitted, HasRefused};
+ghost use Rattle.zb_engine.specs.Ledger.{command_by, IsWorked, IsWorkCut};
 
+use crate::work::Work;
 use std::alloc::{AllocError, Global};
 use zb_disk::Disk;
 use zb_model::{Batch, Command, Moment, Stop};
 use zb_partition::{Partition, Stopped};
-
-// A tick makes at most so many batches.
-const MOST_DUE: u64 = 1000;
 
 /// A partition, and the places that its batches of this run have in the history.
 #[derive(Drop)]
@@ -52,18 +50,24 @@ impl<D: Disk> Ledger<D> {
         }
     }
 
-    /// Submits the command that is due first at a reading of the clock, and so on, until none is due or
-    /// `MOST_DUE` were, and tells how many. After an `Err` the batches of those before are in the log.
-    pub fn tick(&mut self, alloc: Global, reading: Moment) -> Result<u64, Stop>
+    /// Submits what there is to do by itself at a reading of the clock, one command after the other, until there is
+    /// nothing or so many were, and tells how many. After an `Err` the batches of those before are in the log.
+    pub fn work(
+        &mut self,
+        alloc: Global,
+        work: Work,
+        reading: Moment,
+        most: u64,
+    ) -> Result<u64, Stop>
         requires known { (account : Account D) × HasAccount account self.old }
-        ensures ticked { (account : Account D) → HasAccount account self.old
-            → IfOk result (λ due. IsTicked account reading due self.new) }
+        ensures worked { (account : Account D) → HasAccount account self.old
+            → IfOk result (λ count. IsWorked account work reading most count self.new) }
         ensures cut { (account : Account D) → HasAccount account self.old
-            → IfErr result (λ stop. IsCutOff account requests.Tick reading stop self.new) }
+            → IfErr result (λ stop. IsWorkCut account work reading most stop self.new) }
         ensures slots { slots_of self.new.partition ≡ slots_of self.old.partition }
     {
-        for done in 0..MOST_DUE {
-            let Some(command) = self.partition.due(reading) else {
+        for done in 0..most {
+            let Some(command) = self.next_by(work, reading) else {
                 return Ok(done);
             };
             match self.add(alloc, reading, command) {
@@ -71,7 +75,21 @@ impl<D: Disk> Ledger<D> {
                 Err(stop) => return Err(stop),
             }
         }
-        Ok(MOST_DUE)
+        Ok(most)
+    }
+
+    // The command that there is to do next by itself.
+    fn next_by(&self, work: Work, reading: Moment) -> Option<Command>
+        ensures { (log : List Batch) → HasLog log self.now.partition → result ≡ command_by work reading log }
+    {
+        match work {
+            Work::Due => self.partition.due(reading),
+            Work::Units => if self.partition.quiet() {
+                None
+            } else {
+                Some(Command::ProcessInstanceBatchContinue)
+            },
+        }
     }
 
     // Submits a command whose batch nobody asks for.

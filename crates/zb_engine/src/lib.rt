@@ -4,5 +4,6 @@
 mod asking;
 mod ledger;
 mod solo;
+mod work;
 
 pub use solo::Solo;

@@ -12,6 +12,7 @@ ghost use Rattle.zb_store.specs.Log.{framed, extent};
 ghost use Rattle.zb_views.specs.View.{moment_of_last, events_of};
 ghost use Rattle.zb_rules.specs.Due.{due_command};
 ghost use Rattle.zb_rules.specs.Own.{IsSupported};
+ghost use Rattle.zb_rules.specs.Continue.{is_quiet};
 ghost use Rattle.zb_state.specs.State as states;
 ghost use Rattle.zb_state.specs.State.{IsStateOf, IsReached};
 ghost use Rattle.zb_partition.specs.Fault.{IsDiskCause};
@@ -192,6 +193,13 @@ impl<D: Disk> Partition<D> {
         ensures { (log : List Batch) → HasLog log self.now → result ≡ due_command now (events_of log) }
     {
         self.state.due(now).map(Command::MessageExpire)
+    }
+
+    /// Whether nobody is forced to move in its game. It costs what `State::quiet` does.
+    pub fn quiet(&self) -> bool
+        ensures { (log : List Batch) → HasLog log self.now → result ≡ is_quiet (events_of log) }
+    {
+        self.state.quiet()
     }
 
     /// Its files, and the batch that it was writing when it stopped, if it did. The memory of its state isn't given

@@ -4,6 +4,7 @@ pub mod Deploy
 pub mod Create
 pub mod Publish
 pub mod Expire
+pub mod Continue
 pub mod Due
 pub mod Reason
 pub mod Own

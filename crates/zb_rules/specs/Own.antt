@@ -1,5 +1,5 @@
 -- What each command makes of the events before it. Each command's own rule stands in a module of its name.
-use Rattle.std.specs.Prelude.{ℕ, List, Option, Some, None}
+use Rattle.std.specs.Prelude.{ℕ, List, [], Option, Some, None}
 use Rattle.zb_model.specs.declared.record.Command.{Command}
 use Rattle.zb_model.specs.declared.record.Command.TheVariants as commands
 use Rattle.zb_model.specs.declared.record.Event.{Event}
@@ -15,6 +15,7 @@ IsSupported (commands.DeploymentCreate m) = Unit {0}
 IsSupported (commands.ProcessInstanceCreationCreate c) = Unit {0}
 IsSupported (commands.MessagePublish c) = Unit {0}
 IsSupported (commands.MessageExpire key) = Unit {0}
+IsSupported commands.ProcessInstanceBatchContinue = Unit {0}
 IsSupported _ = ⊥
 
 -- the events that a command makes of those before it, at a moment of partition p of n; None of a command that isn't run
@@ -23,4 +24,5 @@ own_events p n before moment (commands.DeploymentCreate m) = Some (deployed p m 
 own_events p n before moment (commands.ProcessInstanceCreationCreate c) = created p before c
 own_events p n before moment (commands.MessagePublish c) = Some (published_under (next_key p before) moment c)
 own_events p n before moment (commands.MessageExpire key) = Some (expired key)
+own_events p n before moment commands.ProcessInstanceBatchContinue = Some []
 own_events p n before moment _ = None

@@ -157,6 +157,7 @@ own_there p n es moment (commands.ProcessInstanceCreationCreate c) supported non
     mapped_some _ (definition_for c.process c.version es) (asked_there (definition_for c.process 0 es) (definition_for c.process c.version es) c none)
 own_there p n es moment (commands.MessagePublish c) supported none = refl
 own_there p n es moment (commands.MessageExpire key) supported none = refl
+own_there p n es moment commands.ProcessInstanceBatchContinue supported none = refl
 own_there p n es moment _ supported none = absurd supported
 
 -- the moves that these events show evaluate nothing
@@ -202,6 +203,7 @@ own_never p n es moment (commands.ProcessInstanceCreationCreate c) own is =
     mapped_holds NeverEvaluate (λ d. instance_under (next_key p es) d.key c) (definition_for c.process c.version es) own (λ d found. instance_never (next_key p es) d.key c) is
 own_never p n es moment (commands.MessagePublish c) own is = some_never (published_under (next_key p es) moment c) own (published_never (next_key p es) moment c) is
 own_never p n es moment (commands.MessageExpire key) own is = some_never (expired key) own (λ before b moment move is. shows_none b moment move is, tt) is
+own_never p n es moment commands.ProcessInstanceBatchContinue own is = some_never [] own tt is
 own_never p n es moment _ own is = absurd (cc)
 
 legal_by : (p moment : ℕ) (es own : List Event) → NeverEvaluate own → IsTrue (all_apply p es own) → AllLegal moment es own
@@ -225,6 +227,8 @@ own_apply_by p n es b moment (commands.MessagePublish c) own is stands knows key
     subst (λ (x : List Event). IsTrue (all_apply p es x)) (let same : published_under (next_key p es) moment c ≡ own = cc in same) (publish_applies p es b is knows moment c keys)
 own_apply_by p n es b moment (commands.MessageExpire key) own is stands knows keys ordered supported none made =
     subst (λ (x : List Event). IsTrue (all_apply p es x)) (let same : expired key ≡ own = cc in same) (expire_applies p es b is knows key moment none)
+own_apply_by p n es b moment commands.ProcessInstanceBatchContinue own is stands knows keys ordered supported none made =
+    subst (λ (x : List Event). IsTrue (all_apply p es x)) (let same : [] ≡ own = cc in same) refl
 own_apply_by p n es b moment _ own is stands knows keys ordered supported none made = absurd supported
 
 -- behind any log whose events apply

@@ -8,6 +8,7 @@ use Rattle.zb_rules.specs.Publish.{reason_to_publish}
 use Rattle.zb_rules.specs.Deploy.{reason_to_deploy}
 use Rattle.zb_rules.specs.Create.{reason_to_create}
 use Rattle.zb_rules.specs.Expire.{reason_to_expire}
+use Rattle.zb_rules.specs.Continue.{reason_to_continue}
 
 -- the rejection of a command by the events before it and the moment, if there is a reason for one
 abbrev pub reason_for : List Event → ℕ → Command → Option Rejection
@@ -15,4 +16,5 @@ reason_for before moment (commands.DeploymentCreate m) = reason_to_deploy m
 reason_for before moment (commands.ProcessInstanceCreationCreate c) = reason_to_create before c
 reason_for before moment (commands.MessagePublish c) = reason_to_publish before c
 reason_for before moment (commands.MessageExpire key) = reason_to_expire before moment key
+reason_for before moment commands.ProcessInstanceBatchContinue = reason_to_continue before
 reason_for before moment _ = None

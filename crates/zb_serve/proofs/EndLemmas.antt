@@ -16,7 +16,7 @@ use Rattle.zb_store.specs.Stands.{Stands}
 use Rattle.zb_partition.specs.Log.{bodies_of, AreBatches, IsApplied}
 use Rattle.zb_partition.specs.Stopping.{frame_of, HasRoomFor}
 use Rattle.zb_desk.specs.Numbered.{OfNumber, EachFrom}
-use Rattle.zb_desk.specs.Serial.{place_behind, IsNextEntry, AreMadeFor}
+use Rattle.zb_desk.specs.Serial.{Basis, basis_of, place_behind, IsNextEntry, AreMadeFor, IsNextUnit, AreUnits}
 use Rattle.zb_session.specs.Hours.{IsReadingOf}
 use Rattle.zb_session.specs.Answer.{Answer, found_in, entries_made, AreSerial}
 use Rattle.zb_session.specs.Session.{Streams, SessionEnds, SessionRun, AreWritten, CutsOff, IsFirstCut, IsLeftUndone, IsEndOf, HasServed, most_taken}
@@ -27,7 +27,7 @@ use Rattle.zb_serve.specs.Setting.{RunSetting}
 use Rattle.zb_serve.specs.Ends.{Told, LogEnds}
 use Rattle.zb_serve.specs.Log.{Course, course_of, OpenedLog, log_in, batch_of, IsKept, IsLeftOf, IsLog}
 use Rattle.zb_serve.specs.History.{stamps_of}
-use Rattle.zb_serve.specs.Served.{HasRun, MayEnd, IsWhyUndone, IsUndone, answers_of}
+use Rattle.zb_serve.specs.Served.{MayEnd, IsWhyUndone, IsUndone, AreClosing, answers_of}
 use Rattle.zb_serve.specs.Cause.{rank_of, comes_before}
 use Rattle.zb_serve.specs.Order.{HasFailed, WasMet}
 use Rattle.zb_serve.specs.Session.{IsSent}
@@ -236,30 +236,59 @@ module _ (told : Told) (setting : RunSetting) (sides : SessionEnds) (ends : LogE
   why_alone (causes.SinkFault session) unlogged why = absurd why
   why_alone (causes.InputFull session) unlogged why = absurd why
 
-  pub undone_of : (run : SessionRun) (rest : List Entry) (end : End) → IsLeftUndone setting.hours (opened ∷ []) run rest (option_map (as_entry 1) unlogged) end → (CutsOff end → IsWhyUndone cause unlogged)
-      → IsUndone course (opened ∷ []) (run ∷ []) rest
+  abbrev basis : Basis
+  basis = basis_of (opened ∷ []) setting.units
+
+  pub undone_of : (run : SessionRun) (rest : List Entry) (end : End) → IsLeftUndone setting.hours basis run rest (option_map (as_entry 1) unlogged) end → (CutsOff end → IsWhyUndone cause unlogged)
+      → IsUndone course basis (run ∷ []) rest []
   undone_of run rest end (inl none) why = inl none
   undone_of run rest end (inr (first, cuts)) why =
       let alone : run.answers ≡ answers_of (run ∷ []) = append_none run.answers in
-      let logs : List (List Batch) = opened ∷ [] in
       let cut = first.cut in
-      inr (
-        1,
+      inr (inl (
+        refl,
         (
-          run,
-          omega arith,
-          refl,
-          record {
-            line = first.line;
-            lines = first.lines;
-            first = first.first;
-            request = cut.request;
-            asks = cut.asks;
-            reading = cut.reading;
-            read = subst (λ (answers : List Answer). IsReadingOf setting.hours (found_in answers ++ Ok cut.request ∷ []) cut.reading) alone cut.read;
-            made = subst (λ (answers : List Answer). AreMadeFor logs cut.request cut.reading (entries_made answers) rest) alone cut.made;
-            next = λ entry is. subst (λ (answers : List Answer). IsNextEntry logs cut.request cut.reading (entries_made answers) rest entry) alone (cut.next entry is);
-            why = why_alone cause unlogged (why cuts);
-          },
+          1,
+          (
+            run,
+            omega arith,
+            refl,
+            record {
+              line = first.line;
+              lines = first.lines;
+              first = first.first;
+              request = cut.request;
+              asks = cut.asks;
+              reading = cut.reading;
+              read = subst (λ (answers : List Answer). IsReadingOf setting.hours (found_in answers ++ Ok cut.request ∷ []) cut.reading) alone cut.read;
+              made = subst (λ (answers : List Answer). AreMadeFor basis cut.request cut.reading (entries_made answers) rest) alone cut.made;
+              next = λ entry is. subst (λ (answers : List Answer). IsNextEntry basis cut.request cut.reading (entries_made answers) rest entry) alone (cut.next entry is);
+              why = why_alone cause unlogged (why cuts);
+            },
+          ),
         ),
-      )
+      ))
+
+  -- units of work behind the last line that were cut off
+  pub undone_work : (run : SessionRun) (closing : List Entry) (reading : ℕ) → IsReadingOf setting.hours (found_in run.answers) reading → AreUnits basis reading (entries_made run.answers) closing
+      → ((entry : Entry) → option_map (as_entry 1) unlogged ≡ Some entry → IsNextUnit basis reading (entries_made run.answers) closing entry) → IsWhyUndone cause unlogged
+      → IsUndone course basis (run ∷ []) [] closing
+  undone_work run closing reading read made next why =
+      let alone : run.answers ≡ answers_of (run ∷ []) = append_none run.answers in
+      inr (inr (
+        refl,
+        record {
+          reading = reading;
+          read = subst (λ (answers : List Answer). IsReadingOf setting.hours (found_in answers) reading) alone read;
+          made = subst (λ (answers : List Answer). AreUnits basis reading (entries_made answers) closing) alone made;
+          next = λ entry is. subst (λ (answers : List Answer). IsNextUnit basis reading (entries_made answers) closing entry) alone (next entry is);
+          why = why_alone cause unlogged why;
+        },
+      ))
+
+  -- and units of work that were done
+  pub closing_of : (run : SessionRun) (closing : List Entry) (reading : ℕ) → IsReadingOf setting.hours (found_in run.answers) reading → AreUnits basis reading (entries_made run.answers) closing
+      → AreClosing course basis (answers_of (run ∷ [])) closing
+  closing_of run closing reading read made =
+      let alone : run.answers ≡ answers_of (run ∷ []) = append_none run.answers in
+      inr (reading, subst (λ (answers : List Answer). IsReadingOf setting.hours (found_in answers) reading) alone read, subst (λ (answers : List Answer). AreUnits basis reading (entries_made answers) closing) alone made)

@@ -6,3 +6,4 @@ pub mod HistoryLemmas
 pub mod EndLemmas
 pub mod SingleLemmas
 pub mod OverLemmas
+pub mod WorkLemmas

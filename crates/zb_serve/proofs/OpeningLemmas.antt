@@ -36,12 +36,12 @@ settled_at true began now before since P settled =
 settled_at false began now before since P settled = (0, λ t. absurd (false≢true t))
 
 -- a partition that was opened over a volume
-pub opened_as : {D : Type 0} {disks : Ghosts D} (volume : Volume D) (limit : ℕ) (batches : List Batch) (partition : Partition D disks)
+pub opened_as : {D : Type 0} {disks : Ghosts D} (volume : Volume D) (limit units : ℕ) (batches : List Batch) (partition : Partition D disks)
     → IsOpen limit partition batches → (IsTrue disks.tells → Stands (disks.view volume.log).contents (bodies_of batches)) → IsApplied 1 batches
     → (disks.view volume.log).faults ≤ (disks.view (disk_of partition)).faults → (IsTrue disks.counts_failures → (disks.view (disk_of partition)).faults ≡ (disks.view volume.log).faults)
     → (IsTrue disks.tells_images → Settles (disks.view volume.log).moment (disks.view (disk_of partition)).moment (disks.images volume.log) (disks.since (disk_of partition)) (λ image. Stands image (bodies_of batches)))
-    → slots_of partition ≡ slots_in volume → (moment : ℕ) × IsOpenedAs (record { volume = volume; limit = limit; batches = batches; moment = moment }) partition
-opened_as {D} {disks} volume limit batches partition is_open stood applied later steady settled slots =
+    → slots_of partition ≡ slots_in volume → (moment : ℕ) × IsOpenedAs (record { volume = volume; limit = limit; batches = batches; moment = moment; units = units }) partition
+opened_as {D} {disks} volume limit units batches partition is_open stood applied later steady settled slots =
     let so = settled_at disks.tells_images (disks.view volume.log).moment (disks.view (disk_of partition)).moment (disks.images volume.log) (disks.since (disk_of partition)) (λ image. Stands image (bodies_of batches)) settled in (
       so.0,
       record {

@@ -16,7 +16,7 @@ use Rattle.zb_store.specs.Stands.{Stands}
 use Rattle.zb_partition.specs.Log.{bodies_of, AreBatches, IsApplied}
 use Rattle.zb_partition.specs.Stopping.{frame_of, HasRoomFor}
 use Rattle.zb_desk.specs.Numbered.{OfNumber, EachFrom}
-use Rattle.zb_desk.specs.Serial.{place_behind, IsNextEntry, AreMadeFor}
+use Rattle.zb_desk.specs.Serial.{Basis, basis_of, place_behind, next_unit}
 use Rattle.zb_session.specs.Hours.{IsReadingOf}
 use Rattle.zb_session.specs.Answer.{Answer, found_in, entries_made, AreSerial}
 use Rattle.zb_session.specs.Session.{Streams, SessionEnds, SessionRun, AreWritten, CutsOff, IsFirstCut, IsLeftUndone, IsEndOf, HasServed, most_taken}
@@ -27,7 +27,7 @@ use Rattle.zb_serve.specs.Setting.{RunSetting}
 use Rattle.zb_serve.specs.Ends.{Told, LogEnds}
 use Rattle.zb_serve.specs.Log.{Course, course_of, OpenedLog, log_in, batch_of, IsKept, IsLeftOf, IsLog}
 use Rattle.zb_serve.specs.History.{stamps_of}
-use Rattle.zb_serve.specs.Served.{HasRun, MayEnd, IsWhyUndone, IsUndone, answers_of}
+use Rattle.zb_serve.specs.Served.{answer_of_run, HasRun, MayEnd, IsWhyUndone, IsUndone, AreClosing, cuts_off, answers_of}
 use Rattle.zb_serve.specs.Cause.{rank_of, comes_before}
 use Rattle.zb_serve.specs.Order.{HasFailed, WasMet}
 use Rattle.zb_serve.specs.Session.{IsSent}
@@ -36,23 +36,26 @@ use Rattle.zb_serve.specs.declared.run.Cause.{Cause}
 use Rattle.zb_serve.specs.declared.run.Cause.TheVariants as causes
 use Rattle.zb_serve.proofs.ListLemmas.{append_none}
 use Rattle.zb_serve.proofs.HistoryLemmas.{run_goes_on, cut_at_end}
-use Rattle.zb_serve.proofs.EndLemmas.{IsHeld, IsNamed, whole_served, opening, none_first, within, stamped, is_log, undone_of}
+use Rattle.zb_serve.proofs.EndLemmas.{IsHeld, IsNamed, whole_served, opening, none_first, within, stamped, is_log}
 
 -- what the session wrote
-sent_as : (streams : Streams) (told : Told) (sides : SessionEnds) (end : End) (cause : Cause) (answers : List Answer) → told.sink_memory ≡ streams.sink_memory → (end ≡ endings.SinkFault → cause ≡ causes.SinkFault 1) → (end ≡ endings.Memory → cause ≡ causes.Memory)
+sent_as : (streams : Streams) (told : Told) (sides : SessionEnds) (end : End) (cause : Cause) (answers : List Answer) → told.sink_memory ≡ streams.sink_memory
+    → (end ≡ endings.SinkFault → (cause ≡ causes.SinkFault 1) ⊎ IsTrue (comes_before cause (causes.SinkFault 1))) → (end ≡ endings.Memory → cause ≡ causes.Memory)
     → AreWritten streams sides end answers → IsSent told 1 sides cause answers
 sent_as streams told sides end cause answers memory failed forgot (inl whole) = inl whole
-sent_as streams told sides end cause answers memory failed forgot (inr (front, last, n, is, written, inl (rose, e))) = inr (front, last, n, is, written, inl (rose, inl (failed e)))
+sent_as streams told sides end cause answers memory failed forgot (inr (front, last, n, is, written, inl (rose, e))) = inr (front, last, n, is, written, inl (rose, failed e))
 sent_as streams told sides end cause answers memory failed forgot (inr (front, last, n, is, written, inr (takes, e))) = inr (front, last, n, is, written, inr (subst IsTrue (sym memory) takes, forgot e))
 
 -- a run is over
-pub over : (streams : Streams) (told : Told) (setting : RunSetting) (sides : SessionEnds) (log : LogEnds) (before images : List ℕ → Type 0) (since : ℕ → List ℕ → Type 0) (places : List ℕ) (end : End) (cause : Cause)
-    (run : SessionRun) (opened made : List Batch) (rest : List Entry) (unlogged : Option Batch) (opened_at : ℕ)
+pub over : (streams : Streams) (told : Told) (setting : RunSetting) (sides : SessionEnds) (log : LogEnds) (before images : List ℕ → Type 0) (since : ℕ → List ℕ → Type 0) (places : List ℕ) (end : End) (cause : Cause) (units : ℕ)
+    (run : SessionRun) (opened made : List Batch) (rest closing : List Entry) (unlogged : Option Batch) (opened_at : ℕ)
     → told.source ≡ streams.source_tells → told.sink ≡ streams.sink_tells → told.sink_memory ≡ streams.sink_memory
-    → HasServed streams setting.hours (opened ∷ []) sides run end
-    → (end ≡ endings.SinkFault → cause ≡ causes.SinkFault 1) → (end ≡ endings.Memory → cause ≡ causes.Memory)
-    → IsLeftUndone setting.hours (opened ∷ []) run rest (option_map (as_entry 1) unlogged) end → (CutsOff end → IsWhyUndone cause unlogged)
-    → entries_made run.answers ++ rest ≡ entries_of 1 made
+    → HasServed streams setting.hours (basis_of (opened ∷ []) setting.units) sides run end
+    → (end ≡ endings.SinkFault → (cause ≡ causes.SinkFault 1) ⊎ IsTrue (comes_before cause (causes.SinkFault 1))) → (end ≡ endings.Memory → cause ≡ causes.Memory)
+    → IsUndone (course_of told setting 1 (entries_of 1 made) (option_map (as_entry 1) unlogged) cause) (basis_of (opened ∷ []) setting.units) (run ∷ []) rest closing
+    → AreClosing (course_of told setting 1 (entries_of 1 made) (option_map (as_entry 1) unlogged) cause) (basis_of (opened ∷ []) setting.units) (answers_of (run ∷ [])) closing
+    → (IsFalse (cuts_off cause) → (units ≡ length closing) × (next_unit (basis_of (opened ∷ []) setting.units) (length closing) (entries_of 1 made) ≡ None)) → (IsTrue (cuts_off cause) → units ≡ 0)
+    → entries_made run.answers ++ (rest ++ closing) ≡ entries_of 1 made
     → (IsTrue told.images → IsByFirstCall log.disk.moment opened_at)
     → (IsTrue told.disk → Stands log.disk.contents (bodies_of opened))
     → IsApplied 1 opened
@@ -62,8 +65,8 @@ pub over : (streams : Streams) (told : Told) (setting : RunSetting) (sides : Ses
     → (IsTrue told.images → (image : List ℕ) → since log.disk.moment image → before image ⊎ since opened_at image)
     → IsNamed told setting.limit sides log (opened ++ made) unlogged run cause
     → ((batch : Batch) → unlogged ≡ Some batch → IsLeftOver (opened ++ made) batch)
-    → HasRun told setting (ends_alone sides log) (crashes_alone before images since) cause (places ∷ [])
-over streams told setting sides log before images since places end cause run opened made rest unlogged opened_at tells_source tells_sink takes_memory served failed forgot undone why split by_first stood applied are_made held ever earlier named left =
+    → HasRun told setting (ends_alone sides log) (crashes_alone before images since) (answer_of_run cause (places ∷ []) units)
+over streams told setting sides log before images since places end cause units run opened made rest closing unlogged opened_at tells_source tells_sink takes_memory served failed forgot undone delivered settled unsettled split by_first stood applied are_made held ever earlier named left =
     let alone : run.answers ≡ answers_of (run ∷ []) = append_none run.answers in
     let goes_on = run_goes_on setting.limit opened made places are_made in (
       entries_of 1 made,
@@ -72,6 +75,7 @@ over streams told setting sides log before images since places end cause run ope
         logs = opening told setting sides log cause opened made unlogged opened_at ∷ [];
         runs = run ∷ [];
         rest = rest;
+        closing = closing;
         status = named.status;
         first_met = none_first told setting sides log cause opened made unlogged opened_at run named;
         within = within told setting sides log cause opened made unlogged opened_at made;
@@ -95,9 +99,12 @@ over streams told setting sides log before images since places end cause run ope
           },
           tt,
         );
-        all = sym split ∙ ap (λ (given : List Answer). entries_made given ++ rest) alone;
-        serial = subst (AreSerial setting.hours (opened ∷ [])) alone served.serial;
-        undone = undone_of told setting sides log cause opened made unlogged opened_at run rest end undone why;
+        all = sym split ∙ ap (λ (given : List Answer). entries_made given ++ (rest ++ closing)) alone;
+        serial = subst (AreSerial setting.hours (basis_of (opened ∷ []) setting.units)) alone served.serial;
+        delivered = delivered;
+        undone = undone;
+        settled = settled;
+        unsettled = unsettled;
         crash_cut = λ tells base is has kept one are.
             cut_at_end told log (λ number. images) cause unlogged opened made left (held.crash tells) base has (goes_on base is has).0 kept one are;
       },

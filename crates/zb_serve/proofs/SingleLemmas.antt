@@ -11,7 +11,7 @@ use Rattle.zb_engine.specs.Solo.{slots_in}
 use Rattle.zb_serve.specs.Ends.{Devices, Told, told_of, LogEnds, RunEnds, ends_of, Crashes, crashes_of, IsSafe}
 use Rattle.zb_serve.specs.Setting.{RunSetting}
 use Rattle.zb_serve.specs.Log.{Course, course_of, OpenedLog, IsLog}
-use Rattle.zb_serve.specs.Served.{Serves, MayEnd, FailsToOpen, IsRun, slots_of_all}
+use Rattle.zb_serve.specs.Served.{Serves, MayEnd, FailsToOpen, answer_of_run, IsRun, slots_of_all}
 use Rattle.zb_session.specs.Session.{session_ends}
 use Rattle.zb_serve.specs.Running.{log_ends, ends_alone, crashes_alone}
 use Rattle.zb_serve.proofs.EndLemmas.{of_one}
@@ -85,12 +85,13 @@ logs_told course new old ends (opened ∷ []) t are = (log_told course new old e
 logs_told course new old ends (opened ∷ other ∷ logs) t are = absurd are.1
 
 -- and the same run
-serves_told : (course : Course) (sessions : List SessionEnds) (first : LogEnds) (new old : Crashes) (stamps : List (List ℕ)) → IsTold new old
-    → Serves course (record { sessions = sessions; logs = first ∷ [] }) old stamps → Serves course (record { sessions = sessions; logs = first ∷ [] }) new stamps
-serves_told course sessions first new old stamps t s = record {
+serves_told : (course : Course) (sessions : List SessionEnds) (first : LogEnds) (new old : Crashes) (stamps : List (List ℕ)) (units : ℕ) → IsTold new old
+    → Serves course (record { sessions = sessions; logs = first ∷ [] }) old stamps units → Serves course (record { sessions = sessions; logs = first ∷ [] }) new stamps units
+serves_told course sessions first new old stamps units t s = record {
   logs = s.logs;
   runs = s.runs;
   rest = s.rest;
+  closing = s.closing;
   status = s.status;
   first_met = s.first_met;
   within = s.within;
@@ -100,15 +101,18 @@ serves_told course sessions first new old stamps t s = record {
   sessions = s.sessions;
   all = s.all;
   serial = s.serial;
+  delivered = s.delivered;
   undone = s.undone;
+  settled = s.settled;
+  unsettled = s.unsettled;
   crash_cut = λ told base is has kept one are. s.crash_cut told base is has kept one (λ place image at. t.now (suc place) image (are place image at));
 }
 
-run_told : (told : Told) (setting : RunSetting) (sessions : List SessionEnds) (first : LogEnds) (new old : Crashes) (cause : Cause) (stamps : List (List ℕ)) → IsTold new old
-    → IsRun told setting (record { sessions = sessions; logs = first ∷ [] }) old cause stamps → IsRun told setting (record { sessions = sessions; logs = first ∷ [] }) new cause stamps
-run_told told setting sessions first new old cause [] t run = run
-run_told told setting sessions first new old cause (stamp ∷ stamps) t run =
-    (run.0, run.1, serves_told (course_of told setting 1 run.0 run.1 cause) sessions first new old (stamp ∷ stamps) t run.2)
+run_told : (told : Told) (setting : RunSetting) (sessions : List SessionEnds) (first : LogEnds) (new old : Crashes) (cause : Cause) (units : ℕ) (stamps : List (List ℕ)) → IsTold new old
+    → IsRun told setting (record { sessions = sessions; logs = first ∷ [] }) old (answer_of_run cause stamps units) → IsRun told setting (record { sessions = sessions; logs = first ∷ [] }) new (answer_of_run cause stamps units)
+run_told told setting sessions first new old cause units [] t run = run
+run_told told setting sessions first new old cause units (stamp ∷ stamps) t run =
+    (run.0, run.1, serves_told (course_of told setting 1 run.0 run.1 cause) sessions first new old (stamp ∷ stamps) units t run.2)
 
 -- what crashes leave of the one volume's log is told by its number
 crashes_told : {D : Type 0} (disks : Ghosts D) (old new : Volume D)
@@ -122,13 +126,13 @@ crashes_told disks old new = record {
 
 -- the run of the one session over the one volume is the run
 pub run_single : {S K D : Type 0} (devices : Devices S K D) (setting : RunSetting) (old new : Session S K) (olds news : List (Session S K)) (volume volume' : Volume D) (volumes volumes' : List (Volume D))
-    (cause : Cause) (stamps : List (List ℕ)) → olds ≡ old ∷ [] → news ≡ new ∷ [] → volumes ≡ volume ∷ [] → volumes' ≡ volume' ∷ []
+    (cause : Cause) (units : ℕ) (stamps : List (List ℕ)) → olds ≡ old ∷ [] → news ≡ new ∷ [] → volumes ≡ volume ∷ [] → volumes' ≡ volume' ∷ []
     → IsRun (told_of devices) setting
     (ends_alone (session_ends (devices.source.view old.source) (devices.source.view new.source) (devices.sink.view old.sink) (devices.sink.view new.sink)) (log_ends (devices.disk.view volume.log) (devices.disk.view volume'.log)))
-    (crashes_alone (devices.disk.images volume.log) (devices.disk.images volume'.log) (devices.disk.since volume'.log)) cause stamps
-    → IsRun (told_of devices) setting (ends_of devices olds news volumes volumes') (crashes_of devices.disk volumes volumes') cause stamps
-run_single devices setting old new olds news volume volume' volumes volumes' cause stamps e1 e2 e3 e4 run =
+    (crashes_alone (devices.disk.images volume.log) (devices.disk.images volume'.log) (devices.disk.since volume'.log)) (answer_of_run cause stamps units)
+    → IsRun (told_of devices) setting (ends_of devices olds news volumes volumes') (crashes_of devices.disk volumes volumes') (answer_of_run cause stamps units)
+run_single devices setting old new olds news volume volume' volumes volumes' cause units stamps e1 e2 e3 e4 run =
     let session = session_ends (devices.source.view old.source) (devices.source.view new.source) (devices.sink.view old.sink) (devices.sink.view new.sink) in
     let log = log_ends (devices.disk.view volume.log) (devices.disk.view volume'.log) in
     rw (e1, e2, e3, e4) (run_told (told_of devices) setting (session ∷ []) log (crashes_of devices.disk (volume ∷ []) (volume' ∷ []))
-    (crashes_alone (devices.disk.images volume.log) (devices.disk.images volume'.log) (devices.disk.since volume'.log)) cause stamps (crashes_told devices.disk volume volume') run)
+    (crashes_alone (devices.disk.images volume.log) (devices.disk.images volume'.log) (devices.disk.since volume'.log)) cause units stamps (crashes_told devices.disk volume volume') run)

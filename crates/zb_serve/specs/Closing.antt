@@ -7,7 +7,7 @@ use Rattle.zb_serve.specs.Setting.{setting_of}
 use Rattle.zb_serve.specs.Words.{IsPlanned}
 use Rattle.zb_serve.specs.Ends.{Devices, told_of, ends_of, crashes_of, IsSafe}
 use Rattle.zb_serve.specs.Cause.{status_of}
-use Rattle.zb_serve.specs.Served.{IsRun, slots_of_all}
+use Rattle.zb_serve.specs.Served.{answer_of_run, IsRun, slots_of_all}
 use Rattle.zb_session.specs.declared.session.Session.{Session}
 use Rattle.zb_serve.specs.declared.run.Closed.{Closed}
 use Rattle.zb_serve.specs.declared.run.Cause.TheVariants as causes
@@ -28,7 +28,7 @@ pub record Closes {S K D : Type 0} (devices : Devices S K D) (clock : ClockAtHan
   pub status : closed.status ≡ status_of closed.cause
   -- It is a question of usage exactly where the words or the numbers can't be served. Nothing was touched then.
   pub usage : closed.cause ≡ causes.Usage → (plan : Plan) → IsPlanned words (length sessions) (length volumes) plan → ⊥
-  pub unopened : closed.cause ≡ causes.Usage → closed.stamps.items ≡ []
+  pub unopened : closed.cause ≡ causes.Usage → (closed.stamps.items ≡ []) × (closed.units ≡ 0)
   pub untouched : closed.cause ≡ causes.Usage → closed.volumes.items ≡ volumes
   -- no session is touched before the logs are open
   pub unread : closed.stamps.items ≡ [] → closed.sessions.items ≡ sessions
@@ -38,9 +38,8 @@ pub record Closes {S K D : Type 0} (devices : Devices S K D) (clock : ClockAtHan
   pub same_sessions : length closed.sessions.items ≡ length sessions
   pub same_volumes : length closed.volumes.items ≡ length volumes
   pub slots : slots_of_all closed.volumes.items ≡ slots_of_all volumes
-  -- no unit of work is left to do after the last line
-  pub units : closed.units ≡ 0
-  -- what the run is, by the plan of the words: its causes, its logs, its sessions, and what a crash leaves, now and ever
+  -- what the run is, by the plan of the words: its causes, its logs, its sessions, the units of work behind the last line,
+  -- and what a crash leaves, now and ever
   pub run : closed.cause ≢ causes.Usage → (plan : Plan) × IsPlanned words (length sessions) (length volumes) plan
       × IsRun (told_of devices) (setting_of plan clock.tells clock.moments) (ends_of devices sessions closed.sessions.items volumes closed.volumes.items)
-      (crashes_of devices.disk volumes closed.volumes.items) closed.cause (map (λ list. list.items) closed.stamps.items)
+      (crashes_of devices.disk volumes closed.volumes.items) (answer_of_run closed.cause (map (λ list. list.items) closed.stamps.items) closed.units)

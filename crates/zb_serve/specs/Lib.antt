@@ -9,3 +9,4 @@ pub mod Served
 pub mod Running
 pub mod Closing
 pub mod Order
+pub mod WorkOff

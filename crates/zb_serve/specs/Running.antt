@@ -64,6 +64,15 @@ abbrev pub failed_at : End → Option (ℕ × Stop) → Option ℕ
 failed_at ends.Stopped (Some (partition, stops.DiskFault)) = Some partition
 failed_at end stop = None
 
+-- a line was cut off where memory ran out, or where the engine stopped
+abbrev pub is_cut : End → Bool
+is_cut ends.Memory = true
+is_cut ends.Stopped = true
+is_cut ends.Done = false
+is_cut ends.SourceFault = false
+is_cut ends.SinkFault = false
+is_cut ends.InputFull = false
+
 -- whether a run goes by a clock that is moved by hand
 abbrev pub is_by_hand : ClockKind → Bool
 is_by_hand kinds.Manual = true

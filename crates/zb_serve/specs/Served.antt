@@ -1,5 +1,5 @@
 -- What a run of the server is.
-use Rattle.std.specs.Prelude.{◌≡◌, ◌⊎◌, ◌<◌, ◌≤◌, ◌+◌, ℕ, List, [], ◌∷◌, ◌++◌, length, map, All, IsTrue, IsFalse, IsSome, Option, Some, None, Ok}
+use Rattle.std.specs.Prelude.{◌≡◌, ◌⊎◌, ◌<◌, ◌≤◌, ◌+◌, ℕ, List, [], ◌∷◌, ◌++◌, length, map, nat_lt, Bool, All, IsTrue, IsFalse, IsSome, Option, Some, None, Ok}
 use Rattle.std.specs.List.{flat_map, AllByRecursion}
 use Rattle.zb_disk.specs.Cause.{Rose}
 use Rattle.zb_model.specs.declared.record.Batch.{Batch}
@@ -10,13 +10,13 @@ use Rattle.zb_wire.specs.Request.{request_of}
 use Rattle.zb_partition.specs.Log.{IsBadAt}
 use Rattle.zb_store.specs.declared.volume.Volume.{Volume}
 use Rattle.zb_desk.specs.Numbered.{EachFrom, OfNumber}
-use Rattle.zb_desk.specs.Serial.{place_behind, IsNextEntry, AreMadeFor}
+use Rattle.zb_desk.specs.Serial.{Basis, basis_of, place_behind, next_unit, IsNextEntry, AreMadeFor, IsNextUnit, AreUnits}
 use Rattle.zb_session.specs.Hours.{given_of, IsReadingOf}
 use Rattle.zb_session.specs.Answer.{Answer, found_in, entries_made, AreSerial}
 use Rattle.zb_session.specs.Session.{SessionRun}
 use Rattle.zb_engine.specs.Solo.{slots_in}
 use Rattle.zb_serve.specs.Ends.{RunEnds, LogEnds, Told, Crashes}
-use Rattle.zb_serve.specs.Cause.{comes_before}
+use Rattle.zb_serve.specs.Cause.{rank_of, comes_before}
 use Rattle.zb_serve.specs.Order.{WasMet}
 use Rattle.zb_serve.specs.Setting.{RunSetting}
 use Rattle.zb_serve.specs.Session.{IsSession}
@@ -57,9 +57,13 @@ IsWhyUndone (causes.BadLog partition frame) unlogged = ⊥
 IsWhyUndone (causes.SinkFault session) unlogged = ⊥
 IsWhyUndone (causes.InputFull session) unlogged = ⊥
 
+-- what a run goes by whose logs were opened so
+abbrev pub basis_in_run : Course → List OpenedLog → Basis
+basis_in_run course logs = basis_of (batches_of logs) course.setting.units
+
 -- a line was read and not answered, the first one that its session has not served: its request, at a reading of the
 -- clock, made these entries behind those of all answers, and the one that isn't in its log, if there is one
-pub record IsUnfinished (course : Course) (logs : List (List Batch)) (answers : List Answer) (rest : List Entry)
+pub record IsUnfinished (course : Course) (basis : Basis) (answers : List Answer) (rest : List Entry)
     (run : SessionRun) : Type 0 where
   pub line : List ℕ
   pub lines : List (List ℕ)
@@ -68,22 +72,54 @@ pub record IsUnfinished (course : Course) (logs : List (List Batch)) (answers : 
   pub asks : request_of (given_of course.setting.hours course.partitions (length run.served + 1)) line ≡ Ok request
   pub reading : ℕ
   pub read : IsReadingOf course.setting.hours (found_in answers ++ Ok request ∷ []) reading
-  pub made : AreMadeFor logs request reading (entries_made answers) rest
+  pub made : AreMadeFor basis request reading (entries_made answers) rest
   pub next : (entry : Entry) → course.unlogged ≡ Some entry
-      → IsNextEntry logs request reading (entries_made answers) rest entry
+      → IsNextEntry basis request reading (entries_made answers) rest entry
   pub why : IsWhyUndone course.cause course.unlogged
 
--- nothing was left undone, or the first unserved line of one of the sessions
-abbrev pub IsUndone : Course → List (List Batch) → List SessionRun → List Entry → Type 0
-IsUndone course logs runs rest = ((rest ≡ []) × (course.unlogged ≡ None))
-    ⊎ ((number : ℕ) × OfNumber runs number (IsUnfinished course logs (answers_of runs) rest))
+-- behind all answers these units of work were done at one reading of the clock, and they were cut off, with the one that
+-- isn't in its log, if there is one
+pub record IsUnfinishedWork (course : Course) (basis : Basis) (answers : List Answer) (closing : List Entry) : Type 0 where
+  pub reading : ℕ
+  pub read : IsReadingOf course.setting.hours (found_in answers) reading
+  pub made : AreUnits basis reading (entries_made answers) closing
+  pub next : (entry : Entry) → course.unlogged ≡ Some entry → IsNextUnit basis reading (entries_made answers) closing entry
+  pub why : IsWhyUndone course.cause course.unlogged
 
--- a run whose logs were opened, with these ends, what crashes leave of its logs, and its stamps
-pub record Serves (course : Course) (ends : RunEnds) (crashes : Crashes) (stamps : List (List ℕ)) : Type 0 where
-  -- the logs as they were opened, each session's part, and the entries of a line that was not answered
+-- nothing was left undone; or the first unserved line of one of the sessions, and no unit was done behind it; or units of
+-- work behind the last line
+abbrev pub IsUndone : Course → Basis → List SessionRun → (rest closing : List Entry) → Type 0
+IsUndone course basis runs rest closing = ((rest ≡ []) × (course.unlogged ≡ None))
+    ⊎ (((closing ≡ []) × ((number : ℕ) × OfNumber runs number (IsUnfinished course basis (answers_of runs) rest)))
+    ⊎ ((rest ≡ []) × IsUnfinishedWork course basis (answers_of runs) closing))
+
+-- the cause cut the run off
+abbrev pub cuts_off : Cause → Bool
+cuts_off cause = nat_lt (rank_of cause) 4
+
+-- the units of work behind the last line: none, or these, at one reading of the clock
+abbrev pub AreClosing : Course → Basis → List Answer → (closing : List Entry) → Type 0
+AreClosing course basis answers closing = (closing ≡ [])
+    ⊎ ((reading : ℕ) × IsReadingOf course.setting.hours (found_in answers) reading × AreUnits basis reading (entries_made answers) closing)
+
+-- what a run answered: its cause, the stamps of each partition, and how many units of work were done behind the last line
+pub record RunAnswer : Type 0 where
+  pub cause : Cause
+  pub stamps : List (List ℕ)
+  pub units : ℕ
+
+-- what a run answered, by its parts
+abbrev pub answer_of_run : Cause → List (List ℕ) → ℕ → RunAnswer
+answer_of_run cause stamps units = record { cause = cause; stamps = stamps; units = units }
+
+-- a run whose logs were opened, with these ends, what crashes leave of its logs, and its answer
+pub record Serves (course : Course) (ends : RunEnds) (crashes : Crashes) (stamps : List (List ℕ)) (units : ℕ) : Type 0 where
+  -- the logs as they were opened, each session's part, the entries of a line that was not answered, and the units of work
+  -- behind the last line
   pub logs : List OpenedLog
   pub runs : List SessionRun
   pub rest : List Entry
+  pub closing : List Entry
   -- the causes that there are, and no cause that is told before it was met
   pub status : MayEnd (length ends.sessions) course.partitions course.cause
   pub first_met : (other : Cause) → WasMet course ends runs logs other → IsFalse (comes_before other course.cause)
@@ -97,11 +133,17 @@ pub record Serves (course : Course) (ends : RunEnds) (crashes : Crashes) (stamps
   pub history : GoesOnWith course.partitions (batches_of logs) course.entries
   -- the lines that were served, and the reply to each, by its entries
   pub sessions : EachFrom (IsSession course) 1 ends.sessions runs
-  -- the entries are those of the served lines, and of one that was not answered, and no others
-  pub all : course.entries ≡ entries_made (answers_of runs) ++ rest
+  -- the entries are those of the served lines, of one that was not answered, and the units behind the last, and no others
+  pub all : course.entries ≡ entries_made (answers_of runs) ++ (rest ++ closing)
   -- they are those of the serial run
-  pub serial : AreSerial course.setting.hours (batches_of logs) (answers_of runs)
-  pub undone : IsUndone course (batches_of logs) runs rest
+  pub serial : AreSerial course.setting.hours (basis_in_run course logs) (answers_of runs)
+  pub delivered : AreClosing course (basis_in_run course logs) (answers_of runs) closing
+  pub undone : IsUndone course (basis_in_run course logs) runs rest closing
+  -- where nothing cut the run off every game is quiet at its end, or as many units were done as may be, and their number
+  -- is told
+  pub settled : IsFalse (cuts_off course.cause) → (units ≡ length closing)
+      × (next_unit (basis_in_run course logs) (length closing) course.entries ≡ None)
+  pub unsettled : IsTrue (cuts_off course.cause) → units ≡ 0
   -- what a crash now leaves of all logs is a cut of the history at its end: all of it, and of a partition at most one
   -- step more
   pub crash_cut : IsTrue course.told.images → (base : List Entry) → IsHistory course.partitions base
@@ -133,15 +175,19 @@ IsSpared told ends = IsTrue told.disk
     → (1 < length ends.disk.contents → ends.disk_after.contents ≡ ends.disk.contents)
     × (length ends.disk.contents ≤ 1 → length ends.disk_after.contents ≤ 1)
 
--- a run whose logs were opened came to its end by this cause, and with these stamps
-abbrev pub HasRun : Told → RunSetting → RunEnds → Crashes → Cause → List (List ℕ) → Type 0
-HasRun told setting ends crashes cause stamps = (entries : List Entry) × (unlogged : Option Entry)
-    × Serves (course_of told setting (length ends.logs) entries unlogged cause) ends crashes stamps
+-- a run whose logs were opened came to its end with this answer
+abbrev pub HasRun : Told → RunSetting → RunEnds → Crashes → RunAnswer → Type 0
+HasRun told setting ends crashes answer = (entries : List Entry) × (unlogged : Option Entry)
+    × Serves (course_of told setting (length ends.logs) entries unlogged answer.cause) ends crashes answer.stamps answer.units
 
--- a run of planned words: its logs were opened, and then it has stamps for each of them, or they weren't
-abbrev pub IsRun : Told → RunSetting → RunEnds → Crashes → Cause → List (List ℕ) → Type 0
-IsRun told setting ends crashes cause [] = FailsToOpen told ends.logs cause × AllByRecursion (IsSpared told) ends.logs
-IsRun told setting ends crashes cause (first ∷ more) = HasRun told setting ends crashes cause (first ∷ more)
+-- a run of planned words, by its stamps: its logs were opened, and then it has stamps for each of them, or they weren't
+abbrev pub IsRunBy : List (List ℕ) → Told → RunSetting → RunEnds → Crashes → RunAnswer → Type 0
+IsRunBy [] told setting ends crashes answer = FailsToOpen told ends.logs answer.cause × AllByRecursion (IsSpared told) ends.logs × (answer.units ≡ 0)
+IsRunBy (first ∷ more) told setting ends crashes answer = HasRun told setting ends crashes answer
+
+-- a run of planned words
+abbrev pub IsRun : Told → RunSetting → RunEnds → Crashes → RunAnswer → Type 0
+IsRun told setting ends crashes answer = IsRunBy answer.stamps told setting ends crashes answer
 
 -- the slots for snapshots of each volume
 abbrev pub slots_of_all : {D : Type 0} → List (Volume D) → List (D × D)

@@ -1,16 +1,20 @@
-ghost use Rattle.std.specs.Prelude.{◌≡◌, ◌≤◌, ◌^◌, ◌<◌, ◌∷◌, [], None, Option, map, IsTrue, is_some, vec_len, vec_capacity};
+ghost use Rattle.std.specs.Prelude.{◌≡◌, ◌≤◌, ◌^◌, ◌<◌, List, [], None, Option, Result, map, IsTrue, IsFalse, is_some, vec_len, vec_capacity};
 ghost use Rattle.zb_words.specs.declared.plan.ClockKind.TheVariants as kinds;
 ghost use Rattle.zb_session.specs.Hours.{Hours};
-ghost use Rattle.zb_session.specs.Session.{session_ends, streams_of, facts_of, IsOver};
-ghost use Rattle.zb_session.specs.Serving.{AreAt, clocks_of};
-ghost use Rattle.zb_engine.specs.Ledger.{Opening};
-ghost use Rattle.zb_engine.specs.Solo.{IsOpenedAs, HasMade, HasEnded, slots_in};
+ghost use Rattle.zb_wire.specs.declared.request.Request.{Request as Asked};
+ghost use Rattle.zb_wire.specs.declared.request.LineFault.{LineFault};
+ghost use Rattle.zb_world.specs.Entries.{Entry};
+ghost use Rattle.zb_session.specs.Session.{session_ends, streams_of, LeavesDesk};
+ghost use Rattle.zb_session.specs.Serving.{AreAt, began_of, clocks_of, service_of, IsOver};
+ghost use Rattle.zb_engine.specs.Ledger.{Opening, basis_in};
+ghost use Rattle.zb_engine.specs.Solo.{IsOpenedAs, HasMade, slots_in};
 ghost use Rattle.zb_serve.specs.Setting.{setting_of};
 ghost use Rattle.zb_serve.specs.Ends.{told, IsSafe};
-ghost use Rattle.zb_serve.specs.Served.{IsRun};
+ghost use Rattle.zb_serve.specs.Served.{answer_of_run, IsRun};
+ghost use Rattle.zb_serve.specs.WorkOff.{facts_in, behind_of, IsWorkedOff};
 ghost use Rattle.zb_serve.specs.Running.{log_ends, ends_alone, crashes_alone};
 ghost use Rattle.zb_model.specs.declared.record.Batch.{Batch as Record};
-ghost use Rattle.zb_serve.specs.Running.{cause_of, stop_cause_of, failed_at, open_cause_of, is_by_hand};
+ghost use Rattle.zb_serve.specs.Running.{cause_of, stop_cause_of, failed_at, is_cut, open_cause_of, is_by_hand};
 
 use crate::run::{Cause, PARTITION, SESSION};
 use std::alloc::{AllocError, Global};
@@ -30,6 +34,8 @@ pub struct Ran<D> {
     pub volume: Volume<D>,
     /// The stamps of each log that was opened.
     pub stamps: Vec<Vec<u64>>,
+    /// How many units of work were done behind the last line.
+    pub units: u64,
 }
 
 /// Runs one session over one volume, by a plan.
@@ -54,7 +60,7 @@ pub fn run<S: Source, K: Sink, D: Disk, C: Clock>(
         (log_ends (D.view volume.log) (D.view result.volume.log)))
         (crashes_alone (D.images volume.log) (D.images result.volume.log)
         (D.since result.volume.log))
-        result.cause (map (λ list. list.items) result.stamps.items) }
+        (answer_of_run result.cause (map (λ list. list.items) result.stamps.items) result.units) }
     ensures untouched { plan.clock ≡ kinds.Manual → clock.new ≡ clock.old }
     ensures moments { C.moments clock.new ≡ C.moments clock.old }
 {
@@ -65,6 +71,7 @@ pub fn run<S: Source, K: Sink, D: Disk, C: Clock>(
             cause: Cause::Memory,
             volume,
             stamps,
+            units: 0,
         },
     }
     match Partition::open(alloc, volume, PartitionId::new(PARTITION), plan.limit) {
@@ -73,6 +80,7 @@ pub fn run<S: Source, K: Sink, D: Disk, C: Clock>(
             cause: open_cause(fault),
             volume,
             stamps,
+            units: 0,
         },
     }
 }
@@ -88,14 +96,14 @@ fn serve_partition<S: Source, K: Sink, D: Disk, C: Clock>(
 ) -> Ran<D>
     requires room { vec_len stamps < vec_capacity stamps }
     requires none { stamps.items ≡ [] }
-    requires opened { (opening : Opening D) × IsOpenedAs opening partition }
+    requires opened { (opening : Opening D) × IsOpenedAs opening partition × (opening.units ≡ plan.units) }
     ensures some { ¬ (result.stamps.items ≡ []) }
 
     // However it may have been opened.
-    ensures slots { (opening : Opening D) → IsOpenedAs opening partition
+    ensures slots { (opening : Opening D) → IsOpenedAs opening partition → opening.units ≡ plan.units
         → slots_in result.volume ≡ slots_in opening.volume }
     ensures run { (opening : Opening D) → IsOpenedAs opening partition → opening.limit ≡ plan.limit
-        → IsRun
+        → opening.units ≡ plan.units → IsRun
         (told S.tells S.counts_failures K.Sink D.Disk)
         (setting_of plan C.tells (C.moments clock.old))
         (ends_alone
@@ -104,13 +112,14 @@ fn serve_partition<S: Source, K: Sink, D: Disk, C: Clock>(
         (log_ends (D.view opening.volume.log) (D.view result.volume.log)))
         (crashes_alone (D.images opening.volume.log) (D.images result.volume.log)
         (D.since result.volume.log))
-        result.cause (map (λ list. list.items) result.stamps.items) }
+        (answer_of_run result.cause (map (λ list. list.items) result.stamps.items) result.units) }
     ensures untouched { plan.clock ≡ kinds.Manual → clock.new ≡ clock.old }
     ensures moments { C.moments clock.new ≡ C.moments clock.old }
 {
-    let mut solo = Solo::new(alloc, partition);
+    let mut solo = Solo::new(alloc, partition, plan.units);
     let mut dial = Dial::new(goes_by_hand(plan.clock));
     let end = serve_solo(alloc, session, &mut solo, &mut dial, clock);
+    let (end, units) = work_off(alloc, end, &mut solo, &dial, clock);
     let stop = solo.stop();
     let (stopped, places) = solo.close();
     stamps.push_reserved(places);
@@ -118,7 +127,47 @@ fn serve_partition<S: Source, K: Sink, D: Disk, C: Clock>(
         cause: cause(end, stop, stopped.in_writing),
         volume: stopped.volume,
         stamps,
+        units,
     }
+}
+
+// Does the units of work behind the last line, where nothing cut the run off, and tells how the run ended by then, and
+// how many they were.
+fn work_off<D: Disk, C: Clock>(
+    alloc: Global,
+    end: End,
+    solo: &mut Solo<D>,
+    dial: &Dial,
+    clock: &mut C,
+) -> (End, u64)
+    requires left { (opening : Opening D) × (hours : Hours) × (found : List (Result Asked LineFault))
+        × (entries : List Entry) × (unlogged : Option Entry)
+        × LeavesDesk (facts_in opening solo.old) entries unlogged end
+        × (IsFalse (is_cut end) → AreAt hours found (clocks_of dial.now C.tells (C.moments clock.old))) }
+    ensures worked { (opening : Opening D) (hours : Hours) (found : List (Result Asked LineFault))
+        (entries : List Entry) (unlogged : Option Entry)
+        → LeavesDesk (facts_in opening solo.old) entries unlogged end
+        → (IsFalse (is_cut end) → AreAt hours found (clocks_of dial.now C.tells (C.moments clock.old)))
+        → IsWorkedOff (basis_in opening) (behind_of hours found entries unlogged end)
+        (facts_in opening solo.new) result }
+    ensures moments { C.moments clock.new ≡ C.moments clock.old }
+    ensures untouched { (IsFalse (is_cut end) → IsTrue (is_some dial.now)) → clock.new ≡ clock.old }
+{
+    if is_cut(end) {
+        return (end, 0);
+    }
+    let reading = dial.read(clock);
+    match solo.deliver(alloc, reading) {
+        Ok(units) => (end, units),
+        Err(_) => (End::Stopped, 0),
+    }
+}
+
+// Whether a line was cut off.
+fn is_cut(end: End) -> bool
+    ensures { result ≡ is_cut end }
+{
+    matches!(end, End::Memory | End::Stopped)
 }
 
 // Serves the lines of a session by the engine of one thread, in words of that engine.
@@ -133,11 +182,11 @@ fn serve_solo<S: Source, K: Sink, D: Disk, C: Clock>(
         × AreAt hours [] (clocks_of dial.old C.tells (C.moments clock.old)) }
     ensures over { (opening : Opening D) (hours : Hours) → HasMade opening [] solo.old
         → AreAt hours [] (clocks_of dial.old C.tells (C.moments clock.old))
-        → IsOver (streams_of S.tells S.counts_failures K.Sink) hours (opening.batches ∷ [])
-        (session_ends (S.view session.old.source) (S.view session.new.source)
-        (K.view session.old.sink) (K.view session.new.sink))
-        (facts_of (λ made. HasMade opening made solo.new)
-        (λ made left stop. HasEnded opening made left stop solo.new)) result }
+        → IsOver (streams_of S.tells S.counts_failures K.Sink)
+        (began_of hours (basis_in opening) (S.view session.old.source) (K.view session.old.sink))
+        (S.view session.new.source)
+        (service_of (K.view session.new.sink) (clocks_of dial.new C.tells (C.moments clock.new))
+        (facts_in opening solo.new)) result }
     ensures moments { C.moments clock.new ≡ C.moments clock.old }
     ensures untouched { IsTrue (is_some dial.old) → clock.new ≡ clock.old }
 {

@@ -74,18 +74,19 @@ pub fn serve_alone<S: Source, K: Sink, D: Disk, C: Clock>(
     ensures moments { C.moments clock.new ≡ C.moments clock.old }
 {
     let Some(plan) = plan_for(words, sessions.len(), volumes.len()) else {
-        return closed(Cause::Usage, Vec::new(alloc), sessions, volumes);
+        return closed(Cause::Usage, Vec::new(alloc), 0, sessions, volumes);
     };
     let Some(volume) = volumes.pop() else {
-        return closed(Cause::Usage, Vec::new(alloc), sessions, volumes);
+        return closed(Cause::Usage, Vec::new(alloc), 0, sessions, volumes);
     };
     let Ran {
         cause,
         volume,
         stamps,
+        units,
     } = run(alloc, plan, &mut sessions[0], volume, clock);
     volumes.push_reserved(volume);
-    closed(cause, stamps, sessions, volumes)
+    closed(cause, stamps, units, sessions, volumes)
 }
 
 /// The plan of these words, where so many sessions and volumes can be served by it.
@@ -105,6 +106,7 @@ pub fn plan_for(words: &[String], sessions: usize, volumes: usize) -> Option<Pla
 fn closed<S, K, D>(
     cause: Cause,
     stamps: Vec<Vec<u64>>,
+    units: u64,
     sessions: Vec<Session<S, K>>,
     volumes: Vec<Volume<D>>,
 ) -> Closed<S, K, D>
@@ -113,7 +115,7 @@ fn closed<S, K, D>(
     ensures stamps { result.stamps ≡ stamps }
     ensures sessions { result.sessions ≡ sessions }
     ensures volumes { result.volumes ≡ volumes }
-    ensures units { result.units ≡ 0 }
+    ensures units { result.units ≡ units }
 {
     let status = status(&cause);
     Closed {
@@ -122,7 +124,7 @@ fn closed<S, K, D>(
         sessions,
         volumes,
         stamps,
-        units: 0,
+        units,
     }
 }
 

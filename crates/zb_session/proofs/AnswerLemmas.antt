@@ -41,7 +41,7 @@ clocked_spoken (requests.Advance ms) reading entries reply told =
 clocked_spoken _ reading entries reply told = absurd (cc)
 
 -- and so can that to each request
-pub told_spoken : (request : Request) (reading : ℕ) (entries : List Entry) (reply : Reply) → reply_to request reading entries ≡ Some reply → IsSpoken reply
+pub told_spoken : (request : Request) (reading : ℕ) (entries : List Entry) (reply : Reply) → reply_if (command_of request) request reading entries ≡ Some reply → IsSpoken reply
 told_spoken request reading entries reply told = by_command (command_of request) refl
   where
     by_command : (command : Option Command) → command_of request ≡ command → IsSpoken reply

@@ -12,9 +12,9 @@ use Rattle.zb_world.specs.Entries.{Entry}
 use Rattle.zb_wire.specs.Request.{request_of}
 use Rattle.zb_desk.specs.Numbered.{EachFrom}
 use Rattle.zb_session.specs.Hours.{given_of}
-use Rattle.zb_session.specs.Answer.{Answer, IsAnswer, entries_made, AreSerial}
-use Rattle.zb_session.specs.Session.{Streams, SessionEnds, SessionRun, AreWritten, IsUnsentFor, CutsOff, Before, IsCutLine, IsLeftUndone, Facts, LeavesDesk, IsEndOf, IsOver, most_taken}
-use Rattle.zb_session.specs.Serving.{Began, sides_of, Service, Stand, stand_of, AreSteady, IsServing, before_of, given_at, ComesNext, IsUnanswered, IsReplied, IsSinkEnd, IsUnsent, IsLineEnd, IsEnded, GoesOn, goes_on, source_end_of}
+use Rattle.zb_session.specs.Answer.{Answer, IsAnswer, found_in, entries_made, AreSerial}
+use Rattle.zb_session.specs.Session.{Streams, SessionEnds, SessionRun, AreWritten, IsUnsentFor, CutsOff, Before, IsCutLine, IsLeftUndone, Facts, LeavesDesk, IsEndOf, most_taken}
+use Rattle.zb_session.specs.Serving.{Began, AreAt, sides_of, Service, Stand, stand_of, AreSteady, IsServing, before_of, given_at, ComesNext, IsUnanswered, IsReplied, IsSinkEnd, IsUnsent, IsLineEnd, IsOver, GoesOn, goes_on, source_end_of}
 use Rattle.zb_session.specs.declared.session.End.{End}
 use Rattle.zb_session.specs.declared.session.End.TheVariants as ends
 use Rattle.zb_session.proofs.ListLemmas.{append_none}
@@ -43,18 +43,18 @@ record AreCounted (streams : Streams) (sides : SessionEnds) (end : End) : Type 0
   sink : (end ≡ ends.SinkFault → ⊥) → IsTrue streams.sink_counts → sides.sink_after.faults ≡ sides.sink.faults
 
 -- how a session ends that served these lines
-module _ (streams : Streams) (began : Began) (source : SourceView) (sink : SinkView) (known : Facts) (served unserved : List (List ℕ)) (at_end : Bool) (answers : List Answer)
+module _ (streams : Streams) (began : Began) (source : SourceView) (service : Service) (served unserved : List (List ℕ)) (at_end : Bool) (answers : List Answer)
     (stream : IsStream streams.source_tells began.source source served unserved at_end) where
   abbrev sides : SessionEnds
-  sides = sides_of began source sink
+  sides = sides_of began source service.sink
 
   abbrev run : SessionRun
   run = run_by streams.source_tells began.source source served unserved at_end stream answers
 
-  over_by : (end : End) (rest : List Entry) (unlogged : Option Entry) → EachFrom (λ n. IsAnswer (given_of began.hours (length began.logs) n)) 1 served answers → AreSerial began.hours began.logs answers
-      → (IsTrue streams.sink_tells → AreWritten streams sides end answers) → IsEndOf streams sides run end → IsLeftUndone began.hours began.logs run rest unlogged end
-      → LeavesDesk known (entries_made answers ++ rest) unlogged end → IsOver streams began.hours began.logs sides known end
-  over_by end rest unlogged replied serial sent is undone leaves = record {
+  over_by : (end : End) (rest : List Entry) (unlogged : Option Entry) → EachFrom (λ n. IsAnswer (given_of began.hours (length began.basis.logs) n)) 1 served answers → AreSerial began.hours began.basis answers
+      → (IsTrue streams.sink_tells → AreWritten streams sides end answers) → IsEndOf streams sides run end → IsLeftUndone began.hours began.basis run rest unlogged end
+      → LeavesDesk service.known (entries_made answers ++ rest) unlogged end → ((CutsOff end → ⊥) → AreAt began.hours (found_in answers) service.clocks) → IsOver streams began source service end
+  over_by end rest unlogged replied serial sent is undone leaves clock = record {
     run = run;
     rest = rest;
     unlogged = unlogged;
@@ -71,6 +71,7 @@ module _ (streams : Streams) (began : Began) (source : SourceView) (sink : SinkV
     };
     undone = undone;
     leaves = leaves;
+    clock = clock;
   }
 
   is_done : unserved ≡ [] → at_end ≡ true → AreCounted streams sides ends.Done → IsEndOf streams sides run ends.Done
@@ -103,7 +104,7 @@ module _ (streams : Streams) (began : Began) (source : SourceView) (sink : SinkV
     sink_steady = counted.sink;
   }
 
-  is_sink_fault : StreamFaultsRose began.sink.faults sink.faults → AreCounted streams sides ends.SinkFault → IsEndOf streams sides run ends.SinkFault
+  is_sink_fault : StreamFaultsRose began.sink.faults service.sink.faults → AreCounted streams sides ends.SinkFault → IsEndOf streams sides run ends.SinkFault
   is_sink_fault rose counted = record {
     done = λ e. absurd (cc);
     source_fault = λ e. absurd (cc);
@@ -137,9 +138,9 @@ module _ (streams : Streams) (began : Began) (source : SourceView) (sink : SinkV
   is_cut ends.InputFull cuts counted = absurd cuts
 
   -- a sink that ends it
-  is_unsent : (end : End) (old : SinkView) → IsSinkEnd streams.sink_memory old sink end → began.sink.faults ≤ old.faults → AreCounted streams sides end → IsEndOf streams sides run end
+  is_unsent : (end : End) (old : SinkView) → IsSinkEnd streams.sink_memory old service.sink end → began.sink.faults ≤ old.faults → AreCounted streams sides end → IsEndOf streams sides run end
   is_unsent ends.Memory old named later counted = is_cut ends.Memory tt counted
-  is_unsent ends.SinkFault old named later counted = is_sink_fault (rose_since began.sink.faults old.faults sink.faults later named) counted
+  is_unsent ends.SinkFault old named later counted = is_sink_fault (rose_since began.sink.faults old.faults service.sink.faults later named) counted
   is_unsent ends.Done old named later counted = absurd named
   is_unsent ends.SourceFault old named later counted = absurd named
   is_unsent ends.InputFull old named later counted = absurd named
@@ -183,7 +184,7 @@ unanswered_idle before line known end memory has = rw memory (record {
 module _ (streams : Streams) (began : Began) (old : Stand) (s : IsServing streams began old)
     (left : ℕ) (source : SourceView) (more : List ℕ) (takes : TakesBytes streams.source_tells old.source source more) (spends : old.budget ≡ left + length more) where
   abbrev Over : End → Type 0
-  Over end = IsEnded streams began source old.service end
+  Over end = IsOver streams began source old.service end
 
   abbrev Stream : List (List ℕ) → Bool → Type 0
   Stream unserved at_end = IsStream streams.source_tells began.source source s.lines unserved at_end
@@ -194,8 +195,8 @@ module _ (streams : Streams) (began : Began) (old : Stand) (s : IsServing stream
   ends_by : (end : End) (unserved : List (List ℕ)) (at_end : Bool) (stream : Stream unserved at_end)
       → IsEndOf streams (sides_of began source old.service.sink) (run_by streams.source_tells began.source source s.lines unserved at_end stream s.answers) end → (end ≡ ends.Stopped → ⊥) → Over end
   ends_by end unserved at_end stream is own =
-      over_by streams began source old.service.sink old.service.known s.lines unserved at_end s.answers stream end [] None s.replied s.serial (λ t. inl (s.sent t)) is (inl (refl, refl))
-      (leaves_whole old.service.known (entries_made s.answers) end own s.holds)
+      over_by streams began source old.service s.lines unserved at_end s.answers stream end [] None s.replied s.serial (λ t. inl (s.sent t)) is (inl (refl, refl))
+      (leaves_whole old.service.known (entries_made s.answers) end own s.holds) (λ uncut. s.clock)
 
   counted : (end : End) → ((end ≡ ends.SourceFault → ⊥) → IsTrue streams.source_counts → source.faults ≡ old.source.faults) → AreCounted streams (sides_of began source old.service.sink) end
   counted end steady = record {
@@ -208,14 +209,14 @@ module _ (streams : Streams) (began : Began) (old : Stand) (s : IsServing stream
   stops_memory steady =
       let split = splits (old.held ++ more) in
       let stream = stream_cut streams.source_tells began.source source s.lines (old.held ++ more) was split in
-      ends_by ends.Memory split.lines false stream (is_cut streams began source old.service.sink old.service.known s.lines split.lines false s.answers stream ends.Memory tt (counted ends.Memory (λ other. steady))) (λ e. absurd (cc))
+      ends_by ends.Memory split.lines false stream (is_cut streams began source old.service s.lines split.lines false s.answers stream ends.Memory tt (counted ends.Memory (λ other. steady))) (λ e. absurd (cc))
 
   -- the source failed
   stops_source : IsOneLine (old.held ++ more) → StreamFaultsRose old.source.faults source.faults → Over ends.SourceFault
   stops_source one rose =
       let stream = stream_within streams.source_tells began.source source s.lines (old.held ++ more) was one in
       ends_by ends.SourceFault [] false stream
-      (is_source_fault streams began source old.service.sink old.service.known s.lines [] false s.answers stream refl (rose_since began.source.faults old.source.faults source.faults s.steady.source_later rose)
+      (is_source_fault streams began source old.service s.lines [] false s.answers stream refl (rose_since began.source.faults old.source.faults source.faults s.steady.source_later rose)
       (counted ends.SourceFault (λ other. absurd (other refl)))) (λ e. absurd (cc))
 
   -- the source could not be read on
@@ -230,16 +231,16 @@ module _ (streams : Streams) (began : Began) (old : Stand) (s : IsServing stream
   stops_full one none steady =
       let stream = stream_within streams.source_tells began.source source s.lines (old.held ++ more) was one in
       let full : length stream.taken ≡ most_taken = omega (arith, s.spent, spends, none, s.takes.given, takes.given, stream.takes.given) in
-      ends_by ends.InputFull [] false stream (is_full streams began source old.service.sink old.service.known s.lines [] false s.answers stream refl refl full (counted ends.InputFull (λ other. steady))) (λ e. absurd (cc))
+      ends_by ends.InputFull [] false stream (is_full streams began source old.service s.lines [] false s.answers stream refl refl full (counted ends.InputFull (λ other. steady))) (λ e. absurd (cc))
 
   -- the source ended behind a line
   pub stops_done : old.held ++ more ≡ [] → (IsTrue streams.source_tells → source.left ≡ []) → (IsTrue streams.source_counts → source.faults ≡ old.source.faults) → Over ends.Done
   stops_done none end steady =
       let stream = stream_end streams.source_tells began.source source s.lines (old.held ++ more) was none end in
-      ends_by ends.Done [] true stream (is_done streams began source old.service.sink old.service.known s.lines [] true s.answers stream refl refl (counted ends.Done (λ other. steady))) (λ e. absurd (cc))
+      ends_by ends.Done [] true stream (is_done streams began source old.service s.lines [] true s.answers stream refl refl (counted ends.Done (λ other. steady))) (λ e. absurd (cc))
 
 -- a turn that told that no more may come ended the session
-pub goes_over : (streams : Streams) (began : Began) (now : Stand) (more : Bool) → more ≡ false → GoesOn streams began now (Ok more) → IsEnded streams began now.source now.service ends.Done
+pub goes_over : (streams : Streams) (began : Began) (now : Stand) (more : Bool) → more ≡ false → GoesOn streams began now (Ok more) → IsOver streams began now.source now.service ends.Done
 goes_over streams began now true is goes = absurd (cc)
 goes_over streams began now false is goes = goes
 
@@ -253,7 +254,7 @@ module _ (streams : Streams) (began : Began) (old : Stand) (s : IsServing stream
     (line : List ℕ) (unserved : List (List ℕ)) (at_end : Bool) (stream : IsStream streams.source_tells began.source source s.lines (line ∷ unserved) at_end)
     (source_steady : IsTrue streams.source_counts → source.faults ≡ old.source.faults) where
   abbrev LineOver : End → Type 0
-  LineOver end = IsEnded streams began source new end
+  LineOver end = IsOver streams began source new end
 
   abbrev past : Before
   past = past_of streams began old s
@@ -272,7 +273,7 @@ module _ (streams : Streams) (began : Began) (old : Stand) (s : IsServing stream
   stops_unsent : (end : End) → IsUnsent streams past line old.service.sink new end → ((end ≡ ends.SinkFault → ⊥) → IsTrue streams.sink_counts → new.sink.faults ≡ old.service.sink.faults) → LineOver end
   stops_unsent end unsent steady =
       let a = unsent.answered in
-      over_by streams began source new.sink new.known (s.lines ++ line ∷ []) unserved at_end (s.answers ++ a.answer ∷ []) served end [] None
+      over_by streams began source new (s.lines ++ line ∷ []) unserved at_end (s.answers ++ a.answer ∷ []) served end [] None
       (replied_more streams began old s line unsent.reply new a) (serial_more streams began old s line unsent.reply new a)
       (λ t. inr (
         s.answers,
@@ -282,9 +283,9 @@ module _ (streams : Streams) (began : Began) (old : Stand) (s : IsServing stream
         written_more streams began old s line unsent.reply new a new.sink.written (unsent.sent t).0 t (unsent.sent t).1,
         short streams (sides_of began source new.sink) old.service.sink end unsent.named s.steady.sink_later,
       ))
-      (is_unsent streams began source new.sink new.known (s.lines ++ line ∷ []) unserved at_end (s.answers ++ a.answer ∷ []) served end old.service.sink unsent.named s.steady.sink_later (line_counted end steady))
+      (is_unsent streams began source new (s.lines ++ line ∷ []) unserved at_end (s.answers ++ a.answer ∷ []) served end old.service.sink unsent.named s.steady.sink_later (line_counted end steady))
       (inl (refl, refl))
-      (leaves_whole new.known (entries_made (s.answers ++ a.answer ∷ [])) end (λ e. own e unsent.named) (holds_more streams began old s line unsent.reply new a))
+      (leaves_whole new.known (entries_made (s.answers ++ a.answer ∷ [])) end (λ e. own e unsent.named) (holds_more streams began old s line unsent.reply new a)) (λ uncut. a.clock)
     where
       own : end ≡ ends.Stopped → IsSinkEnd streams.sink_memory old.service.sink new.sink end → ⊥
       own e named = subst (λ (e : End). IsSinkEnd streams.sink_memory old.service.sink new.sink e) e named
@@ -293,22 +294,22 @@ module _ (streams : Streams) (began : Began) (old : Stand) (s : IsServing stream
   stops_unanswered : (end : End) → new.sink ≡ old.service.sink → IsUnanswered past line new.known end → LineOver end
   stops_unanswered end same a =
       let faults = ap (λ (v : SinkView). v.faults) same in
-      over_by streams began source new.sink new.known s.lines (line ∷ unserved) at_end s.answers stream end a.rest a.unlogged s.replied s.serial
+      over_by streams began source new s.lines (line ∷ unserved) at_end s.answers stream end a.rest a.unlogged s.replied s.serial
       (λ t. inl (ap (λ (v : SinkView). v.written) same ∙ s.sent t))
-      (is_cut streams began source new.sink new.known s.lines (line ∷ unserved) at_end s.answers stream end a.cuts (line_counted end (λ other t. faults)))
-      (undone a.undone) a.leaves
+      (is_cut streams began source new s.lines (line ∷ unserved) at_end s.answers stream end a.cuts (line_counted end (λ other t. faults)))
+      (undone a.undone) a.leaves (λ uncut. absurd (uncut a.cuts))
     where
       run : SessionRun
       run = run_by streams.source_tells began.source source s.lines (line ∷ unserved) at_end stream s.answers
 
-      undone : ((a.rest ≡ []) × (a.unlogged ≡ None)) ⊎ IsCutLine past line a.rest a.unlogged → IsLeftUndone began.hours began.logs run a.rest a.unlogged end
+      undone : ((a.rest ≡ []) × (a.unlogged ≡ None)) ⊎ IsCutLine past line a.rest a.unlogged → IsLeftUndone began.hours began.basis run a.rest a.unlogged end
       undone (inl none) = inl none
       undone (inr cut) = inr (
         record {
           line = line;
           lines = unserved;
           first = refl;
-          cut = subst (λ (n : ℕ). IsCutLine (before_of began.hours began.logs n s.answers) line a.rest a.unlogged) s.count cut;
+          cut = subst (λ (n : ℕ). IsCutLine (before_of began.hours began.basis n s.answers) line a.rest a.unlogged) s.count cut;
         },
         a.cuts,
       )
@@ -322,12 +323,12 @@ module _ (streams : Streams) (began : Began) (old : Stand) (s : IsServing stream
   pub stops_served : unserved ≡ [] → at_end ≡ true → IsReplied streams past line old.service.sink new → AreSteady streams old.source source old.service.sink new.sink → LineOver ends.Done
   stops_served none all replied later =
       let a = replied.answered in
-      over_by streams began source new.sink new.known (s.lines ++ line ∷ []) unserved at_end (s.answers ++ a.answer ∷ []) served ends.Done [] None
+      over_by streams began source new (s.lines ++ line ∷ []) unserved at_end (s.answers ++ a.answer ∷ []) served ends.Done [] None
       (replied_more streams began old s line replied.reply new a) (serial_more streams began old s line replied.reply new a)
       (λ t. inl (written_whole streams began old s line replied.reply new a new.sink.written t (replied.sent t)))
-      (is_done streams began source new.sink new.known (s.lines ++ line ∷ []) unserved at_end (s.answers ++ a.answer ∷ []) served none all (line_counted ends.Done (λ other. later.sink_same)))
+      (is_done streams began source new (s.lines ++ line ∷ []) unserved at_end (s.answers ++ a.answer ∷ []) served none all (line_counted ends.Done (λ other. later.sink_same)))
       (inl (refl, refl))
-      (leaves_whole new.known (entries_made (s.answers ++ a.answer ∷ [])) ends.Done (λ e. absurd (cc)) (holds_more streams began old s line replied.reply new a))
+      (leaves_whole new.known (entries_made (s.answers ++ a.answer ∷ [])) ends.Done (λ e. absurd (cc)) (holds_more streams began old s line replied.reply new a)) (λ uncut. a.clock)
 
 -- the line that came next, where one did: the first one, or the last one without a newline
 abbrev pub line_in : (held more : List ℕ) (most : ℕ) (next : Next) (left shown : List ℕ) → Comes most (Ok next) (held ++ more) left shown → List ℕ
@@ -376,7 +377,7 @@ module _ (streams : Streams) (began : Began) (old : Stand) (s : IsServing stream
   -- and ended the session
   pub turn_stopped : (next : Next) → next ≢ nexts.End → next ≢ nexts.Full → (came : Comes most (Ok next) (old.held ++ more) left shown) → (IsAtEnd (Ok next) → IsTrue streams.source_tells → source.left ≡ []) → (end : End)
       → IsLineEnd streams (past_of streams began old s) (line_in old.held more most next left shown came) old.service.sink new end → (IsTrue streams.source_counts → source.faults ≡ old.source.faults)
-      → ((end ≡ ends.SinkFault → ⊥) → IsTrue streams.sink_counts → new.sink.faults ≡ old.service.sink.faults) → IsEnded streams began source new end
+      → ((end ≡ ends.SinkFault → ⊥) → IsTrue streams.sink_counts → new.sink.faults ≡ old.service.sink.faults) → IsOver streams began source new end
   turn_stopped nexts.Line other some came at_end end ended source_steady steady =
       let stream = stream_line streams.source_tells began.source source s.lines (old.held ++ more) came.0 left behind_it came.2 came.1 in
       stops_line streams began old s source new came.0 (splits left).lines false stream source_steady end ended steady

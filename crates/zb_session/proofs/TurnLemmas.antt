@@ -3,7 +3,6 @@ use Rattle.std.proofs.Common.{◌≡◌, ℕ, ◌+◌, ◌≤◌, List, [], ◌�
 use Rattle.std.specs.List.{flat_map}
 use Rattle.std.proofs.lemmas.Grind.{flat_map-append}
 use Rattle.std.proofs.lemmas.List.{append-nil}
-use Rattle.zb_model.specs.declared.record.Batch.{Batch}
 use Rattle.zb_outside.specs.Stream.{SourceView, SinkView}
 use Rattle.zb_lines.specs.Taken.{TakesBytes}
 use Rattle.zb_lines.specs.TakenLaws.{takes_on, takes_nothing}
@@ -34,7 +33,7 @@ serving_first streams began clocks known has at = record {
   count = refl;
   clock = at;
   replied = tt;
-  serial = each_on_none (IsServed began.hours began.logs) [];
+  serial = each_on_none (IsServed began.hours began.basis) [];
   sent = λ t. append_none began.sink.written;
   holds = has;
   steady = record { source_later = omega arith; sink_later = omega arith; source_same = λ t. refl; sink_same = λ t. refl };
@@ -54,12 +53,9 @@ pub few : (streams : Streams) (began : Began) (now : Stand) → IsServing stream
 few streams began now s = omega (arith, s.count, s.takes.given, ap length s.whole, length-lines s.lines now.held)
 
 module _ (streams : Streams) (began : Began) (old : Stand) (s : IsServing streams began old) where
-  abbrev logs : List (List Batch)
-  logs = began.logs
-
   -- what lies behind the line that comes next
   abbrev pub past_of : Before
-  past_of = before_of began.hours began.logs old.number s.answers
+  past_of = before_of began.hours began.basis old.number s.answers
 
   -- what was taken, with the bytes of this turn
   pub behind : (left : ℕ) (source : SourceView) (more : List ℕ) → TakesBytes streams.source_tells old.source source more → old.budget ≡ left + length more
@@ -74,14 +70,14 @@ module _ (streams : Streams) (began : Began) (old : Stand) (s : IsServing stream
 
   -- with one line more, which was answered
   module _ (line reply : List ℕ) (new : Service) (a : IsAnswered past_of line reply new.clocks new.known) where
-    pub replied_more : EachFrom (λ n. IsAnswer (given_of began.hours (length logs) n)) 1 (s.lines ++ line ∷ []) (s.answers ++ a.answer ∷ [])
+    pub replied_more : EachFrom (λ n. IsAnswer (given_of began.hours (length began.basis.logs) n)) 1 (s.lines ++ line ∷ []) (s.answers ++ a.answer ∷ [])
     replied_more =
         let here : old.number ≡ 1 + length s.lines = omega (arith, s.count) in
-        EachFrom_more (λ n. IsAnswer (given_of began.hours (length logs) n)) 1 s.lines s.answers line a.answer s.replied
-        (subst (λ (k : ℕ). IsAnswer (given_of began.hours (length logs) k) line a.answer) here a.is)
+        EachFrom_more (λ n. IsAnswer (given_of began.hours (length began.basis.logs) n)) 1 s.lines s.answers line a.answer s.replied
+        (subst (λ (k : ℕ). IsAnswer (given_of began.hours (length began.basis.logs) k) line a.answer) here a.is)
 
-    pub serial_more : AreSerial began.hours logs (s.answers ++ a.answer ∷ [])
-    serial_more = each_on_more (IsServed began.hours logs) [] s.answers a.answer s.serial a.served
+    pub serial_more : AreSerial began.hours began.basis (s.answers ++ a.answer ∷ [])
+    serial_more = each_on_more (IsServed began.hours began.basis) [] s.answers a.answer s.serial a.served
 
     pub holds_more : new.known.has (entries_made (s.answers ++ a.answer ∷ []))
     holds_more = subst (λ (es : List Entry). new.known.has es) (sym (entries_more s.answers a.answer)) a.holds

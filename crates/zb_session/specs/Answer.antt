@@ -1,7 +1,6 @@
 -- What a line is answered, and which answers are those of the serial run.
-use Rattle.std.specs.Prelude.{◌≡◌, ℕ, List, [], ◌∷◌, ◌++◌, map, Some, None, Result, Ok, Err}
+use Rattle.std.specs.Prelude.{◌≡◌, ℕ, List, [], ◌∷◌, ◌++◌, length, map, Some, None, Result, Ok, Err}
 use Rattle.std.specs.List.{flat_map}
-use Rattle.zb_model.specs.declared.record.Batch.{Batch}
 use Rattle.zb_rules.specs.Step.{EachOn}
 use Rattle.zb_world.specs.Entries.{Entry}
 use Rattle.zb_wire.specs.declared.given.Given.{Given}
@@ -11,7 +10,7 @@ use Rattle.zb_wire.specs.Request.{request_of}
 use Rattle.zb_reply.specs.declared.reply.Reply.{Reply}
 use Rattle.zb_reply.specs.declared.reply.Reply.TheVariants as replies
 use Rattle.zb_reply.specs.Reply.{line_of}
-use Rattle.zb_desk.specs.Serial.{IsCarriedOut}
+use Rattle.zb_desk.specs.Serial.{Basis, units_in, IsCarriedOut}
 use Rattle.zb_desk.specs.Replies.{reply_to}
 use Rattle.zb_session.specs.Hours.{Hours, IsReadingOf}
 
@@ -23,11 +22,11 @@ pub record Answer : Type 0 where
   pub entries : List Entry
   pub reply : List ℕ
 
--- this line is the reply to a request that made these entries; no unit of work was done for it
+-- this line is the reply to a request that made these entries, with how many of them are units of work
 pub record IsReplyTo (request : Request) (reading : ℕ) (entries : List Entry) (line : List ℕ) : Type 0 where
   pub reply : Reply
   pub told : reply_to request reading entries ≡ Some reply
-  pub written : line ≡ line_of reply (Some 0)
+  pub written : line ≡ line_of reply (Some (length (units_in entries)))
 
 -- a line with this number that is no request is answered by its fault, and makes no entry
 abbrev pub IsReplyBy : ℕ → Answer → Result Request LineFault → Type 0
@@ -48,15 +47,15 @@ abbrev pub found_in : List Answer → List (Result Request LineFault)
 found_in answers = map (λ answer. answer.asked) answers
 
 -- behind these answers a line was served: a request at a reading of the clock, by its entries, and no other line
-abbrev pub IsServedAs : Hours → List (List Batch) → List Answer → Answer → Result Request LineFault → Type 0
-IsServedAs hours logs before answer (Ok request) = IsReadingOf hours (found_in before ++ answer.asked ∷ []) answer.reading
-    × IsCarriedOut logs request answer.reading (entries_made before) answer.entries
-IsServedAs hours logs before answer (Err fault) = answer.entries ≡ []
+abbrev pub IsServedAs : Hours → Basis → List Answer → Answer → Result Request LineFault → Type 0
+IsServedAs hours basis before answer (Ok request) = IsReadingOf hours (found_in before ++ answer.asked ∷ []) answer.reading
+    × IsCarriedOut basis request answer.reading (entries_made before) answer.entries
+IsServedAs hours basis before answer (Err fault) = answer.entries ≡ []
 
 -- behind these answers this one was served
-abbrev pub IsServed : Hours → List (List Batch) → List Answer → Answer → Type 0
-IsServed hours logs before answer = IsServedAs hours logs before answer answer.asked
+abbrev pub IsServed : Hours → Basis → List Answer → Answer → Type 0
+IsServed hours basis before answer = IsServedAs hours basis before answer answer.asked
 
 -- these answers are those of the serial run: each was served behind those before it
-abbrev pub AreSerial : Hours → List (List Batch) → List Answer → Type 0
-AreSerial hours logs answers = EachOn (IsServed hours logs) [] answers
+abbrev pub AreSerial : Hours → Basis → List Answer → Type 0
+AreSerial hours basis answers = EachOn (IsServed hours basis) [] answers

@@ -1,7 +1,6 @@
 -- A session under way: what it began with, and what it has come to.
 use Rattle.std.specs.Prelude.{◌≡◌, ◌⊎◌, ◌≤◌, ◌+◌, ℕ, List, [], ◌∷◌, ◌++◌, length, take, Bool, true, false, IsTrue, Option, Some, None, Result, Ok, Err}
 use Rattle.std.specs.List.{flat_map, AllByRecursion}
-use Rattle.zb_model.specs.declared.record.Batch.{Batch}
 use Rattle.zb_outside.specs.Cause.{StreamFaultsRose}
 use Rattle.zb_outside.specs.Stream.{SourceView, SinkView}
 use Rattle.zb_outside.specs.declared.trouble.Trouble.{Trouble}
@@ -16,10 +15,11 @@ use Rattle.zb_wire.specs.declared.request.Request.{Request}
 use Rattle.zb_wire.specs.declared.request.LineFault.{LineFault}
 use Rattle.zb_wire.specs.Request.{request_of}
 use Rattle.zb_desk.specs.Numbered.{EachFrom}
+use Rattle.zb_desk.specs.Serial.{Basis}
 use Rattle.zb_desk.specs.declared.desk.Desk.{Ghosts}
 use Rattle.zb_session.specs.Hours.{Hours, manual, real, given_of, clock_after}
 use Rattle.zb_session.specs.Answer.{Answer, IsAnswer, found_in, entries_made, IsServed, AreSerial}
-use Rattle.zb_session.specs.Session.{Streams, SessionEnds, session_ends, Before, replies_of, most_taken, IsCutLine, CutsOff, Facts, facts_of, LeavesDesk, IsOver}
+use Rattle.zb_session.specs.Session.{Streams, SessionEnds, session_ends, Before, replies_of, most_taken, IsCutLine, CutsOff, Facts, facts_of, IsLeftUndone, LeavesDesk, SessionRun, HasServed}
 use Rattle.zb_session.specs.declared.session.End.{End}
 use Rattle.zb_session.specs.declared.session.End.TheVariants as ends
 
@@ -43,16 +43,16 @@ abbrev pub AreAt : Hours → List (Result Request LineFault) → Clocks → Type
 AreAt manual found clocks = clocks.dial ≡ Some (clock_after found)
 AreAt (real tells moments) found clocks = (clocks.dial ≡ None) × (tells ≡ clocks.tells) × (moments ≡ clocks.moments)
 
--- what a session began with: the clock of the run, the logs as they were opened, and its streams
+-- what a session began with: the clock of the run, what the desk goes by, and its streams
 pub record Began : Type 0 where
   pub hours : Hours
-  pub logs : List (List Batch)
+  pub basis : Basis
   pub source : SourceView
   pub sink : SinkView
 
 -- what it began with, by its parts
-abbrev pub began_of : Hours → List (List Batch) → SourceView → SinkView → Began
-began_of hours logs source sink = record { hours = hours; logs = logs; source = source; sink = sink }
+abbrev pub began_of : Hours → Basis → SourceView → SinkView → Began
+began_of hours basis source sink = record { hours = hours; basis = basis; source = source; sink = sink }
 
 -- what is known of a desk that began so
 abbrev pub facts_by : {A : Type 0} (desks : Ghosts A) → desks.Begun → A → Facts
@@ -107,19 +107,19 @@ pub record IsServing (streams : Streams) (began : Began) (now : Stand) : Type 0 
   pub each : AllByRecursion IsOneLine lines
   pub count : now.number ≡ length lines + 1
   pub clock : AreAt began.hours (found_in answers) now.service.clocks
-  pub replied : EachFrom (λ n. IsAnswer (given_of began.hours (length began.logs) n)) 1 lines answers
-  pub serial : AreSerial began.hours began.logs answers
+  pub replied : EachFrom (λ n. IsAnswer (given_of began.hours (length began.basis.logs) n)) 1 lines answers
+  pub serial : AreSerial began.hours began.basis answers
   pub sent : IsTrue streams.sink_tells → now.service.sink.written ≡ began.sink.written ++ replies_of answers
   pub holds : now.service.known.has (entries_made answers)
   pub steady : AreSteady streams began.source now.source began.sink now.service.sink
 
 -- what lies before the line with this number, by its parts
-abbrev pub before_of : Hours → List (List Batch) → (number : ℕ) → List Answer → Before
-before_of hours logs number answers = record { hours = hours; logs = logs; number = number; answers = answers }
+abbrev pub before_of : Hours → Basis → (number : ℕ) → List Answer → Before
+before_of hours basis number answers = record { hours = hours; basis = basis; number = number; answers = answers }
 
 -- what the line is read by that comes next
 abbrev pub given_at : Before → Given
-given_at before = given_of before.hours (length before.logs) before.number
+given_at before = given_of before.hours (length before.basis.logs) before.number
 
 -- a line comes next, of which as much was kept as shows its request
 pub record ComesNext (before : Before) (clocks : Clocks) (known : Facts) (line shown : List ℕ) : Type 0 where
@@ -132,7 +132,7 @@ pub record IsAnswered (before : Before) (line reply : List ℕ) (clocks : Clocks
   pub answer : Answer
   pub written : answer.reply ≡ reply
   pub is : IsAnswer (given_at before) line answer
-  pub served : IsServed before.hours before.logs before.answers answer
+  pub served : IsServed before.hours before.basis before.answers answer
   pub holds : known.has (entries_made before.answers ++ answer.entries)
   pub clock : AreAt before.hours (found_in (before.answers ++ answer ∷ [])) clocks
 
@@ -170,15 +170,22 @@ pub record IsUnsent (streams : Streams) (before : Before) (line : List ℕ) (old
 abbrev pub IsLineEnd : Streams → Before → List ℕ → SinkView → Service → End → Type 0
 IsLineEnd streams before line old new end = IsUnsent streams before line old new end ⊎ ((new.sink ≡ old) × IsUnanswered before line new.known end)
 
--- a session that began so came to its end
-abbrev pub IsEnded : Streams → Began → SourceView → Service → End → Type 0
-IsEnded streams began source service end = IsOver streams began.hours began.logs (sides_of began source service.sink) service.known end
+-- a session that began so came to its end: what it served, the entries of a line that was cut off, how it left the desk,
+-- and where the clocks stand unless a line was cut off
+pub record IsOver (streams : Streams) (began : Began) (source : SourceView) (service : Service) (end : End) : Type 0 where
+  pub run : SessionRun
+  pub rest : List Entry
+  pub unlogged : Option Entry
+  pub served : HasServed streams began.hours began.basis (sides_of began source service.sink) run end
+  pub undone : IsLeftUndone began.hours began.basis run rest unlogged end
+  pub leaves : LeavesDesk service.known (entries_made run.answers ++ rest) unlogged end
+  pub clock : (CutsOff end → ⊥) → AreAt began.hours (found_in run.answers) service.clocks
 
 -- how a session goes on: to the line where it stands, or to its end
 abbrev pub GoesOn : Streams → Began → Stand → Result Bool End → Type 0
 GoesOn streams began now (Ok true) = IsServing streams began now
-GoesOn streams began now (Ok false) = IsEnded streams began now.source now.service ends.Done
-GoesOn streams began now (Err end) = IsEnded streams began now.source now.service end
+GoesOn streams began now (Ok false) = IsOver streams began now.source now.service ends.Done
+GoesOn streams began now (Err end) = IsOver streams began now.source now.service end
 
 -- more lines may come
 abbrev pub goes_on : Next → Bool

@@ -1,7 +1,6 @@
 -- A session that came to its end: the lines of a source, what each led to, and the replies.
 use Rattle.std.specs.Prelude.{◌≡◌, ◌⊎◌, ◌≤◌, ◌^◌, ◌+◌, ℕ, List, [], ◌∷◌, ◌++◌, length, take, Bool, true, false, IsTrue, Option, Some, None, Ok}
 use Rattle.std.specs.List.{flat_map}
-use Rattle.zb_model.specs.declared.record.Batch.{Batch}
 use Rattle.zb_model.specs.declared.stop.Stop.{Stop}
 use Rattle.zb_outside.specs.Cause.{StreamFaultsRose}
 use Rattle.zb_outside.specs.Stream.{SourceView, SinkView}
@@ -12,7 +11,7 @@ use Rattle.zb_world.specs.Entries.{Entry}
 use Rattle.zb_wire.specs.declared.request.Request.{Request}
 use Rattle.zb_wire.specs.Request.{request_of}
 use Rattle.zb_desk.specs.Numbered.{EachFrom}
-use Rattle.zb_desk.specs.Serial.{IsNextEntry, AreMadeFor}
+use Rattle.zb_desk.specs.Serial.{Basis, IsNextEntry, AreMadeFor}
 use Rattle.zb_session.specs.Hours.{Hours, given_of, IsReadingOf}
 use Rattle.zb_session.specs.Answer.{Answer, IsAnswer, found_in, entries_made, AreSerial}
 use Rattle.zb_session.specs.declared.session.End.{End}
@@ -91,11 +90,11 @@ CutsOff ends.SourceFault = ⊥
 CutsOff ends.SinkFault = ⊥
 CutsOff ends.InputFull = ⊥
 
--- what lies before a line: the clock of the run, the logs as they were opened, the number of the line, and the answers to
+-- what lies before a line: the clock of the run, what the desk goes by, the number of the line, and the answers to
 -- those before it
 pub record Before : Type 0 where
   pub hours : Hours
-  pub logs : List (List Batch)
+  pub basis : Basis
   pub number : ℕ
   pub answers : List Answer
 
@@ -103,27 +102,27 @@ pub record Before : Type 0 where
 -- one
 pub record IsCutLine (before : Before) (line : List ℕ) (rest : List Entry) (unlogged : Option Entry) : Type 0 where
   pub request : Request
-  pub asks : request_of (given_of before.hours (length before.logs) before.number) line ≡ Ok request
+  pub asks : request_of (given_of before.hours (length before.basis.logs) before.number) line ≡ Ok request
   pub reading : ℕ
   pub read : IsReadingOf before.hours (found_in before.answers ++ Ok request ∷ []) reading
-  pub made : AreMadeFor before.logs request reading (entries_made before.answers) rest
-  pub next : (entry : Entry) → unlogged ≡ Some entry → IsNextEntry before.logs request reading (entries_made before.answers) rest entry
+  pub made : AreMadeFor before.basis request reading (entries_made before.answers) rest
+  pub next : (entry : Entry) → unlogged ≡ Some entry → IsNextEntry before.basis request reading (entries_made before.answers) rest entry
 
 -- what lies before the first line that wasn't served
-abbrev pub before_unserved : Hours → List (List Batch) → SessionRun → Before
-before_unserved hours logs run = record { hours = hours; logs = logs; number = length run.served + 1; answers = run.answers }
+abbrev pub before_unserved : Hours → Basis → SessionRun → Before
+before_unserved hours basis run = record { hours = hours; basis = basis; number = length run.served + 1; answers = run.answers }
 
 -- the first line that wasn't served was cut off
-pub record IsFirstCut (hours : Hours) (logs : List (List Batch)) (run : SessionRun) (rest : List Entry) (unlogged : Option Entry) : Type 0 where
+pub record IsFirstCut (hours : Hours) (basis : Basis) (run : SessionRun) (rest : List Entry) (unlogged : Option Entry) : Type 0 where
   pub line : List ℕ
   pub lines : List (List ℕ)
   pub first : run.unserved ≡ line ∷ lines
-  pub cut : IsCutLine (before_unserved hours logs run) line rest unlogged
+  pub cut : IsCutLine (before_unserved hours basis run) line rest unlogged
 
 -- nothing was left undone, or the first line that wasn't served was cut off
-abbrev pub IsLeftUndone : Hours → List (List Batch) → SessionRun → List Entry → Option Entry → End → Type 0
-IsLeftUndone hours logs run rest unlogged end = ((rest ≡ []) × (unlogged ≡ None))
-    ⊎ (IsFirstCut hours logs run rest unlogged × CutsOff end)
+abbrev pub IsLeftUndone : Hours → Basis → SessionRun → List Entry → Option Entry → End → Type 0
+IsLeftUndone hours basis run rest unlogged end = ((rest ≡ []) × (unlogged ≡ None))
+    ⊎ (IsFirstCut hours basis run rest unlogged × CutsOff end)
 
 -- what is known of a desk: that it has made entries, and that it stopped behind some, with one that isn't in its log
 pub record Facts : Type 1 where
@@ -150,25 +149,16 @@ pub record IsEndOf (streams : Streams) (sides : SessionEnds) (run : SessionRun) 
 
 -- a session that came to its end so: the bytes that it took are lines and a rest, the first lines were served, each with
 -- its answer, the answers are those of the serial run, and the replies were written in order
-pub record HasServed (streams : Streams) (hours : Hours) (logs : List (List Batch)) (sides : SessionEnds) (run : SessionRun) (end : End) : Type 0 where
+pub record HasServed (streams : Streams) (hours : Hours) (basis : Basis) (sides : SessionEnds) (run : SessionRun) (end : End) : Type 0 where
   pub takes : TakesBytes streams.source_tells sides.source sides.source_after run.taken
   pub lines : AreLines run.taken run.lines run.rest
   pub within : length run.taken ≤ most_taken
   pub to_end : IsTrue run.ended → IsTrue streams.source_tells → sides.source_after.left ≡ []
   pub first : run.lines ++ last_line run.ended run.rest ≡ run.served ++ run.unserved
-  pub answers : EachFrom (λ n. IsAnswer (given_of hours (length logs) n)) 1 run.served run.answers
-  pub serial : AreSerial hours logs run.answers
+  pub answers : EachFrom (λ n. IsAnswer (given_of hours (length basis.logs) n)) 1 run.served run.answers
+  pub serial : AreSerial hours basis run.answers
   pub sent : IsTrue streams.sink_tells → AreWritten streams sides end run.answers
   pub ends : IsEndOf streams sides run end
-
--- a session came to its end: what it served, the entries of a line that was cut off, and how it left the desk
-pub record IsOver (streams : Streams) (hours : Hours) (logs : List (List Batch)) (sides : SessionEnds) (known : Facts) (end : End) : Type 0 where
-  pub run : SessionRun
-  pub rest : List Entry
-  pub unlogged : Option Entry
-  pub served : HasServed streams hours logs sides run end
-  pub undone : IsLeftUndone hours logs run rest unlogged end
-  pub leaves : LeavesDesk known (entries_made run.answers ++ rest) unlogged end
 
 -- a session's streams, as it began and as it ended
 abbrev pub session_ends : (source source_after : SourceView) (sink sink_after : SinkView) → SessionEnds

@@ -24,17 +24,17 @@ pub fn answer_line<A: Desk, C: Clock>(
     reply: &mut Vec<u8>,
 ) -> Result<(), End>
     requires known { (begun : A.Begun) × (hours : Hours) × (answers : List Answer) × (line : List ℕ)
-        × ComesNext (before_of hours (A.logs begun) number answers)
+        × ComesNext (before_of hours (A.basis begun) number answers)
         (clocks_of dial.old C.tells (C.moments clock.old)) (facts_by A.Desk begun desk.old) line shown.now }
     ensures answered { (begun : A.Begun) (hours : Hours) (answers : List Answer) (line : List ℕ)
-        → ComesNext (before_of hours (A.logs begun) number answers)
+        → ComesNext (before_of hours (A.basis begun) number answers)
         (clocks_of dial.old C.tells (C.moments clock.old)) (facts_by A.Desk begun desk.old) line shown.now
-        → OnOk result (IsAnswered (before_of hours (A.logs begun) number answers) line reply.new.items
+        → OnOk result (IsAnswered (before_of hours (A.basis begun) number answers) line reply.new.items
         (clocks_of dial.new C.tells (C.moments clock.new)) (facts_by A.Desk begun desk.new)) }
     ensures unanswered { (begun : A.Begun) (hours : Hours) (answers : List Answer) (line : List ℕ)
-        → ComesNext (before_of hours (A.logs begun) number answers)
+        → ComesNext (before_of hours (A.basis begun) number answers)
         (clocks_of dial.old C.tells (C.moments clock.old)) (facts_by A.Desk begun desk.old) line shown.now
-        → IfErr result (IsUnanswered (before_of hours (A.logs begun) number answers) line
+        → IfErr result (IsUnanswered (before_of hours (A.basis begun) number answers) line
         (facts_by A.Desk begun desk.new)) }
     ensures kind { is_some dial.new ≡ is_some dial.old }
     ensures moments { C.moments clock.new ≡ C.moments clock.old }
@@ -50,7 +50,7 @@ pub fn answer_line<A: Desk, C: Clock>(
         Ok(request) => {
             let reading = read_for(&request, dial, clock);
             match desk.ask(alloc, reading, request) {
-                Ok(answer) => put(alloc, answer, Some(0), reply),
+                Ok(answered) => put(alloc, answered.reply, Some(answered.units), reply),
                 Err(_) => Err(End::Stopped),
             }
         }

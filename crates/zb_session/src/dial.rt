@@ -68,8 +68,21 @@ impl Dial {
         }
     }
 
-    // What it stands at, or else a reading of the real clock, at most the last moment.
-    fn read<C: Clock>(&self, clock: &mut C) -> Moment
+    /// What it stands at, or else a reading of the real clock, at most the last moment.
+    pub fn read<C: Clock>(&self, clock: &mut C) -> Moment
+        ensures shown { (now : ℕ) → self.now ≡ Some now → result ≡ now }
+        ensures read { (found : List (Result Request LineFault)) → self.now ≡ None
+            → IsReadingOf (real C.tells (C.moments clock.old)) found result }
+        ensures reading { (hours : Hours) (found : List (Result Request LineFault))
+            → AreAt hours found (clocks_of self.now C.tells (C.moments clock.old)) → IsReadingOf hours found result }
+        ensures moments { C.moments clock.new ≡ C.moments clock.old }
+        ensures untouched { IsTrue (is_some self.now) → clock.new ≡ clock.old }
+    {
+        self.told(clock)
+    }
+
+    // The moment that `read` tells.
+    fn told<C: Clock>(&self, clock: &mut C) -> Moment
         ensures shown { (now : ℕ) → self.now ≡ Some now → result ≡ now }
         ensures read { (found : List (Result Request LineFault)) → self.now ≡ None
             → IsReadingOf (real C.tells (C.moments clock.old)) found result }

@@ -1,9 +1,9 @@
 ghost use Rattle.std.specs.Prelude.{◌≡◌, ◌+◌, [], IsTrue, is_some, IfOk};
 ghost use Rattle.zb_outside.specs.Stream.{SourceView, SinkView};
 ghost use Rattle.zb_session.specs.Hours.{Hours};
-ghost use Rattle.zb_session.specs.Session.{streams_of, session_ends, most_taken, facts_of, IsOver};
+ghost use Rattle.zb_session.specs.Session.{streams_of, most_taken, facts_of};
 ghost use Rattle.zb_session.specs.Serving.{AreAt, began_of, clocks_of, facts_by, service_of};
-ghost use Rattle.zb_session.specs.Serving.{stand_of, IsServing, GoesOn, goes_on, source_end_of};
+ghost use Rattle.zb_session.specs.Serving.{stand_of, IsServing, IsOver, GoesOn, goes_on, source_end_of};
 
 use crate::dial::Dial;
 use crate::line::serve_line;
@@ -57,11 +57,12 @@ pub fn serve_session<S: Source, K: Sink, A: Desk, C: Clock>(
     // For all that the desk may have begun with, and each clock that the run may go by.
     ensures over { (begun : A.Begun) (hours : Hours) → A.has begun [] desk.old
         → AreAt hours [] (clocks_of dial.old C.tells (C.moments clock.old))
-        → IsOver (streams_of S.tells S.counts_failures K.Sink) hours (A.logs begun)
-        (session_ends (S.view session.old.source) (S.view session.new.source)
-        (K.view session.old.sink) (K.view session.new.sink))
+        → IsOver (streams_of S.tells S.counts_failures K.Sink)
+        (began_of hours (A.basis begun) (S.view session.old.source) (K.view session.old.sink))
+        (S.view session.new.source)
+        (service_of (K.view session.new.sink) (clocks_of dial.new C.tells (C.moments clock.new))
         (facts_of (λ made. A.has begun made desk.new)
-        (λ made left stop. A.stopped begun made left stop desk.new)) result }
+        (λ made left stop. A.stopped begun made left stop desk.new))) result }
     ensures moments { C.moments clock.new ≡ C.moments clock.old }
     ensures untouched { IsTrue (is_some dial.old) → clock.new ≡ clock.old }
 {
@@ -90,18 +91,18 @@ fn serve_next<S: Source, K: Sink, A: Desk, C: Clock>(
     clock: &mut C,
 ) -> Result<bool, End>
     requires { (begun : A.Begun) × (hours : Hours) × (source : SourceView) × (sink : SinkView)
-        × IsServing (streams_of S.tells S.counts_failures K.Sink) (began_of hours (A.logs begun) source sink)
+        × IsServing (streams_of S.tells S.counts_failures K.Sink) (began_of hours (A.basis begun) source sink)
         (stand_of (S.view session.old.source)
         (service_of (K.view session.old.sink) (clocks_of dial.old C.tells (C.moments clock.old))
         (facts_by A.Desk begun desk.old))
         intake.old.reader intake.old.budget number) }
     ensures goes_on { (begun : A.Begun) (hours : Hours) (source : SourceView) (sink : SinkView)
-        → IsServing (streams_of S.tells S.counts_failures K.Sink) (began_of hours (A.logs begun) source sink)
+        → IsServing (streams_of S.tells S.counts_failures K.Sink) (began_of hours (A.basis begun) source sink)
         (stand_of (S.view session.old.source)
         (service_of (K.view session.old.sink) (clocks_of dial.old C.tells (C.moments clock.old))
         (facts_by A.Desk begun desk.old))
         intake.old.reader intake.old.budget number)
-        → GoesOn (streams_of S.tells S.counts_failures K.Sink) (began_of hours (A.logs begun) source sink)
+        → GoesOn (streams_of S.tells S.counts_failures K.Sink) (began_of hours (A.basis begun) source sink)
         (stand_of (S.view session.new.source)
         (service_of (K.view session.new.sink) (clocks_of dial.new C.tells (C.moments clock.new))
         (facts_by A.Desk begun desk.new))

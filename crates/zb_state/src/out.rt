@@ -48,7 +48,7 @@ impl Out {
     }
 
     /// Takes an event that applies into the state, and adds it. After a refusal both are only dropped. It costs
-    /// what `State::apply` does.
+    /// what `State::apply` does, but for the check of a model.
     pub fn put(&mut self, alloc: Global, state: &mut State, event: Event) -> Result<(), AllocError>
         requires { Admits state.old event }
         ensures put { OnOk result (self.new ≡ self.old ++ event ∷ []) }
@@ -56,7 +56,7 @@ impl Out {
         ensures applied { (es : List Event) → IsStateOf es state.old → OnOk result (IsTrue (applies (partition_of state.old) es event)) }
         ensures state { (es : List Event) → IsStateOf es state.old → OnOk result (IsStateOf (es ++ event ∷ []) state.new) }
     {
-        match state.apply(alloc, &event) {
+        match state.apply_as(alloc, &event, true) {
             Ok(()) => {}
             Err(TableFault::NotApplicable) => unreachable!(),
             Err(TableFault::Memory) => return Err(AllocError),

@@ -12,6 +12,7 @@ ghost use Rattle.zb_rules.specs.Applies.{applies, holds_own, is_fresh, has_defin
 ghost use Rattle.zb_views.specs.Definitions.{definitions, definition_for, greatest_version};
 ghost use Rattle.zb_faults.specs.Faults.{is_well_formed};
 ghost use Rattle.zb_rules.specs.Settling.{turn_of, HasQuietGame};
+ghost use Rattle.zb_rules.specs.Continue.{is_quiet};
 ghost use Rattle.zb_rules.specs.Sound.{HasKeys};
 ghost use Rattle.zb_tokens.specs.Board.{Board, model_under};
 ghost use Rattle.zb_tokens.specs.Forced.{next_mover};
@@ -31,7 +32,7 @@ use zb_game::Game;
 use zb_graph::Graph;
 use zb_model::{
     ElementActivating, Event, Key, MessagePublish, Model as ProcessModel, Moment, PartitionId,
-    Role, TableFault, TryCopy,
+    ProcessCreated, Role, TableFault, TryCopy,
 };
 use zb_table::Table;
 use zb_tokens::Mover;
@@ -59,7 +60,8 @@ pub struct State {
 }
 
 impl State {
-    ghost use Rattle.zb_state.specs.State.{partition_of, IsStateOf, IsReached, IsSameBeside};
+    ghost use Rattle.zb_state.specs.State.{partition_of, IsStateOf, IsReached, Admits, IsSameBeside};
+    ghost use Rattle.zb_model.specs.declared.record.Event.TheVariants as events;
 
     /// The state of a log without events.
     pub fn empty(alloc: Global, place: PartitionId) -> State
@@ -90,7 +92,25 @@ impl State {
             → IsErrOf result TableFault.NotApplicable → IsFalse (applies (partition_of self.old) es event.now) }
         ensures kept { IsErrOf result TableFault.NotApplicable → self.new ≡ self.old }
     {
-        self.admit(alloc, event)?;
+        self.apply_as(alloc, event, false)
+    }
+
+    /// Takes in an event as `apply` does. Where it is known to apply its model isn't looked at again.
+    pub(crate) fn apply_as(
+        &mut self,
+        alloc: Global,
+        event: &Event,
+        known: bool,
+    ) -> Result<(), TableFault>
+        requires known { IsTrue known → Admits self.old event.now }
+        ensures place { partition_of self.new ≡ partition_of self.old }
+        ensures applied { (es : List Event) → IsStateOf es self.old → OnOk result (IsTrue (applies (partition_of self.old) es event.now)) }
+        ensures state { (es : List Event) → IsStateOf es self.old → OnOk result (IsStateOf (es ++ event.now ∷ []) self.new) }
+        ensures refused { (es : List Event) → IsStateOf es self.old
+            → IsErrOf result TableFault.NotApplicable → IsFalse (applies (partition_of self.old) es event.now) }
+        ensures kept { IsErrOf result TableFault.NotApplicable → self.new ≡ self.old }
+    {
+        self.admit(alloc, event, known)?;
         let counter = greatest_counter_of(self.place, event);
         let change = copied_change(alloc, event)?;
         self.note(counter, change)?;
@@ -106,7 +126,7 @@ impl State {
             → IsErrOf result TableFault.NotApplicable → IsFalse (applies (partition_of self.old) es event) }
         ensures kept { IsErrOf result TableFault.NotApplicable → self.new ≡ self.old }
     {
-        self.admit(alloc, &event)?;
+        self.admit(alloc, &event, false)?;
         let counter = greatest_counter_of(self.place, &event);
         let change = moved_change(alloc, event)?;
         self.note(counter, change)?;
@@ -209,7 +229,8 @@ impl State {
 
     /// Whether nobody is forced to move. It costs what `Game::next_mover` does, where that isn't known.
     pub fn quiet(&self) -> bool
-        ensures { (es : List Event) → IsStateOf es self.now → IsTrue result ↔ HasQuietGame es }
+        ensures game { (es : List Event) → IsStateOf es self.now → IsTrue result ↔ HasQuietGame es }
+        ensures told { (es : List Event) → IsStateOf es self.now → result ≡ is_quiet es }
     {
         self.rests || self.game.next_mover().is_none()
     }
@@ -243,13 +264,14 @@ impl State {
 
     // Whether the event meets its own condition, beside the move that it shows. The events of the last arm are
     // made by no command so far.
-    fn meets_own(&self, alloc: Global, event: &Event) -> Result<bool, AllocError>
+    fn meets_own(&self, alloc: Global, event: &Event, known: bool) -> Result<bool, AllocError>
+        requires { IsTrue known → Admits self.now event.now }
         ensures own { (es : List Event) → IsStateOf es self.now → IfOk result (λ meets. meets ≡ holds_own (partition_of self.now) es event.now) }
         ensures next { IfOk result (λ meets. IsTrue meets → HasNextKey (partition_of self.now) self.now.counter event.now) }
         ensures small { IfOk result (λ meets. IsTrue meets → HasSmallModel event.now) }
     {
         match event {
-            Event::ProcessCreated(process) => is_well_formed(alloc, &process.model),
+            Event::ProcessCreated(process) => self.is_good(alloc, process, known),
             Event::DeploymentCreated(made) => Ok(self.names_definition(made.key, made.definition)),
             Event::ProcessInstanceCreationCreated(made) => {
                 Ok(self.names_definition(made.key, made.definition))
@@ -264,6 +286,22 @@ impl State {
             Event::MessageExpired(key) => Ok(self.messages.contains(*key)),
             _ => Ok(false),
         }
+    }
+
+    // Whether the model of a process has no fault. Where its event is known to apply it isn't looked at.
+    fn is_good(
+        &self,
+        alloc: Global,
+        process: &ProcessCreated,
+        known: bool,
+    ) -> Result<bool, AllocError>
+        requires { IsTrue known → Admits self.now (events.ProcessCreated process.now) }
+        ensures { IfOk result (λ good. good ≡ is_well_formed process.now.model) }
+    {
+        if known {
+            return Ok(true);
+        }
+        is_well_formed(alloc, &process.model)
     }
 
     // Whether the key is fresh, and the definition is there.
@@ -328,7 +366,8 @@ impl State {
 
     // Makes the move of an event that applies. At `NotApplicable`, exactly where it doesn't, nothing has
     // changed; after `Memory` the state is only dropped.
-    fn admit(&mut self, alloc: Global, event: &Event) -> Result<(), TableFault>
+    fn admit(&mut self, alloc: Global, event: &Event, known: bool) -> Result<(), TableFault>
+        requires { IsTrue known → Admits self.old event.now }
         ensures beside { IsSameBeside self.old self.new }
         ensures applied { (es : List Event) → IsStateOf es self.old → OnOk result (IsTrue (applies (partition_of self.old) es event.now)) }
         ensures played { (es : List Event) → OnOk result (after_shown self.old.game (shown es event.now) ≡ Some self.new.game) }
@@ -337,7 +376,7 @@ impl State {
             → IsErrOf result TableFault.NotApplicable → IsFalse (applies (partition_of self.old) es event.now) }
         ensures kept { IsErrOf result TableFault.NotApplicable → self.new ≡ self.old }
     {
-        if !self.meets_own(alloc, event)? {
+        if !self.meets_own(alloc, event, known)? {
             return Err(TableFault::NotApplicable);
         }
         let rests = self.rests;

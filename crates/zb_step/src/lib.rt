@@ -5,6 +5,7 @@ mod create;
 mod deploy;
 mod emitting;
 mod expire;
+mod go_on;
 mod outcome;
 mod own;
 mod publish;

@@ -31,6 +31,7 @@ pub fn own_events(
         Command::ProcessInstanceCreationCreate(instance) => create::own(alloc, state, instance),
         Command::MessagePublish(message) => publish::own(alloc, state, moment, message),
         Command::MessageExpire(key) => expire::own(alloc, *key),
+        Command::ProcessInstanceBatchContinue => Ok(List::empty(alloc)),
         _ => unreachable!(),
     }
 }

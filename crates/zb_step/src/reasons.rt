@@ -3,13 +3,14 @@ ghost use Rattle.zb_model.specs.declared.record.Event.{Event};
 ghost use Rattle.zb_rules.specs.Reason.{reason_for};
 ghost use Rattle.zb_state.specs.State.{IsStateOf};
 
-use crate::{create, deploy, expire, publish};
+use crate::{create, deploy, expire, go_on, publish};
 use std::alloc::{AllocError, Global};
 use zb_model::{Command, Moment, Rejection};
 use zb_state::State;
 
 /// Why a command is rejected at this moment, if there is a reason. A model costs its check, an instance a walk
-/// over the definitions, and an expiry or a message with an id one over those that are buffered.
+/// over the definitions, an expiry or a message with an id one over those that are buffered, and a command to go
+/// on what `State::quiet` does.
 pub fn reason(
     alloc: Global,
     state: &State,
@@ -23,6 +24,7 @@ pub fn reason(
         Command::ProcessInstanceCreationCreate(instance) => create::reason(alloc, state, instance),
         Command::MessagePublish(message) => publish::reason(alloc, state, message),
         Command::MessageExpire(key) => expire::reason(alloc, state, moment, *key),
+        Command::ProcessInstanceBatchContinue => go_on::reason(alloc, state),
         _ => Ok(None),
     }
 }

@@ -4,27 +4,73 @@ use zb_words::{ClockKind, Plan, plan_of};
 
 const DEFAULT: u64 = 1_073_741_824;
 
-// The words of these lines, each behind a space, with the clock and the limit.
-const PLANNED: &[(&str, ClockKind, u64)] = &[
-    ("serve", ClockKind::Real, DEFAULT),
-    ("serve --clock real", ClockKind::Real, DEFAULT),
-    ("serve --clock=real", ClockKind::Real, DEFAULT),
-    ("serve --clock manual", ClockKind::Manual, DEFAULT),
-    ("serve --clock=manual", ClockKind::Manual, DEFAULT),
-    ("serve --limit 64", ClockKind::Real, 64),
-    ("serve --limit=64", ClockKind::Real, 64),
-    ("serve --limit 4294967296", ClockKind::Real, 4_294_967_296),
-    ("serve --limit=00000000000000000064", ClockKind::Real, 64),
+const UNITS: u64 = 1_000;
+
+// The words of these lines, each behind a space, with the clock, the limit and the units of work.
+const PLANNED: &[(&str, ClockKind, u64, u64)] = &[
+    ("serve", ClockKind::Real, DEFAULT, UNITS),
+    ("serve --clock real", ClockKind::Real, DEFAULT, UNITS),
+    ("serve --clock=real", ClockKind::Real, DEFAULT, UNITS),
+    ("serve --clock manual", ClockKind::Manual, DEFAULT, UNITS),
+    ("serve --clock=manual", ClockKind::Manual, DEFAULT, UNITS),
+    ("serve --limit 64", ClockKind::Real, 64, UNITS),
+    ("serve --limit=64", ClockKind::Real, 64, UNITS),
+    (
+        "serve --limit 4294967296",
+        ClockKind::Real,
+        4_294_967_296,
+        UNITS,
+    ),
+    (
+        "serve --limit=00000000000000000064",
+        ClockKind::Real,
+        64,
+        UNITS,
+    ),
     (
         "serve --limit 00000000004294967296",
         ClockKind::Real,
         4_294_967_296,
+        UNITS,
     ),
-    ("serve --clock manual --limit 100", ClockKind::Manual, 100),
-    ("serve --clock=manual --limit=100", ClockKind::Manual, 100),
-    ("serve --clock real --limit=100", ClockKind::Real, 100),
-    ("serve --limit 100 --clock=manual", ClockKind::Manual, 100),
-    ("serve --limit=100 --clock manual", ClockKind::Manual, 100),
+    (
+        "serve --clock manual --limit 100",
+        ClockKind::Manual,
+        100,
+        UNITS,
+    ),
+    (
+        "serve --clock=manual --limit=100",
+        ClockKind::Manual,
+        100,
+        UNITS,
+    ),
+    (
+        "serve --clock real --limit=100",
+        ClockKind::Real,
+        100,
+        UNITS,
+    ),
+    (
+        "serve --limit 100 --clock=manual",
+        ClockKind::Manual,
+        100,
+        UNITS,
+    ),
+    (
+        "serve --limit=100 --clock manual",
+        ClockKind::Manual,
+        100,
+        UNITS,
+    ),
+    ("serve --units 0", ClockKind::Real, DEFAULT, 0),
+    ("serve --units=1000000", ClockKind::Real, DEFAULT, 1_000_000),
+    (
+        "serve --units 7 --clock manual --limit 100",
+        ClockKind::Manual,
+        100,
+        7,
+    ),
 ];
 
 // Lines whose words are those of no plan.
@@ -75,6 +121,9 @@ const UNPLANNED: &[&str] = &[
     "serve --limit=000000000000000000064",
     "serve --limit +64",
     "serve --limit=-64",
+    "serve --units",
+    "serve --units 1000001",
+    "serve --units 1 --units 1",
     "serve --limit 6 4",
     "serve --limit 64=64",
     "serve --limit 0x40",
@@ -96,10 +145,11 @@ fn planned(rt: &impl Abort, alloc: Global, line: &str) -> Option<Plan> {
 #[test]
 fn reads_words(rt: HostRuntime) {
     assert!(rt; plan_of(&[]).is_none());
-    for (line, clock, limit) in PLANNED {
+    for (line, clock, limit, units) in PLANNED {
         let plan = Plan {
             clock: *clock,
             limit: *limit,
+            units: *units,
         };
         assert!(rt; planned(&rt, rt.alloc(), *line) == Some(plan), "at {line}");
     }

@@ -37,7 +37,8 @@ one_plan words plan other is is' =
     let same = its_options words is.options (codes "serve") other is.verb is' in
     let clock : plan.clock ≡ other.clock = one_asked is.options _ _ _ plan.clock other.clock one_clock is.clock (rw same at is'.clock) in
     let limit : plan.limit ≡ other.limit = one_asked is.options _ _ _ plan.limit other.limit (λ text a b says says'. says.value ∙ sym says'.value) is.limit (rw same at is'.limit) in
-    λ i. record { clock = clock i; limit = limit i }
+    let units : plan.units ≡ other.units = one_asked is.options _ _ _ plan.units other.units (λ text a b says says'. says.value ∙ sym says'.value) is.units (rw same at is'.units) in
+    λ i. record { clock = clock i; limit = limit i; units = units i }
 
 -- an option that is given once asks for what its text says, wherever it stands among the settings
 pub ask_once : {X : Type 0} (words : List (List ℕ)) (option text : List ℕ) (before after : List Setting) (Says : List ℕ → X → Type 0) (default x : X)
@@ -57,9 +58,9 @@ pub ask_never : {X : Type 0} (words : List (List ℕ)) (option : List ℕ) (sett
     → GiveAll words settings → filter_map (text_for option) settings ≡ [] → AskFor words option Says default default
 ask_never words option settings Says default given none = record { text = None; once = record { settings = settings; given = given; once = none }; meant = refl }
 
--- the verb alone asks for the real clock and the default limit
-pub no_options : IsPlan (codes "serve" ∷ []) (record { clock = Real; limit = 1073741824 })
-no_options = record { options = []; verb = refl; clock = ask_never [] _ [] _ _ refl refl; limit = ask_never [] _ [] _ _ refl refl }
+-- the verb alone asks for the real clock, the default limit, and the default units of work
+pub no_options : IsPlan (codes "serve" ∷ []) (record { clock = Real; limit = 1073741824; units = 1000 })
+no_options = record { options = []; verb = refl; clock = ask_never [] _ [] _ _ refl refl; limit = ask_never [] _ [] _ _ refl refl; units = ask_never [] _ [] _ _ refl refl }
 
 -- no value is empty or begins with '-'
 pub clock_no_dash : (text : List ℕ) (kind : ClockKind) → IsClockName text kind → (0 < length text) × (get_or text 0 0 ≢ 45)

@@ -9,7 +9,7 @@ use Rattle.zb_words.specs.declared.plan.Plan.{Plan}
 
 -- the options that there are
 abbrev pub option_names : List (List ℕ)
-option_names = codes "--clock" ∷ codes "--limit" ∷ []
+option_names = codes "--clock" ∷ codes "--limit" ∷ codes "--units" ∷ []
 
 -- whether the text is one of the options
 abbrev pub is_option : List ℕ → Bool
@@ -68,3 +68,4 @@ pub record IsPlan (words : List (List ℕ)) (plan : Plan) : Type 0 where
   pub verb : words ≡ codes "serve" ∷ options
   pub clock : AskFor options (codes "--clock") IsClockName Real plan.clock
   pub limit : AskFor options (codes "--limit") (IsDecimal 64 (2 ^ 32)) (2 ^ 30) plan.limit
+  pub units : AskFor options (codes "--units") (IsDecimal 0 1000000) 1000 plan.units

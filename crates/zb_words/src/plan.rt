@@ -19,6 +19,8 @@ pub struct Plan {
     pub clock: ClockKind,
     /// The most bytes that a log may have.
     pub limit: u64,
+    /// The most units of work that are done behind a request, and behind the last one.
+    pub units: u64,
 }
 
 // An option whose value is a number, of which it says the least, the greatest, and the one that is meant
@@ -39,16 +41,25 @@ const LIMIT: NumberOption = NumberOption {
     default: 1_073_741_824,
 };
 
+// The most units of work that are done behind a request.
+const UNITS: NumberOption = NumberOption {
+    name: "--units",
+    least: 0,
+    greatest: 1_000_000,
+    default: 1_000,
+};
+
 // The most digits that a number may be written in.
 const MOST_DIGITS: usize = 20;
 
 /// Reads the words of a server's command line, those after the program's name; `None` for any others.
 ///
 /// The first word is `serve`. Options follow in any order, each at most once: `--clock real` or
-/// `--clock manual`, and `--limit n`. An option and its value are two words, or one with `=` between the
-/// two, as in `--clock=manual`. `n` is a number of bytes from 64 to 4,294,967,296, in 1 to 20 decimal
-/// digits, and zeros may lead. Where no option says otherwise, the clock is the real one and the limit
-/// 1,073,741,824 bytes. It goes over the words once for each option that there is.
+/// `--clock manual`, `--limit n` and `--units n`. An option and its value are two words, or one with `=` between the
+/// two, as in `--clock=manual`. `n` is a number of bytes from 64 to 4,294,967,296, or of units of work from 0 to
+/// 1,000,000, in 1 to 20 decimal digits, and zeros may lead. Where no option says otherwise, the clock is the real
+/// one, the limit 1,073,741,824 bytes and the units of work 1,000. It goes over the words once for each option that
+/// there is.
 pub fn plan_of(words: &[String]) -> Option<Plan>
     ensures planned { IfSome result (IsPlan (map string_bytes words.now)) }
     ensures unplanned { IfNone result ((plan : Plan) → IsPlan (map string_bytes words.now) plan → ⊥) }
@@ -61,6 +72,7 @@ pub fn plan_of(words: &[String]) -> Option<Plan>
     Some(Plan {
         clock: clock_in(options)?,
         limit: number_in(options, LIMIT)?,
+        units: number_in(options, UNITS)?,
     })
 }
 

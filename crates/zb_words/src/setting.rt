@@ -57,7 +57,7 @@ fn is_an_option(name: &str) -> bool
     ensures { result ≡ is_option name.now }
 {
     match name {
-        "--clock" | "--limit" => true,
+        "--clock" | "--limit" | "--units" => true,
         _ => false,
     }
 }

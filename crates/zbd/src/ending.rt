@@ -6,7 +6,7 @@ use zb_serve::Cause;
 use zb_store::Volume;
 
 // How the program is called, as it is told where other words were given.
-const USAGE: &str = "usage: zbd serve [--clock real|manual] [--limit n]";
+const USAGE: &str = "usage: zbd serve [--clock real|manual] [--limit n] [--units n]";
 
 // What the client can't know where a run broke off.
 const IN_DOUBT: &str = "a request without a reply may be stored";

@@ -1,10 +1,10 @@
 use Rattle.std.proofs.Common.{◌≡◌, ◌∷◌, [], None, Some, sym, ap, ◌∙◌, refl}
 use Rattle.zb_wire.specs.Asked.{command_of}
-use Rattle.zb_world.specs.Entries.{entries_of}
+use Rattle.zb_model.specs.declared.stop.Stop.TheVariants as stops
 use Rattle.zb_engine.specs.Ledger.{log_of, with_more}
 use Rattle.zb_engine.proofs.AnswerLemmas.{asked_run, step_answered}
-use Rattle.zb_engine.proofs.SerialLemmas.{asks_first, made_for_none, made_for_one, command_done, command_told, cut_at}
-use Rattle.zb_engine.proofs.LogLemmas.{refused_same, stopped_resting}
+use Rattle.zb_engine.proofs.SerialLemmas.{command_done, command_told, cut_asking, command_cut}
+use Rattle.zb_engine.proofs.LogLemmas.{stopped_resting}
 use Rattle.zb_engine.proofs.ResultLemmas.{if_ok_as, if_err_as}
 use Rattle.zb_engine.proofs.asking.command.Goals as goal
 
@@ -34,17 +34,11 @@ pub returns-in-Ok-clause-cut : goal.returns-in-Ok-clause-cut
 returns-in-Ok-clause-cut g c = λ account holds.
     let done = c.in-Ok.ensures.committed account holds in
     let asks : command_of c.args.request ≡ Some c.in-Ok.batch.command = sym c.into_command.ensures ∙ c.in-Some.is ∙ ap Some (sym done.is) in
-    if_err_as c.reply_of.result _ _ (λ stop memory. rw memory (record {
-      more = c.in-Ok.batch ∷ [];
-      each = made_for_one c.args.request c.args.reading account.opening.batches account.made c.in-Ok.batch asks done.moment done.begin;
-      refused = None;
-      next = λ batch e. absurd (cc);
-      stopped = stopped_resting (with_more account (c.in-Ok.batch ∷ [])) _ done.holds g.met.D.Disk.images_told;
-    })) c.reply_of.ensures.memory
+    if_err_as c.reply_of.result _ _ (λ stop memory. rw memory (cut_asking account c.args.request c.args.reading (c.in-Ok.batch ∷ []) None stops.Memory _
+    (command_done c.args.request c.args.reading account.opening.batches account.made c.in-Ok.batch asks done.moment done.begin).made
+    (λ batch e. absurd (cc))
+    (stopped_resting (with_more account (c.in-Ok.batch ∷ [])) _ done.holds g.met.D.Disk.images_told))) c.reply_of.ensures.memory
 
 pub returns-in-Err-clause-cut : goal.returns-in-Err-clause-cut
 returns-in-Err-clause-cut g c = λ account holds.
-    cut_at account c.args.request c.args.reading [] c.in-Some.command _ _
-    (made_for_none (account.opening.batches ∷ []) c.args.request c.args.reading (entries_of 1 account.made))
-    (asks_first (account.opening.batches ∷ []) c.args.request c.args.reading (entries_of 1 account.made) c.in-Some.command (sym c.into_command.ensures ∙ c.in-Some.is))
-    (refused_same account _ _ _ _ (c.in-Err.ensures.stopped account holds))
+    command_cut account c.args.request c.args.reading c.in-Some.command _ _ (sym c.into_command.ensures ∙ c.in-Some.is) (c.in-Err.ensures.stopped account holds)

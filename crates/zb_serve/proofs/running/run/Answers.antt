@@ -20,6 +20,7 @@ returns-in-Err-open-clause-run g c =
           (record { disk = g.D.Disk.view c.args.volume.log; disk_after = g.D.Disk.view c.in-Err-open.volume.log }) c.in-Err-open.fault
           (λ t frame e. subst (λ (p : ℕ). IsBadAt p (g.D.Disk.view c.args.volume.log).contents frame) c.new.ensures (said.bad t frame e)) said.cause,
       (λ t. (said.opens.same t, said.opens.short t), tt),
+      refl,
     )
 
 pub returns-in-Err-open-clause-spared : goal.returns-in-Err-open-clause-spared
@@ -33,24 +34,24 @@ serve_partition-requires-clause-opened g c =
     let said = c.in-Ok-open.ensures in
     let is_open : IsOpen c.args.plan.limit c.in-Ok-open.partition said.opened.0 = record { has = said.opened.1.has; live = said.live; place = said.place ∙ c.new.ensures; most = said.limit } in
     let applied = subst (λ (p : ℕ). IsApplied p said.opened.0) c.new.ensures said.opened.1.applied in
-    let o = opened_as c.args.volume c.args.plan.limit said.opened.0 c.in-Ok-open.partition is_open said.opened.1.stood applied said.opens.later said.steady
+    let o = opened_as c.args.volume c.args.plan.limit c.args.plan.units said.opened.0 c.in-Ok-open.partition is_open said.opened.1.stood applied said.opens.later said.steady
     (λ tells. said.settled tells said.opened.0 (said.opened.1.stood (g.met.D.Disk.images_told tells))) said.slots in
-    (record { volume = c.args.volume; limit = c.args.plan.limit; batches = said.opened.0; moment = o.0 }, o.1)
+    (record { volume = c.args.volume; limit = c.args.plan.limit; batches = said.opened.0; moment = o.0; units = c.args.plan.units }, o.1, refl)
 
 pub returns-in-Ok-open-clause-run : goal.returns-in-Ok-open-clause-run
 returns-in-Ok-open-clause-run g c =
     let said = c.in-Ok-open.ensures in
     let is_open : IsOpen c.args.plan.limit c.in-Ok-open.partition said.opened.0 = record { has = said.opened.1.has; live = said.live; place = said.place ∙ c.new.ensures; most = said.limit } in
     let applied = subst (λ (p : ℕ). IsApplied p said.opened.0) c.new.ensures said.opened.1.applied in
-    let o = opened_as c.args.volume c.args.plan.limit said.opened.0 c.in-Ok-open.partition is_open said.opened.1.stood applied said.opens.later said.steady
+    let o = opened_as c.args.volume c.args.plan.limit c.args.plan.units said.opened.0 c.in-Ok-open.partition is_open said.opened.1.stood applied said.opens.later said.steady
     (λ tells. said.settled tells said.opened.0 (said.opened.1.stood (g.met.D.Disk.images_told tells))) said.slots in
-    c.serve_partition.ensures.run (record { volume = c.args.volume; limit = c.args.plan.limit; batches = said.opened.0; moment = o.0 }) o.1 refl
+    c.serve_partition.ensures.run (record { volume = c.args.volume; limit = c.args.plan.limit; batches = said.opened.0; moment = o.0; units = c.args.plan.units }) o.1 refl refl
 
 pub returns-in-Ok-open-clause-slots : goal.returns-in-Ok-open-clause-slots
 returns-in-Ok-open-clause-slots g c =
     let said = c.in-Ok-open.ensures in
     let is_open : IsOpen c.args.plan.limit c.in-Ok-open.partition said.opened.0 = record { has = said.opened.1.has; live = said.live; place = said.place ∙ c.new.ensures; most = said.limit } in
     let applied = subst (λ (p : ℕ). IsApplied p said.opened.0) c.new.ensures said.opened.1.applied in
-    let o = opened_as c.args.volume c.args.plan.limit said.opened.0 c.in-Ok-open.partition is_open said.opened.1.stood applied said.opens.later said.steady
+    let o = opened_as c.args.volume c.args.plan.limit c.args.plan.units said.opened.0 c.in-Ok-open.partition is_open said.opened.1.stood applied said.opens.later said.steady
     (λ tells. said.settled tells said.opened.0 (said.opened.1.stood (g.met.D.Disk.images_told tells))) said.slots in
-    c.serve_partition.ensures.slots (record { volume = c.args.volume; limit = c.args.plan.limit; batches = said.opened.0; moment = o.0 }) o.1
+    c.serve_partition.ensures.slots (record { volume = c.args.volume; limit = c.args.plan.limit; batches = said.opened.0; moment = o.0; units = c.args.plan.units }) o.1 refl

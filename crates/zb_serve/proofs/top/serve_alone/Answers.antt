@@ -28,13 +28,12 @@ returns-clause-closed g c =
       same_sessions = grind (arith, common_steps);
       same_volumes = grind (arith, common_steps);
       slots = slots_single c.in-Some-pop.volume _ _ _ volume volumes c.run-cause.ensures.slots;
-      units = grind (arith, common_steps);
       run = λ not_usage. (
         c.in-Some.plan,
         planned,
-        rw (c.closed-2.ensures.cause, c.closed-2.ensures.stamps)
+        rw (c.closed-2.ensures.cause, c.closed-2.ensures.stamps, c.closed-2.ensures.units)
             (run_single (devices_of g.S.Source g.K.Sink g.D.Disk) (setting_of c.in-Some.plan g.C.Clock.tells (g.C.Clock.moments c.args.clock.now))
-            c.index_mut.result.now c.run-cause.new.session _ _ c.in-Some-pop.volume _ _ _ _ _ session sessions volume volumes c.run-cause.ensures.run),
+            c.index_mut.result.now c.run-cause.new.session _ _ c.in-Some-pop.volume _ _ _ _ _ _ session sessions volume volumes c.run-cause.ensures.run),
       );
     }
 
@@ -50,7 +49,6 @@ returns-in_default-clause-closed g c = record {
   same_sessions = grind (arith, common_steps);
   same_volumes = grind (arith, common_steps);
   slots = grind (arith, common_steps);
-  units = grind (arith, common_steps);
   run = λ not_usage. absurd (not_usage c.closed.ensures.cause);
 }
 

@@ -1,4 +1,4 @@
-use Rattle.std.proofs.Common.{◌≡◌, ◌++◌, List, [], length, Some, None, Result, Ok, Err, refl, sym, ap, ◌∙◌, subst, inr, rules}
+use Rattle.std.proofs.Common.{◌≡◌, ℕ, ◌++◌, List, [], length, Some, None, Result, Ok, Err, refl, sym, ap, ◌∙◌, subst, inr, rules}
 use Rattle.zb_reply.specs.Reply.{line_of}
 use Rattle.std.proofs.lemmas.Result.{on_ok_weaker}
 use Rattle.zb_world.specs.Entries.{Entry}
@@ -6,6 +6,7 @@ use Rattle.zb_wire.specs.RequestLaws.{Tells-fault}
 use Rattle.zb_wire.specs.declared.request.LineFault.TheVariants as faults
 use Rattle.zb_wire.specs.declared.request.Request.{Request}
 use Rattle.zb_wire.specs.declared.request.LineFault.{LineFault}
+use Rattle.zb_desk.specs.Serial.{asked_in}
 use Rattle.zb_session.specs.Hours.{given_of}
 use Rattle.zb_session.specs.Answer.{Answer, found_in, entries_made}
 use Rattle.zb_session.specs.Serving.{AreAt, clocks_of}
@@ -25,7 +26,7 @@ pub put-requires : goal.put-requires
 put-requires g c =
     let k = c.requires.known in
     let a = c.in-Ok-ask.ensures.asked k.0 (entries_made k.2) k.4.holds in
-    told_spoken c.in-Ok.request c.read_for-reading.result a.entries c.in-Ok-ask.answer a.told
+    told_spoken c.in-Ok.request c.read_for-reading.result (asked_in a.entries) c.in-Ok-ask.answered.reply a.told
 
 pub returns-in-Ok-ask-clause-answered : goal.returns-in-Ok-ask-clause-answered
 returns-in-Ok-ask-clause-answered g c = λ begun hours answers line next.
@@ -37,7 +38,15 @@ returns-in-Ok-ask-clause-answered g c = λ begun hours answers line next.
     record {
       answer = answer;
       written = refl;
-      is = record { found = is; replied = record { reply = c.in-Ok-ask.answer; told = a.told; written = put ∙ ap (λ bs. bs ++ line_of c.in-Ok-ask.answer (Some 0)) c.clear.ensures.items } };
+      is = record {
+        found = is;
+        replied = record {
+          reply = c.in-Ok-ask.answered.reply;
+          told = a.told;
+          written = put ∙ ap (λ bs. bs ++ line_of c.in-Ok-ask.answered.reply (Some c.in-Ok-ask.answered.units)) c.clear.ensures.items
+              ∙ ap (λ (n : ℕ). line_of c.in-Ok-ask.answered.reply (Some n)) a.units;
+        };
+      };
       served = (c.read_for-reading.ensures.reading hours found next.clock, a.done);
       holds = a.holds;
       clock = subst (λ (f : List (Result Request LineFault)). AreAt hours f (clocks_of c.read_for-reading.new.dial g.C.Clock.tells (g.C.Clock.moments c.read_for-reading.new.clock))) (sym (found_more answers answer)) (c.read_for-reading.ensures.at hours found next.clock);
@@ -87,7 +96,7 @@ returns-in-Err-clause-answered g c = λ begun hours answers line next.
     record {
       answer = answer;
       written = refl;
-      is = fault_answered (given_of hours (length (g.A.Desk.logs begun)) c.args.number) line _ _ c.in-Err.fault is c.clear.ensures.items put;
+      is = fault_answered (given_of hours (length (g.A.Desk.basis begun).logs) c.args.number) line _ _ c.in-Err.fault is c.clear.ensures.items put;
       served = refl;
       holds = subst (λ (es : List Entry). g.A.Desk.has begun es c.args.desk.now) (append_none (entries_made answers)) next.holds;
       clock = subst (λ (f : List (Result Request LineFault)). AreAt hours f (clocks_of c.args.dial.now g.C.Clock.tells (g.C.Clock.moments c.args.clock.now))) (sym (found_more answers answer)) (at_fault hours found c.in-Err.fault _ next.clock);

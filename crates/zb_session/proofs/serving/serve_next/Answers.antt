@@ -11,21 +11,21 @@ use Rattle.zb_session.proofs.serving.serve_next.Goals as goal
 pub returns-in-Err-clause-goes_on : goal.returns-in-Err-clause-goes_on
 returns-in-Err-clause-goes_on g c = λ begun hours source sink s.
     let read = c.in-Err.ensures.comes in
-    rw c.source_end.ensures (stops_reading _ (began_of hours (g.A.Desk.logs begun) source sink) _ s _ _ read.0 read.1 read.2 c.next.new.self c.next.new.line.items c.longest_shown.result c.in-Err.trouble read.3 c.in-Err.ensures.failed c.in-Err.ensures.steady)
+    rw c.source_end.ensures (stops_reading _ (began_of hours (g.A.Desk.basis begun) source sink) _ s _ _ read.0 read.1 read.2 c.next.new.self c.next.new.line.items c.longest_shown.result c.in-Err.trouble read.3 c.in-Err.ensures.failed c.in-Err.ensures.steady)
 
 -- there are no more lines
 pub returns-in-End-clause-goes_on : goal.returns-in-End-clause-goes_on
 returns-in-End-clause-goes_on g c = λ begun hours source sink s.
     let read = c.in-Ok.ensures.comes in
     let came = subst (λ (n : Next). Comes c.longest_shown.result (Ok n) (c.args.intake.now.reader ++ read.0) c.next.new.self c.next.new.line.items) c.in-End.is read.3 in
-    stops_done _ (began_of hours (g.A.Desk.logs begun) source sink) _ s _ _ read.0 read.1 read.2 came.0 (c.in-Ok.ensures.at_end (subst (λ (n : Next). IsAtEnd (Ok n)) (sym c.in-End.is) tt)) c.in-Ok.ensures.steady
+    stops_done _ (began_of hours (g.A.Desk.basis begun) source sink) _ s _ _ read.0 read.1 read.2 came.0 (c.in-Ok.ensures.at_end (subst (λ (n : Next). IsAtEnd (Ok n)) (sym c.in-End.is) tt)) c.in-Ok.ensures.steady
 
 -- no more may be taken
 pub returns-in-Full-clause-goes_on : goal.returns-in-Full-clause-goes_on
 returns-in-Full-clause-goes_on g c = λ begun hours source sink s.
     let read = c.in-Ok.ensures.comes in
     let came = subst (λ (n : Next). Comes c.longest_shown.result (Ok n) (c.args.intake.now.reader ++ read.0) c.next.new.self c.next.new.line.items) c.in-Full.is read.3 in
-    stops_full _ (began_of hours (g.A.Desk.logs begun) source sink) _ s _ _ read.0 read.1 read.2 came (c.in-Ok.ensures.full (ap Ok c.in-Full.is)) c.in-Ok.ensures.steady
+    stops_full _ (began_of hours (g.A.Desk.basis begun) source sink) _ s _ _ read.0 read.1 read.2 came (c.in-Ok.ensures.full (ap Ok c.in-Full.is)) c.in-Ok.ensures.steady
 
 pub serve_line-requires : goal.serve_line-requires
 serve_line-requires g c =
@@ -45,7 +45,7 @@ serve_line-requires g c =
         hours,
         s.answers,
         line_in c.args.intake.now.reader read.0 c.longest_shown.result c.in-Ok.next c.next.new.self c.deref.result.now came,
-        comes_next _ (began_of hours (g.A.Desk.logs begun) source sink) _ s c.longest_shown.result read.0 c.next.new.self _ c.in-Ok.next not_end not_full came (c.longest_shown.ensures.decides (given_at (past_of _ (began_of hours (g.A.Desk.logs begun) source sink) _ s))),
+        comes_next _ (began_of hours (g.A.Desk.basis begun) source sink) _ s c.longest_shown.result read.0 c.next.new.self _ c.in-Ok.next not_end not_full came (c.longest_shown.ensures.decides (given_at (past_of _ (began_of hours (g.A.Desk.basis begun) source sink) _ s))),
       );
     }
 
@@ -56,9 +56,9 @@ returns-in-Ok-serve_line-clause-goes_on g c = λ begun hours source sink s.
     let came = subst (λ (l : List ℕ). Comes c.longest_shown.result (Ok c.in-Ok.next) (c.args.intake.now.reader ++ read.0) c.next.new.self l) (sym c.deref.ensures.value) read.3 in
     let not_end : c.in-Ok.next ≢ nexts.End = search rules in
     let not_full : c.in-Ok.next ≢ nexts.Full = search rules in
-    let next = comes_next _ (began_of hours (g.A.Desk.logs begun) source sink) _ s c.longest_shown.result read.0 c.next.new.self _ c.in-Ok.next not_end not_full came (c.longest_shown.ensures.decides (given_at (past_of _ (began_of hours (g.A.Desk.logs begun) source sink) _ s))) in
+    let next = comes_next _ (began_of hours (g.A.Desk.basis begun) source sink) _ s c.longest_shown.result read.0 c.next.new.self _ c.in-Ok.next not_end not_full came (c.longest_shown.ensures.decides (given_at (past_of _ (began_of hours (g.A.Desk.basis begun) source sink) _ s))) in
     let replied = c.in-Ok-serve_line.ensures.replied g.S.Source.tells g.S.Source.counts_failures begun hours s.answers _ next in
-    rw c.may_go_on.ensures (turn_served _ (began_of hours (g.A.Desk.logs begun) source sink) _ s _ _ _ c.longest_shown.result read.0 c.next.new.self _ read.1 read.2
+    rw c.may_go_on.ensures (turn_served _ (began_of hours (g.A.Desk.basis begun) source sink) _ s _ _ _ c.longest_shown.result read.0 c.next.new.self _ read.1 read.2
     c.in-Ok.next not_end not_full came c.in-Ok.ensures.at_end replied (record {
       source_later = c.in-Ok.ensures.later;
       sink_later = c.in-Ok-serve_line.ensures.sink_later;
@@ -73,7 +73,7 @@ returns-in-Err-serve_line-clause-goes_on g c = λ begun hours source sink s.
     let came = subst (λ (l : List ℕ). Comes c.longest_shown.result (Ok c.in-Ok.next) (c.args.intake.now.reader ++ read.0) c.next.new.self l) (sym c.deref.ensures.value) read.3 in
     let not_end : c.in-Ok.next ≢ nexts.End = search rules in
     let not_full : c.in-Ok.next ≢ nexts.Full = search rules in
-    let next = comes_next _ (began_of hours (g.A.Desk.logs begun) source sink) _ s c.longest_shown.result read.0 c.next.new.self _ c.in-Ok.next not_end not_full came (c.longest_shown.ensures.decides (given_at (past_of _ (began_of hours (g.A.Desk.logs begun) source sink) _ s))) in
+    let next = comes_next _ (began_of hours (g.A.Desk.basis begun) source sink) _ s c.longest_shown.result read.0 c.next.new.self _ c.in-Ok.next not_end not_full came (c.longest_shown.ensures.decides (given_at (past_of _ (began_of hours (g.A.Desk.basis begun) source sink) _ s))) in
     let ended = c.in-Err-serve_line.ensures.over g.S.Source.tells g.S.Source.counts_failures begun hours s.answers _ next in
-    turn_stopped _ (began_of hours (g.A.Desk.logs begun) source sink) _ s _ _ _ c.longest_shown.result read.0 c.next.new.self _ read.1 read.2 c.in-Ok.next not_end not_full came c.in-Ok.ensures.at_end _ ended c.in-Ok.ensures.steady
+    turn_stopped _ (began_of hours (g.A.Desk.basis begun) source sink) _ s _ _ _ c.longest_shown.result read.0 c.next.new.self _ read.1 read.2 c.in-Ok.next not_end not_full came c.in-Ok.ensures.at_end _ ended c.in-Ok.ensures.steady
     (λ other t. c.in-Err-serve_line.ensures.sink_steady t (λ is. other (err_same _ _ is)))

@@ -9,7 +9,7 @@ use Rattle.zb_session.proofs.serving.serve_session.Goals as goal
 
 pub returns-in-Err-clause-over : goal.returns-in-Err-clause-over
 returns-in-Err-clause-over g c = λ begun hours has at.
-    let began = began_of hours (g.A.Desk.logs begun) (g.S.Source.view c.args.session.now.source) (g.K.Sink.view c.args.session.now.sink) in
+    let began = began_of hours (g.A.Desk.basis begun) (g.S.Source.view c.args.session.now.source) (g.K.Sink.view c.args.session.now.sink) in
     stops_memory _ began _
     (serving_first (streams_of g.S.Source.tells g.S.Source.counts_failures g.K.Sink) began _ (facts_by g.A.Desk begun c.args.desk.now) has at)
     most_taken _ _ (takes_nothing _ _) (omega arith) (λ t. refl)
@@ -18,7 +18,7 @@ pub loop-number-init : goal.loop-number-init
 loop-number-init g c = (
   λ begun hours has at.
       rw (c.in-Ok.ensures.reader, c.in-Ok.ensures.budget) (serving_first (streams_of g.S.Source.tells g.S.Source.counts_failures g.K.Sink)
-      (began_of hours (g.A.Desk.logs begun) (g.S.Source.view c.args.session.now.source) (g.K.Sink.view c.args.session.now.sink))
+      (began_of hours (g.A.Desk.basis begun) (g.S.Source.view c.args.session.now.source) (g.K.Sink.view c.args.session.now.sink))
       (clocks_of c.args.dial.now g.C.Clock.tells (g.C.Clock.moments c.args.clock.now)) (facts_by g.A.Desk begun c.args.desk.now) has at),
   refl,
   refl,
@@ -32,7 +32,7 @@ serve_next-requires g c =
 
 pub returns-in-Ok-false-clause-over : goal.returns-in-Ok-false-clause-over
 returns-in-Ok-false-clause-over g c = λ begun hours has at.
-    let began = began_of hours (g.A.Desk.logs begun) (g.S.Source.view c.args.session.now.source) (g.K.Sink.view c.args.session.now.sink) in
+    let began = began_of hours (g.A.Desk.basis begun) (g.S.Source.view c.args.session.now.source) (g.K.Sink.view c.args.session.now.sink) in
     goes_over _ began
     (stand_of (g.S.Source.view c.serve_next.new.session.source)
     (service_of (g.K.Sink.view c.serve_next.new.session.sink) (clocks_of c.serve_next.new.dial g.C.Clock.tells (g.C.Clock.moments c.serve_next.new.clock)) (facts_by g.A.Desk begun c.serve_next.new.desk))

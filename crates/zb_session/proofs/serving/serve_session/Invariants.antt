@@ -7,7 +7,7 @@ use Rattle.zb_session.proofs.serving.serve_session.Given as goal
 -- the lines before this one were served
 abbrev pub invariant-loop-number : goal.invariant-loop-number
 invariant-loop-number g l = ((begun : g.A.Desk.Begun) (hours : Hours) → g.A.Desk.has begun [] l.fn.desk → AreAt hours [] (clocks_of l.fn.dial g.C.Clock.tells (g.C.Clock.moments l.fn.clock))
-    → IsServing (streams_of g.S.Source.tells g.S.Source.counts_failures g.K.Sink) (began_of hours (g.A.Desk.logs begun) (g.S.Source.view l.fn.session.source) (g.K.Sink.view l.fn.session.sink))
+    → IsServing (streams_of g.S.Source.tells g.S.Source.counts_failures g.K.Sink) (began_of hours (g.A.Desk.basis begun) (g.S.Source.view l.fn.session.source) (g.K.Sink.view l.fn.session.sink))
     (stand_of (g.S.Source.view l.session.source)
     (service_of (g.K.Sink.view l.session.sink) (clocks_of l.dial g.C.Clock.tells (g.C.Clock.moments l.clock)) (facts_by g.A.Desk begun l.desk))
     l.intake.reader l.intake.budget l.number))

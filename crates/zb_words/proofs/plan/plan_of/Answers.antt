@@ -9,3 +9,7 @@ returns-in_err-clock_in-clause-unplanned c = rw c.from_residual-in_err-clock_in.
 pub returns-in_err-number_in-clause-unplanned : goal.returns-in_err-number_in-clause-unplanned
 returns-in_err-number_in-clause-unplanned c = rw c.from_residual-in_err-number_in.ensures (λ plan is.
     c.in_err-number_in.ensures.none plan.limit (rw (its_options _ _ _ plan (ap (map string_bytes) c.in_ok-verb.ensures.cases.0) is) at is.limit))
+
+pub returns-in_err-number_in-2-clause-unplanned : goal.returns-in_err-number_in-2-clause-unplanned
+returns-in_err-number_in-2-clause-unplanned c = rw c.from_residual-in_err-number_in-2.ensures (λ plan is.
+    c.in_err-number_in-2.ensures.none plan.units (rw (its_options _ _ _ plan (ap (map string_bytes) c.in_ok-verb.ensures.cases.0) is) at is.units))

@@ -1,4 +1,5 @@
 use Rattle.std.proofs.Common.{◌≡◌, ◌∙◌, Bool, true, [], Err, IsTrue, IsFalse, IsErrOf, ap, sym, subst, rules}
+use Rattle.std.proofs.lemmas.Bool.{false≢true}
 use Rattle.zb_model.specs.declared.stop.TableFault.TheVariants as stops
 use Rattle.zb_rules.specs.Applies.{holds_own}
 use Rattle.zb_rules.specs.Shown.{shown}
@@ -15,7 +16,7 @@ invariant_of-self c =
       in_order = s.in_order;
       resting = elim c.if-rests.branch [
         | then-rests w ↦ λ rests. still_rests s.game c.play.new.game (shown [] c.args.event.now) w.shows_move.result (s.resting w.if-rests.true) (w.shows_move.ensures []) (c.in-Ok.ensures.played []) (rw w.self-is at rests)
-        | else-rests w ↦ λ rests. absurd (let none = rw w.self-is at rests in cc)
+        | else-rests w ↦ λ rests. absurd (false≢true (sym w.if-rests.false ∙ rw w.self-is at rests))
       ];
     }
 

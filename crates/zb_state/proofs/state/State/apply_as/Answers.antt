@@ -1,5 +1,5 @@
 use Rattle.zb_state.proofs.StateLemmas.{state_more, draws_of}
-use Rattle.zb_state.proofs.state.State.apply.Goals as goal
+use Rattle.zb_state.proofs.state.State.apply_as.Goals as goal
 
 pub note-requires : goal.note-requires
 note-requires c = record {
