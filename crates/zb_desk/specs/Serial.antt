@@ -12,7 +12,7 @@ use Rattle.zb_rules.specs.Continue.{is_quiet}
 use Rattle.zb_world.specs.Entries.{Entry, part_of}
 use Rattle.zb_wire.specs.declared.request.Request.{Request}
 use Rattle.zb_wire.specs.declared.request.Request.TheVariants as requests
-use Rattle.zb_wire.specs.Asked.{command_of}
+use Rattle.zb_wire.specs.Asked.{command_of, partition_asked}
 use Rattle.zb_desk.specs.Numbered.{OfNumber}
 
 -- a tick makes at most so many batches
@@ -34,10 +34,10 @@ due_in_logs reading p (log ∷ logs) entries =
     option_or (option_map (λ command. (p, command)) (due_command reading (events_of (log_behind p log entries))))
     (due_in_logs reading (suc p) logs entries)
 
--- a client's command is asked for once, at partition 1
-abbrev pub once : Command → (done : List Entry) → Option (ℕ × Command)
-once command [] = Some (1, command)
-once command (entry ∷ done) = None
+-- a client's command is asked for once, at partition p
+abbrev pub once : (p : ℕ) → Command → (done : List Entry) → Option (ℕ × Command)
+once p command [] = Some (p, command)
+once p command (entry ∷ done) = None
 
 -- what the clock's ops ask for next: a tick for what is due, the first partition first, and an advance for nothing
 abbrev pub clocked : List (List Batch) → Request → ℕ → (earlier done : List Entry) → Option (ℕ × Command)
@@ -47,7 +47,7 @@ clocked logs _ reading earlier done = None
 
 -- the command that is asked for next, and its partition, by the command of a client that the request has, or else by time
 abbrev pub next_by : Option Command → List (List Batch) → Request → ℕ → (earlier done : List Entry) → Option (ℕ × Command)
-next_by (Some command) logs request reading earlier done = once command done
+next_by (Some command) logs request reading earlier done = once (partition_asked (length logs) request) command done
 next_by None logs request reading earlier done = clocked logs request reading earlier done
 
 -- the command that a request itself asks for next at a reading, and its partition

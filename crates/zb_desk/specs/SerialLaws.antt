@@ -34,9 +34,9 @@ some_pair P p q a command has is = subst P (let seconds : ◌≡◌ {A = Option 
 abbrev IsNoUnit : Command → Type 0
 IsNoUnit command = is_unit_command command ≡ false
 
-once_no_unit : (a : Command) (done : List Entry) (q : ℕ) (command : Command) → IsNoUnit a → once a done ≡ Some (q, command) → IsNoUnit command
-once_no_unit a [] q command nounit is = some_pair IsNoUnit 1 q a command nounit is
-once_no_unit a (entry ∷ done) q command nounit is = absurd (cc)
+once_no_unit : (p : ℕ) (a : Command) (done : List Entry) (q : ℕ) (command : Command) → IsNoUnit a → once p a done ≡ Some (q, command) → IsNoUnit command
+once_no_unit p a [] q command nounit is = some_pair IsNoUnit p q a command nounit is
+once_no_unit p a (entry ∷ done) q command nounit is = absurd (cc)
 
 due_pair : (p q : ℕ) (found : Option MessagePublished) (later : Option (ℕ × Command)) (command : Command) → (later ≡ Some (q, command) → IsNoUnit command)
     → option_or (option_map (λ (c : Command). (p, c)) (option_map (λ (m : MessagePublished). commands.MessageExpire m.key) found)) later ≡ Some (q, command) → IsNoUnit command
@@ -54,12 +54,10 @@ tick_no_unit false due q command nounit is = absurd (cc)
 
 -- no request asks for a unit of work
 pub asked_no_unit : (logs : List (List Batch)) (request : Request) (reading : ℕ) (earlier done : List Entry) (q : ℕ) (command : Command) → next_asked logs request reading earlier done ≡ Some (q, command) → IsNoUnit command
-asked_no_unit logs (requests.Deploy m) reading earlier done q command is = once_no_unit (commands.DeploymentCreate m) done q command refl is
-asked_no_unit logs (requests.Create c) reading earlier done q command is = once_no_unit (commands.ProcessInstanceCreationCreate c) done q command refl is
-asked_no_unit logs (requests.Publish m) reading earlier done q command is = once_no_unit (commands.MessagePublish m) done q command refl is
 asked_no_unit logs requests.Tick reading earlier done q command is =
     tick_no_unit _ (due_in_logs reading 1 logs (earlier ++ done)) q command (due_no_unit reading 1 logs (earlier ++ done) q command) is
 asked_no_unit logs (requests.Advance ms) reading earlier done q command is = absurd (cc)
+asked_no_unit logs request reading earlier done q command is = once_no_unit _ _ done q command refl is
 
 -- a unit of work is one
 unit_is : (quiet : Bool) (p q : ℕ) (later : Option (ℕ × Command)) (command : Command) → (later ≡ Some (q, command) → is_unit_command command ≡ true)

@@ -17,6 +17,7 @@ use Rattle.zb_rules.specs.StepLaws.{each_on_none, each_on_more, each_on_all}
 use Rattle.zb_world.specs.Entries.{Entry, as_entry, entries_of}
 use Rattle.zb_world.specs.EntryLaws.{part_of_entries, part_of_joined}
 use Rattle.zb_wire.specs.Asked.{command_of}
+use Rattle.zb_wire.specs.RequestLaws.{partition_asked-alone}
 use Rattle.zb_wire.specs.declared.request.Request.{Request}
 use Rattle.zb_wire.specs.declared.request.Request.TheVariants as requests
 use Rattle.zb_reply.specs.Reply.{answer_of}
@@ -152,9 +153,10 @@ delivery_cut account reading stop ledger w =
       λ batch is. lifted_one account works.Units reading account.opening.units next (λ done few. unit_goes_on account.opening.batches account.made done account.opening.units reading few) w.more batch w.few (w.next batch is),
     )
 
--- a request that asks for a command asks for it first
-pub asks_first : (logs : List (List Batch)) (request : Request) (reading : ℕ) (earlier : List Entry) (command : Command) → command_of request ≡ Some command → next_asked logs request reading earlier [] ≡ Some (1, command)
-asks_first logs request reading earlier command is = ap (λ (c : Option Command). next_by c logs request reading earlier []) is
+-- a request that asks for a command asks the one partition for it first
+asks_first : (opened : List Batch) (request : Request) (reading : ℕ) (earlier : List Entry) (command : Command) → command_of request ≡ Some command → next_asked (opened ∷ []) request reading earlier [] ≡ Some (at_one command)
+asks_first opened request reading earlier command is =
+    ap (λ (c : Option Command). next_by c (opened ∷ []) request reading earlier []) is ∙ ap (λ (p : ℕ). Some (p, command)) (partition_asked-alone request)
 
 -- and for no more
 asks_once : (logs : List (List Batch)) (request : Request) (reading : ℕ) (earlier : List Entry) (command : Command) (entry : Entry) → command_of request ≡ Some command → next_asked logs request reading earlier (entry ∷ []) ≡ None
@@ -169,7 +171,7 @@ pub command_next : (request : Request) (reading : ℕ) (opened before : List Bat
     → batch.begin ≡ length (opened ++ before) → IsNextAsked (opened ∷ []) request reading (entries_of 1 before) [] (as_entry 1 batch)
 command_next request reading opened before batch asks moment begin =
     let none : before ≡ before ++ [] = sym (append-nil before) in
-    next_alone opened before [] (next_asked (opened ∷ []) request reading (entries_of 1 before) []) reading batch (asks_first (opened ∷ []) request reading (entries_of 1 before) batch.command asks)
+    next_alone opened before [] (next_asked (opened ∷ []) request reading (entries_of 1 before) []) reading batch (asks_first opened request reading (entries_of 1 before) batch.command asks)
     (subst (λ (l : List Batch). batch.moment ≡ max (moment_of_last (opened ++ l)) reading) none moment) (subst (λ (l : List Batch). batch.begin ≡ length (opened ++ l)) none begin)
 
 -- and all that it asks for

@@ -103,3 +103,13 @@ is_exclusive_gateway kind = false
 abbrev pub is_event_gateway : NodeKind → Bool
 is_event_gateway kinds.EventBasedGateway = true
 is_event_gateway kind = false
+
+-- a gateway that waits for all flows into it, and forks into all flows out of it (BPMN 2.0.2, 10.6.4)
+abbrev pub is_parallel_gateway : NodeKind → Bool
+is_parallel_gateway kinds.ParallelGateway = true
+is_parallel_gateway kind = false
+
+-- an end event that ends all of its scope (BPMN 2.0.2, 10.5.3)
+abbrev pub is_terminate_end : NodeKind → Bool
+is_terminate_end kinds.TerminateEndEvent = true
+is_terminate_end kind = false

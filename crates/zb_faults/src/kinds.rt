@@ -1,6 +1,6 @@
 // What kinds of nodes there are (BPMN 2.0.2, chapter 10).
 ghost use Rattle.std.specs.Prelude.{◌≡◌};
-ghost use Rattle.zb_faults.specs.Elements.{is_start, is_message_start, is_end_kind, is_boundary, is_error_boundary, is_compensation_boundary, is_catch, is_subprocess, is_service_task, is_activity, is_exclusive_gateway, is_event_gateway};
+ghost use Rattle.zb_faults.specs.Elements.{is_start, is_message_start, is_end_kind, is_boundary, is_error_boundary, is_compensation_boundary, is_catch, is_subprocess, is_service_task, is_activity, is_exclusive_gateway, is_event_gateway, is_parallel_gateway, is_terminate_end};
 
 use zb_process::NodeKind;
 
@@ -102,4 +102,18 @@ pub fn is_event_gateway(kind: NodeKind) -> bool
     ensures { result ≡ is_event_gateway kind }
 {
     matches!(kind, NodeKind::EventBasedGateway)
+}
+
+/// Whether a gateway waits for all flows into it, and forks into all flows out of it.
+pub fn is_parallel_gateway(kind: NodeKind) -> bool
+    ensures { result ≡ is_parallel_gateway kind }
+{
+    matches!(kind, NodeKind::ParallelGateway)
+}
+
+/// Whether an end event ends all of its scope.
+pub fn is_terminate_end(kind: NodeKind) -> bool
+    ensures { result ≡ is_terminate_end kind }
+{
+    matches!(kind, NodeKind::TerminateEndEvent)
 }

@@ -1,9 +1,16 @@
 -- Edits at the first member that passes a test.
-use Rattle.std.proofs.Common.{◌≡◌, ℕ, suc, ◌+◌, ◌≤◌, ◌<◌, List, [], ◌∷◌, length, Bool, true, false, not, cond, if◌then◌else◌, Some, None, option_map, slice_get, slice_set, get_or, remove, refl, ap, sym, ◌∙◌, arith}
-use Rattle.std.specs.List.{position, position_or_len}
+use Rattle.std.proofs.Common.{◌≡◌, ℕ, suc, ◌+◌, ◌≤◌, ◌<◌, List, [], ◌∷◌, length, Bool, true, false, not, cond, ◌||◌, nat_lt, is_some, if◌then◌else◌, Option, Some, None, option_map, slice_get, slice_set, get_or, remove, refl, ap, sym, ◌∙◌, arith}
+use Rattle.std.specs.List.{position, position_or_len, list_any}
+use Rattle.std.proofs.lemmas.Bool.Decides.{nat_tests}
 use Rattle.std.proofs.lemmas.Grind.{common_steps}
+use Rattle.std.proofs.lemmas.List.Sums.{position_or_len_is}
 use Rattle.std.proofs.lemmas.Option.{slice_get_read}
 use Rattle.zb_tokens.specs.Edits.{edited, removed}
+
+-- what was there where what is made of it is there
+pub mapped_from : {A B : Type 0} (f : A → B) (o : Option A) (y : B) → option_map f o ≡ Some y → (x : A) × (o ≡ Some x) × (f x ≡ y)
+mapped_from f None y is = absurd (cc)
+mapped_from f (Some x) y is = (x, refl, cc)
 
 module _ {A : Type 0} (passes : A → Bool) where
   -- the place of a position
@@ -72,3 +79,35 @@ module _ {A : Type 0} (passes : A → Bool) where
 
   pub removed_none : (xs : List A) → position passes xs ≡ None → removed passes xs ≡ None
   removed_none xs is = removed_nowhere xs (no_place xs is)
+
+  some_where : (t : Bool) (i : ℕ) → is_some (cond t (Some i) None) ≡ t
+  some_where true i = refl
+  some_where false i = refl
+
+  any_before : (xs : List A) → list_any passes xs ≡ nat_lt (position_or_len passes xs) (length xs)
+  any_before [] = refl
+  any_before (x ∷ xs) = by_test (passes x) (any_before xs)
+    where
+      by_test : (t : Bool) → list_any passes xs ≡ nat_lt (position_or_len passes xs) (length xs) → (t || list_any passes xs) ≡ nat_lt (cond (not t) (1 + position_or_len passes xs) 0) (suc (length xs))
+      by_test true later = grind (arith, nat_tests)
+      by_test false later = later ∙ grind (arith, nat_tests)
+
+  -- one passes where there is a first that does
+  pub any_place : (xs : List A) → list_any passes xs ≡ is_some (position passes xs)
+  any_place xs = any_before xs ∙ sym (some_where (nat_lt (position_or_len passes xs) (length xs)) (position_or_len passes xs))
+
+  -- the first that passes, where none before it does
+  pub position_is : (xs : List A) (i : ℕ) → i < length xs → ((k : ℕ) (d : A) → k < i → passes (get_or xs k d) ≡ false) → ((d : A) → passes (get_or xs i d) ≡ true) → position passes xs ≡ Some i
+  position_is [] i within before here = absurd (omega (arith, within))
+  position_is (x ∷ xs) i within before here =
+      let place : position_or_len passes (x ∷ xs) ≡ i = position_or_len_is passes (x ∷ xs) i x (omega arith) (λ k lower. before k x lower) (λ _. here x) in
+      let inside : nat_lt i (length (x ∷ xs)) ≡ true = grind (arith, nat_tests, within) in
+      ap (λ (n : ℕ). cond (nat_lt n (length (x ∷ xs))) (Some n) None) place ∙ rw inside refl
+
+  -- none, where none passes
+  pub position_nowhere : (xs : List A) → ((k : ℕ) (d : A) → k < length xs → passes (get_or xs k d) ≡ false) → position passes xs ≡ None
+  position_nowhere [] none = refl
+  position_nowhere (x ∷ xs) none =
+      let place : position_or_len passes (x ∷ xs) ≡ length (x ∷ xs) = position_or_len_is passes (x ∷ xs) (length (x ∷ xs)) x (omega arith) (λ k within. none k x within) (λ past. absurd (omega (arith, past))) in
+      let outside : nat_lt (length (x ∷ xs)) (length (x ∷ xs)) ≡ false = grind (arith, nat_tests) in
+      ap (λ (n : ℕ). cond (nat_lt n (length (x ∷ xs))) (Some n) None) place ∙ rw outside refl

@@ -1,62 +1,66 @@
 -- Counting what is in scopes.
-use Rattle.std.proofs.Common.{◌≡◌, ℕ, zero, suc, ◌+◌, ◌<◌, ◌≤◌, ◌==◌, nat_lt, List, [], ◌∷◌, ◌++◌, length, filter, get_or, slice_set, remove, Bool, true, false, not, ◌&&◌, ◌||◌, cond, if◌then◌else◌, Option, Some, refl, sym, ap, ◌∙◌, arith}
+use Rattle.std.proofs.Common.{◌≡◌, ℕ, zero, suc, ◌+◌, ◌<◌, ◌≤◌, ◌==◌, nat_lt, List, [], ◌∷◌, ◌++◌, length, filter, get_or, slice_set, remove, Bool, true, false, not, ◌||◌, cond, if◌then◌else◌, Option, Some, refl, sym, ap, ◌∙◌, arith}
 use Rattle.std.specs.Option.{option_map_or}
 use Rattle.std.specs.List.{list_any}
 use Rattle.std.proofs.lemmas.Bool.Decides.{nat_tests}
 use Rattle.zb_table.specs.Rows.{row_at, with_row, without}
-use Rattle.zb_tokens.specs.Board.{Board, is_empty}
+use Rattle.zb_tokens.specs.Board.{Board, has_child}
 use Rattle.zb_game.specs.declared.inside.Inside.{Inside}
-use Rattle.zb_game.specs.Inside.{counted_in, number_in}
+use Rattle.zb_game.specs.Inside.{cells_in, tokens_in}
+use Rattle.zb_game.specs.Searches.{has_token}
 use Rattle.zb_game.proofs.FlowLemmas.{suc_not}
-
-abbrev number_of : Option Inside → ℕ
-number_of found = option_map_or (λ (i : Inside). i.number) found 0
 
 abbrev scope_of : Inside → ℕ
 scope_of i = i.scope
 
-module _ (new : Inside) (k : ℕ) where
-  put_lower : (u : Bool) (r : Inside) (rows rest : List Inside) → (r.scope == k) ≡ u → nat_lt r.scope new.scope ≡ true → number_of (row_at scope_of k rest) ≡ (if new.scope == k then new.number else number_of (row_at scope_of k rows))
-      → number_of (if u then Some r else row_at scope_of k rest) ≡ (if new.scope == k then new.number else number_of (if u then Some r else row_at scope_of k rows))
-  put_lower true r rows rest same lower later = let other : (new.scope == k) ≡ false = grind (arith, nat_tests) in rw other refl
-  put_lower false r rows rest other lower later = later
+-- a number that is kept for scopes
+module _ (number : Inside → ℕ) where
+  -- the number of a row; 0 where there is none
+  abbrev number_of : Option Inside → ℕ
+  number_of found = option_map_or number found 0
 
-  put_here : (v : Bool) (r : Inside) (rows : List Inside) → (new.scope == k) ≡ v → (r.scope == new.scope) ≡ true
-      → number_of (if v then Some new else row_at scope_of k rows) ≡ (if v then new.number else number_of (row_at scope_of k (r ∷ rows)))
-  put_here true r rows same at = refl
-  put_here false r rows other at = let other' : (r.scope == k) ≡ false = grind (arith, nat_tests) in rw other' refl
+  module _ (new : Inside) (k : ℕ) where
+    put_lower : (u : Bool) (r : Inside) (rows rest : List Inside) → (r.scope == k) ≡ u → nat_lt r.scope new.scope ≡ true → number_of (row_at scope_of k rest) ≡ (if new.scope == k then number new else number_of (row_at scope_of k rows))
+        → number_of (if u then Some r else row_at scope_of k rest) ≡ (if new.scope == k then number new else number_of (if u then Some r else row_at scope_of k rows))
+    put_lower true r rows rest same lower later = let other : (new.scope == k) ≡ false = grind (arith, nat_tests) in rw other refl
+    put_lower false r rows rest other lower later = later
 
-  put_before : (v : Bool) (rows : List Inside) → number_of (if v then Some new else row_at scope_of k rows) ≡ (if v then new.number else number_of (row_at scope_of k rows))
-  put_before true rows = refl
-  put_before false rows = refl
+    put_here : (v : Bool) (r : Inside) (rows : List Inside) → (new.scope == k) ≡ v → (r.scope == new.scope) ≡ true
+        → number_of (if v then Some new else row_at scope_of k rows) ≡ (if v then number new else number_of (row_at scope_of k (r ∷ rows)))
+    put_here true r rows same at = refl
+    put_here false r rows other at = let other' : (r.scope == k) ≡ false = grind (arith, nat_tests) in rw other' refl
 
-  put_by : (t u : Bool) (r : Inside) (rows : List Inside) → nat_lt r.scope new.scope ≡ t → (r.scope == new.scope) ≡ u → number_of (row_at scope_of k (with_row scope_of new rows)) ≡ (if new.scope == k then new.number else number_of (row_at scope_of k rows))
-      → number_of (row_at scope_of k (if t then r ∷ with_row scope_of new rows else if u then new ∷ rows else new ∷ r ∷ rows)) ≡ (if new.scope == k then new.number else number_of (row_at scope_of k (r ∷ rows)))
-  put_by true u r rows lower at later = put_lower (r.scope == k) r rows (with_row scope_of new rows) refl lower later
-  put_by false true r rows lower at later = put_here (new.scope == k) r rows refl at
-  put_by false false r rows lower at later = put_before (new.scope == k) (r ∷ rows)
+    put_before : (v : Bool) (rows : List Inside) → number_of (if v then Some new else row_at scope_of k rows) ≡ (if v then number new else number_of (row_at scope_of k rows))
+    put_before true rows = refl
+    put_before false rows = refl
 
-  -- the numbers with one that is put there
-  pub number_put : (rows : List Inside) → counted_in (with_row scope_of new rows) k ≡ (if new.scope == k then new.number else counted_in rows k)
-  number_put [] = put_before (new.scope == k) []
-  number_put (r ∷ rows) = put_by (nat_lt r.scope new.scope) (r.scope == new.scope) r rows refl refl (number_put rows)
+    put_by : (t u : Bool) (r : Inside) (rows : List Inside) → nat_lt r.scope new.scope ≡ t → (r.scope == new.scope) ≡ u → number_of (row_at scope_of k (with_row scope_of new rows)) ≡ (if new.scope == k then number new else number_of (row_at scope_of k rows))
+        → number_of (row_at scope_of k (if t then r ∷ with_row scope_of new rows else if u then new ∷ rows else new ∷ r ∷ rows)) ≡ (if new.scope == k then number new else number_of (row_at scope_of k (r ∷ rows)))
+    put_by true u r rows lower at later = put_lower (r.scope == k) r rows (with_row scope_of new rows) refl lower later
+    put_by false true r rows lower at later = put_here (new.scope == k) r rows refl at
+    put_by false false r rows lower at later = put_before (new.scope == k) (r ∷ rows)
 
-module _ (scope k : ℕ) where
-  gone_by : (w u : Bool) (r : Inside) (rows rest : List Inside) → (r.scope == scope) ≡ w → (r.scope == k) ≡ u → number_of (row_at scope_of k rest) ≡ (if scope == k then 0 else number_of (row_at scope_of k rows))
-      → number_of (row_at scope_of k (cond (not w) (r ∷ rest) rest)) ≡ (if scope == k then 0 else number_of (if u then Some r else row_at scope_of k rows))
-  gone_by true true r rows rest its same later = let at : (scope == k) ≡ true = grind (arith, nat_tests) in rw at (later ∙ rw at refl)
-  gone_by true false r rows rest its other later = later
-  gone_by false true r rows rest other same later = let apart : (scope == k) ≡ false = grind (arith, nat_tests) in rw (same, apart) refl
-  gone_by false false r rows rest other other' later = rw other' later
+    -- the numbers with one that is put there
+    pub number_put : (rows : List Inside) → number_of (row_at scope_of k (with_row scope_of new rows)) ≡ (if new.scope == k then number new else number_of (row_at scope_of k rows))
+    number_put [] = put_before (new.scope == k) []
+    number_put (r ∷ rows) = put_by (nat_lt r.scope new.scope) (r.scope == new.scope) r rows refl refl (number_put rows)
 
-  -- the numbers without that of a scope
-  pub number_gone : (rows : List Inside) → counted_in (without scope_of scope rows) k ≡ (if scope == k then 0 else counted_in rows k)
-  number_gone [] = by_same (scope == k)
-    where
-      by_same : (t : Bool) → ◌≡◌ {A = ℕ} 0 (if t then 0 else 0)
-      by_same true = refl
-      by_same false = refl
-  number_gone (r ∷ rows) = gone_by (r.scope == scope) (r.scope == k) r rows (without scope_of scope rows) refl refl (number_gone rows)
+  module _ (scope k : ℕ) where
+    gone_by : (w u : Bool) (r : Inside) (rows rest : List Inside) → (r.scope == scope) ≡ w → (r.scope == k) ≡ u → number_of (row_at scope_of k rest) ≡ (if scope == k then 0 else number_of (row_at scope_of k rows))
+        → number_of (row_at scope_of k (cond (not w) (r ∷ rest) rest)) ≡ (if scope == k then 0 else number_of (if u then Some r else row_at scope_of k rows))
+    gone_by true true r rows rest its same later = let at : (scope == k) ≡ true = grind (arith, nat_tests) in rw at (later ∙ rw at refl)
+    gone_by true false r rows rest its other later = later
+    gone_by false true r rows rest other same later = let apart : (scope == k) ≡ false = grind (arith, nat_tests) in rw (same, apart) refl
+    gone_by false false r rows rest other other' later = rw other' later
+
+    none_left : (t : Bool) → ◌≡◌ {A = ℕ} 0 (if t then 0 else 0)
+    none_left true = refl
+    none_left false = refl
+
+    -- the numbers without that of a scope
+    pub number_gone : (rows : List Inside) → number_of (row_at scope_of k (without scope_of scope rows)) ≡ (if scope == k then 0 else number_of (row_at scope_of k rows))
+    number_gone [] = none_left (scope == k)
+    number_gone (r ∷ rows) = gone_by (r.scope == scope) (r.scope == k) r rows (without scope_of scope rows) refl refl (number_gone rows)
 
 module _ {A : Type 0} (p : A → Bool) where
   -- how many pass
@@ -110,11 +114,10 @@ module _ {A : Type 0} (p : A → Bool) where
   any_passing [] = refl
   any_passing (x ∷ xs) = any_by (p x) x xs (any_passing xs)
 
--- nothing is in a scope where the number of what is in it is 0
-none_both : (m n : ℕ) → (not (not (m == 0)) && not (not (n == 0))) ≡ (m + n == 0)
-none_both m n = grind (arith, nat_tests)
+-- a cell is in a scope where the number of those in it isn't 0
+pub child_counted : (b : Board) (scope : ℕ) → has_child b scope ≡ not (cells_in b scope == 0)
+child_counted b scope = any_passing (λ c. c.scope == scope) b.cells
 
-pub empty_counted : (b : Board) (scope : ℕ) → is_empty b scope ≡ (number_in b scope == 0)
-empty_counted b scope =
-    rw (any_passing (λ c. c.scope == scope) b.cells, any_passing (λ t. t.scope == scope) b.tokens)
-    (none_both (passing (λ c. c.scope == scope) b.cells) (passing (λ t. t.scope == scope) b.tokens))
+-- and a token
+pub token_counted : (b : Board) (scope : ℕ) → has_token b scope ≡ not (tokens_in b scope == 0)
+token_counted b scope = any_passing (λ t. t.scope == scope) b.tokens

@@ -5,5 +5,9 @@ pub mod FlowLemmas
 pub mod BoardLemmas
 pub mod NewestLemmas
 pub mod InsideLemmas
+pub mod JoinLemmas
+pub mod SweepLemmas
+pub mod KeyLemmas
+pub mod RestLemmas
 pub mod IndexedLemmas
 pub mod ReadyLemmas

@@ -1,6 +1,6 @@
 -- The greatest key of the forced cells is the last one of the ready keys that is one of a forced cell.
 use Rattle.std.proofs.Common.{◌≡◌, ℕ, ◌+◌, ◌≤◌, ◌==◌, max, List, [], ◌∷◌, map, filter, get_or, All, Bool, true, false, not, ◌||◌, cond, if◌then◌else◌, Option, Some, None, refl, sym, ap, ◌∙◌, subst, arith}
-use Rattle.std.specs.Option.{option_map_or, option_or, option_and_then}
+use Rattle.std.specs.Option.{option_map_or, option_or}
 use Rattle.std.specs.List.{find}
 use Rattle.std.proofs.lemmas.Bool.Decides.{nat_tests}
 use Rattle.std.proofs.lemmas.List.Elements.{All-filter, All-map, All-head, All-tail, filter_passes}
@@ -9,36 +9,30 @@ use Rattle.zb_tokens.specs.declared.board.Cell.{Cell}
 use Rattle.zb_tokens.specs.declared.board.Phase.{Phase}
 use Rattle.zb_tokens.specs.declared.board.Phase.TheVariants as phases
 use Rattle.zb_tokens.specs.Edits.{is_none_of}
-use Rattle.zb_tokens.specs.Board.{Board, cell_at, model_under, node_with, is_root, is_empty}
+use Rattle.zb_tokens.specs.Board.{Board, cell_at, model_under, has_child}
 use Rattle.zb_tokens.specs.Doom.{is_doomed}
-use Rattle.zb_tokens.specs.GameLaws.{both_left}
-use Rattle.zb_tokens.specs.MoveFinish.{waits_for_nothing, node_goes_on}
-use Rattle.zb_tokens.specs.Forced.{goes_on_in, is_forced, greatest}
+use Rattle.zb_tokens.specs.Forced.{ends_in, goes_on_in, is_forced, greatest}
 use Rattle.zb_process.specs.declared.model.Model.{Model}
 use Rattle.zb_game.specs.declared.inside.Inside.{Inside}
-use Rattle.zb_game.specs.Indexed.{IsIndexed, goes_on_at, rests_in, is_ready}
+use Rattle.zb_game.specs.Indexed.{IsIndexed, is_done_in, rests_in, is_kept}
 use Rattle.zb_game.specs.Searches.{is_forced_at, newest_key}
 use Rattle.zb_table.proofs.Ascending.{finds_own}
+
+is_not : (t : Bool) → not t ≡ true → t ≡ false
+is_not true is = absurd (cc)
+is_not false is = refl
 
 -- a cell that goes on by itself doesn't rest
 goes_not_rests : (b : Board) (c : Cell) (phase : Phase) → goes_on_in b c phase ≡ true → rests_in b c phase ≡ false
 goes_not_rests b c phases.Activating goes = refl
-goes_not_rests b c phases.Active goes = by_root (is_root c) goes
+goes_not_rests b c phases.Active goes = by_model (model_under b c.definition) goes
   where
-    by_model : (found : Option Model) → option_map_or (λ n. waits_for_nothing n.kind) (option_and_then (λ m. node_with m c.node) found) false ≡ true → option_map_or (λ m. not (goes_on_at m c.node)) found false ≡ false
+    by_model : (found : Option Model) → option_map_or (λ m. is_done_in m b c) found false ≡ true → option_map_or (λ m. not (is_done_in m b c)) found false ≡ false
     by_model None goes = refl
     by_model (Some m) goes = ap not goes
-
-    by_root : (t : Bool) → (if t then is_empty b c.key else node_goes_on b c) ≡ true → (if t then not (is_empty b c.key) else option_map_or (λ m. not (goes_on_at m c.node)) (model_under b c.definition) false) ≡ false
-    by_root true goes = ap not goes
-    by_root false goes = by_model (model_under b c.definition) goes
 goes_not_rests b c phases.Completing goes = refl
-goes_not_rests b c phases.Leaving goes = by_not (is_none_of c.owed) goes
-  where
-    by_not : (t : Bool) → not t ≡ true → t ≡ false
-    by_not true is = absurd (cc)
-    by_not false is = refl
-goes_not_rests b c phases.Terminating goes = absurd (cc)
+goes_not_rests b c phases.Leaving goes = is_not (is_none_of c.owed) goes
+goes_not_rests b c phases.Terminating goes = is_not (has_child b c.key) goes
 
 module _ (q : ℕ → Bool) where
   -- the last key that passes isn't below the first
@@ -57,7 +51,7 @@ module _ (q : ℕ → Bool) where
       by_later None false it is further = absurd (cc)
 
   -- a key that passes is no greater than the last one that passes
-  up_to : (low : ℕ) (keys : List ℕ) (n : ℕ) → Ascend (λ (k : ℕ). k) low keys → is_ready keys n ≡ true → q n ≡ true → (k : ℕ) × (last_passing q keys ≡ Some k) × (n ≤ k)
+  up_to : (low : ℕ) (keys : List ℕ) (n : ℕ) → Ascend (λ (k : ℕ). k) low keys → is_kept keys n ≡ true → q n ≡ true → (k : ℕ) × (last_passing q keys ≡ Some k) × (n ≤ k)
   up_to low [] n up in_it it = absurd (cc)
   up_to low (x ∷ keys) n up in_it it = by_here (x == n) refl in_it (λ there. up_to (x + 1) keys n up.1 there it)
     where
@@ -73,14 +67,14 @@ module _ (q : ℕ → Bool) where
           let here : q x ≡ true = subst (λ (k : ℕ). q k ≡ true) (sym same) it in
           (x, rw here refl, omega (arith, same))
 
-      by_here : (t : Bool) → (x == n) ≡ t → (t || is_ready keys n) ≡ true → (is_ready keys n ≡ true → (k : ℕ) × (last_passing q keys ≡ Some k) × (n ≤ k)) → (k : ℕ) × (option_or (last_passing q keys) (if q x then Some x else None) ≡ Some k) × (n ≤ k)
+      by_here : (t : Bool) → (x == n) ≡ t → (t || is_kept keys n) ≡ true → (is_kept keys n ≡ true → (k : ℕ) × (last_passing q keys ≡ Some k) × (n ≤ k)) → (k : ℕ) × (option_or (last_passing q keys) (if q x then Some x else None) ≡ Some k) × (n ≤ k)
       by_here true same there later = by_last (last_passing q keys) refl (grind (arith, nat_tests))
       by_here false other there later =
           let r = later there in
           (r.0, or_first (last_passing q keys) (if q x then Some x else None) r.0 r.1, r.2)
 
 -- the greatest of some numbers, of which none is greater
-greatest_is : (ns : List ℕ) (k : ℕ) → is_ready ns k ≡ true → All (λ n. n ≤ k) ns → greatest ns ≡ Some k
+greatest_is : (ns : List ℕ) (k : ℕ) → is_kept ns k ≡ true → All (λ n. n ≤ k) ns → greatest ns ≡ Some k
 greatest_is [] k in_it all = absurd (cc)
 greatest_is (n ∷ ns) k in_it all = by_here (n == k) refl in_it (λ there. greatest_is ns k there (All-tail (λ (m : ℕ). m ≤ k) n ns all))
   where
@@ -108,7 +102,7 @@ greatest_is (n ∷ ns) k in_it all = by_here (n == k) refl in_it (λ there. grea
         let e : max n g ≡ k = grind (arith, same, le) in
         ap (λ (m : ℕ). Some m) e
 
-    by_here : (t : Bool) → (n == k) ≡ t → (t || is_ready ns k) ≡ true → (is_ready ns k ≡ true → greatest ns ≡ Some k) → Some (option_map_or (max n) (greatest ns) n) ≡ Some k
+    by_here : (t : Bool) → (n == k) ≡ t → (t || is_kept ns k) ≡ true → (is_kept ns k ≡ true → greatest ns ≡ Some k) → Some (option_map_or (max n) (greatest ns) n) ≡ Some k
     by_here true same there rest = by_first (greatest ns) (grind (arith, nat_tests)) (λ g e. below ns g later e)
     by_here false other there rest =
         let found : greatest ns ≡ Some k = rest there in
@@ -116,12 +110,12 @@ greatest_is (n ∷ ns) k in_it all = by_here (n == k) refl in_it (λ there. grea
         rw found (ap (λ (m : ℕ). Some m) e)
 
 -- the key of a cell that is found with it and passes is among those of the cells that pass
-among_kept : (p : Cell → Bool) (key : ℕ) (cells : List Cell) (c : Cell) → find (λ x. x.key == key) cells ≡ Some c → p c ≡ true → is_ready (map (λ x. x.key) (filter p cells)) key ≡ true
+among_kept : (p : Cell → Bool) (key : ℕ) (cells : List Cell) (c : Cell) → find (λ x. x.key == key) cells ≡ Some c → p c ≡ true → is_kept (map (λ x. x.key) (filter p cells)) key ≡ true
 among_kept p key [] c found it = absurd (cc)
 among_kept p key (x ∷ cells) c found it = by_key (x.key == key) (p x) refl refl found (λ e. among_kept p key cells c e it)
   where
-    by_key : (t u : Bool) → (x.key == key) ≡ t → p x ≡ u → cond t (Some x) (find (λ y. y.key == key) cells) ≡ Some c → (find (λ y. y.key == key) cells ≡ Some c → is_ready (map (λ y. y.key) (filter p cells)) key ≡ true)
-        → is_ready (map (λ y. y.key) (cond u (x ∷ filter p cells) (filter p cells))) key ≡ true
+    by_key : (t u : Bool) → (x.key == key) ≡ t → p x ≡ u → cond t (Some x) (find (λ y. y.key == key) cells) ≡ Some c → (find (λ y. y.key == key) cells ≡ Some c → is_kept (map (λ y. y.key) (filter p cells)) key ≡ true)
+        → is_kept (map (λ y. y.key) (cond u (x ∷ filter p cells) (filter p cells))) key ≡ true
     by_key true true same passes found later = rw same refl
     by_key true false same fails found later =
         let is : x ≡ c = cc in
@@ -130,15 +124,15 @@ among_kept p key (x ∷ cells) c found it = by_key (x.key == key) (p x) refl ref
     by_key false true other passes found later = rw other (later found)
     by_key false false other fails found later = later found
 
-module _ (b : Board) (inside : List Inside) (ready : List ℕ) (kept : IsIndexed b inside ready) where
+module _ (b : Board) (inside : List Inside) (ready calling : List ℕ) (kept : IsIndexed b inside ready calling) (free : (c : Cell) → is_doomed b c ≡ false) where
   -- the key of a forced cell is among the ready ones, and one of a forced cell
   abbrev IsFound : ℕ → Type 0
-  IsFound n = (is_ready ready n ≡ true) × (is_forced_at b n ≡ true)
+  IsFound n = (is_kept ready n ≡ true) × (is_forced_at b n ≡ true)
 
   forced_found : All (λ c. is_forced b c ≡ true → IsFound c.key) b.cells
   forced_found k d within forced =
       let c = get_or b.cells k d in
-      let goes : goes_on_in b c c.phase ≡ true = both_left (goes_on_in b c c.phase) (not (is_doomed b c)) forced in
+      let goes : goes_on_in b c c.phase ≡ true = sym (ap (λ (t : Bool). if t then ends_in b c c.phase else goes_on_in b c c.phase) (free c)) ∙ forced in
       let found : cell_at b c.key ≡ Some c = finds_own (λ (x : Cell). x.key) 0 b.cells k d within kept.cells_ascend in
       (kept.awake k d within (goes_not_rests b c c.phase goes), rw found forced)
 
@@ -154,7 +148,7 @@ module _ (b : Board) (inside : List Inside) (ready : List ℕ) (kept : IsIndexed
       let some = r.1 in
       absurd (cc)
 
-  one_found : (key : ℕ) (found : Option Cell) → find (λ x. x.key == key) b.cells ≡ found → option_map_or (is_forced b) found false ≡ true → is_ready (map (λ c. c.key) (filter (is_forced b) b.cells)) key ≡ true
+  one_found : (key : ℕ) (found : Option Cell) → find (λ x. x.key == key) b.cells ≡ found → option_map_or (is_forced b) found false ≡ true → is_kept (map (λ c. c.key) (filter (is_forced b) b.cells)) key ≡ true
   one_found key None at forced = absurd (cc)
   one_found key (Some c) at forced = among_kept (is_forced b) key b.cells c at forced
 
@@ -171,6 +165,6 @@ module _ (b : Board) (inside : List Inside) (ready : List ℕ) (kept : IsIndexed
       let same : r.0 ≡ k = (let e : Some r.0 ≡ Some k = sym r.1 ∙ is in cc) in
       omega (arith, le, same)))
 
-  -- the last of the ready keys that is one of a forced cell
+  -- the last of the ready keys that is one of a forced cell, where nobody is called off
   pub newest_ready : Ascend (λ (k : ℕ). k) 0 ready → last_passing (is_forced_at b) ready ≡ newest_key b
   newest_ready up = by_last (last_passing (is_forced_at b) ready) up refl

@@ -1,9 +1,15 @@
--- One step up from a cell, with the cells that are left as fuel.
-use Rattle.std.proofs.Common.{◌≡◌, ℕ, ◌+◌, ◌<◌, List, [], ◌∷◌, length, drop, true, false, Some, None, refl, ◌∙◌}
+-- Up the scopes from a cell, with the cells that are left as fuel.
+use Rattle.std.proofs.Common.{◌≡◌, ℕ, ◌+◌, ◌<◌, ◌==◌, List, [], ◌∷◌, All, length, drop, get_or, Bool, true, false, ◌||◌, cond, Option, Some, None, refl, sym, ◌∙◌, subst}
+use Rattle.std.specs.List.{find, list_any}
+use Rattle.std.specs.Option.{option_map_or}
+use Rattle.std.proofs.lemmas.List.Elements.{All-head, All-tail}
 use Rattle.std.proofs.lemmas.List.{at_drop_more}
 use Rattle.zb_tokens.specs.declared.board.Cell.{Cell}
-use Rattle.zb_tokens.specs.Board.{Board, cell_at}
+use Rattle.zb_tokens.specs.Board.{Board, cell_at, is_root}
 use Rattle.zb_tokens.specs.Doom.{calls_off, is_called_off}
+use Rattle.zb_tokens.specs.MoveAssign.{has_name}
+use Rattle.zb_tokens.specs.Names.{holder_from}
+use Rattle.zb_game.proofs.RestLemmas.{IsCalling}
 
 module _ (b : Board) (key : ℕ) where
   -- where there is no such cell
@@ -21,3 +27,47 @@ module _ (b : Board) (key : ℕ) where
   pub called_off-above : (i : ℕ) (c : Cell) → i < length b.cells → cell_at b key ≡ Some c → calls_off c ≡ false
       → is_called_off (drop i b.cells) b key ≡ is_called_off (drop (i + 1) b.cells) b c.scope
   called_off-above i c within at is = at_drop_more (λ cells. is_called_off cells b key) b.cells i c within ∙ rw (at, is) refl
+
+-- the same for the holder of a name
+module _ (b : Board) (key : ℕ) (name : List ℕ) where
+  holder_nowhere : (cells : List Cell) → cell_at b key ≡ None → holder_from cells b key name ≡ None
+  holder_nowhere [] none = refl
+  holder_nowhere (more ∷ cells) none = rw none refl
+
+  pub holder-none : (i : ℕ) → cell_at b key ≡ None → holder_from (drop i b.cells) b key name ≡ None
+  holder-none i none = holder_nowhere (drop i b.cells) none
+
+  pub holder-at : (i : ℕ) (c : Cell) → i < length b.cells → cell_at b key ≡ Some c → (has_name name c || is_root c) ≡ true → holder_from (drop i b.cells) b key name ≡ Some key
+  holder-at i c within at is = at_drop_more (λ cells. holder_from cells b key name) b.cells i c within ∙ rw (at, is) refl
+
+  pub holder-above : (i : ℕ) (c : Cell) → i < length b.cells → cell_at b key ≡ Some c → (has_name name c || is_root c) ≡ false
+      → holder_from (drop i b.cells) b key name ≡ holder_from (drop (i + 1) b.cells) b c.scope name
+  holder-above i c within at is = at_drop_more (λ cells. holder_from cells b key name) b.cells i c within ∙ rw (at, is) refl
+
+-- a cell that is found is one of those of which something holds
+all_found : (P : Cell → Type 0) (p : Cell → Bool) (cells : List Cell) (c : Cell) → All P cells → find p cells ≡ Some c → P c
+all_found P p [] c all is = absurd (cc)
+all_found P p (x ∷ cells) c all is = by_test (p x) is (all_found P p cells c (All-tail P x cells all))
+  where
+    by_test : (t : Bool) → cond t (Some x) (find p cells) ≡ Some c → (find p cells ≡ Some c → P c) → P c
+    by_test true is later = let same : x ≡ c = cc in subst P same (All-head P x cells all)
+    by_test false is later = later is
+
+-- where no cell calls off what is in it, nobody is called off
+module _ (b : Board) (none : All (λ (c : Cell). calls_off c ≡ false) b.cells) where
+  pub none_called : (cells : List Cell) (key : ℕ) → is_called_off cells b key ≡ false
+  none_called [] key = refl
+  none_called (more ∷ cells) key = by_found (cell_at b key) refl (none_called cells)
+    where
+      by_found : (found : Option Cell) → cell_at b key ≡ found → ((k : ℕ) → is_called_off cells b k ≡ false) → option_map_or (λ c. calls_off c || is_called_off cells b c.scope) found false ≡ false
+      by_found None at above = refl
+      by_found (Some c) at above = let calls_not = all_found (λ (x : Cell). calls_off x ≡ false) (λ x. x.key == key) b.cells c none at in rw (calls_not, above c.scope) refl
+
+-- no cell calls off what is in it where none is kept that does
+pub none_calling : (calling : List ℕ) (cells : List Cell) → list_any (λ (k : ℕ). true) calling ≡ false → All (IsCalling calling) cells → All (λ (c : Cell). calls_off c ≡ false) cells
+none_calling [] cells none called = λ k d within. not_true (calls_off (get_or cells k d)) (called k d within)
+  where
+    not_true : (t : Bool) → (t ≡ true → false ≡ true) → t ≡ false
+    not_true true is = sym (is refl)
+    not_true false is = refl
+none_calling (key ∷ calling) cells none called = absurd (cc)

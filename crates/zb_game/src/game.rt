@@ -7,17 +7,23 @@ ghost use Rattle.zb_game.specs.declared.game.GameFault.TheVariants as faults;
 
 mod assign;
 mod changes;
+mod contents;
 mod doom;
 mod enter;
 mod finish;
 mod forced;
+mod gone;
+mod halt;
 mod leave;
 mod moves;
+mod names;
 mod open;
+mod removals;
 mod rest;
 mod stand;
 mod start;
 mod take;
+mod tokens;
 
 use crate::edits::copy_of;
 use crate::inside::Inside;
@@ -63,8 +69,10 @@ pub struct Game {
     ascends: bool,
     // How many cells and tokens are in each scope.
     inside: Table<Inside>,
-    // The keys of the cells that may go on by themselves.
+    // The keys of the cells that may go on by themselves, as if nobody were called off.
     ready: Table<Key>,
+    // The keys of the cells that call off what is in them.
+    calling: Table<Key>,
 }
 
 impl Model for Game {
@@ -91,7 +99,7 @@ impl Model for Game {
       models = g.models.items;
       cells = g.cells.items;
       tokens = g.tokens.items;
-    }) g.inside g.ready };
+    }) g.inside g.ready g.calling };
 }
 
 impl TryCopy for Game {
@@ -103,6 +111,7 @@ impl TryCopy for Game {
             ascends: self.ascends,
             inside: self.inside.copy(alloc)?,
             ready: self.ready.copy(alloc)?,
+            calling: self.calling.copy(alloc)?,
         })
     }
 }
@@ -119,13 +128,17 @@ impl Game {
             ascends: true,
             inside: Table::empty(alloc),
             ready: Table::empty(alloc),
+            calling: Table::empty(alloc),
         }
     }
 
     /// Whether a move fits the board. Where the keys of the models and of the cells ascend, a cell or a model costs
     /// the logarithm of how many there are, and what is in a cell that of how many scopes there are; where they
-    /// don't, each is searched for from the front. An entry goes through the tokens up to the first that has come,
-    /// and up the scopes. A node or a flow of a model is found by its id in constant time, on average.
+    /// don't, each is searched for from the front. An entry goes through the tokens up to the first that has come; at
+    /// a gateway where flows join, for each of them, where so many tokens are in the scope, and through pairs of the
+    /// flows. Where a cell is terminating or ended, an entry and a halt go up the scopes too. Leaving goes through the
+    /// flows out of a node, and an assignment through the variables of a cell. A node or a flow of a model is found by
+    /// its id in constant time, on average.
     pub fn fits(&self, m: &Move) -> bool
         ensures { result ≡ fits self.now m.now }
     {
@@ -137,14 +150,18 @@ impl Game {
             Move::Finish(key) => self.fits_finish(*key),
             Move::Leave(l) => self.fits_leave(l),
             Move::Take(t) => self.fits_take(t),
+            Move::Halt(key) => self.fits_halt(*key),
+            Move::Gone(key) => self.fits_gone(*key),
             Move::Assign(a) => self.fits_assign(a),
+            Move::Update(a) => self.fits_update(a),
         }
     }
 
-    /// Plays a move, whether it fits or not; its texts go onto the board. `Illegal` says that its effect names a cell, a token or a model that isn't
-    /// there, and nothing has changed; where all are there, only `Memory` is answered for a fault. After `Memory`
-    /// the game is only dropped. What a move names is found as `fits` does. A new cell, model or token takes constant
-    /// time; those behind a cell or a token that goes move up.
+    /// Plays a move, whether it fits or not; its texts go onto the board. `Illegal` says that its effect names a cell,
+    /// a token or a model that isn't there, and nothing has changed; where all are there, only `Memory` is answered
+    /// for a fault. After `Memory` the game is only dropped. What a move names is found as `fits` does. A new cell,
+    /// model or token takes constant time; those behind a cell or a token that goes move up. A halt and a terminate
+    /// end go through all cells and all tokens, where the scope that they empty has any.
     pub fn play(&mut self, alloc: Global, m: Move) -> Result<(), GameFault>
         ensures played { OnOk result (played self.old m ≡ Some self.new) }
         ensures illegal { IsErrOf result GameFault.Illegal → played self.old m ≡ None }
@@ -158,7 +175,10 @@ impl Game {
             Move::Finish(key) => self.finish(alloc, key),
             Move::Leave(l) => self.leave(l),
             Move::Take(t) => self.take(alloc, t),
+            Move::Halt(key) => self.halt(alloc, key),
+            Move::Gone(key) => self.gone(key),
             Move::Assign(a) => self.assign(a),
+            Move::Update(a) => self.assign(a),
         }
     }
 

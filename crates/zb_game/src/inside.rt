@@ -1,6 +1,6 @@
 // How many cells and tokens are in each scope.
 ghost use Rattle.std.specs.Prelude.{◌≡◌, ℕ, ◌+◌, ◌-◌, ◌^◌, ◌<◌, ◌≤◌, ◌==◌, IfOk, OnOk, if◌then◌else◌};
-ghost use Rattle.zb_game.specs.Inside.{counted_in};
+ghost use Rattle.zb_game.specs.Inside.{cells_counted, tokens_counted};
 
 use std::alloc::{AllocError, Global};
 use zb_base::{Key, TryCopy};
@@ -10,7 +10,8 @@ use zb_table::{Row, Table};
 #[derive(Drop)]
 pub struct Inside {
     pub scope: Key,
-    pub number: usize,
+    pub cells: usize,
+    pub tokens: usize,
 }
 
 impl Row for Inside {
@@ -25,49 +26,108 @@ impl TryCopy for Inside {
     fn copy(&self, _alloc: Global) -> Result<Inside, AllocError> {
         Ok(Inside {
             scope: self.scope,
-            number: self.number,
+            cells: self.cells,
+            tokens: self.tokens,
         })
     }
 }
 
-/// How many there are in a scope. It takes the logarithm of how many scopes hold something.
-pub fn counted_in(inside: &Table<Inside>, scope: Key) -> usize
-    ensures { result ≡ counted_in inside.now scope }
+/// How many cells there are in a scope. It takes the logarithm of how many scopes hold something.
+pub fn cells_counted(inside: &Table<Inside>, scope: Key) -> usize
+    ensures { result ≡ cells_counted inside.now scope }
 {
     match inside.get(scope) {
-        Some(found) => found.number,
+        Some(found) => found.cells,
         None => 0,
     }
 }
 
-/// Counts one more in a scope, up to the greatest number. It costs what `Table::add` does.
-pub fn one_more(inside: &mut Table<Inside>, scope: Key) -> Result<(), AllocError>
-    ensures { OnOk result (counted_in inside.old scope < 2 ^ 64 - 1
-        → (key : ℕ) → counted_in inside.new key ≡ counted_in inside.old key + (if scope == key then 1 else 0)) }
+/// How many tokens there are in a scope. It costs what `cells_counted` does.
+pub fn tokens_counted(inside: &Table<Inside>, scope: Key) -> usize
+    ensures { result ≡ tokens_counted inside.now scope }
 {
-    put(inside, scope, counted_in(inside, scope).saturating_add(1))
+    match inside.get(scope) {
+        Some(found) => found.tokens,
+        None => 0,
+    }
 }
 
-/// Counts one less in a scope, down to 0, and gives how many are left. It costs what `Table::add` and `Table::remove`
-/// do.
-pub fn one_less(inside: &mut Table<Inside>, scope: Key) -> Result<usize, AllocError>
-    ensures left { IfOk result (λ left. counted_in inside.new scope ≡ left) }
-    ensures numbers { OnOk result (1 ≤ counted_in inside.old scope
-        → (key : ℕ) → counted_in inside.old key ≡ counted_in inside.new key + (if scope == key then 1 else 0)) }
+/// Counts a cell more in a scope, up to the greatest number. It costs what `Table::add` does.
+pub fn one_cell_more(inside: &mut Table<Inside>, scope: Key) -> Result<(), AllocError>
+    ensures cells { OnOk result (cells_counted inside.old scope < 2 ^ 64 - 1
+        → (key : ℕ) → cells_counted inside.new key ≡ cells_counted inside.old key + (if scope == key then 1 else 0)) }
+    ensures tokens { OnOk result ((key : ℕ) → tokens_counted inside.new key ≡ tokens_counted inside.old key) }
 {
-    let left = counted_in(inside, scope).saturating_sub(1);
-    put(inside, scope, left)?;
-    Ok(left)
+    let cells = cells_counted(inside, scope).saturating_add(1);
+    put_cells(inside, scope, cells)
 }
 
-// Keeps this number for a scope. Nothing is kept where it is 0.
-fn put(inside: &mut Table<Inside>, scope: Key, number: usize) -> Result<(), AllocError>
-    ensures { OnOk result ((key : ℕ) → counted_in inside.new key ≡ (if scope == key then number else counted_in inside.old key)) }
+/// Counts a token more in a scope, up to the greatest number. It costs what `Table::add` does.
+pub fn one_token_more(inside: &mut Table<Inside>, scope: Key) -> Result<(), AllocError>
+    ensures cells { OnOk result ((key : ℕ) → cells_counted inside.new key ≡ cells_counted inside.old key) }
+    ensures tokens { OnOk result (tokens_counted inside.old scope < 2 ^ 64 - 1
+        → (key : ℕ) → tokens_counted inside.new key ≡ tokens_counted inside.old key + (if scope == key then 1 else 0)) }
 {
-    if number == 0 {
+    let tokens = tokens_counted(inside, scope).saturating_add(1);
+    put_tokens(inside, scope, tokens)
+}
+
+/// Counts a cell less in a scope, down to 0. It costs what `Table::add` and `Table::remove` do.
+pub fn one_cell_less(inside: &mut Table<Inside>, scope: Key) -> Result<(), AllocError>
+    ensures cells { OnOk result (1 ≤ cells_counted inside.old scope
+        → (key : ℕ) → cells_counted inside.old key ≡ cells_counted inside.new key + (if scope == key then 1 else 0)) }
+    ensures tokens { OnOk result ((key : ℕ) → tokens_counted inside.new key ≡ tokens_counted inside.old key) }
+{
+    let cells = cells_counted(inside, scope).saturating_sub(1);
+    put_cells(inside, scope, cells)
+}
+
+/// Counts a token less in a scope, down to 0. It costs what `Table::add` and `Table::remove` do.
+pub fn one_token_less(inside: &mut Table<Inside>, scope: Key) -> Result<(), AllocError>
+    ensures cells { OnOk result ((key : ℕ) → cells_counted inside.new key ≡ cells_counted inside.old key) }
+    ensures tokens { OnOk result (1 ≤ tokens_counted inside.old scope
+        → (key : ℕ) → tokens_counted inside.old key ≡ tokens_counted inside.new key + (if scope == key then 1 else 0)) }
+{
+    let tokens = tokens_counted(inside, scope).saturating_sub(1);
+    put_tokens(inside, scope, tokens)
+}
+
+// Keeps this number of cells for a scope.
+fn put_cells(inside: &mut Table<Inside>, scope: Key, cells: usize) -> Result<(), AllocError>
+    ensures cells { OnOk result ((key : ℕ) → cells_counted inside.new key ≡ (if scope == key then cells else cells_counted inside.old key)) }
+    ensures tokens { OnOk result ((key : ℕ) → tokens_counted inside.new key ≡ tokens_counted inside.old key) }
+{
+    let tokens = tokens_counted(inside, scope);
+    put(inside, scope, cells, tokens)
+}
+
+// Keeps this number of tokens for a scope.
+fn put_tokens(inside: &mut Table<Inside>, scope: Key, tokens: usize) -> Result<(), AllocError>
+    ensures cells { OnOk result ((key : ℕ) → cells_counted inside.new key ≡ cells_counted inside.old key) }
+    ensures tokens { OnOk result ((key : ℕ) → tokens_counted inside.new key ≡ (if scope == key then tokens else tokens_counted inside.old key)) }
+{
+    let cells = cells_counted(inside, scope);
+    put(inside, scope, cells, tokens)
+}
+
+// Keeps these numbers for a scope. Nothing is kept where both are 0.
+fn put(
+    inside: &mut Table<Inside>,
+    scope: Key,
+    cells: usize,
+    tokens: usize,
+) -> Result<(), AllocError>
+    ensures cells { OnOk result ((key : ℕ) → cells_counted inside.new key ≡ (if scope == key then cells else cells_counted inside.old key)) }
+    ensures tokens { OnOk result ((key : ℕ) → tokens_counted inside.new key ≡ (if scope == key then tokens else tokens_counted inside.old key)) }
+{
+    if cells == 0 && tokens == 0 {
         inside.remove(scope);
         Ok(())
     } else {
-        inside.add(Inside { scope, number })
+        inside.add(Inside {
+            scope,
+            cells,
+            tokens,
+        })
     }
 }

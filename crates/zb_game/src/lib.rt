@@ -6,6 +6,8 @@ mod edits;
 mod flows;
 mod game;
 mod inside;
+mod keys;
+mod kinds;
 mod lookups;
 mod places;
 

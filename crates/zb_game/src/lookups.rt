@@ -1,11 +1,12 @@
 // What is on a board.
 ghost use Rattle.std.specs.Prelude.{◌≡◌, ◌==◌};
 ghost use Rattle.std.specs.List.{list_any};
-ghost use Rattle.zb_tokens.specs.Board.{is_spot, spot_of};
-ghost use Rattle.zb_tokens.specs.MoveEnter.{comes_to};
+ghost use Rattle.zb_tokens.specs.declared.board.Spot.TheVariants as spots;
+ghost use Rattle.zb_tokens.specs.Board.{is_spot, leaves_in, spot_of};
+ghost use Rattle.zb_tokens.specs.MoveEnter.{stands_at};
 
 use zb_base::Key;
-use zb_tokens::{Cell, Spot, Token};
+use zb_tokens::{Cell, Phase, Spot, Token};
 
 /// Whether a cell is in this one. It goes through the cells.
 pub fn has_cell_in(scope: Key, cells: &[Cell]) -> bool
@@ -21,18 +22,25 @@ pub fn has_token_in(scope: Key, tokens: &[Token]) -> bool
     tokens.iter().any(|token| token.scope == scope)
 }
 
-/// Whether a token in a scope comes to a node by a flow, or stands before it. It goes through the tokens.
-pub fn has_coming(scope: Key, node: &str, via: &str, tokens: &[Token]) -> bool
-    ensures { result ≡ list_any (comes_to scope node.now via.now) tokens.now }
+/// Whether the cell leaves, and is in this scope.
+pub fn leaves_in(scope: Key, cell: &Cell) -> bool
+    ensures { result ≡ leaves_in scope cell.now }
 {
-    tokens.iter().any(|token| comes_to(scope, node, via, token))
+    cell.scope == scope && cell.phase == Phase::Leaving
 }
 
-/// Whether the token is in this scope, and comes to the node by the flow or stands before it.
+/// Whether the token is in this scope, and comes by the flow, or stands before the node where there is none.
 pub fn comes_to(scope: Key, node: &str, via: &str, token: &Token) -> bool
-    ensures { result ≡ comes_to scope node.now via.now token.now }
+    ensures { result ≡ stands_at scope (spot_of via.now node.now) token.now }
 {
     token.scope == scope && is_at(&token.spot, via, node)
+}
+
+/// Whether the token is in this scope, on the flow.
+pub fn is_on(scope: Key, flow: &str, token: &Token) -> bool
+    ensures { result ≡ stands_at scope (spots.OnFlow flow.now) token.now }
+{
+    token.scope == scope && is_on_flow(&token.spot, flow)
 }
 
 // Whether a token there comes by the flow, or stands before the node where there is none.
@@ -42,5 +50,15 @@ fn is_at(spot: &Spot, via: &str, node: &str) -> bool
     match spot {
         Spot::OnFlow(flow) => !via.is_empty() && flow.as_str() == via,
         Spot::BeforeNode(id) => via.is_empty() && id.as_str() == node,
+    }
+}
+
+// Whether a token there is on the flow.
+fn is_on_flow(spot: &Spot, flow: &str) -> bool
+    ensures { result ≡ is_spot spot.now (spots.OnFlow flow.now) }
+{
+    match spot {
+        Spot::OnFlow(id) => id.as_str() == flow,
+        Spot::BeforeNode(_) => false,
     }
 }

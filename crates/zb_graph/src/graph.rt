@@ -122,7 +122,7 @@ impl Graph {
         requires { n < length self.now.nodes }
         ensures { result.now ≡ ins_of self.now (id_at self.now n) }
     {
-        self.ins.at(self.node(n).id.as_str())
+        self.ins_of(self.node(n).id.as_str())
     }
 
     /// The numbers of the boundary events at a node, in the order of the model.
@@ -153,6 +153,14 @@ impl Graph {
         ensures flows { map (slice_get self.now.flows) result.now ≡ map Some (filter (λ f. bytes_eq f.from id.now) self.now.flows) }
     {
         self.outs.at(id)
+    }
+
+    /// The numbers of the flows into the node with an id, in the order of the model.
+    pub fn ins_of(&self, id: &str) -> &[u32]
+        ensures places { result.now ≡ ins_of self.now id.now }
+        ensures flows { map (slice_get self.now.flows) result.now ≡ map Some (filter (λ f. bytes_eq f.to id.now) self.now.flows) }
+    {
+        self.ins.at(id)
     }
 
     /// The start event of a scope: the id of a subprocess, or the empty text at the top.

@@ -1,7 +1,7 @@
 // Lines with their replies are run by the program (crates/zbd/stdin). What no reply shows stands here.
 use std::alloc::Global;
 use std::process::Abort;
-use zb_model::{Command, MessagePublish, Value, Vars};
+use zb_model::{Command, MessagePublish, Value, VariableDocumentUpdate, Vars};
 use zb_wire::{Given, LineFault, Request, longest_shown, read_line};
 
 // A publish with variables of each kind.
@@ -95,6 +95,47 @@ fn names_one_of_the_partitions(rt: HostRuntime) {
     assert!(rt; creates(alloc, br#"{"op":"create","process":"p","partition":1}"#));
     assert!(rt; creates(alloc, br#"{"op":"create","process":"p","partition":2}"#));
     assert!(rt; !creates(alloc, br#"{"op":"create","process":"p","partition":3}"#));
+}
+
+#[test]
+fn reads_a_key(rt: HostRuntime) {
+    let line = br#"{"op":"cancel","key":18446744073709551615}"#;
+    match &read_line(rt.alloc(), line, given(false)) {
+        Ok(Request::Cancel(key)) => assert!(rt; key.number() == u64::MAX),
+        _ => panic!(&rt; "no cancel"),
+    }
+}
+
+// The values that a line asks to be set.
+fn update_of(rt: &impl Abort, alloc: Global, line: &[u8]) -> VariableDocumentUpdate {
+    match read_line(alloc, line, given(false)) {
+        Ok(Request::Variables(update)) => update,
+        _ => panic!(rt; "no values"),
+    }
+}
+
+#[test]
+fn reads_values_for_a_scope(rt: HostRuntime) {
+    let alloc = rt.alloc();
+    let here = br#"{"op":"variables","key":7,"variables":{"n":1},"local":true}"#;
+    let update = update_of(&rt, alloc, here);
+    assert!(rt; update.scope.number() == 7);
+    assert!(rt; update.local);
+    assert!(rt; is_int(&update.variables, "n", 1));
+    let above = br#"{"op":"variables","key":7,"variables":{}}"#;
+    assert!(rt; !update_of(&rt, alloc, above).local);
+}
+
+// A deploy with a node of each kind that is built.
+const BUILT: &[u8] =
+    br#"{"op":"deploy","model":{"process":"p","nodes":[{"id":"s","kind":"startEvent"},
+    {"id":"u","kind":"subProcess"},{"id":"g","kind":"parallelGateway","parent":"u"},{"id":"t","kind":"intermediateThrowEvent"},
+    {"id":"e","kind":"endEvent"},{"id":"k","kind":"endEvent","terminateEventDefinition":{}}],"flows":[]}}"#;
+
+#[test]
+fn deploys_what_is_built(rt: HostRuntime) {
+    let request = read_line(rt.alloc(), BUILT, given(false));
+    assert!(rt; matches!(request, Ok(Request::Deploy(_))));
 }
 
 #[test]

@@ -16,13 +16,16 @@ fn writes_replies(rt: HostRuntime) {
     let mut bytes = Vec::from_slice(alloc, b"> ").expect(&rt, "memory");
     let reply = Reply::Publish(Key::new(7));
     reply_text(alloc, &reply, None, &mut bytes).expect(&rt, "memory");
+    for reply in [Reply::Cancel(Key::new(5)), Reply::Variables(Key::new(6))] {
+        reply_text(alloc, &reply, Some(2), &mut bytes).expect(&rt, "memory");
+    }
     let rejected = Reply::Rejected(Rejection {
         kind: RejectionKind::InvalidState,
         reason: Text::of(alloc, "job 7 isn't due").expect(&rt, "memory"),
     });
     reply_text(alloc, &rejected, Some(1_000), &mut bytes).expect(&rt, "memory");
     let lines =
-        "> {\"ok\":{\"message\":7}}\n{\"reason\":\"job 7 isn't due\",\"rejected\":\"INVALID_STATE\",\"units\":1000}\n";
+        "> {\"ok\":{\"message\":7}}\n{\"ok\":{\"instance\":5},\"units\":2}\n{\"ok\":{\"scope\":6},\"units\":2}\n{\"reason\":\"job 7 isn't due\",\"rejected\":\"INVALID_STATE\",\"units\":1000}\n";
     assert!(rt; bytes.as_slice() == lines.as_bytes());
 }
 
@@ -80,4 +83,26 @@ fn reads_a_reply_off_a_batch(rt: HostRuntime) {
     let batch = batch(&rt, rt.alloc());
     let reply = reply_of(rt.alloc(), &batch).expect(&rt, "memory");
     assert!(rt; is_published(&reply, 5));
+}
+
+// A batch of a cancel: the instance is the one that its command names.
+#[tactic(auto, unfolding(zb_reply::specs::Reply::answer_of))]
+fn cancelled(alloc: Global) -> Batch
+    ensures { IsSome (answer_of result) }
+{
+    Batch {
+        moment: Moment::new(0),
+        begin: 0,
+        command: Command::ProcessInstanceCancel(Key::new(5)),
+        outcome: Outcome::Accepted(List::empty(alloc)),
+    }
+}
+
+#[test]
+fn reads_a_reply_off_a_command(rt: HostRuntime) {
+    let batch = cancelled(rt.alloc());
+    match reply_of(rt.alloc(), &batch).expect(&rt, "memory") {
+        Reply::Cancel(key) => assert!(rt; key.number() == 5),
+        _ => panic!(&rt; "another reply"),
+    }
 }

@@ -16,4 +16,4 @@ pub use kinds::kind_in;
 pub use leaves::{is_between, is_short};
 pub use place::{behind, behind_item};
 pub use reading::{model_place, read_model};
-pub use values::text_in;
+pub use values::{flag_in, text_in};

@@ -46,17 +46,20 @@ abbrev pub publish_answer : Event → Option Reply
 publish_answer (events.MessagePublished e) = Some (replies.Publish e.key)
 publish_answer _ = None
 
--- the reply to a command that had this outcome: what the first event tells that tells something, or the rejection
-abbrev pub reply_by : (Event → Option Reply) → Outcome → Option Reply
-reply_by tell (outcomes.Accepted es) = first_told tell es
-reply_by tell (outcomes.Rejected r) = Some (replies.Rejected r)
+-- the reply to a command that was accepted with these events: what the first of them tells that tells something, or
+-- the key that the command itself names; None where no request asks for the command, or its events tell nothing
+abbrev pub accepted_answer : Command → List Event → Option Reply
+accepted_answer (commands.DeploymentCreate m) es = first_told deploy_answer es
+accepted_answer (commands.ProcessInstanceCreationCreate c) es = first_told create_answer es
+accepted_answer (commands.ProcessInstanceCancel key) es = Some (replies.Cancel key)
+accepted_answer (commands.VariableDocumentUpdate u) es = Some (replies.Variables u.scope)
+accepted_answer (commands.MessagePublish m) es = first_told publish_answer es
+accepted_answer _ es = None
 
--- the reply by the command; None where no request asks for the command, or it has no reply
+-- the reply to a command that had this outcome: a rejected one is answered with the rejection
 abbrev pub answer_to : Command → Outcome → Option Reply
-answer_to (commands.DeploymentCreate m) outcome = reply_by deploy_answer outcome
-answer_to (commands.ProcessInstanceCreationCreate c) outcome = reply_by create_answer outcome
-answer_to (commands.MessagePublish m) outcome = reply_by publish_answer outcome
-answer_to _ outcome = None
+answer_to command (outcomes.Accepted es) = accepted_answer command es
+answer_to command (outcomes.Rejected r) = Some (replies.Rejected r)
 
 -- the reply to the request whose command became this batch
 unfoldable pub answer_of : Batch → Option Reply
@@ -128,6 +131,8 @@ members_text behind (m ∷ ms) = comma_behind behind ++ (member_text m ++ member
 abbrev pub members_told : Reply → List Member
 members_told (replies.Deploy d) = a_number (codes "definition") d.definition ∷ a_text (codes "process") d.process ∷ a_number (codes "version") d.version ∷ []
 members_told (replies.Create c) = a_number (codes "definition") c.definition ∷ a_number (codes "instance") c.instance ∷ []
+members_told (replies.Cancel key) = a_number (codes "instance") key ∷ []
+members_told (replies.Variables key) = a_number (codes "scope") key ∷ []
 members_told (replies.Publish key) = a_number (codes "message") key ∷ []
 members_told (replies.Tick due) = a_number (codes "due") due ∷ []
 members_told (replies.Advance now) = a_number (codes "now") now ∷ []

@@ -2,7 +2,7 @@ ghost use Rattle.std.specs.Prelude.{◌≡◌, IsSome, Option, Some, None, IfOk}
 ghost use Rattle.zb_model.specs.declared.record.Event.{Event};
 ghost use Rattle.zb_wire.specs.First.{first_told};
 ghost use Rattle.zb_reply.specs.declared.reply.Reply.{Reply};
-ghost use Rattle.zb_reply.specs.Reply.{deploy_answer, create_answer, publish_answer, deployed_of, reply_by, answer_of};
+ghost use Rattle.zb_reply.specs.Reply.{deploy_answer, create_answer, publish_answer, deployed_of, accepted_answer, answer_of};
 
 use crate::{Created, DeployedReply, Reply};
 use std::alloc::{AllocError, Global};
@@ -14,15 +14,28 @@ pub fn reply_of(alloc: Global, batch: &Batch) -> Result<Reply, AllocError>
     requires { IsSome (answer_of batch.now) }
     ensures { IfOk result (λ reply. answer_of batch.now ≡ Some reply) }
 {
-    match &batch.command {
-        Command::DeploymentCreate(_) => reply_by::<Deploying>(alloc, &batch.outcome),
-        Command::ProcessInstanceCreationCreate(_) => reply_by::<Creating>(alloc, &batch.outcome),
-        Command::MessagePublish(_) => reply_by::<Publishing>(alloc, &batch.outcome),
+    match &batch.outcome {
+        Outcome::Accepted(events) => accepted_answer(alloc, &batch.command, events.as_slice()),
+        Outcome::Rejected(rejection) => Ok(Reply::Rejected(rejection.copy(alloc)?)),
+    }
+}
+
+// The reply to a command that was accepted with these events.
+fn accepted_answer(alloc: Global, command: &Command, events: &[Event]) -> Result<Reply, AllocError>
+    requires { IsSome (accepted_answer command.now events.now) }
+    ensures { IfOk result (λ reply. accepted_answer command.now events.now ≡ Some reply) }
+{
+    match command {
+        Command::DeploymentCreate(_) => first_told::<Deploying>(alloc, events),
+        Command::ProcessInstanceCreationCreate(_) => first_told::<Creating>(alloc, events),
+        Command::ProcessInstanceCancel(key) => Ok(Reply::Cancel(*key)),
+        Command::VariableDocumentUpdate(update) => Ok(Reply::Variables(update.scope)),
+        Command::MessagePublish(_) => first_told::<Publishing>(alloc, events),
         _ => unreachable!(),
     }
 }
 
-// By what an accepted command of a kind is answered.
+// By which event an accepted command of a kind is answered.
 trait Answering {
     // The reply that an event tells.
     ghost answer: { Event → Option Reply };
@@ -78,30 +91,17 @@ impl Answering for Publishing {
     }
 }
 
-// The reply to a command of such a kind that had this outcome.
-fn reply_by<A: Answering>(alloc: Global, outcome: &Outcome) -> Result<Reply, AllocError>
-    requires { IsSome (reply_by A.answer outcome.now) }
-    ensures { IfOk result (λ reply. reply_by A.answer outcome.now ≡ Some reply) }
-{
-    match outcome {
-        Outcome::Accepted(events) => match first_told::<A>(alloc, events.as_slice())? {
-            Some(reply) => Ok(reply),
-            None => unreachable!(),
-        },
-        Outcome::Rejected(rejection) => Ok(Reply::Rejected(rejection.copy(alloc)?)),
-    }
-}
-
 // The reply that the first event tells that tells one.
-fn first_told<A: Answering>(alloc: Global, events: &[Event]) -> Result<Option<Reply>, AllocError>
-    ensures { IfOk result (λ reply. reply ≡ first_told A.answer events.now) }
+fn first_told<A: Answering>(alloc: Global, events: &[Event]) -> Result<Reply, AllocError>
+    requires { IsSome (first_told A.answer events.now) }
+    ensures { IfOk result (λ reply. first_told A.answer events.now ≡ Some reply) }
 {
     for event in events {
         if let Some(reply) = A::reply(alloc, event)? {
-            return Ok(Some(reply));
+            return Ok(reply);
         }
     }
-    Ok(None)
+    unreachable!()
 }
 
 // What is told of a definition.

@@ -57,6 +57,8 @@ fn line(alloc: Global, reply: &Reply, units: Option<u64>) -> Result<String, Allo
             ],
             units,
         ),
+        Reply::Cancel(key) => ok_line(alloc, &[Member::Number("instance", key.number())], units),
+        Reply::Variables(key) => ok_line(alloc, &[Member::Number("scope", key.number())], units),
         Reply::Publish(key) => ok_line(alloc, &[Member::Number("message", key.number())], units),
         Reply::Tick(due) => ok_line(alloc, &[Member::Number("due", *due)], units),
         Reply::Advance(now) => ok_line(alloc, &[Member::Number("now", now.ms())], units),

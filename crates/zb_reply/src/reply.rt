@@ -8,6 +8,10 @@ pub enum Reply {
     Deploy(DeployedReply),
     /// The instance was made.
     Create(Created),
+    /// The instance of this key ends.
+    Cancel(Key),
+    /// The values were set, from the cell of this key on.
+    Variables(Key),
     /// The message was published under this key.
     Publish(Key),
     /// So many commands were due.

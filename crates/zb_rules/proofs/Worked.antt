@@ -1,8 +1,10 @@
--- The plays of a process of one start event, one flow and one end event, and of one with two flows and two end events, worked out by hand.
+-- Plays worked out by hand: of one start event, one flow and one end event; with two end events; of a fork and a join; of a subprocess that a terminate
+-- end event ends; of one that is cancelled while a task waits in it; and the variables that an update sets.
 use Rattle.std.proofs.Common.{◌≡◌, ℕ, List, [], ◌∷◌, ◌++◌, Bool, true, false, ◌+◌, Some, None, refl}
 use Rattle.std.specs.Prelude.{codes}
 use Rattle.zb_process.specs.declared.model.Model.{Model}
 use Rattle.zb_process.specs.declared.model.Node.{Node}
+use Rattle.zb_process.specs.declared.model.Flow.{Flow}
 use Rattle.zb_process.specs.declared.model.NodeKind.{NodeKind}
 use Rattle.zb_process.specs.declared.model.NodeKind.TheVariants as kinds
 use Rattle.zb_instance_records.specs.declared.instance.Role.TheVariants as roles
@@ -14,6 +16,14 @@ use Rattle.zb_rules.specs.Settling.{turn}
 use Rattle.zb_rules.specs.Deploy.{deployed}
 use Rattle.zb_rules.specs.Applies.{all_apply}
 use Rattle.zb_rules.specs.Create.{created, reason_to_create}
+use Rattle.zb_rules.specs.Shown.{board_of}
+use Rattle.zb_rules.specs.Cancel.{no_instance, instance_terminates, reason_to_cancel, cancelled}
+use Rattle.zb_rules.specs.Update.{no_scope, reason_to_update, updated}
+use Rattle.zb_tokens.specs.declared.board.Phase.TheVariants as phases
+use Rattle.zb_tokens.specs.declared.board.Spot.TheVariants as spots
+use Rattle.zb_tokens.specs.Board.{Board, new_cell, in_phase}
+use Rattle.zb_base.specs.declared.value.Value.TheVariants as values
+use Rattle.zb_base.specs.declared.vars.Variable.{Variable}
 use Rattle.zb_rules.specs.Expire.{no_message, not_due, reason_to_expire}
 use Rattle.zb_rules.specs.Due.{due_command}
 use Rattle.zb_faults.specs.Faults.{first_fault, fault_text}
@@ -22,12 +32,15 @@ use Rattle.zb_faults.specs.declared.fault.Fault.TheVariants as faults
 abbrev node : List ℕ → NodeKind → Node
 node id kind = record { id = id; kind = kind; parent = []; attached = []; cancel = false; otherwise = []; name = []; expr = None; retries = 0; handler = false; multi = None; inputs = []; outputs = [] }
 
+abbrev flow : List ℕ → List ℕ → List ℕ → Flow
+flow id from to = record { id = id; from = from; to = to; condition = None }
+
 abbrev process : Model
 process = record {
   process = codes "p";
   tag = [];
   nodes = node (codes "s") kinds.StartEvent ∷ node (codes "e") kinds.EndEvent ∷ [];
-  flows = record { id = codes "f"; from = codes "s"; to = codes "e"; condition = None } ∷ [];
+  flows = flow (codes "f") (codes "s") (codes "e") ∷ [];
 }
 
 abbrev b : ℕ
@@ -148,6 +161,10 @@ taken cell flow = events.SequenceFlowTaken (record { key = cell; flow = flow })
 abbrev instance : ℕ → List Event
 instance root = events.ProcessInstanceCreationCreated (record { key = root; definition = key 1 }) ∷ activating root 0 (codes "p") [] ∷ []
 
+-- a model that is deployed, and an instance of it
+abbrev begun_of : Model → List Event
+begun_of m = events.ProcessCreated (record { key = key 1; version = 1; model = m }) ∷ events.DeploymentCreated (record { key = key 2; definition = key 1 }) ∷ instance (key 3)
+
 -- a node that waits for nothing, from its beginning to where it has completed
 abbrev passes : ℕ → ℕ → List ℕ → List ℕ → List (List ℕ) → List Event
 passes cell scope id via owed = activating cell scope id via ∷ activated cell ∷ events.ElementCompleting cell ∷ completed cell owed ∷ []
@@ -167,15 +184,12 @@ fork = record {
   process = codes "p";
   tag = [];
   nodes = node (codes "s") kinds.StartEvent ∷ node (codes "e") kinds.EndEvent ∷ node (codes "d") kinds.EndEvent ∷ [];
-  flows = record { id = codes "f"; from = codes "s"; to = codes "e"; condition = None } ∷ record { id = codes "g"; from = codes "s"; to = codes "d"; condition = None } ∷ [];
+  flows = flow (codes "f") (codes "s") (codes "e") ∷ flow (codes "g") (codes "s") (codes "d") ∷ [];
 }
 
 fork_is_good : first_fault fork ≡ None
 unfolding first_fault
 fork_is_good = refl
-
-abbrev fork_begun : List Event
-fork_begun = events.ProcessCreated (record { key = key 1; version = 1; model = fork }) ∷ events.DeploymentCreated (record { key = key 2; definition = key 1 }) ∷ instance (key 3)
 
 -- worked out by hand: a token goes out on each flow in the order of the model before one of them enters its node; each of them comes to an end; then the process ends
 abbrev fork_plays : List Event
@@ -183,17 +197,17 @@ fork_plays =
     activated (key 3) ∷ passes (key 4) (key 3) (codes "s") [] (codes "f" ∷ codes "g" ∷ [])
     ++ (taken (key 4) (codes "f") ∷ taken (key 4) (codes "g") ∷ passes (key 5) (key 3) (codes "e") (codes "f") [] ++ (passes (key 6) (key 3) (codes "d") (codes "g") [] ++ ends (key 3)))
 
-fork_play : turns many fork_begun ≡ fork_plays
+fork_play : turns many (begun_of fork) ≡ fork_plays
 unfolding turn
 fork_play = refl
 
-fork_applies : all_apply 1 [] (fork_begun ++ fork_plays) ≡ true
+fork_applies : all_apply 1 [] (begun_of fork ++ fork_plays) ≡ true
 unfolding first_fault
 fork_applies = refl
 
 -- two instances at once
 abbrev two_begun : List Event
-two_begun = events.ProcessCreated (record { key = key 1; version = 1; model = process }) ∷ events.DeploymentCreated (record { key = key 2; definition = key 1 }) ∷ instance (key 3) ++ instance (key 4)
+two_begun = begun_of process ++ instance (key 4)
 
 -- worked out by hand: of the two roots the one with the greater key opens first, then the other, and then the token that was made first goes on.
 -- A token on a flow stands behind those that were made before it; a root ends as soon as nothing is in it, before another token enters
@@ -212,3 +226,176 @@ both_play = refl
 both_apply : all_apply 1 [] (two_begun ++ two_play) ≡ true
 unfolding first_fault
 both_apply = refl
+
+-- a parallel gateway with three flows: two to a throw event, and one to the gateway where its flow and the throw event's join
+abbrev joining : Model
+joining = record {
+  process = codes "p";
+  tag = [];
+  nodes = node (codes "s") kinds.StartEvent ∷ node (codes "g") kinds.ParallelGateway ∷ node (codes "x") kinds.ThrowEvent ∷ node (codes "j") kinds.ParallelGateway ∷ node (codes "e") kinds.EndEvent ∷ [];
+  flows = flow (codes "f") (codes "s") (codes "g")
+      ∷ flow (codes "a") (codes "g") (codes "x")
+      ∷ flow (codes "b") (codes "g") (codes "x")
+      ∷ flow (codes "c") (codes "g") (codes "j")
+      ∷ flow (codes "d") (codes "x") (codes "j")
+      ∷ flow (codes "h") (codes "j") (codes "e")
+      ∷ [];
+}
+
+joining_is_good : first_fault joining ≡ None
+unfolding first_fault
+joining_is_good = refl
+
+-- worked out by hand: each of the two tokens passes the throw event, before the token that came first to the join goes on. That takes the first token
+-- on each flow into it, once; the other token on the flow to it stays there. The root is active, and nobody is forced
+abbrev joining_plays : List Event
+joining_plays =
+    activated (key 3) ∷ passes (key 4) (key 3) (codes "s") [] (codes "f" ∷ [])
+    ++ (taken (key 4) (codes "f") ∷ passes (key 5) (key 3) (codes "g") [] (codes "a" ∷ codes "b" ∷ codes "c" ∷ [])
+    ++ (taken (key 5) (codes "a") ∷ taken (key 5) (codes "b") ∷ taken (key 5) (codes "c")
+    ∷ passes (key 6) (key 3) (codes "x") (codes "a") (codes "d" ∷ []) ++ (taken (key 6) (codes "d")
+    ∷ passes (key 7) (key 3) (codes "x") (codes "b") (codes "d" ∷ []) ++ (taken (key 7) (codes "d")
+    ∷ passes (key 8) (key 3) (codes "j") [] (codes "h" ∷ []) ++ (taken (key 8) (codes "h")
+    ∷ passes (key 9) (key 3) (codes "e") (codes "h") [])))))
+
+joining_play : turns many (begun_of joining) ≡ joining_plays
+unfolding turn
+joining_play = refl
+
+joining_rests : turn 1 1 0 (begun_of joining ++ joining_plays) ≡ None
+unfolding turn
+joining_rests = refl
+
+-- what is left on the board: the root, and a token on the flow to the join
+abbrev joining_end : Board
+joining_end = record {
+  models = record { key = key 1; model = joining } ∷ [];
+  cells = in_phase phases.Active [] (new_cell (key 3) 0 (key 1) (codes "p") false) ∷ [];
+  tokens = record { scope = key 3; spot = spots.OnFlow (codes "d") } ∷ [];
+}
+
+joining_ends : board_of (begun_of joining ++ joining_plays) ≡ Some joining_end
+joining_ends = refl
+
+joining_applies : all_apply 1 [] (begun_of joining ++ joining_plays) ≡ true
+unfolding first_fault
+joining_applies = refl
+
+-- a node in a subprocess
+abbrev inside : List ℕ → List ℕ → NodeKind → Node
+inside parent id kind = record (node id kind) { parent = parent }
+
+-- a subprocess whose start event has a flow to a terminate end event, and one to an end event
+abbrev ended_early : Model
+ended_early = record {
+  process = codes "p";
+  tag = [];
+  nodes = node (codes "s") kinds.StartEvent ∷ node (codes "u") kinds.SubProcess ∷ node (codes "e") kinds.EndEvent
+      ∷ inside (codes "u") (codes "t") kinds.StartEvent ∷ inside (codes "u") (codes "k") kinds.TerminateEndEvent ∷ inside (codes "u") (codes "d") kinds.EndEvent ∷ [];
+  flows = flow (codes "f") (codes "s") (codes "u")
+      ∷ flow (codes "h") (codes "u") (codes "e")
+      ∷ flow (codes "a") (codes "t") (codes "k")
+      ∷ flow (codes "b") (codes "t") (codes "d")
+      ∷ [];
+}
+
+ended_early_is_good : first_fault ended_early ≡ None
+unfolding first_fault
+ended_early_is_good = refl
+
+-- worked out by hand: the terminate end event takes the other token with it as it completes; then the subprocess is empty, completes and is left
+abbrev ended_early_plays : List Event
+ended_early_plays =
+    activated (key 3) ∷ passes (key 4) (key 3) (codes "s") [] (codes "f" ∷ [])
+    ++ (taken (key 4) (codes "f") ∷ activating (key 5) (key 3) (codes "u") (codes "f") ∷ activated (key 5)
+    ∷ passes (key 6) (key 5) (codes "t") [] (codes "a" ∷ codes "b" ∷ [])
+    ++ (taken (key 6) (codes "a") ∷ taken (key 6) (codes "b")
+    ∷ passes (key 7) (key 5) (codes "k") (codes "a") []
+    ++ (events.ElementCompleting (key 5) ∷ completed (key 5) (codes "h" ∷ []) ∷ taken (key 5) (codes "h")
+    ∷ passes (key 8) (key 3) (codes "e") (codes "h") []
+    ++ ends (key 3))))
+
+ended_early_play : turns many (begun_of ended_early) ≡ ended_early_plays
+unfolding turn
+ended_early_play = refl
+
+ended_early_applies : all_apply 1 [] (begun_of ended_early ++ ended_early_plays) ≡ true
+unfolding first_fault
+ended_early_applies = refl
+
+-- a subprocess in which a service task waits
+abbrev waiting : Model
+waiting = record {
+  process = codes "p";
+  tag = [];
+  nodes = node (codes "s") kinds.StartEvent ∷ node (codes "u") kinds.SubProcess ∷ node (codes "e") kinds.EndEvent
+      ∷ inside (codes "u") (codes "t") kinds.StartEvent ∷ inside (codes "u") (codes "w") kinds.ServiceTask ∷ inside (codes "u") (codes "d") kinds.EndEvent ∷ [];
+  flows = flow (codes "f") (codes "s") (codes "u") ∷ flow (codes "h") (codes "u") (codes "e")
+      ∷ flow (codes "a") (codes "t") (codes "w") ∷ flow (codes "b") (codes "w") (codes "d") ∷ [];
+}
+
+abbrev waiting_plays : List Event
+waiting_plays =
+    activated (key 3) ∷ passes (key 4) (key 3) (codes "s") [] (codes "f" ∷ [])
+    ++ (taken (key 4) (codes "f") ∷ activating (key 5) (key 3) (codes "u") (codes "f") ∷ activated (key 5)
+    ∷ passes (key 6) (key 5) (codes "t") [] (codes "a" ∷ [])
+    ++ (taken (key 6) (codes "a")
+    ∷ activating (key 7) (key 5) (codes "w") (codes "a") ∷ activated (key 7) ∷ []))
+
+waiting_play : turns many (begun_of waiting) ≡ waiting_plays
+unfolding turn
+waiting_play = refl
+
+abbrev waiting_events : List Event
+waiting_events = begun_of waiting ++ waiting_plays
+
+-- a cell begins to terminate, and is gone
+abbrev terminated : ℕ → List Event
+terminated cell = events.ElementTerminating cell ∷ events.ElementTerminated cell ∷ []
+
+-- worked out by hand: the newest cell is called off first, and is gone before the one around it; the root is gone last
+abbrev ends_all : List Event
+ends_all = events.ElementTerminating (key 3) ∷ terminated (key 7) ++ (terminated (key 5) ++ events.ElementTerminated (key 3) ∷ [])
+
+cancel_play : cancelled (key 3) ++ turns many (waiting_events ++ cancelled (key 3)) ≡ ends_all
+unfolding turn
+cancel_play = refl
+
+cancel_applies : all_apply 1 [] (waiting_events ++ ends_all) ≡ true
+unfolding first_fault
+cancel_applies = refl
+
+cancel_none : reason_to_cancel waiting_events (key 3) ≡ None
+cancel_none = refl
+
+cancel_inner : reason_to_cancel waiting_events (key 5) ≡ Some (record { kind = kinds_of.NotFound; reason = no_instance (key 5) })
+cancel_inner = refl
+
+cancel_twice : reason_to_cancel (waiting_events ++ cancelled (key 3)) (key 3) ≡ Some (record { kind = kinds_of.InvalidState; reason = instance_terminates (key 3) })
+cancel_twice = refl
+
+-- variables, which are handed up from the task to where they stand, or else to the root; or are set in the task itself
+abbrev value : ℕ → Variable
+value name = record { name = name ∷ []; value = values.Bool true }
+
+abbrev set_before : List Event
+set_before = waiting_events ++ events.VariableCreated (record { scope = key 3; name = 97 ∷ []; value = values.Bool false }) ∷ events.VariableCreated (record { scope = key 5; name = 98 ∷ []; value = values.Bool false }) ∷ []
+
+up : updated (record { scope = key 7; local = false; variables = value 97 ∷ value 98 ∷ value 99 ∷ [] }) set_before ≡
+    events.VariableUpdated (record { scope = key 3; name = 97 ∷ []; value = values.Bool true })
+    ∷ events.VariableUpdated (record { scope = key 5; name = 98 ∷ []; value = values.Bool true })
+    ∷ events.VariableCreated (record { scope = key 3; name = 99 ∷ []; value = values.Bool true })
+    ∷ events.VariableDocumentUpdated (key 7) ∷ []
+up = refl
+
+here : updated (record { scope = key 7; local = true; variables = value 97 ∷ value 98 ∷ [] }) set_before ≡
+    events.VariableCreated (record { scope = key 7; name = 97 ∷ []; value = values.Bool true })
+    ∷ events.VariableCreated (record { scope = key 7; name = 98 ∷ []; value = values.Bool true })
+    ∷ events.VariableDocumentUpdated (key 7) ∷ []
+here = refl
+
+nowhere : reason_to_update set_before (key 9) ≡ Some (record { kind = kinds_of.NotFound; reason = no_scope (key 9) })
+nowhere = refl
+
+updates_apply : all_apply 1 set_before (updated (record { scope = key 7; local = false; variables = value 97 ∷ value 98 ∷ value 99 ∷ [] }) set_before) ≡ true
+updates_apply = refl

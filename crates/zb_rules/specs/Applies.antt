@@ -1,5 +1,5 @@
 -- Which events a log may have.
-use Rattle.std.specs.Prelude.{ℕ, ◌+◌, ◌^◌, ◌==◌, nat_lt, List, [], ◌∷◌, ◌++◌, Bool, true, false, ◌&&◌, if◌then◌else◌, Option, Some, None}
+use Rattle.std.specs.Prelude.{ℕ, ◌+◌, ◌^◌, ◌==◌, nat_lt, List, [], ◌∷◌, ◌++◌, Bool, true, false, ◌&&◌, is_some, if◌then◌else◌, Option, Some, None}
 use Rattle.std.specs.Option.{option_map_or}
 use Rattle.std.specs.List.{list_any}
 use Rattle.std.specs.Str.{bytes_eq}
@@ -40,6 +40,10 @@ is_process_of definition id b = option_map_or (λ m. bytes_eq m.process id) (mod
 abbrev pub is_definition_of : ℕ → ℕ → Board → Bool
 is_definition_of cell definition b = option_map_or (λ c. c.definition == definition) (cell_at b cell) false
 
+-- on a board a cell has this key
+abbrev pub has_cell : ℕ → Board → Bool
+has_cell key b = is_some (cell_at b key)
+
 -- this holds of the game of the events
 abbrev pub holds_of_game : (Board → Bool) → List Event → Bool
 holds_of_game holds es = option_map_or holds (board_of es) false
@@ -66,8 +70,12 @@ holds_own p before (events.ElementActivating e) = begins_well p before e
 holds_own p before (events.ElementActivated e) = is_none_of e.items
 holds_own p before (events.ElementCompleting key) = true
 holds_own p before (events.ElementCompleted e) = true
+holds_own p before (events.ElementTerminating key) = true
+holds_own p before (events.ElementTerminated key) = true
 holds_own p before (events.SequenceFlowTaken e) = true
 holds_own p before (events.VariableCreated e) = true
+holds_own p before (events.VariableUpdated e) = true
+holds_own p before (events.VariableDocumentUpdated key) = holds_of_game (has_cell key) before
 holds_own p before (events.MessagePublished m) = is_fresh p before m.key
 holds_own p before (events.MessageExpired key) = is_buffered key before
 holds_own p before _ = false

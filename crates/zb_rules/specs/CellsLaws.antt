@@ -1,21 +1,18 @@
 -- Laws of the cells of a board as a move is made: their keys ascend.
-use Rattle.std.proofs.Common.{◌≡◌, ℕ, ◌+◌, ◌<◌, ◌≤◌, ◌==◌, List, [], ◌∷◌, ◌++◌, Bool, true, false, if◌then◌else◌, Option, Some, None, option_map, option_and_then, refl, subst, arith}
+use Rattle.std.proofs.Common.{◌≡◌, ℕ, ◌+◌, ◌<◌, ◌≤◌, List, [], ◌∷◌, ◌++◌, filter, Bool, true, false, not, cond, if◌then◌else◌, Option, Some, None, option_map, refl, subst, arith}
 use Rattle.std.specs.Option.{IfSome}
 use Rattle.zb_tokens.specs.declared.board.Cell.{Cell}
-use Rattle.zb_tokens.specs.declared.board.Enter.{Enter}
-use Rattle.zb_tokens.specs.declared.board.Start.{Start}
-use Rattle.zb_tokens.specs.declared.board.Take.{Take}
 use Rattle.zb_tokens.specs.declared.board.Move.{Move}
 use Rattle.zb_tokens.specs.declared.board.Move.TheVariants as moves
 use Rattle.zb_tokens.specs.declared.board.Phase.TheVariants as phases
-use Rattle.zb_tokens.specs.Edits.{edited, removed, is_none_of}
-use Rattle.zb_tokens.specs.Board.{Board, CellsAscend, cell_at, model_under, new_cell, in_phase}
-use Rattle.zb_tokens.specs.MoveEnter.{comes_to}
-use Rattle.zb_tokens.specs.MoveOpen.{first_tokens}
-use Rattle.zb_tokens.specs.MoveLeave.{leaving}
-use Rattle.zb_tokens.specs.MoveTake.{rest_of, with_token}
+use Rattle.zb_tokens.specs.Edits.{edited, removed}
+use Rattle.zb_tokens.specs.Board.{Board, CellsAscend, new_cell, in_phase, leaves_in}
+use Rattle.zb_tokens.specs.MoveEnter.{entering}
+use Rattle.zb_tokens.specs.MoveLeave.{leaving, ends_scope, with_end}
+use Rattle.zb_tokens.specs.MoveTake.{rest_of}
 use Rattle.zb_tokens.specs.MoveAssign.{with_variable}
 use Rattle.zb_tokens.specs.Game.{played}
+use Rattle.zb_rules.specs.MadeLaws.{is_keyed, HoldsEdited, HoldsWithout, HoldsMade, left_holds, made_ended, made_holds}
 
 -- the keys of the cells ascend, from `low` on, and lie below `high`
 abbrev pub Between : ℕ → ℕ → List Cell → Type 0
@@ -86,64 +83,51 @@ module _ (passes : Cell → Bool) where
   between_removed low high (c ∷ cells) after is made =
       removed_by (passes c) low high c cells after (removed passes cells) is (λ rest. between_removed (c.key + 1) high cells rest is.2) made
 
+-- and one with some cells alone
+module _ (keep : Cell → Bool) where
+  filtered_by : (t : Bool) (low high : ℕ) (c : Cell) (cells rest : List Cell) → Between low high (c ∷ cells) → Between (c.key + 1) high rest → Between low high (cond t (c ∷ rest) rest)
+  filtered_by true low high c cells rest is behind = (is.0, is.1, behind)
+  filtered_by false low high c cells rest is behind = between_lower low (c.key + 1) high rest (omega (arith, is.0)) behind
+
+  -- the cells that pass a test
+  pub between_filtered : (low high : ℕ) (cells : List Cell) → Between low high cells → Between low high (filter keep cells)
+  between_filtered low high [] is = is
+  between_filtered low high (c ∷ cells) is = filtered_by (keep c) low high c cells (filter keep cells) is (between_filtered (c.key + 1) high cells is.2)
+
 -- the key of the cell that a move makes
 abbrev pub key_made : Move → Option ℕ
 key_made (moves.Start s) = Some s.key
 key_made (moves.Enter e) = Some e.key
 key_made _ = None
 
--- the cells of a board that is made of others
-module _ {A B : Type 0} where
-  -- what each way through the option gives holds of what comes out
-  pub chained_holds : (Q : B → Type 0) (f : A → Option B) (o : Option A) (y : B) → ((x : A) → o ≡ Some x → (z : B) → f x ≡ Some z → Q z) → option_and_then f o ≡ Some y → Q y
-  chained_holds Q f None y each made = absurd (cc)
-  chained_holds Q f (Some x) y each made = each x refl y made
-
-  -- and of what is mapped
-  pub mapped_holds : (Q : B → Type 0) (f : A → B) (o : Option A) (y : B) → ((x : A) → o ≡ Some x → Q (f x)) → option_map f o ≡ Some y → Q y
-  mapped_holds Q f None y each made = absurd (cc)
-  mapped_holds Q f (Some x) y each made = let same : f x ≡ y = cc in subst Q same (each x refl)
-
 module _ (low high : ℕ) (b : Board) (is : Between low high b.cells) where
-  abbrev Kept : Board → Type 0
-  Kept after = Between low high after.cells
+  module _ (top : ℕ) (more : high ≤ top) where
+    abbrev Kept : Board → Type 0
+    Kept x = Between low top x.cells
 
-  cells_edited : (after : Board) (key : ℕ) (edit : Cell → Cell) → ((c : Cell) → (edit c).key ≡ c.key)
-      → option_map (λ cells. record b { cells = cells }) (edited (λ c. c.key == key) edit b.cells) ≡ Some after → Kept after
-  cells_edited after key edit keeps made = mapped_holds Kept (λ cells. record b { cells = cells }) (edited (λ c. c.key == key) edit b.cells) after
-      (λ cells found. between_edited (λ c. c.key == key) edit keeps low high b.cells cells is found) made
+    with_edit : (key : ℕ) (edit : Cell → Cell) → ((c : Cell) → (edit c).key ≡ c.key) → HoldsEdited b Kept key edit
+    with_edit key edit keeps cells made = between_higher low high top cells more (between_edited (is_keyed key) edit keeps low high b.cells cells is made)
 
-  leaving_keeps : (after : Board) (owed : List (List ℕ)) (key : ℕ) → leaving owed key b ≡ Some after → Kept after
-  leaving_keeps after [] key made = mapped_holds Kept (λ cells. record b { cells = cells }) (removed (λ c. c.key == key) b.cells) after
-      (λ cells found. between_removed (λ c. c.key == key) low high b.cells cells is found) made
-  leaving_keeps after (flow ∷ owed) key made = cells_edited after key (in_phase phases.Leaving (flow ∷ owed)) (λ c. refl) made
+    without : (key : ℕ) → HoldsWithout b Kept key
+    without key cells made = between_higher low high top cells more (between_removed (is_keyed key) low high b.cells cells is made)
 
-  open_keeps : (after : Board) (key : ℕ) → played b (moves.Open key) ≡ Some after → Kept after
-  open_keeps after key made = chained_holds Kept _ (cell_at b key) after (λ c found z made.
-      chained_holds Kept _ (first_tokens b c) z (λ tokens got y made.
-      mapped_holds Kept (λ cells. record b { cells = cells; tokens = b.tokens ++ tokens }) (edited (λ x. x.key == key) (in_phase phases.Active []) b.cells) y
-      (λ cells found. between_edited (λ x. x.key == key) (in_phase phases.Active []) (λ c. refl) low high b.cells cells is found) made) made) made
+    with_left : (owed : List (List ℕ)) (key : ℕ) (left : Board) → leaving owed key b ≡ Some left → Kept left
+    with_left owed key left made = left_holds b Kept left owed key (without key) (λ flow more same. with_edit key (in_phase phases.Leaving (flow ∷ more)) (λ c. refl)) made
 
-  take_keeps : (after : Board) (t : Take) → played b (moves.Take t) ≡ Some after → Kept after
-  take_keeps after t made = chained_holds Kept _ (cell_at b t.key) after (λ c found z made.
-      mapped_holds Kept (with_token c.scope t.flow) (leaving (rest_of c.owed) t.key b) z (λ l left. leaving_keeps l (rest_of c.owed) t.key left) made) made
-
-  start_adds : (after : Board) (s : Start) (top : ℕ) → high ≤ s.key → s.key < top → played b (moves.Start s) ≡ Some after → Between low top after.cells
-  start_adds after s top above below made = mapped_holds (λ (x : Board). Between low top x.cells) _ (model_under b s.definition) after
-      (λ m found. between_push low high top b.cells (new_cell s.key 0 s.definition m.process false) is above below) made
-
-  enter_adds : (after : Board) (e : Enter) (top : ℕ) → high ≤ e.key → e.key < top → played b (moves.Enter e) ≡ Some after → Between low top after.cells
-  enter_adds after e top above below made = chained_holds (λ (x : Board). Between low top x.cells) _ (cell_at b e.scope) after (λ c found z made.
-      mapped_holds (λ (x : Board). Between low top x.cells) _ (removed (comes_to e.scope e.node e.via) b.tokens) z
-      (λ tokens left. between_push low high top b.cells (new_cell e.key e.scope c.definition e.node (is_none_of e.via)) is above below) made) made
+    between_made : (move : Move) → IfSome (key_made move) (λ key. (high ≤ key) × (key < top)) → HoldsMade b Kept move
+    between_made (moves.Stand d) new = between_higher low high top b.cells more is
+    between_made (moves.Start s) new = λ m found. between_push low high top b.cells (new_cell s.key 0 s.definition m.process false) is new.0 new.1
+    between_made (moves.Enter e) new = λ c m found stand. between_push low high top b.cells (entering e c m) is new.0 new.1
+    between_made (moves.Open key) new = λ c m found stands. with_edit key (in_phase phases.Active []) (λ c. refl)
+    between_made (moves.Finish key) new = with_edit key (in_phase phases.Completing []) (λ c. refl)
+    between_made (moves.Leave l) new = λ c found left made. made_ended (Between low top) (ends_scope b c) c.scope left (with_left l.owed l.key left made)
+        (λ cells edit. between_edited (is_keyed c.scope) with_end (λ x. refl) low top left.cells cells (with_left l.owed l.key left made) edit) (between_filtered (λ x. not (leaves_in c.scope x)) low top)
+    between_made (moves.Take t) new = λ c found left made. with_left (rest_of c.owed) t.key left made
+    between_made (moves.Halt key) new = λ cells made. between_filtered (λ x. not (leaves_in key x)) low top cells (with_edit key (in_phase phases.Terminating []) (λ c. refl) cells made)
+    between_made (moves.Gone key) new = without key
+    between_made (moves.Assign a) new = with_edit a.scope (with_variable a.name a.value) (λ c. refl)
+    between_made (moves.Update a) new = with_edit a.scope (with_variable a.name a.value) (λ c. refl)
 
   -- a move keeps the order; a new cell has a key behind all
   pub between_played : (after : Board) (move : Move) (top : ℕ) → high ≤ top → IfSome (key_made move) (λ key. (high ≤ key) × (key < top)) → played b move ≡ Some after → Between low top after.cells
-  between_played after (moves.Stand d) top more new made = between_higher low high top after.cells more (let same : record b { models = b.models ++ d ∷ [] } ≡ after = cc in subst Kept same is)
-  between_played after (moves.Start s) top more new made = start_adds after s top new.0 new.1 made
-  between_played after (moves.Enter e) top more new made = enter_adds after e top new.0 new.1 made
-  between_played after (moves.Open key) top more new made = between_higher low high top after.cells more (open_keeps after key made)
-  between_played after (moves.Finish key) top more new made = between_higher low high top after.cells more (cells_edited after key (in_phase phases.Completing []) (λ c. refl) made)
-  between_played after (moves.Leave l) top more new made = between_higher low high top after.cells more (leaving_keeps after l.owed l.key made)
-  between_played after (moves.Take t) top more new made = between_higher low high top after.cells more (take_keeps after t made)
-  between_played after (moves.Assign a) top more new made = between_higher low high top after.cells more (cells_edited after a.scope (with_variable a.name a.value) (λ c. refl) made)
+  between_played after move top more new made = made_holds b (λ x. Between low top x.cells) after move (between_made top more move new) made

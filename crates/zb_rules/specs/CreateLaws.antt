@@ -33,7 +33,8 @@ use Rattle.zb_rules.specs.Shown.{board_of}
 use Rattle.zb_rules.specs.Applies.{has_definition, holds_own, holds_of_game, applies, all_apply, is_process_of}
 use Rattle.zb_rules.specs.Sound.{HasKeys}
 use Rattle.zb_rules.specs.Create.{variable_event, instance_under, created}
-use Rattle.zb_rules.specs.CellsLaws.{Between, mapped_holds}
+use Rattle.zb_rules.specs.MadeLaws.{mapped_holds}
+use Rattle.zb_rules.specs.CellsLaws.{Between}
 use Rattle.zb_rules.specs.AppliedLaws.{some_of, game_holds_from, applied_from, applied_board, board_behind}
 use Rattle.zb_rules.specs.KeysLaws.{HasOrderedCells}
 use Rattle.zb_rules.specs.ScopesLaws.{edited_found}

@@ -14,23 +14,17 @@ use Rattle.zb_views.specs.declared.definition.Definition.{Definition}
 use Rattle.zb_views.specs.View.{counter_at, greatest_counter}
 use Rattle.zb_views.specs.ViewLaws.{greatest_counter_more, definitions_more}
 use Rattle.zb_views.specs.Definitions.{definition_told, definitions}
-use Rattle.zb_tokens.specs.declared.board.Cell.{Cell}
 use Rattle.zb_tokens.specs.declared.board.Deployed.{Deployed}
 use Rattle.zb_tokens.specs.declared.board.Move.{Move}
 use Rattle.zb_tokens.specs.declared.board.Move.TheVariants as moves
-use Rattle.zb_tokens.specs.Edits.{edited, removed}
-use Rattle.zb_tokens.specs.Board.{Board, cell_at, model_under, in_phase}
-use Rattle.zb_tokens.specs.declared.board.Phase.TheVariants as phases
-use Rattle.zb_tokens.specs.MoveEnter.{comes_to}
-use Rattle.zb_tokens.specs.MoveOpen.{first_tokens}
-use Rattle.zb_tokens.specs.MoveLeave.{leaving}
-use Rattle.zb_tokens.specs.MoveTake.{rest_of, with_token}
-use Rattle.zb_tokens.specs.MoveAssign.{with_variable}
-use Rattle.zb_tokens.specs.Game.{empty_board, played}
+use Rattle.zb_tokens.specs.Board.{Board, model_under}
+use Rattle.zb_tokens.specs.MoveLeave.{leaving, ends_scope, scope_ended}
+use Rattle.zb_tokens.specs.MoveTake.{rest_of}
+use Rattle.zb_tokens.specs.Game.{empty_board}
 use Rattle.zb_tokens.specs.ForcedLaws.{same_bytes}
 use Rattle.zb_rules.specs.Shown.{shown, after_shown, board_of}
 use Rattle.zb_rules.specs.Applies.{all_apply, has_definition, is_process_of}
-use Rattle.zb_rules.specs.CellsLaws.{mapped_holds, chained_holds}
+use Rattle.zb_rules.specs.MadeLaws.{HoldsMade, left_holds, made_holds}
 use Rattle.zb_rules.specs.AppliedLaws.{Advances, holds_of_all}
 use Rattle.zb_rules.specs.KeysLaws.{first_named}
 
@@ -41,37 +35,33 @@ models_made _ = []
 
 -- the models after a move
 module _ (b : Board) where
-  abbrev Kept : Board → Type 0
-  Kept after = after.models ≡ b.models
+  none_more : b.models ≡ b.models ++ []
+  none_more = sym (append-nil b.models)
 
-  cells_only : (after : Board) (cells : Option (List Cell)) → option_map (λ cs. record b { cells = cs }) cells ≡ Some after → Kept after
-  cells_only after cells made = mapped_holds Kept (λ cs. record b { cells = cs }) cells after (λ cs found. refl) made
+  ended_models : (t : Bool) (scope : ℕ) (left : Board) → left.models ≡ b.models → (if t then scope_ended scope left else left).models ≡ b.models
+  ended_models true scope left kept = kept
+  ended_models false scope left kept = kept
 
-  leaving_only : (after : Board) (owed : List (List ℕ)) (key : ℕ) → leaving owed key b ≡ Some after → Kept after
-  leaving_only after [] key made = cells_only after (removed (λ c. c.key == key) b.cells) made
-  leaving_only after (flow ∷ owed) key made = cells_only after (edited (λ c. c.key == key) (in_phase phases.Leaving (flow ∷ owed)) b.cells) made
+  left_models : (owed : List (List ℕ)) (key : ℕ) (left : Board) → leaving owed key b ≡ Some left → left.models ≡ b.models
+  left_models owed key left made = left_holds b (λ x. x.models ≡ b.models) left owed key (λ cells found. refl) (λ flow more same cells found. refl) made
 
-  none_more : (after : Board) → Kept after → after.models ≡ b.models ++ []
-  none_more after kept = kept ∙ sym (append-nil b.models)
-
-  models_played : (after : Board) (move : Move) → played b move ≡ Some after → after.models ≡ b.models ++ models_made move
-  models_played after (moves.Stand d) made = ap (λ (x : Board). x.models) (sym (let same : record b { models = b.models ++ d ∷ [] } ≡ after = cc in same))
-  models_played after (moves.Start s) made = none_more after (mapped_holds Kept _ (model_under b s.definition) after (λ m found. refl) made)
-  models_played after (moves.Enter e) made = none_more after (chained_holds Kept _ (cell_at b e.scope) after (λ c found z led.
-      mapped_holds Kept _ (removed (comes_to e.scope e.node e.via) b.tokens) z (λ tokens left. refl) led) made)
-  models_played after (moves.Open key) made = none_more after (chained_holds Kept _ (cell_at b key) after (λ c found z led.
-      chained_holds Kept _ (first_tokens b c) z (λ tokens got y came.
-      mapped_holds Kept _ (edited (λ x. x.key == key) (in_phase phases.Active []) b.cells) y (λ cells there. refl) came) led) made)
-  models_played after (moves.Finish key) made = none_more after (cells_only after (edited (λ c. c.key == key) (in_phase phases.Completing []) b.cells) made)
-  models_played after (moves.Leave l) made = none_more after (leaving_only after l.owed l.key made)
-  models_played after (moves.Take t) made = none_more after (chained_holds Kept _ (cell_at b t.key) after (λ c found z led.
-      mapped_holds Kept (with_token c.scope t.flow) (leaving (rest_of c.owed) t.key b) z (λ l left. leaving_only l (rest_of c.owed) t.key left) led) made)
-  models_played after (moves.Assign a) made = none_more after (cells_only after (edited (λ c. c.key == a.scope) (with_variable a.name a.value) b.cells) made)
+  by_move : (move : Move) → HoldsMade b (λ x. x.models ≡ b.models ++ models_made move) move
+  by_move (moves.Stand d) = refl
+  by_move (moves.Start s) = λ m found. none_more
+  by_move (moves.Enter e) = λ c m found stand. none_more
+  by_move (moves.Open key) = λ c m found stands cells made. none_more
+  by_move (moves.Finish key) = λ cells made. none_more
+  by_move (moves.Leave l) = λ c found left made. ended_models (ends_scope b c) c.scope left (left_models l.owed l.key left made) ∙ none_more
+  by_move (moves.Take t) = λ c found left made. left_models (rest_of c.owed) t.key left made ∙ none_more
+  by_move (moves.Halt key) = λ cells made. none_more
+  by_move (moves.Gone key) = λ cells made. none_more
+  by_move (moves.Assign a) = λ cells made. none_more
+  by_move (moves.Update a) = λ cells made. none_more
 
   -- the models after the move that an event shows
   pub models_shown : (after : Board) (move : Option Move) → after_shown b move ≡ Some after → after.models ≡ b.models ++ option_map_or models_made move []
-  models_shown after None made = none_more after (ap (λ (x : Board). x.models) (sym (let same : b ≡ after = cc in same)))
-  models_shown after (Some move) made = models_played after move made
+  models_shown after None made = ap (λ (x : Board). x.models) (sym (let same : b ≡ after = cc in same)) ∙ none_more
+  models_shown after (Some move) made = made_holds b (λ x. x.models ≡ b.models ++ models_made move) after move (by_move move) made
 
 -- the model that an event puts on the board
 abbrev models_told : Event → List Deployed
@@ -89,17 +79,22 @@ told_made before e = refl
 models_more : (p : ℕ) (before : List Event) (b : Board) (e : Event) (after : Board) → Advances p before b e after → after.models ≡ b.models ++ models_told e
 models_more p before b e after h = models_shown b after (shown before e) h.leads ∙ ap (λ (ms : List Deployed). b.models ++ ms) (told_made before e)
 
+-- the model under a key among some
+abbrev pub model_among : List Deployed → ℕ → Option Model
+model_among models key = option_map (λ (d : Deployed). d.model) (find (λ (d : Deployed). d.key == key) models)
+
+more_by : (holds : Option Model → Bool) (found other : Option Deployed) → holds None ≡ false → IsTrue (holds (option_map (λ (d : Deployed). d.model) found)) → IsTrue (holds (option_map (λ (d : Deployed). d.model) (option_or found other)))
+more_by holds None other none is = absurd (cc)
+more_by holds (Some d) other none is = is
+
+-- what holds of the model that is there holds of it where there are more
+pub among_more : (holds : Option Model → Bool) (key : ℕ) (models more : List Deployed) → holds None ≡ false → IsTrue (holds (model_among models key)) → IsTrue (holds (model_among (models ++ more) key))
+among_more holds key models more none is =
+    rw (find-append (λ (d : Deployed). d.key == key) models more) (more_by holds (find (λ (d : Deployed). d.key == key) models) (find (λ (d : Deployed). d.key == key) more) none is)
+
 -- among some models the one under a key has this process id
 abbrev is_process_among : ℕ → List ℕ → List Deployed → Bool
-is_process_among key id models = option_map_or (λ (m : Model). bytes_eq m.process id) (option_map (λ (d : Deployed). d.model) (find (λ (d : Deployed). d.key == key) models)) false
-
-among_by : (id : List ℕ) (found other : Option Deployed) → IsTrue (option_map_or (λ (m : Model). bytes_eq m.process id) (option_map (λ (d : Deployed). d.model) found) false)
-    → IsTrue (option_map_or (λ (m : Model). bytes_eq m.process id) (option_map (λ (d : Deployed). d.model) (option_or found other)) false)
-among_by id None other is = absurd (cc)
-among_by id (Some d) other is = is
-
-among_more : (key : ℕ) (id : List ℕ) (models more : List Deployed) → IsTrue (is_process_among key id models) → IsTrue (is_process_among key id (models ++ more))
-among_more key id models more is = rw (find-append (λ (d : Deployed). d.key == key) models more) (among_by id (find (λ (d : Deployed). d.key == key) models) (find (λ (d : Deployed). d.key == key) more) is)
+is_process_among key id models = option_map_or (λ (m : Model). bytes_eq m.process id) (model_among models key) false
 
 among_new : (d : Deployed) (models : List Deployed) → find (λ (x : Deployed). x.key == d.key) models ≡ None → IsTrue (is_process_among d.key d.model.process (models ++ d ∷ []))
 among_new d models none =
@@ -137,7 +132,7 @@ knows_on p before b e after h k =
     let counted : All Counted (b.models ++ models_told e) = All-append Counted b.models (models_told e)
     (All-weaker (λ (d : Deployed). counter_at p d.key ≤ greatest_counter p before) Counted (λ d below. omega (arith, below, grown)) b.models k.counted) (told_counted p before e) in
     let defined : All Defined (definitions before ++ definition_told e) = All-append Defined (definitions before) (definition_told e)
-    (All-weaker (λ (d : Definition). IsTrue (is_process_of d.key d.process b)) Defined (λ d there. among_more d.key d.process b.models (models_told e) there) (definitions before) k.defined) (told_defined p before b e after h) in
+    (All-weaker (λ (d : Definition). IsTrue (is_process_of d.key d.process b)) Defined (λ d there. among_more (λ o. option_map_or (λ (m : Model). bytes_eq m.process d.process) o false) d.key b.models (models_told e) refl there) (definitions before) k.defined) (told_defined p before b e after h) in
     record {
       counted = subst (All Counted) (sym models) counted;
       defined = subst (λ (ds : List Definition). All (λ (d : Definition). IsTrue (is_process_among d.key d.process after.models)) ds) (sym (definitions_more before e))

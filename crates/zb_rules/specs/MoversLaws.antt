@@ -1,6 +1,6 @@
 -- Which moves a mover makes, and that each has an event.
 use Rattle.std.proofs.Common.{◌≡◌, ℕ, ◌+◌, ◌≤◌, ◌==◌, List, [], ◌∷◌, Bool, true, false, if◌then◌else◌, IsTrue, is_some, Option, Some, None, option_map, option_and_then, slice_get, refl, subst, arith}
-use Rattle.std.specs.List.{find, list_any}
+use Rattle.std.specs.List.{find}
 use Rattle.std.proofs.lemmas.Bool.Decides.{nat_tests}
 use Rattle.zb_tokens.specs.declared.board.Cell.{Cell}
 use Rattle.zb_tokens.specs.declared.board.Token.{Token}
@@ -11,10 +11,10 @@ use Rattle.zb_tokens.specs.declared.board.Mover.TheVariants as movers
 use Rattle.zb_tokens.specs.declared.board.Phase.{Phase}
 use Rattle.zb_tokens.specs.declared.board.Phase.TheVariants as phases
 use Rattle.zb_tokens.specs.Board.{Board, CellsAscend, cell_at}
-use Rattle.zb_tokens.specs.MoveEnter.{comes_to}
+use Rattle.zb_tokens.specs.Doom.{is_doomed}
 use Rattle.zb_tokens.specs.Game.{fits}
-use Rattle.zb_tokens.specs.GameLaws.{both_right, holds_some, mapped_some}
-use Rattle.zb_tokens.specs.Forced.{move_in, take_first, entry_of, move_of, way_of}
+use Rattle.zb_tokens.specs.GameLaws.{holds_some, mapped_some}
+use Rattle.zb_tokens.specs.Forced.{move_in, end_in, move_at, take_first, entry_of, move_of, way_of}
 use Rattle.zb_rules.specs.Shown.{event_of}
 
 -- the moves that a mover makes, where a new cell gets this key
@@ -22,6 +22,7 @@ abbrev pub IsMade : ℕ → Move → Type 0
 IsMade key (moves.Stand d) = ⊥
 IsMade key (moves.Start s) = ⊥
 IsMade key (moves.Assign a) = ⊥
+IsMade key (moves.Update a) = ⊥
 IsMade key (moves.Enter e) = e.key ≡ key
 IsMade key _ = Unit {0}
 
@@ -37,11 +38,22 @@ phase_made b key c phases.Activating move is = some_made key (moves.Open c.key) 
 phase_made b key c phases.Active move is = some_made key (moves.Finish c.key) move tt is
 phase_made b key c phases.Completing move is = some_made key _ move tt is
 phase_made b key c phases.Leaving move is = first_made key c.key c.owed move is
-phase_made b key c phases.Terminating move is = absurd (cc)
+phase_made b key c phases.Terminating move is = some_made key (moves.Gone c.key) move tt is
 
-cell_made : (b : Board) (key : ℕ) (found : Option Cell) (move : Move) → option_and_then (λ (c : Cell). move_in b c c.phase) found ≡ Some move → IsMade key move
+end_made : (key : ℕ) (c : Cell) (phase : Phase) (move : Move) → end_in c phase ≡ Some move → IsMade key move
+end_made key c phases.Activating move is = some_made key (moves.Halt c.key) move tt is
+end_made key c phases.Active move is = some_made key (moves.Halt c.key) move tt is
+end_made key c phases.Completing move is = some_made key (moves.Halt c.key) move tt is
+end_made key c phases.Leaving move is = absurd (cc)
+end_made key c phases.Terminating move is = some_made key (moves.Gone c.key) move tt is
+
+doomed_made : (b : Board) (key : ℕ) (c : Cell) (doomed : Bool) (move : Move) → (if doomed then end_in c c.phase else move_in b c c.phase) ≡ Some move → IsMade key move
+doomed_made b key c true move is = end_made key c c.phase move is
+doomed_made b key c false move is = phase_made b key c c.phase move is
+
+cell_made : (b : Board) (key : ℕ) (found : Option Cell) (move : Move) → option_and_then (move_at b) found ≡ Some move → IsMade key move
 cell_made b key None move is = absurd (cc)
-cell_made b key (Some c) move is = phase_made b key c c.phase move is
+cell_made b key (Some c) move is = doomed_made b key c (is_doomed b c) move is
 
 way_made : (key : ℕ) (t : Token) (way : Option (List ℕ × List ℕ)) (move : Move)
     → option_map (λ (w : List ℕ × List ℕ). moves.Enter (record { key = key; scope = t.scope; node = w.0; via = w.1 })) way ≡ Some move → IsMade key move
@@ -77,9 +89,12 @@ from_none (c ∷ cells) up = (omega arith, up.1)
 pub event_there : (b : Board) (key : ℕ) (move : Move) → IsMade key move → IsTrue (fits b move) → IsTrue (is_some (event_of b move))
 event_there b key (moves.Stand d) made fit = absurd made
 event_there b key (moves.Start s) made fit = absurd made
-event_there b key (moves.Enter e) made fit = mapped_some _ (cell_at b e.scope) (holds_some _ (cell_at b e.scope) (both_right (list_any (comes_to e.scope e.node e.via) b.tokens) _ fit))
+event_there b key (moves.Enter e) made fit = mapped_some _ (cell_at b e.scope) (holds_some _ (cell_at b e.scope) fit)
 event_there b key (moves.Open cell) made fit = refl
 event_there b key (moves.Finish cell) made fit = refl
 event_there b key (moves.Leave l) made fit = refl
 event_there b key (moves.Take t) made fit = refl
+event_there b key (moves.Halt cell) made fit = refl
+event_there b key (moves.Gone cell) made fit = refl
 event_there b key (moves.Assign a) made fit = absurd made
+event_there b key (moves.Update a) made fit = absurd made

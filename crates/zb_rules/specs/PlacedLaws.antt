@@ -1,16 +1,15 @@
--- Each cell of a board of a log has its model and stands in a scope, and so does each token; a leaving cell owes a flow.
-use Rattle.std.proofs.Common.{◌≡◌, ◌⊎◌, ℕ, ◌+◌, ◌<◌, ◌==◌, get_or, List, [], ◌∷◌, ◌++◌, Bool, true, false, ◌&&◌, ◌||◌, not, if◌then◌else◌, IsTrue, IsFalse, is_some, Option, Some, None, option_map, All, refl, inl, inr, ⊎_elim, sym, subst, arith}
-use Rattle.std.specs.Option.{option_map_or, option_or, IfSome}
-use Rattle.std.specs.List.{find, list_any}
-use Rattle.std.proofs.lemmas.Bool.{not-true, or_parts}
+-- Each cell of a board of a log is a root or stands in a scope, and each token is in one.
+use Rattle.std.proofs.Common.{◌≡◌, ◌⊎◌, ℕ, ◌+◌, ◌<◌, ◌==◌, get_or, List, [], ◌∷◌, ◌++◌, filter, Bool, true, false, ◌&&◌, ◌||◌, not, if◌then◌else◌, IsTrue, IsFalse, Option, Some, None, All, refl, inl, inr, ⊎_elim, sym, ◌∙◌, subst, arith}
+use Rattle.std.specs.Option.{option_map_or, IfSome}
+use Rattle.std.specs.List.{list_any}
+use Rattle.std.proofs.lemmas.Bool.{not-true, or_parts, and_right}
 use Rattle.std.proofs.lemmas.Bool.Decides.{nat_tests}
-use Rattle.std.proofs.lemmas.List.Elements.{All-nil, All-cons, All-head, All-tail, All-weaker}
-use Rattle.std.proofs.lemmas.List.Folds.{find-append}
+use Rattle.std.proofs.lemmas.List.Elements.{All-nil, All-cons, All-head, All-tail, All-weaker, All-append, All-push, All-filter, filter_passes}
 use Rattle.zb_process.specs.declared.model.Model.{Model}
 use Rattle.zb_process.specs.declared.model.Node.{Node}
 use Rattle.zb_tokens.specs.declared.board.Cell.{Cell}
 use Rattle.zb_tokens.specs.declared.board.Token.{Token}
-use Rattle.zb_tokens.specs.declared.board.Deployed.{Deployed}
+use Rattle.zb_tokens.specs.declared.board.Spot.{Spot}
 use Rattle.zb_tokens.specs.declared.board.Spot.TheVariants as spots
 use Rattle.zb_tokens.specs.declared.board.Enter.{Enter}
 use Rattle.zb_tokens.specs.declared.board.Take.{Take}
@@ -18,30 +17,25 @@ use Rattle.zb_tokens.specs.declared.board.Leave.{Leave}
 use Rattle.zb_tokens.specs.declared.board.Move.{Move}
 use Rattle.zb_tokens.specs.declared.board.Move.TheVariants as moves
 use Rattle.zb_tokens.specs.declared.board.Phase.TheVariants as phases
-use Rattle.zb_tokens.specs.Edits.{is_none_of}
-use Rattle.zb_tokens.specs.Board.{Board, cell_at, model_under, start_in, is_phase, is_root, is_empty}
-use Rattle.zb_tokens.specs.MoveEnter.{comes_to}
-use Rattle.zb_tokens.specs.MoveOpen.{start_token}
-use Rattle.zb_tokens.specs.MoveFinish.{is_done, node_goes_on}
-use Rattle.zb_tokens.specs.MoveLeave.{flows_of, are_among}
-use Rattle.zb_tokens.specs.MoveTake.{is_first}
-use Rattle.zb_tokens.specs.Game.{fits, played}
-use Rattle.zb_tokens.specs.GameLaws.{both_left, both_right, holds_some}
+use Rattle.zb_tokens.specs.Edits.{edited, removed, without_first}
+use Rattle.zb_tokens.specs.Board.{Board, cell_at, model_under, new_cell, in_phase, start_in, is_phase, is_root, is_scope_in, scope_id, is_at, has_child, is_empty, leaves_in, emptied}
+use Rattle.zb_tokens.specs.MoveEnter.{spots_of, stands_at, stand_at_each, without_each, entering}
+use Rattle.zb_tokens.specs.MoveOpen.{start_tokens}
+use Rattle.zb_tokens.specs.MoveFinish.{is_done, waits_for_nothing}
+use Rattle.zb_tokens.specs.MoveLeave.{leaving, flows_of, are_among, ends_scope, with_end, scope_ended}
+use Rattle.zb_tokens.specs.MoveTake.{is_first, rest_of}
+use Rattle.zb_tokens.specs.MoveAssign.{with_variable}
+use Rattle.zb_tokens.specs.Game.{fits}
+use Rattle.zb_tokens.specs.GameLaws.{both_left, both_right, holds_some, found_holds}
 use Rattle.zb_rules.specs.Shown.{after_shown}
 use Rattle.zb_rules.specs.Applies.{may_fit}
+use Rattle.zb_rules.specs.Sound.{holds_others, is_scope}
 use Rattle.zb_rules.specs.AppliedLaws.{some_of}
+use Rattle.zb_rules.specs.MadeLaws.{is_keyed, HoldsEdited, HoldsMade, left_holds, edited_or, made_holds}
 use Rattle.zb_rules.specs.CellsLaws.{Between}
-use Rattle.zb_rules.specs.ModelsLaws.{models_shown}
-use Rattle.zb_rules.specs.PlayedLaws.{found_holds, CellKept, TokenKept, cells_played, tokens_played}
-use Rattle.zb_rules.specs.ScopesLaws.{is_scope, at_cell, scopes_played, others_finished, opened_scope}
-
--- the model of a cell is there
-abbrev pub HasModel : Board → Cell → Type 0
-HasModel b c = IsTrue (is_some (model_under b c.definition))
-
--- a cell that leaves owes a flow, and is no root
-abbrev pub Owes : Cell → Type 0
-Owes c = IsTrue (is_phase c.phase phases.Leaving) → IsFalse (is_none_of c.owed) × IsFalse (is_root c)
+use Rattle.zb_rules.specs.PlayedLaws.{edited_all, removed_all}
+use Rattle.zb_rules.specs.ScopesLaws.{at_cell, edited_found, others_edited, others_removed, kept_edited, kept_removed, kept_filtered, kept_more, ScopesKept, no_scope_in, scope_still, scope_stays, scopes_grown}
+use Rattle.zb_rules.specs.OwesLaws.{Owes}
 
 -- a cell is a root, or stands in a scope with a lesser key
 abbrev pub InScope : Board → Cell → Type 0
@@ -51,86 +45,32 @@ InScope b c = (c.scope ≡ 0) ⊎ (IsTrue (is_scope b c.scope) × (c.scope < c.k
 abbrev pub IsIn : Board → Token → Type 0
 IsIn b t = IsTrue (is_scope b t.scope)
 
--- the models of a board grow
-grown_by : (found other : Option Deployed) → IsTrue (is_some (option_map (λ (d : Deployed). d.model) found)) → IsTrue (is_some (option_map (λ (d : Deployed). d.model) (option_or found other)))
-grown_by None other is = absurd (cc)
-grown_by (Some d) other is = refl
-
-grown_still : (key : ℕ) (models more : List Deployed) → IsTrue (is_some (option_map (λ (d : Deployed). d.model) (find (λ (d : Deployed). d.key == key) models)))
-    → IsTrue (is_some (option_map (λ (d : Deployed). d.model) (find (λ (d : Deployed). d.key == key) (models ++ more))))
-grown_still key models more is = rw (find-append (λ (d : Deployed). d.key == key) models more) (grown_by (find (λ (d : Deployed). d.key == key) models) (find (λ (d : Deployed). d.key == key) more) is)
-
-models_still : (b after : Board) (move : Option Move) → after_shown b move ≡ Some after → (key : ℕ) → IsTrue (is_some (model_under b key)) → IsTrue (is_some (model_under after key))
-models_still b after move made key is =
-    subst (λ (ms : List Deployed). IsTrue (is_some (option_map (λ (d : Deployed). d.model) (find (λ (d : Deployed). d.key == key) ms)))) (sym (models_shown b after move made)) (grown_still key b.models _ is)
-
--- each cell has its model after a move
-model_kept : (b after : Board) (move : Move) → ((key : ℕ) → IsTrue (is_some (model_under b key)) → IsTrue (is_some (model_under after key))) → All (HasModel after) b.cells → CellKept b (HasModel after) move
-model_kept b after (moves.Stand d) still all = tt
-model_kept b after (moves.Start s) still all = λ node there. still s.definition there
-model_kept b after (moves.Enter e) still all = λ c found. (found_holds (λ (x : Cell). x.key == e.scope) (HasModel after) b.cells c all found).0
-model_kept b after (moves.Open key) still all = λ c found has. has
-model_kept b after (moves.Finish key) still all = λ c found has. has
-model_kept b after (moves.Leave l) still all = λ flow owed is c found has. has
-model_kept b after (moves.Take t) still all = λ flow owed c found has. has
-model_kept b after (moves.Assign a) still all = λ c found has. has
-
--- each cell has its model after the move that an event shows
-pub models_on : (b after : Board) (move : Option Move) → after_shown b move ≡ Some after → All (HasModel b) b.cells → All (HasModel after) after.cells
-models_on b after None made all = subst (λ (x : Board). All (HasModel x) x.cells) (let same : b ≡ after = cc in same) all
-models_on b after (Some move) made all =
-    let still = models_still b after (Some move) made in
-    let weaker : All (HasModel after) b.cells = All-weaker (HasModel b) (HasModel after) (λ c has. still c.definition has) b.cells all in
-    cells_played b (HasModel after) weaker after move (model_kept b after move still weaker) made
-
--- a leaving cell owes a flow after a move
-not_root : (root : Bool) (flow : List ℕ) (owed others : List (List ℕ)) → IsTrue (are_among (flow ∷ owed) (if root then [] else others)) → root ≡ false
-not_root true flow owed others is = absurd (cc)
-not_root false flow owed others is = refl
-
-owes_leave : (b : Board) (l : Leave) → IsTrue (fits b (moves.Leave l)) → CellKept b Owes (moves.Leave l)
-owes_leave b l fit = λ flow owed is c found has phase.
-    let h = at_cell (λ (x : Cell). is_phase x.phase phases.Completing && are_among l.owed (flows_of b x)) (cell_at b l.key) c found fit in
-    let among : IsTrue (are_among (flow ∷ owed) (flows_of b c)) = subst (λ (ids : List (List ℕ)). IsTrue (are_among ids (flows_of b c))) is (both_right (is_phase c.phase phases.Completing) _ h) in
-    (refl, not_root (is_root c) flow owed _ among)
-
-owes_take : (b : Board) (t : Take) → IsTrue (fits b (moves.Take t)) → CellKept b Owes (moves.Take t)
-owes_take b t fit = λ flow owed c found has phase.
-    let h = at_cell (λ (x : Cell). is_phase x.phase phases.Leaving && is_first t.flow x.owed) (cell_at b t.key) c found fit in
-    (refl, (has (both_left (is_phase c.phase phases.Leaving) (is_first t.flow c.owed) h)).1)
-
-owes_kept : (b : Board) (move : Move) → IsTrue (fits b move) → CellKept b Owes move
-owes_kept b (moves.Stand d) fit = tt
-owes_kept b (moves.Start s) fit = λ node there phase. absurd (cc)
-owes_kept b (moves.Enter e) fit = λ c found phase. absurd (cc)
-owes_kept b (moves.Open key) fit = λ c found has phase. absurd (cc)
-owes_kept b (moves.Finish key) fit = λ c found has phase. absurd (cc)
-owes_kept b (moves.Leave l) fit = owes_leave b l fit
-owes_kept b (moves.Take t) fit = owes_take b t fit
-owes_kept b (moves.Assign a) fit = λ c found has. has
-
--- each leaving cell owes a flow after it
-pub owes_on : (b after : Board) (move : Option Move) → IsTrue (may_fit move b) → after_shown b move ≡ Some after → All Owes b.cells → All Owes after.cells
-owes_on b after None fit made all = subst (λ (x : Board). All Owes x.cells) (let same : b ≡ after = cc in same) all
-owes_on b after (Some move) fit made all = cells_played b Owes all after move (owes_kept b move fit) made
-
 -- cells stand in scopes, and tokens are in scopes
 pub record Placed (b : Board) : Type 0 where
   pub scopes : All (InScope b) b.cells
   pub tokens : All (IsIn b) b.tokens
 
--- those from before a move do behind it
-abbrev StillPlaced : Board → Board → Type 0
-StillPlaced b after = All (InScope after) b.cells × All (IsIn after) b.tokens
-
+-- where a scope is one still, what stands in it does
 still_in : (b after : Board) (c : Cell) → (IsTrue (is_scope b c.scope) → IsTrue (is_scope after c.scope)) → InScope b c → InScope after c
 still_in b after c kept is = ⊎_elim (λ root. inl root) (λ r. inr (kept r.0, r.1)) is
 
-all_still : (b after : Board) → ((q : ℕ) → IsTrue (is_scope b q) → IsTrue (is_scope after q)) → Placed b → StillPlaced b after
+all_still : (b after : Board) → ScopesKept b after → Placed b → All (InScope after) b.cells × All (IsIn after) b.tokens
 all_still b after kept placed = (
   All-weaker (InScope b) (InScope after) (λ c is. still_in b after c (kept c.scope) is) b.cells placed.scopes,
   All-weaker (IsIn b) (IsIn after) (λ t is. kept t.scope is) b.tokens placed.tokens,
 )
+
+-- each scope but the cell with a key is one still
+abbrev ScopesKeptBut : Board → ℕ → Board → Type 0
+ScopesKeptBut b key after = (q : ℕ) → (q == key) ≡ false → IsTrue (is_scope b q) → IsTrue (is_scope after q)
+
+-- where no cell stands in that one, the cells stand in scopes still
+cells_but : (b after : Board) (key : ℕ) → ScopesKeptBut b key after → All (λ (c : Cell). (c.scope == key) ≡ false) b.cells → Placed b → All (InScope after) b.cells
+cells_but b after key kept apart placed = λ k d within. still_in b after (get_or b.cells k d) (kept (get_or b.cells k d).scope (apart k d within)) (placed.scopes k d within)
+
+-- and so do tokens of which none is in it
+tokens_but : (b after : Board) (key : ℕ) (tokens : List Token) → ScopesKeptBut b key after → All (λ (t : Token). (t.scope == key) ≡ false) tokens → All (IsIn b) tokens → All (IsIn after) tokens
+tokens_but b after key tokens kept apart all = λ k d within. kept (get_or tokens k d).scope (apart k d within) (all k d within)
 
 none_passes : {A : Type 0} (passes : A → Bool) (xs : List A) → list_any passes xs ≡ false → All (λ x. passes x ≡ false) xs
 none_passes passes [] none = All-nil (λ x. passes x ≡ false)
@@ -138,122 +78,221 @@ none_passes passes (x ∷ xs) none =
     let parts = or_parts (passes x) (list_any passes xs) none in
     All-cons (λ y. passes y ≡ false) x xs parts.0 (none_passes passes xs parts.1)
 
-key_found : (b : Board) (key : ℕ) (c : Cell) → cell_at b key ≡ Some c → c.key ≡ key
+-- a cell that is found with a key has it
+pub key_found : (b : Board) (key : ℕ) (c : Cell) → cell_at b key ≡ Some c → c.key ≡ key
 key_found b key c found =
-    let same = (found_holds (λ (x : Cell). x.key == key) (λ (x : Cell). Unit {0}) b.cells c (λ k d within. tt) found).1 in
+    let same = (found_holds (is_keyed key) (λ (x : Cell). Unit {0}) b.cells c (λ k d within. tt) found).1 in
     grind (arith, nat_tests)
 
--- an empty root that finishes
-empty_still : (b after : Board) (key : ℕ) → played b (moves.Finish key) ≡ Some after → IsTrue (is_empty b key) → Placed b → StillPlaced b after
-empty_still b after key made empty placed =
-    let no_cells = none_passes (λ (c : Cell). c.scope == key) b.cells (not-true (list_any (λ (c : Cell). c.scope == key) b.cells) (both_left (not (list_any (λ (c : Cell). c.scope == key) b.cells)) _ empty)) in
-    let no_tokens = none_passes (λ (t : Token). t.scope == key) b.tokens (not-true (list_any (λ (t : Token). t.scope == key) b.tokens) (both_right (not (list_any (λ (c : Cell). c.scope == key) b.cells)) _ empty)) in (
-      λ k d within. still_in b after (get_or b.cells k d) (others_finished b after key made (get_or b.cells k d).scope (no_cells k d within)) (placed.scopes k d within),
-      λ k d within. others_finished b after key made (get_or b.tokens k d).scope (no_tokens k d within) (placed.tokens k d within),
-    )
+-- more tokens in scopes
+more_tokens : (b : Board) (tokens : List Token) → Placed b → All (IsIn b) tokens → Placed (record b { tokens = b.tokens ++ tokens })
+more_tokens b tokens placed all = record { scopes = placed.scopes; tokens = All-append (IsIn b) b.tokens tokens placed.tokens all }
 
-done_empty : (root empty goes : Bool) → root ≡ true → IsTrue (if root then empty else goes) → IsTrue empty
-done_empty true empty goes is h = h
-done_empty false empty goes is h = absurd (cc)
+-- an edit that leaves a cell where it is, on a board behind which cells and tokens stand in scopes
+edit_placed : (b : Board) (key : ℕ) (edit : Cell → Cell) (cells : List Cell) → ((x : Board) (c : Cell) → InScope x c → InScope x (edit c)) → edited (is_keyed key) edit b.cells ≡ Some cells
+    → All (InScope (record b { cells = cells })) b.cells → All (IsIn (record b { cells = cells })) b.tokens → Placed (record b { cells = cells })
+edit_placed b key edit cells stays made scopes tokens = record {
+  scopes = edited_all (is_keyed key) (InScope (record b { cells = cells })) edit b.cells cells scopes (λ c found is. stays (record b { cells = cells }) c is) made;
+  tokens = tokens;
+}
 
-finish_by : (b after : Board) (key : ℕ) (c : Cell) (root : Bool) → cell_at b key ≡ Some c → is_root c ≡ root → IsTrue (fits b (moves.Finish key)) → played b (moves.Finish key) ≡ Some after → Placed b → StillPlaced b after
-finish_by b after key c true found root fit made placed =
-    let h = at_cell (λ (x : Cell). is_phase x.phase phases.Active && is_done b x) (cell_at b key) c found fit in
-    let empty = done_empty (is_root c) (is_empty b c.key) (node_goes_on b c) root (both_right (is_phase c.phase phases.Active) _ h) in
-    empty_still b after key made (subst (λ (k : ℕ). IsTrue (is_empty b k)) (key_found b key c found) empty) placed
-finish_by b after key c false found inner fit made placed = all_still b after (scopes_played b after (moves.Finish key) fit (rw (found, inner) refl) made) placed
+-- one that leaves a scope a scope
+scope_edited : (b : Board) (key : ℕ) (edit : Cell → Cell) → ((c : Cell) → (edit c).key ≡ c.key) → ((x : Board) (c : Cell) → InScope x c → InScope x (edit c))
+    → ((c : Cell) → cell_at b key ≡ Some c → IsTrue (holds_others b c) → IsTrue (holds_others b (edit c))) → Placed b → HoldsEdited b Placed key edit
+scope_edited b key edit keeps stays each placed cells made =
+    let still = all_still b (record b { cells = cells }) (kept_edited (holds_others b) key edit b.cells cells keeps each made) placed in
+    edit_placed b key edit cells stays made still.0 still.1
 
-placed_still : (b after : Board) (move : Move) → IsTrue (fits b move) → played b move ≡ Some after → Placed b → StillPlaced b after
-placed_still b after (moves.Finish key) fit made placed =
+-- no scope: what is false holds of it
+none_of : (b : Board) (c other : Cell) → holds_others b c ≡ false → IsTrue (holds_others b c) → IsTrue (holds_others b other)
+none_of b c other none is = absurd (cc)
+
+-- a cell that is no scope leaves
+left_placed : (b : Board) (owed : List (List ℕ)) (key : ℕ) (left : Board) → ((c : Cell) → cell_at b key ≡ Some c → holds_others b c ≡ false) → Placed b → leaving owed key b ≡ Some left → ScopesKept b left × Placed left
+left_placed b owed key left none placed made = left_holds b (λ x. ScopesKept b x × Placed x) left owed key
+    (λ cells gone.
+    let kept = kept_removed (holds_others b) key b.cells cells none gone in
+    let still = all_still b (record b { cells = cells }) kept placed in
+    (kept, record { scopes = removed_all (is_keyed key) (InScope (record b { cells = cells })) b.cells cells still.0 gone; tokens = still.1 }))
+    (λ flow more same cells there.
+    let edit = in_phase phases.Leaving (flow ∷ more) in (
+      kept_edited (holds_others b) key edit b.cells cells (λ c. refl) (λ c found is. none_of b c (edit c) (none c found) is) there,
+      scope_edited b key edit (λ c. refl) (λ x c is. is) (λ c found is. none_of b c (edit c) (none c found) is) placed cells there,
+    ))
+    made
+
+-- a scope is emptied
+emptied_placed : (b : Board) (scope : ℕ) → Placed b → Placed (emptied scope b)
+emptied_placed b scope placed =
+    let stays : Cell → Bool = λ c. not (leaves_in scope c) in
+    let still = all_still b (emptied scope b) (kept_filtered (holds_others b) stays b.cells (scope_stays b scope)) placed in
+    record {
+      scopes = All-filter stays (InScope (emptied scope b)) b.cells still.0;
+      tokens = All-filter (λ (t : Token). not (t.scope == scope)) (IsIn (emptied scope b)) b.tokens still.1;
+    }
+
+-- or ended
+ended_placed : (t : Bool) (scope : ℕ) (left : Board) → Placed left → Placed (if t then scope_ended scope left else left)
+ended_placed true scope left placed = emptied_placed _ scope (edited_or (λ cells. Placed (record left { cells = cells })) left.cells (edited (is_keyed scope) with_end left.cells) placed
+    (scope_edited left scope with_end (λ c. refl) (λ x c is. is) (λ c found is. is) placed))
+ended_placed false scope left placed = placed
+
+-- a cell finishes: where it is a scope, nothing is in it
+empty_placed : (b : Board) (key : ℕ) → IsTrue (is_empty b key) → Placed b → HoldsEdited b Placed key (in_phase phases.Completing [])
+empty_placed b key empty placed cells made =
+    let no_cells = none_passes (λ (c : Cell). c.scope == key) b.cells (not-true (has_child b key) (both_left (not (has_child b key)) _ empty)) in
+    let no_tokens = none_passes (λ (t : Token). t.scope == key) b.tokens (not-true (list_any (λ (t : Token). t.scope == key) b.tokens) (both_right (not (has_child b key)) _ empty)) in
+    let kept = others_edited (holds_others b) key (in_phase phases.Completing []) b.cells cells (λ c. refl) made in
+    edit_placed b key (in_phase phases.Completing []) cells (λ x c is. is) made (cells_but b (record b { cells = cells }) key kept no_cells placed) (tokens_but b (record b { cells = cells }) key b.tokens kept no_tokens placed.tokens)
+
+finish_by : (b : Board) (key : ℕ) (c : Cell) (m : Model) (scope rest : Bool) → cell_at b key ≡ Some c → model_under b c.definition ≡ Some m → is_scope_in m c ≡ scope → IsTrue (if scope then is_empty b c.key else rest)
+    → Placed b → HoldsEdited b Placed key (in_phase phases.Completing [])
+finish_by b key c m true rest found stands is empty placed = empty_placed b key (subst (λ (k : ℕ). IsTrue (is_empty b k)) (key_found b key c found) empty) placed
+finish_by b key c m false rest found stands is done placed = scope_edited b key (in_phase phases.Completing []) (λ x. refl) (λ x y is. is)
+    (λ other there scope.
+    let none : holds_others b c ≡ false = rw (stands, is) (and_right (is_phase c.phase phases.Active || is_phase c.phase phases.Terminating) false refl) in
+    let same : c ≡ other = (let both : Some c ≡ Some other = sym found ∙ there in cc) in
+    none_of b other (in_phase phases.Completing [] other) (subst (λ (x : Cell). holds_others b x ≡ false) same none) scope) placed
+
+finish_placed : (b : Board) (key : ℕ) → IsTrue (fits b (moves.Finish key)) → Placed b → HoldsEdited b Placed key (in_phase phases.Completing [])
+finish_placed b key fit placed =
     let found = some_of (cell_at b key) (holds_some _ (cell_at b key) fit) in
-    finish_by b after key found.0 (is_root found.0) found.1 refl fit made placed
-placed_still b after (moves.Stand d) fit made placed = all_still b after (scopes_played b after (moves.Stand d) fit tt made) placed
-placed_still b after (moves.Start s) fit made placed = all_still b after (scopes_played b after (moves.Start s) fit tt made) placed
-placed_still b after (moves.Enter e) fit made placed = all_still b after (scopes_played b after (moves.Enter e) fit tt made) placed
-placed_still b after (moves.Open key) fit made placed = all_still b after (scopes_played b after (moves.Open key) fit tt made) placed
-placed_still b after (moves.Leave l) fit made placed = all_still b after (scopes_played b after (moves.Leave l) fit tt made) placed
-placed_still b after (moves.Take t) fit made placed = all_still b after (scopes_played b after (moves.Take t) fit tt made) placed
-placed_still b after (moves.Assign a) fit made placed = all_still b after (scopes_played b after (moves.Assign a) fit tt made) placed
+    let c = found.0 in
+    let done : IsTrue (is_done b c) = both_right (is_phase c.phase phases.Active) _ (at_cell (λ (x : Cell). is_phase x.phase phases.Active && is_done b x) (cell_at b key) c found.1 fit) in
+    let model = some_of (model_under b c.definition) (holds_some _ (model_under b c.definition) done) in
+    let m = model.0 in
+    let rests : IsTrue (if is_scope_in m c then is_empty b c.key else is_at m c.node waits_for_nothing) = rw model.1 at done in
+    finish_by b key c m (is_scope_in m c) _ found.1 model.1 refl rests placed
+
+-- a cell in which nothing runs is gone, with the tokens in it
+gone_placed : (b : Board) (key : ℕ) → IsTrue (fits b (moves.Gone key)) → Placed b → HoldsMade b Placed (moves.Gone key)
+gone_placed b key fit placed cells made =
+    let after = record b { cells = cells } in
+    let others : Token → Bool = λ t. not (t.scope == key) in
+    let found = some_of (cell_at b key) (holds_some _ (cell_at b key) fit) in
+    let h = at_cell (λ (x : Cell). is_phase x.phase phases.Terminating && not (has_child b key)) (cell_at b key) found.0 found.1 fit in
+    let no_cells = none_passes (λ (c : Cell). c.scope == key) b.cells (not-true (has_child b key) (both_right (is_phase found.0.phase phases.Terminating) _ h)) in
+    let no_tokens : All (λ (t : Token). (t.scope == key) ≡ false) (filter others b.tokens) = All-weaker (λ (t : Token). others t ≡ true) (λ (t : Token). (t.scope == key) ≡ false) (λ t other. not-true (t.scope == key) other) (filter others b.tokens) (filter_passes others b.tokens) in
+    let kept = others_removed (holds_others b) key b.cells cells made in
+    record {
+      scopes = removed_all (is_keyed key) (InScope after) b.cells cells (cells_but b after key kept no_cells placed) made;
+      tokens = tokens_but b after key (filter others b.tokens) kept no_tokens (All-filter others (IsIn b) b.tokens placed.tokens);
+    }
 
 -- a cell that enters has a key behind all
 abbrev pub IsNewIn : Board → Move → Type 0
 IsNewIn b (moves.Enter e) = Between 1 e.key b.cells
 IsNewIn b _ = Unit {0}
 
--- where a token comes to a node, it is in that scope
-any_by : (after : Board) (scope : ℕ) (t : Token) (same spot : Bool) → (t.scope == scope) ≡ same → IsTrue (is_scope after t.scope) → IsTrue (same && spot) → IsTrue (is_scope after scope)
-any_by after scope t true spot same there comes = let its : t.scope ≡ scope = grind (arith, nat_tests) in subst (λ (k : ℕ). IsTrue (is_scope after k)) its there
-any_by after scope t false spot apart there comes = absurd (cc)
+-- where a token stands in a scope, it is one
+any_by : (b : Board) (scope : ℕ) (t : Token) (same spot : Bool) → (t.scope == scope) ≡ same → IsTrue (is_scope b t.scope) → IsTrue (same && spot) → IsTrue (is_scope b scope)
+any_by b scope t true spot same there stands = let its : t.scope ≡ scope = grind (arith, nat_tests) in subst (λ (k : ℕ). IsTrue (is_scope b k)) its there
+any_by b scope t false spot apart there stands = absurd (cc)
 
 either_of : {P : Type 0} (a b : Bool) → (IsTrue a → P) → (IsTrue b → P) → IsTrue (a || b) → P
 either_of true b left right is = left refl
 either_of false b left right is = right is
 
-any_in : (after : Board) (scope : ℕ) (node via : List ℕ) (tokens : List Token) → All (IsIn after) tokens → IsTrue (list_any (comes_to scope node via) tokens) → IsTrue (is_scope after scope)
-any_in after scope node via [] all some = absurd (cc)
-any_in after scope node via (t ∷ tokens) all some = either_of (comes_to scope node via t) (list_any (comes_to scope node via) tokens)
-    (any_by after scope t (t.scope == scope) _ refl (All-head (IsIn after) t tokens all)) (any_in after scope node via tokens (All-tail (IsIn after) t tokens all)) some
+any_in : (b : Board) (scope : ℕ) (spot : Spot) (tokens : List Token) → All (IsIn b) tokens → IsTrue (list_any (stands_at scope spot) tokens) → IsTrue (is_scope b scope)
+any_in b scope spot [] all some = absurd (cc)
+any_in b scope spot (t ∷ tokens) all some = either_of (stands_at scope spot t) (list_any (stands_at scope spot) tokens)
+    (any_by b scope t (t.scope == scope) _ refl (All-head (IsIn b) t tokens all)) (any_in b scope spot tokens (All-tail (IsIn b) t tokens all)) some
+
+each_in : (b : Board) (scope : ℕ) (places : List Spot) (tokens : List Token) → All (IsIn b) tokens → IsTrue (stand_at_each scope places tokens) → IsTrue (is_scope b scope)
+each_in b scope [] tokens all stand = absurd (cc)
+each_in b scope (spot ∷ places) tokens all stand = any_in b scope spot tokens all (both_left (list_any (stands_at scope spot) tokens) _ stand)
+
+-- tokens that stay are where they were
+without_one : {A : Type 0} (P : A → Type 0) (passes : A → Bool) (xs : List A) → All P xs → All P (without_first passes xs)
+without_one P passes xs all = edited_or (All P) xs (removed passes xs) all (λ left gone. removed_all passes P xs left all gone)
+
+without_all : (P : Token → Type 0) (scope : ℕ) (places : List Spot) (tokens : List Token) → All P tokens → All P (without_each scope places tokens)
+without_all P scope [] tokens all = all
+without_all P scope (spot ∷ places) tokens all = without_all P scope places (without_first (stands_at scope spot) tokens) (without_one P (stands_at scope spot) tokens all)
 
 all_below : (low high : ℕ) (cells : List Cell) → Between low high cells → All (λ (c : Cell). c.key < high) cells
 all_below low high [] is = All-nil (λ (c : Cell). c.key < high)
 all_below low high (c ∷ cells) is = All-cons (λ (x : Cell). x.key < high) c cells is.1 (all_below (c.key + 1) high cells is.2)
 
-enters_scope : (b after : Board) (e : Enter) → IsTrue (fits b (moves.Enter e)) → Between 1 e.key b.cells → All (IsIn after) b.tokens → CellKept b (InScope after) (moves.Enter e)
-enters_scope b after e fit new tokens = λ c found.
-    let there = any_in after e.scope e.node e.via b.tokens tokens (both_left (list_any (comes_to e.scope e.node e.via) b.tokens) _ fit) in
-    let below = (found_holds (λ (x : Cell). x.key == e.scope) (λ (x : Cell). x.key < e.key) b.cells c (all_below 1 e.key b.cells new) found).0 in
-    inr (there, omega (arith, below, key_found b e.scope c found))
+-- a cell enters
+enter_placed : (b : Board) (e : Enter) → Between 1 e.key b.cells → Placed b → HoldsMade b Placed (moves.Enter e)
+enter_placed b e new placed c m found stand =
+    let cell = entering e c m in
+    let after = record b { cells = b.cells ++ cell ∷ [] } in
+    let kept : ScopesKept b after = kept_more (holds_others b) b.cells (cell ∷ []) in
+    let still = all_still b after kept placed in
+    let there = each_in b e.scope (spots_of m e.node e.via) b.tokens placed.tokens stand in
+    let below = (found_holds (is_keyed e.scope) (λ (x : Cell). x.key < e.key) b.cells c (all_below 1 e.key b.cells new) found).0 in
+    record {
+      scopes = All-push (InScope after) b.cells cell still.0 (inr (kept e.scope there, omega (arith, below, key_found b e.scope c found)));
+      tokens = without_all (IsIn after) e.scope (spots_of m e.node e.via) b.tokens still.1;
+    }
 
-scope_kept : (b after : Board) (move : Move) → IsTrue (fits b move) → IsNewIn b move → All (IsIn after) b.tokens → CellKept b (InScope after) move
-scope_kept b after (moves.Stand d) fit new tokens = tt
-scope_kept b after (moves.Start s) fit new tokens = λ node there. inl refl
-scope_kept b after (moves.Enter e) fit new tokens = enters_scope b after e fit new tokens
-scope_kept b after (moves.Open key) fit new tokens = λ c found is. is
-scope_kept b after (moves.Finish key) fit new tokens = λ c found is. is
-scope_kept b after (moves.Leave l) fit new tokens = λ flow owed is c found h. h
-scope_kept b after (moves.Take t) fit new tokens = λ flow owed c found is. is
-scope_kept b after (moves.Assign a) fit new tokens = λ c found is. is
+-- a root comes
+start_placed : (b : Board) (cell : Cell) → cell.scope ≡ 0 → Placed b → Placed (record b { cells = b.cells ++ cell ∷ [] })
+start_placed b cell root placed =
+    let after = record b { cells = b.cells ++ cell ∷ [] } in
+    let still = all_still b after (kept_more (holds_others b) b.cells (cell ∷ [])) placed in
+    record { scopes = All-push (InScope after) b.cells cell still.0 (inl root); tokens = still.1 }
 
--- the tokens that a root gets are in it
-start_in_scope : (after : Board) (scope : ℕ) (found : Option Node) → IsTrue (is_scope after scope)
-    → All (IsIn after) (option_map_or (λ (n : Node). record { scope = scope; spot = spots.BeforeNode n.id } ∷ []) found [])
-start_in_scope after scope None is = All-nil (IsIn after)
-start_in_scope after scope (Some n) is = All-cons (IsIn after) (record { scope = scope; spot = spots.BeforeNode n.id }) [] is (All-nil (IsIn after))
+-- the tokens that a scope gets are in it
+start_in_scope : (b : Board) (scope : ℕ) (found : Option Node) → IsTrue (is_scope b scope) → All (IsIn b) (option_map_or (λ (n : Node). record { scope = scope; spot = spots.BeforeNode n.id } ∷ []) found [])
+start_in_scope b scope None is = All-nil (IsIn b)
+start_in_scope b scope (Some n) is = All-cons (IsIn b) (record { scope = scope; spot = spots.BeforeNode n.id }) [] is (All-nil (IsIn b))
 
-root_tokens : (b after : Board) (scope : ℕ) (found : Option Model) (tokens : List Token) → IsTrue (is_scope after scope) → option_map (start_token scope) found ≡ Some tokens → All (IsIn after) tokens
-root_tokens b after scope None tokens is got = absurd (cc)
-root_tokens b after scope (Some m) tokens is got = subst (All (IsIn after)) (let same : start_token scope m ≡ tokens = cc in same) (start_in_scope after scope (start_in m []) is)
+start_by : (b : Board) (c : Cell) (m : Model) (scope : Bool) → (IsTrue scope → IsTrue (is_scope b c.key))
+    → All (IsIn b) (if scope then option_map_or (λ (n : Node). record { scope = c.key; spot = spots.BeforeNode n.id } ∷ []) (start_in m (scope_id c)) [] else [])
+start_by b c m true is = start_in_scope b c.key (start_in m (scope_id c)) (is refl)
+start_by b c m false is = All-nil (IsIn b)
 
-open_tokens : (b after : Board) (c : Cell) (tokens : List Token) (root : Bool) → is_root c ≡ root → (IsTrue (is_root c) → IsTrue (is_scope after c.key))
-    → (if root then option_map (start_token c.key) (model_under b c.definition) else Some []) ≡ Some tokens → All (IsIn after) tokens
-open_tokens b after c tokens true is scope got = root_tokens b after c.key (model_under b c.definition) tokens (scope is) got
-open_tokens b after c tokens false is scope got = subst (All (IsIn after)) (let same : [] ≡ tokens = cc in same) (All-nil (IsIn after))
+-- a cell opens
+open_placed : (b : Board) (key : ℕ) → Placed b → HoldsMade b Placed (moves.Open key)
+open_placed b key placed c m found stands cells made =
+    let after = record b { cells = cells } in
+    let now = edited_found key (in_phase phases.Active []) c b.cells cells (λ x. refl) found made in
+    let opened : IsTrue (is_scope_in m c) → IsTrue (is_scope after c.key) = λ is. subst (λ (k : ℕ). IsTrue (is_scope after k)) (sym (key_found b key c found)) (rw (now, stands) is) in
+    more_tokens after (start_tokens c m)
+    (scope_edited b key (in_phase phases.Active []) (λ x. refl) (λ x y is. is) (λ other there is. scope_still b other phases.Active [] refl is) placed cells made)
+    (start_by after c m (is_scope_in m c) opened)
 
-opens_kept : (b after : Board) (key : ℕ) → played b (moves.Open key) ≡ Some after → TokenKept b (IsIn after) (moves.Open key)
-opens_kept b after key made = λ c tokens found got.
-    open_tokens b after c tokens (is_root c) refl (λ root. subst (λ (k : ℕ). IsTrue (is_scope after k)) (sym (key_found b key c found)) (opened_scope b after key c found root made)) got
+-- a cell that leaves was no scope
+leave_placed : (b : Board) (l : Leave) → IsTrue (fits b (moves.Leave l)) → Placed b → HoldsMade b Placed (moves.Leave l)
+leave_placed b l fit placed c found left made =
+    let none : (x : Cell) → cell_at b l.key ≡ Some x → holds_others b x ≡ false = λ x there.
+    no_scope_in b x phases.Completing (both_left (is_phase x.phase phases.Completing) _ (at_cell (λ (y : Cell). is_phase y.phase phases.Completing && are_among l.owed (flows_of b y)) (cell_at b l.key) x there fit)) refl in
+    ended_placed (ends_scope b c) c.scope left (left_placed b l.owed l.key left none placed made).1
 
-taken_by : (after : Board) (c : Cell) → InScope after c → IsFalse (is_root c) → IsTrue (is_scope after c.scope)
-taken_by after c is inner = ⊎_elim (λ root. absurd (let same : (c.scope == 0) ≡ true = grind (arith, nat_tests) in cc)) (λ r. r.0) is
+-- a cell that is no root stands in a scope with a lesser key
+pub inner_scope : (b : Board) (c : Cell) → InScope b c → IsFalse (is_root c) → IsTrue (is_scope b c.scope) × (c.scope < c.key)
+inner_scope b c is inner = ⊎_elim (λ root. absurd (let same : (c.scope == 0) ≡ true = grind (arith, nat_tests) in cc)) (λ r. r) is
 
-take_kept : (b after : Board) (t : Take) → IsTrue (fits b (moves.Take t)) → All Owes b.cells → All (InScope after) b.cells → TokenKept b (IsIn after) (moves.Take t)
-take_kept b after t fit owes scopes = λ c found.
-    let h = at_cell (λ (x : Cell). is_phase x.phase phases.Leaving && is_first t.flow x.owed) (cell_at b t.key) c found fit in
-    let its = (found_holds (λ (x : Cell). x.key == t.key) Owes b.cells c owes found).0 in
-    let scope = (found_holds (λ (x : Cell). x.key == t.key) (InScope after) b.cells c scopes found).0 in
-    taken_by after c scope (its (both_left (is_phase c.phase phases.Leaving) (is_first t.flow c.owed) h)).1
+take_placed : (b : Board) (t : Take) → IsTrue (fits b (moves.Take t)) → All Owes b.cells → Placed b → HoldsMade b Placed (moves.Take t)
+take_placed b t fit owes placed c found left made =
+    let leaves : (x : Cell) → cell_at b t.key ≡ Some x → IsTrue (is_phase x.phase phases.Leaving) = λ x there.
+    both_left (is_phase x.phase phases.Leaving) _ (at_cell (λ (y : Cell). is_phase y.phase phases.Leaving && is_first t.flow y.owed) (cell_at b t.key) x there fit) in
+    let r = left_placed b (rest_of c.owed) t.key left (λ x there. no_scope_in b x phases.Leaving (leaves x there) refl) placed made in
+    let its = (found_holds (is_keyed t.key) Owes b.cells c owes found).0 (leaves c found) in
+    let scope = inner_scope b c (found_holds (is_keyed t.key) (InScope b) b.cells c placed.scopes found).0 its.1 in
+    let token : Token = record { scope = c.scope; spot = spots.OnFlow t.flow } in
+    more_tokens left (token ∷ []) r.1 (All-cons (IsIn left) token [] (r.0 c.scope scope.0) (All-nil (IsIn left)))
 
-token_kept : (b after : Board) (move : Move) → IsTrue (fits b move) → played b move ≡ Some after → All Owes b.cells → All (InScope after) b.cells → TokenKept b (IsIn after) move
-token_kept b after (moves.Open key) fit made owes scopes = opens_kept b after key made
-token_kept b after (moves.Take t) fit made owes scopes = take_kept b after t fit owes scopes
-token_kept b after _ fit made owes scopes = tt
+made_placed : (b : Board) (move : Move) → IsTrue (fits b move) → IsNewIn b move → All Owes b.cells → Placed b → HoldsMade b Placed move
+made_placed b (moves.Stand d) fit new owes placed =
+    let still = all_still b (record b { models = b.models ++ d ∷ [] }) (scopes_grown b (d ∷ [])) placed in
+    record { scopes = still.0; tokens = still.1 }
+made_placed b (moves.Start s) fit new owes placed = λ m found. start_placed b (new_cell s.key 0 s.definition m.process false) refl placed
+made_placed b (moves.Enter e) fit new owes placed = enter_placed b e new placed
+made_placed b (moves.Open key) fit new owes placed = open_placed b key placed
+made_placed b (moves.Finish key) fit new owes placed = finish_placed b key fit placed
+made_placed b (moves.Leave l) fit new owes placed = leave_placed b l fit placed
+made_placed b (moves.Take t) fit new owes placed = take_placed b t fit owes placed
+made_placed b (moves.Halt key) fit new owes placed = λ cells made. emptied_placed (record b { cells = cells }) key
+    (scope_edited b key (in_phase phases.Terminating []) (λ x. refl) (λ x c is. is) (λ c found is. scope_still b c phases.Terminating [] refl is) placed cells made)
+made_placed b (moves.Gone key) fit new owes placed = gone_placed b key fit placed
+made_placed b (moves.Assign a) fit new owes placed = scope_edited b a.scope (with_variable a.name a.value) (λ c. refl) (λ x c is. is) (λ c found is. is) placed
+made_placed b (moves.Update a) fit new owes placed = scope_edited b a.scope (with_variable a.name a.value) (λ c. refl) (λ x c is. is) (λ c found is. is) placed
 
--- each cell and each token stands in a scope after it
+-- each cell and each token stands in a scope after the move that an event shows
 pub placed_on : (b after : Board) (move : Option Move) → IsTrue (may_fit move b) → IfSome move (IsNewIn b) → after_shown b move ≡ Some after → All Owes b.cells → Placed b → Placed after
 placed_on b after None fit new made owes placed = subst Placed (let same : b ≡ after = cc in same) placed
-placed_on b after (Some move) fit new made owes placed =
-    let still = placed_still b after move fit made placed in
-    record {
-      scopes = cells_played b (InScope after) still.0 after move (scope_kept b after move fit new still.1) made;
-      tokens = tokens_played b (IsIn after) still.1 after move (token_kept b after move fit made owes still.0) made;
-    }
+placed_on b after (Some move) fit new made owes placed = made_holds b Placed after move (made_placed b move fit new owes placed) made

@@ -1,12 +1,12 @@
 -- Who is forced has an event that applies; where nobody is, the game is quiet.
 use Rattle.std.proofs.Common.{◌≡◌, ℕ, ◌==◌, List, [], ◌∷◌, ◌++◌, map, Bool, true, false, if◌then◌else◌, IsTrue, is_some, Option, Some, None, ◌↔◌, refl, subst, arith}
-use Rattle.std.specs.List.{list_any}
-use Rattle.std.specs.Option.{IfSome}
+use Rattle.std.specs.Option.{option_map_or, IfSome}
 use Rattle.std.proofs.lemmas.Bool.Decides.{nat_tests}
 use Rattle.zb_instance_records.specs.declared.instance.Role.TheVariants as roles
 use Rattle.zb_base.specs.declared.vars.Variable.{Variable}
 use Rattle.zb_process.specs.declared.model.Model.{Model}
 use Rattle.zb_instance_records.specs.declared.instance.ProcessInstanceCreationCreate.{ProcessInstanceCreationCreate}
+use Rattle.zb_instance_records.specs.declared.happening.VariableDocumentUpdate.{VariableDocumentUpdate}
 use Rattle.zb_exchange_records.specs.declared.message.MessagePublish.{MessagePublish}
 use Rattle.zb_model.specs.declared.record.Command.{Command}
 use Rattle.zb_model.specs.declared.record.Command.TheVariants as commands
@@ -21,7 +21,6 @@ use Rattle.zb_tokens.specs.declared.board.Move.{Move}
 use Rattle.zb_tokens.specs.declared.board.Move.TheVariants as moves
 use Rattle.zb_tokens.specs.declared.board.Mover.{Mover}
 use Rattle.zb_tokens.specs.Board.{Board, CellsAscend, cell_at}
-use Rattle.zb_tokens.specs.MoveEnter.{comes_to}
 use Rattle.zb_tokens.specs.Game.{fits, agrees, played}
 use Rattle.zb_tokens.specs.GameLaws.{both_left, both_right, holds_some, mapped_some}
 use Rattle.zb_tokens.specs.Forced.{next_mover, move_of}
@@ -34,17 +33,20 @@ use Rattle.zb_rules.specs.Reason.{reason_for}
 use Rattle.zb_rules.specs.Own.{IsSupported, own_events}
 use Rattle.zb_rules.specs.Deploy.{deployed}
 use Rattle.zb_rules.specs.Create.{reason_by, variable_event, instance_under}
+use Rattle.zb_rules.specs.Cancel.{cancelled}
+use Rattle.zb_rules.specs.Update.{is_named_in, set_in, place_of, set_by, set_each, updated}
 use Rattle.zb_rules.specs.Publish.{published_under}
 use Rattle.zb_rules.specs.Expire.{expired}
-use Rattle.zb_rules.specs.CellsLaws.{mapped_holds}
+use Rattle.zb_rules.specs.MadeLaws.{mapped_holds}
 use Rattle.zb_rules.specs.ModelsLaws.{Knows, board_knows}
 use Rattle.zb_rules.specs.OwnLaws.{deploy_applies, publish_applies, expire_applies}
 use Rattle.zb_rules.specs.CreateLaws.{create_applies}
+use Rattle.zb_rules.specs.CancelLaws.{cancel_applies}
+use Rattle.zb_rules.specs.UpdateLaws.{update_applies}
 use Rattle.zb_rules.specs.Sound.{HasKeys, HasOrderedNames, IsForcedEvent}
 use Rattle.zb_rules.specs.MoversLaws.{IsMade, mover_made, found_key, from_none, event_there}
 use Rattle.zb_rules.specs.AppliedLaws.{applied_from, some_of, game_holds_from, applied_board, board_behind}
-use Rattle.zb_rules.specs.KeysLaws.{HasOrderedCells, board_stands}
-use Rattle.zb_rules.specs.SoundLaws.{board_is_there, cells_ascend}
+use Rattle.zb_rules.specs.SoundLaws.{BoardKeeps, board_is_there, cells_ascend, board_keeps}
 
 module _ (p moment : ℕ) (es : List Event) (b : Board) (mover : Mover) (is : board_of es ≡ Some b) where
   event_by : (move : Move) (e : Event) → move_of b moment (next_key p es) mover ≡ Some move → IsTrue (fits b move) → IsTrue (agrees b moment move)
@@ -71,7 +73,7 @@ module _ (p moment : ℕ) (es : List Event) (b : Board) (mover : Mover) (is : bo
 
   enters : (e : Enter) → CellsAscend 1 b.cells → HasKeys p es 1 → e.key ≡ next_key p es → move_of b moment (next_key p es) mover ≡ Some (moves.Enter e) → IsTrue (fits b (moves.Enter e)) → IsForcedEvent p moment es b mover
   enters e up keys its made fit =
-      let found = some_of (cell_at b e.scope) (holds_some _ (cell_at b e.scope) (both_right (list_any (comes_to e.scope e.node e.via) b.tokens) _ fit)) in
+      let found = some_of (cell_at b e.scope) (holds_some _ (cell_at b e.scope) fit) in
       enters_in e found.0 found.1 up keys its made fit
 
   forced_by : (move : Move) → CellsAscend 1 b.cells → HasKeys p es 1 → IsMade (next_key p es) move → move_of b moment (next_key p es) mover ≡ Some move → IsTrue (fits b move) → IsTrue (agrees b moment move) → IsForcedEvent p moment es b mover
@@ -82,7 +84,10 @@ module _ (p moment : ℕ) (es : List Event) (b : Board) (mover : Mover) (is : bo
   forced_by (moves.Finish key) up keys from made fit agreed = event_by (moves.Finish key) (events.ElementCompleting key) made fit agreed refl refl refl
   forced_by (moves.Leave l) up keys from made fit agreed = event_by (moves.Leave l) (events.ElementCompleted (record { key = l.key; owed = l.owed })) made fit agreed refl refl refl
   forced_by (moves.Take t) up keys from made fit agreed = event_by (moves.Take t) (events.SequenceFlowTaken (record { key = t.key; flow = t.flow })) made fit agreed refl refl refl
+  forced_by (moves.Halt key) up keys from made fit agreed = event_by (moves.Halt key) (events.ElementTerminating key) made fit agreed refl refl refl
+  forced_by (moves.Gone key) up keys from made fit agreed = event_by (moves.Gone key) (events.ElementTerminated key) made fit agreed refl refl refl
   forced_by (moves.Assign a) up keys from made fit agreed = absurd from
+  forced_by (moves.Update a) up keys from made fit agreed = absurd from
 
 -- who is forced has an event, which applies and shows a move that agrees with what it evaluates
 pub forced_event : (p moment : ℕ) (es : List Event) (b : Board) (mover : Mover) → IsTrue (all_apply p [] es) → HasKeys p es 1 → board_of es ≡ Some b → next_mover b ≡ Some mover → IsForcedEvent p moment es b mover
@@ -155,6 +160,8 @@ pub own_there : (p n : ℕ) (es : List Event) (moment : ℕ) (command : Command)
 own_there p n es moment (commands.DeploymentCreate m) supported none = refl
 own_there p n es moment (commands.ProcessInstanceCreationCreate c) supported none =
     mapped_some _ (definition_for c.process c.version es) (asked_there (definition_for c.process 0 es) (definition_for c.process c.version es) c none)
+own_there p n es moment (commands.ProcessInstanceCancel key) supported none = refl
+own_there p n es moment (commands.VariableDocumentUpdate c) supported none = refl
 own_there p n es moment (commands.MessagePublish c) supported none = refl
 own_there p n es moment (commands.MessageExpire key) supported none = refl
 own_there p n es moment commands.ProcessInstanceBatchContinue supported none = refl
@@ -194,6 +201,25 @@ expiry_never false key = tt
 published_never : (key moment : ℕ) (c : MessagePublish) → NeverEvaluate (published_under key moment c)
 published_never key moment c = (λ before b moment move is. shows_none b moment move is, expiry_never (c.time_to_live == 0) key)
 
+joined_never : (first second : List Event) → NeverEvaluate first → NeverEvaluate second → NeverEvaluate (first ++ second)
+joined_never [] second never behind = behind
+joined_never (e ∷ first) second never behind = (never.0, joined_never first second never.1 behind)
+
+set_never : (t : Bool) (cell : ℕ) (v : Variable) → NeverEvaluate (if t then events.VariableUpdated (record { scope = cell; name = v.name; value = v.value }) ∷ [] else variable_event cell v ∷ [])
+set_never true cell v = (λ before b moment move is. shows_some b moment (moves.Update (record { scope = cell; name = v.name; value = v.value })) move refl is, tt)
+set_never false cell v = (λ before b moment move is. shows_some b moment (moves.Assign (record { scope = cell; name = v.name; value = v.value })) move refl is, tt)
+
+place_never : (place : Option ℕ) (v : Variable) (es : List Event) → NeverEvaluate (option_map_or (λ cell. set_in cell v es) place [])
+place_never None v es = tt
+place_never (Some cell) v es = set_never (holds_of_game (is_named_in cell v.name) es) cell v
+
+each_never : (c : VariableDocumentUpdate) (vs : List Variable) (es : List Event) → NeverEvaluate (set_each c vs es)
+each_never c [] es = tt
+each_never c (v ∷ vs) es = joined_never (set_by c v es) (set_each c vs (es ++ set_by c v es)) (place_never (place_of c v.name es) v es) (each_never c vs (es ++ set_by c v es))
+
+updated_never : (c : VariableDocumentUpdate) (es : List Event) → NeverEvaluate (updated c es)
+updated_never c es = joined_never (set_each c c.variables es) (events.VariableDocumentUpdated c.scope ∷ []) (each_never c c.variables es) (λ before b moment move is. shows_none b moment move is, tt)
+
 some_never : (made own : List Event) → NeverEvaluate made → Some made ≡ Some own → NeverEvaluate own
 some_never made own never is = subst NeverEvaluate (let same : made ≡ own = cc in same) never
 
@@ -201,6 +227,8 @@ own_never : (p n : ℕ) (es : List Event) (moment : ℕ) (command : Command) (ow
 own_never p n es moment (commands.DeploymentCreate m) own is = some_never (deployed p m es) own (deployed_never p m es) is
 own_never p n es moment (commands.ProcessInstanceCreationCreate c) own is =
     mapped_holds NeverEvaluate (λ d. instance_under (next_key p es) d.key c) (definition_for c.process c.version es) own (λ d found. instance_never (next_key p es) d.key c) is
+own_never p n es moment (commands.ProcessInstanceCancel key) own is = some_never (cancelled key) own (λ before b moment move is. shows_some b moment (moves.Halt key) move refl is, tt) is
+own_never p n es moment (commands.VariableDocumentUpdate c) own is = some_never (updated c es) own (updated_never c es) is
 own_never p n es moment (commands.MessagePublish c) own is = some_never (published_under (next_key p es) moment c) own (published_never (next_key p es) moment c) is
 own_never p n es moment (commands.MessageExpire key) own is = some_never (expired key) own (λ before b moment move is. shows_none b moment move is, tt) is
 own_never p n es moment commands.ProcessInstanceBatchContinue own is = some_never [] own tt is
@@ -218,22 +246,26 @@ pub own_legal : (p n : ℕ) (es : List Event) (moment : ℕ) (command : Command)
 own_legal p n es moment command own apply is = legal_by p moment es own (own_never p n es moment command own is) apply
 
 -- the own events of a command without a reason apply
-own_apply_by : (p n : ℕ) (es : List Event) (b : Board) (moment : ℕ) (command : Command) (own : List Event) → board_of es ≡ Some b → HasOrderedCells p es b → Knows p es b → HasKeys p es 2 → HasOrderedNames command
+own_apply_by : (p n : ℕ) (es : List Event) (b : Board) (moment : ℕ) (command : Command) (own : List Event) → board_of es ≡ Some b → BoardKeeps p es b → Knows p es b → HasKeys p es 2 → HasOrderedNames command
     → IsSupported command → reason_for es moment command ≡ None → own_events p n es moment command ≡ Some own → IsTrue (all_apply p es own)
-own_apply_by p n es b moment (commands.DeploymentCreate m) own is stands knows keys ordered supported none made =
+own_apply_by p n es b moment (commands.DeploymentCreate m) own is k knows keys ordered supported none made =
     subst (λ (x : List Event). IsTrue (all_apply p es x)) (let same : deployed p m es ≡ own = cc in same) (deploy_applies p es b is knows m keys none)
-own_apply_by p n es b moment (commands.ProcessInstanceCreationCreate c) own is stands knows keys ordered supported none made = create_applies p es b is stands knows c own (omega (arith, keys)) ordered made
-own_apply_by p n es b moment (commands.MessagePublish c) own is stands knows keys ordered supported none made =
+own_apply_by p n es b moment (commands.ProcessInstanceCreationCreate c) own is k knows keys ordered supported none made = create_applies p es b is k.stands knows c own (omega (arith, keys)) ordered made
+own_apply_by p n es b moment (commands.ProcessInstanceCancel key) own is k knows keys ordered supported none made =
+    subst (λ (x : List Event). IsTrue (all_apply p es x)) (let same : cancelled key ≡ own = cc in same) (cancel_applies p es b is k key none)
+own_apply_by p n es b moment (commands.VariableDocumentUpdate c) own is k knows keys ordered supported none made =
+    subst (λ (x : List Event). IsTrue (all_apply p es x)) (let same : updated c es ≡ own = cc in same) (update_applies p es b is k c none)
+own_apply_by p n es b moment (commands.MessagePublish c) own is k knows keys ordered supported none made =
     subst (λ (x : List Event). IsTrue (all_apply p es x)) (let same : published_under (next_key p es) moment c ≡ own = cc in same) (publish_applies p es b is knows moment c keys)
-own_apply_by p n es b moment (commands.MessageExpire key) own is stands knows keys ordered supported none made =
+own_apply_by p n es b moment (commands.MessageExpire key) own is k knows keys ordered supported none made =
     subst (λ (x : List Event). IsTrue (all_apply p es x)) (let same : expired key ≡ own = cc in same) (expire_applies p es b is knows key moment none)
-own_apply_by p n es b moment commands.ProcessInstanceBatchContinue own is stands knows keys ordered supported none made =
+own_apply_by p n es b moment commands.ProcessInstanceBatchContinue own is k knows keys ordered supported none made =
     subst (λ (x : List Event). IsTrue (all_apply p es x)) (let same : [] ≡ own = cc in same) refl
-own_apply_by p n es b moment _ own is stands knows keys ordered supported none made = absurd supported
+own_apply_by p n es b moment _ own is k knows keys ordered supported none made = absurd supported
 
 -- behind any log whose events apply
 pub own_apply : (p n : ℕ) (es : List Event) (moment : ℕ) (command : Command) (own : List Event) → IsTrue (all_apply p [] es) → HasKeys p es 2 → HasOrderedNames command
     → IsSupported command → reason_for es moment command ≡ None → own_events p n es moment command ≡ Some own → IsTrue (all_apply p es own)
 own_apply p n es moment command own apply keys ordered supported none made =
     let found = some_of (board_of es) (board_is_there p es apply) in
-    own_apply_by p n es found.0 moment command own found.1 (board_stands p es found.0 apply found.1) (board_knows p es found.0 apply found.1) keys ordered supported none made
+    own_apply_by p n es found.0 moment command own found.1 (board_keeps p es found.0 apply found.1) (board_knows p es found.0 apply found.1) keys ordered supported none made

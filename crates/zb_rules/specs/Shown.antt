@@ -16,8 +16,11 @@ shown before (events.ElementActivating e) = if e.scope == 0 then Some (moves.Sta
 shown before (events.ElementActivated e) = Some (moves.Open e.key)
 shown before (events.ElementCompleting key) = Some (moves.Finish key)
 shown before (events.ElementCompleted e) = Some (moves.Leave (record { key = e.key; owed = e.owed }))
+shown before (events.ElementTerminating key) = Some (moves.Halt key)
+shown before (events.ElementTerminated key) = Some (moves.Gone key)
 shown before (events.SequenceFlowTaken e) = Some (moves.Take (record { key = e.key; flow = e.flow }))
 shown before (events.VariableCreated e) = Some (moves.Assign (record { scope = e.scope; name = e.name; value = e.value }))
+shown before (events.VariableUpdated e) = Some (moves.Update (record { scope = e.scope; name = e.name; value = e.value }))
 shown before _ = None
 
 -- the board after the move that an event shows, if it shows one
@@ -43,4 +46,7 @@ event_of b (moves.Open key) = Some (events.ElementActivated (record { key = key;
 event_of b (moves.Finish key) = Some (events.ElementCompleting key)
 event_of b (moves.Leave l) = Some (events.ElementCompleted (record { key = l.key; owed = l.owed }))
 event_of b (moves.Take t) = Some (events.SequenceFlowTaken (record { key = t.key; flow = t.flow }))
+event_of b (moves.Halt key) = Some (events.ElementTerminating key)
+event_of b (moves.Gone key) = Some (events.ElementTerminated key)
 event_of b (moves.Assign a) = None
+event_of b (moves.Update a) = None

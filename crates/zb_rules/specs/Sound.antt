@@ -1,5 +1,6 @@
 -- What holds of the board of every log whose events apply.
-use Rattle.std.specs.Prelude.{◌≡◌, ◌⊎◌, ◌<◌, ◌+◌, ◌^◌, ℕ, List, Some, IsTrue, IsFalse, is_some, All}
+use Rattle.std.specs.Prelude.{◌≡◌, ◌⊎◌, ◌<◌, ◌+◌, ◌^◌, ℕ, List, Bool, false, ◌&&◌, ◌||◌, Option, Some, IsTrue, IsFalse, is_some, All}
+use Rattle.std.specs.Option.{option_map_or}
 use Rattle.zb_base.specs.Vars.{is_ascending}
 use Rattle.zb_model.specs.declared.record.Event.{Event}
 use Rattle.zb_model.specs.declared.record.Command.{Command}
@@ -9,26 +10,48 @@ use Rattle.zb_tokens.specs.declared.board.Cell.{Cell}
 use Rattle.zb_tokens.specs.declared.board.Token.{Token}
 use Rattle.zb_tokens.specs.declared.board.Move.{Move}
 use Rattle.zb_tokens.specs.declared.board.Mover.{Mover}
+use Rattle.zb_tokens.specs.declared.board.Phase.{Phase}
 use Rattle.zb_tokens.specs.declared.board.Phase.TheVariants as phases
 use Rattle.zb_tokens.specs.Edits.{is_none_of}
-use Rattle.zb_tokens.specs.Board.{Board, CellsAscend, cell_at, model_under, is_phase}
+use Rattle.zb_tokens.specs.Board.{Board, CellsAscend, cell_at, model_under, is_phase, is_root, is_scope_in}
+use Rattle.zb_tokens.specs.MoveAssign.{has_name}
 use Rattle.zb_tokens.specs.Game.{agrees}
 use Rattle.zb_tokens.specs.Forced.{move_of}
 use Rattle.zb_rules.specs.Shown.{shown, event_of}
 use Rattle.zb_rules.specs.Applies.{applies}
 
--- a board of a log: cells ascend, scopes and models are there, tokens stand in cells (BPMN 2.0.2, 13.1)
+-- in this phase others may be in a scope (BPMN 2.0.2, 13.3.2)
+abbrev pub runs : Phase → Bool
+runs phase = is_phase phase phases.Active || is_phase phase phases.Terminating
+
+-- a cell in which others may be: it is at a scope of its model, and active or terminating (BPMN 2.0.2, 13.2 and 13.3.4)
+abbrev pub holds_others : Board → Cell → Bool
+holds_others b c = runs c.phase && option_map_or (λ m. is_scope_in m c) (model_under b c.definition) false
+
+-- on a board the cell with a key is there, and is one (BPMN 2.0.2, 13.2 and 13.3.4)
+abbrev pub is_scope : Board → ℕ → Bool
+is_scope b key = option_map_or (holds_others b) (cell_at b key) false
+
+-- a board of a log: cells ascend, scopes and models are there, tokens stand in scopes (BPMN 2.0.2, 13.1)
 pub record IsSound (b : Board) : Type 0 where
   -- the keys of the cells ascend, and none is 0
   pub cells : CellsAscend 1 b.cells
-  -- each cell is a root, or stands in an earlier cell
-  pub scopes : All (λ (c : Cell). (c.scope ≡ 0) ⊎ (IsTrue (is_some (cell_at b c.scope)) × (c.scope < c.key))) b.cells
+  -- each cell is a root, or stands in an earlier cell, which is a scope that others may be in
+  pub scopes : All (λ (c : Cell). (c.scope ≡ 0) ⊎ (IsTrue (is_scope b c.scope) × (c.scope < c.key))) b.cells
   -- the model of each cell's definition is there
   pub models : All (λ (c : Cell). IsTrue (is_some (model_under b c.definition))) b.cells
-  -- each token stands in a cell
-  pub tokens : All (λ (t : Token). IsTrue (is_some (cell_at b t.scope))) b.tokens
-  -- a leaving cell owes a flow
-  pub leaving : All (λ (c : Cell). IsTrue (is_phase c.phase phases.Leaving) → IsFalse (is_none_of c.owed)) b.cells
+  -- each token stands in such a scope
+  pub tokens : All (λ (t : Token). IsTrue (is_scope b t.scope)) b.tokens
+  -- a leaving cell owes a flow, and is no root
+  pub leaving : All (λ (c : Cell). IsTrue (is_phase c.phase phases.Leaving) → IsFalse (is_none_of c.owed) × IsFalse (is_root c)) b.cells
+
+-- a cell is found that has the name, or else a root: in it a value is set that is handed up (BPMN 2.0.2, 10.4.1)
+pub record IsHolder (b : Board) (name : List ℕ) (found : Option ℕ) : Type 0 where
+  pub key : ℕ
+  pub cell : Cell
+  pub is : found ≡ Some key
+  pub there : cell_at b key ≡ Some cell
+  pub holds : IsTrue (has_name name cell || is_root cell)
 
 -- partition p has so many keys left behind these events
 abbrev pub HasKeys : ℕ → List Event → ℕ → Type 0

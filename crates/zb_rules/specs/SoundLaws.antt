@@ -1,27 +1,23 @@
 -- What holds of the board of every log whose events apply.
-use Rattle.std.proofs.Common.{◌≡◌, ◌⊎◌, ℕ, ◌<◌, ◌==◌, List, [], ◌∷◌, ◌++◌, Bool, true, false, if◌then◌else◌, IsTrue, IsFalse, is_some, Some, All, refl, inl, inr, ⊎_elim, sym, subst}
+use Rattle.std.proofs.Common.{◌≡◌, ℕ, ◌==◌, List, [], ◌∷◌, ◌++◌, Bool, true, false, if◌then◌else◌, IsTrue, is_some, Some, All, refl, sym, subst}
 use Rattle.std.specs.Option.{IfSome}
-use Rattle.std.proofs.lemmas.List.Elements.{All-nil, All-weaker}
+use Rattle.std.proofs.lemmas.List.Elements.{All-nil}
 use Rattle.zb_instance_records.specs.declared.instance.ElementActivating.{ElementActivating}
 use Rattle.zb_model.specs.declared.record.Event.{Event}
 use Rattle.zb_model.specs.declared.record.Event.TheVariants as events
 use Rattle.zb_views.specs.View.{next_key}
-use Rattle.zb_tokens.specs.declared.board.Cell.{Cell}
-use Rattle.zb_tokens.specs.declared.board.Token.{Token}
 use Rattle.zb_tokens.specs.declared.board.Move.TheVariants as moves
-use Rattle.zb_tokens.specs.declared.board.Phase.TheVariants as phases
-use Rattle.zb_tokens.specs.Edits.{is_none_of}
-use Rattle.zb_tokens.specs.Board.{Board, CellsAscend, cell_at, is_phase}
+use Rattle.zb_tokens.specs.Board.{Board, CellsAscend}
 use Rattle.zb_tokens.specs.Game.{empty_board}
-use Rattle.zb_tokens.specs.GameLaws.{both_left, holds_some}
+use Rattle.zb_tokens.specs.GameLaws.{both_left}
 use Rattle.zb_rules.specs.Shown.{shown, board_of}
 use Rattle.zb_rules.specs.Applies.{is_fresh, begins_instance, begins_cell, all_apply}
 use Rattle.zb_rules.specs.Sound.{IsSound}
 use Rattle.zb_rules.specs.CellsLaws.{Between, ascend_between}
 use Rattle.zb_rules.specs.AppliedLaws.{Advances, holds_on, holds_of_all}
 use Rattle.zb_rules.specs.KeysLaws.{HasOrderedCells, board_stands, stands_on, stands_first, begins_by, fresh_is}
-use Rattle.zb_rules.specs.ScopesLaws.{holds_others, is_scope}
-use Rattle.zb_rules.specs.PlacedLaws.{HasModel, Owes, InScope, IsIn, Placed, IsNewIn, models_on, owes_on, placed_on}
+use Rattle.zb_rules.specs.OwesLaws.{HasModel, Owes, models_on, owes_on}
+use Rattle.zb_rules.specs.PlacedLaws.{InScope, IsIn, Placed, IsNewIn, placed_on}
 
 -- the board of a log whose events apply is there
 pub board_is_there : (p : ℕ) (es : List Event) → IsTrue (all_apply p [] es) → IsTrue (is_some (board_of es))
@@ -46,13 +42,14 @@ shown_new p before b (events.ElementActivating a) after h stands = new_by p befo
 shown_new p before b e after h stands = tt
 
 -- what each event keeps of the board
-record Keeps (p : ℕ) (es : List Event) (b : Board) : Type 0 where
-  stands : HasOrderedCells p es b
-  models : All (HasModel b) b.cells
-  owes : All Owes b.cells
-  placed : Placed b
+pub record BoardKeeps (p : ℕ) (es : List Event) (b : Board) : Type 0 where
+  pub stands : HasOrderedCells p es b
+  pub models : All (HasModel b) b.cells
+  pub owes : All Owes b.cells
+  pub placed : Placed b
 
-keeps_on : (p : ℕ) (before : List Event) (b : Board) (e : Event) (after : Board) → Advances p before b e after → Keeps p before b → Keeps p (before ++ e ∷ []) after
+-- an event that applies keeps it
+pub keeps_on : (p : ℕ) (before : List Event) (b : Board) (e : Event) (after : Board) → Advances p before b e after → BoardKeeps p before b → BoardKeeps p (before ++ e ∷ []) after
 keeps_on p before b e after h k = record {
   stands = stands_on p before b e after h k.stands;
   models = models_on b after (shown before e) h.leads k.models;
@@ -60,7 +57,7 @@ keeps_on p before b e after h k = record {
   placed = placed_on b after (shown before e) h.fit (shown_new p before b e after h k.stands) h.leads k.owes k.placed;
 }
 
-keeps_first : (p : ℕ) → Keeps p [] empty_board
+keeps_first : (p : ℕ) → BoardKeeps p [] empty_board
 keeps_first p = record {
   stands = stands_first p;
   models = All-nil (HasModel empty_board);
@@ -68,20 +65,19 @@ keeps_first p = record {
   placed = record { scopes = All-nil (InScope empty_board); tokens = All-nil (IsIn empty_board) };
 }
 
--- a scope is a cell that is there
-scope_there : (b : Board) (key : ℕ) → IsTrue (is_scope b key) → IsTrue (is_some (cell_at b key))
-scope_there b key is = holds_some holds_others (cell_at b key) is
+-- the board of a log whose events apply has it
+pub board_keeps : (p : ℕ) (es : List Event) (b : Board) → IsTrue (all_apply p [] es) → board_of es ≡ Some b → BoardKeeps p es b
+board_keeps p es b apply is = holds_of_all p (BoardKeeps p) (keeps_on p) es b (keeps_first p) apply is
 
-sound_from : (p : ℕ) (es : List Event) (b : Board) → Keeps p es b → IsSound b
+sound_from : (p : ℕ) (es : List Event) (b : Board) → BoardKeeps p es b → IsSound b
 sound_from p es b k = record {
   cells = ascend_between 1 (next_key p es) b.cells k.stands.between;
-  scopes = All-weaker (InScope b) (λ (c : Cell). (c.scope ≡ 0) ⊎ (IsTrue (is_some (cell_at b c.scope)) × (c.scope < c.key)))
-      (λ c is. ⊎_elim (λ root. inl root) (λ r. inr (scope_there b c.scope r.0, r.1)) is) b.cells k.placed.scopes;
+  scopes = k.placed.scopes;
   models = k.models;
-  tokens = All-weaker (IsIn b) (λ (t : Token). IsTrue (is_some (cell_at b t.scope))) (λ t is. scope_there b t.scope is) b.tokens k.placed.tokens;
-  leaving = All-weaker Owes (λ (c : Cell). IsTrue (is_phase c.phase phases.Leaving) → IsFalse (is_none_of c.owed)) (λ c owes phase. (owes phase).0) b.cells k.owes;
+  tokens = k.placed.tokens;
+  leaving = k.owes;
 }
 
--- the board of a log whose events apply is sound
+-- and is sound
 pub board_is_sound : (p : ℕ) (es : List Event) (b : Board) → IsTrue (all_apply p [] es) → board_of es ≡ Some b → IsSound b
-board_is_sound p es b apply is = sound_from p es b (holds_of_all p (Keeps p) (keeps_on p) es b (keeps_first p) apply is)
+board_is_sound p es b apply is = sound_from p es b (board_keeps p es b apply is)

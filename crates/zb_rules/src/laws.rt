@@ -1,5 +1,6 @@
-ghost use Rattle.std.specs.Prelude.{◌≡◌, ◌≤◌, ◌<◌, ◌↔◌, ℕ, List, [], Option, Some, None, All, IsTrue, is_some};
+ghost use Rattle.std.specs.Prelude.{◌≡◌, ◌≤◌, ◌<◌, ◌+◌, ◌↔◌, ℕ, length, List, [], Option, Some, None, All, IsTrue, is_some};
 ghost use Rattle.std.specs.Option.{IfSome};
+ghost use Rattle.zb_instance_records.specs.declared.happening.VariableDocumentUpdate.{VariableDocumentUpdate};
 ghost use Rattle.zb_exchange_records.specs.declared.message.MessagePublished.{MessagePublished};
 ghost use Rattle.zb_model.specs.declared.record.Command.{Command};
 ghost use Rattle.zb_model.specs.declared.record.Command.TheVariants as commands;
@@ -7,14 +8,16 @@ ghost use Rattle.zb_model.specs.declared.record.Event.{Event};
 ghost use Rattle.zb_views.specs.Messages.{buffered};
 ghost use Rattle.zb_tokens.specs.declared.board.Move.{Move};
 ghost use Rattle.zb_tokens.specs.declared.board.Mover.{Mover};
-ghost use Rattle.zb_tokens.specs.Board.{Board};
+ghost use Rattle.zb_tokens.specs.Board.{Board, cell_at};
+ghost use Rattle.zb_tokens.specs.Names.{holder_of};
 ghost use Rattle.zb_tokens.specs.Game.{agrees};
 ghost use Rattle.zb_tokens.specs.Forced.{next_mover};
 ghost use Rattle.zb_rules.specs.Shown.{shown, board_of};
 ghost use Rattle.zb_rules.specs.Applies.{applies, all_apply};
 ghost use Rattle.zb_rules.specs.Legal.{IsMadeLegally, AllLegal};
 ghost use Rattle.zb_rules.specs.Settling.{turn, HasQuietGame};
-ghost use Rattle.zb_rules.specs.Sound.{IsSound, HasKeys, HasOrderedNames, IsForcedEvent};
+ghost use Rattle.zb_rules.specs.Sound.{IsSound, HasKeys, HasOrderedNames, IsForcedEvent, IsHolder};
+ghost use Rattle.zb_rules.specs.Update.{reason_to_update, updated};
 ghost use Rattle.zb_rules.specs.Reason.{reason_for};
 ghost use Rattle.zb_rules.specs.Own.{IsSupported, own_events};
 ghost use Rattle.zb_rules.specs.Due.{due_command, IsFirstDue};
@@ -33,8 +36,9 @@ pub fn due_commands_have_no_reason()
     ensures run { (now : ℕ) (es : List Event) (command : Command) → due_command now es ≡ Some command → IsSupported command }
 {}
 
-/// A log whose events apply has a board, and that is sound: its cells ascend, each has its model and stands in
-/// an earlier cell or in none, each token stands in a cell, and a cell that leaves owes a flow.
+/// A log whose events apply has a board, and that is sound: its cells ascend, each has its model, and each of them
+/// but a root stands in an earlier cell, as each token does: in a scope of its model that is active or terminating.
+/// A cell that leaves owes a flow, and is no root.
 pub fn boards_of_logs_are_sound()
     ensures there { (p : ℕ) (es : List Event) → IsTrue (all_apply p [] es) → IsTrue (is_some (board_of es)) }
     ensures sound { (p : ℕ) (es : List Event) (board : Board) → IsTrue (all_apply p [] es) → board_of es ≡ Some board → IsSound board }
@@ -71,4 +75,14 @@ pub fn own_events_apply()
         → own_events p n es moment command ≡ Some own → IsTrue (all_apply p es own) }
     ensures legal { (p n : ℕ) (es : List Event) (moment : ℕ) (command : Command) (own : List Event) → IsTrue (all_apply p es own)
         → own_events p n es moment command ≡ Some own → AllLegal moment es own }
+{}
+
+/// Behind a log whose events apply each cell has a holder of each name: itself or a cell around it that has the name,
+/// or its root. So where an update has no reason against it, none of its variables is passed over: each has an event,
+/// and one is behind them all.
+pub fn names_have_holders()
+    ensures holders { (p : ℕ) (es : List Event) (board : Board) (scope : ℕ) (name : List ℕ) → IsTrue (all_apply p [] es) → board_of es ≡ Some board
+        → IsTrue (is_some (cell_at board scope)) → IsHolder board name (holder_of board scope name) }
+    ensures updates { (p : ℕ) (es : List Event) (update : VariableDocumentUpdate) → IsTrue (all_apply p [] es) → reason_to_update es update.scope ≡ None
+        → length (updated update es) ≡ length update.variables + 1 }
 {}

@@ -7,6 +7,7 @@ use Rattle.zb_views.specs.Messages.{buffered}
 use Rattle.zb_views.specs.Definitions.{definitions}
 use Rattle.zb_views.specs.Begin.{begun}
 use Rattle.zb_rules.specs.Applies.{applies, all_apply}
+use Rattle.zb_rules.specs.Making.{Making}
 use Rattle.zb_rules.specs.Shown.{board_of}
 
 -- the partition that the state is of
@@ -29,6 +30,10 @@ IsReached state = ∥ ((es : List Event) × IsStateOf es state) ∥₁
 -- some events come to this state, and this one applies to them
 abbrev pub Admits : State → Event → Type 0
 Admits state event = ∥ ((es : List Event) × IsStateOf es state × IsTrue (applies (partition_of state) es event)) ∥₁
+
+-- some events come to this state, and each of those that are made of them applies
+abbrev pub AdmitsMade : State → Making → Type 0
+AdmitsMade state make = ∥ ((es : List Event) × IsStateOf es state × IsTrue (all_apply (partition_of state) es (make es))) ∥₁
 
 -- two states that differ in their game alone
 pub record IsSameBeside (old new : State) : Type 0 where

@@ -13,7 +13,7 @@ use zb_game::{Game, GameFault};
 use zb_graph::{BoxedGraph, compile};
 use zb_model::{
     ElementActivated, ElementActivating, ElementCompleted, Event, Key, List, ProcessCreated, Role,
-    SequenceFlowTaken, TableFault, Text, TryCopy, VariableCreated,
+    SequenceFlowTaken, TableFault, Text, TryCopy, VariableCreated, VariableUpdated,
 };
 use zb_tokens::{Assigned, Deployed, Enter, Leave, Move, Start, Take};
 
@@ -44,8 +44,11 @@ pub fn shows_move(event: &Event) -> bool
             | Event::ElementActivated(_)
             | Event::ElementCompleting(_)
             | Event::ElementCompleted(_)
+            | Event::ElementTerminating(_)
+            | Event::ElementTerminated(_)
             | Event::SequenceFlowTaken(_)
             | Event::VariableCreated(_)
+            | Event::VariableUpdated(_)
     )
 }
 
@@ -74,8 +77,11 @@ fn shown(alloc: Global, event: &Event) -> Result<Option<Move>, AllocError>
         Event::ElementActivated(element) => Ok(Some(Move::Open(element.key))),
         Event::ElementCompleting(key) => Ok(Some(Move::Finish(*key))),
         Event::ElementCompleted(element) => Ok(Some(leave_of(alloc, element)?)),
+        Event::ElementTerminating(key) => Ok(Some(Move::Halt(*key))),
+        Event::ElementTerminated(key) => Ok(Some(Move::Gone(*key))),
         Event::SequenceFlowTaken(flow) => Ok(Some(take_of(alloc, flow)?)),
         Event::VariableCreated(variable) => Ok(Some(assign_of(alloc, variable)?)),
+        Event::VariableUpdated(variable) => Ok(Some(update_of(alloc, variable)?)),
         _ => Ok(None),
     }
 }
@@ -138,6 +144,16 @@ fn assign_of(alloc: Global, variable: &VariableCreated) -> Result<Move, AllocErr
     }))
 }
 
+fn update_of(alloc: Global, variable: &VariableUpdated) -> Result<Move, AllocError>
+    ensures { IfOk result (λ move. Some move ≡ shown [] (events.VariableUpdated variable.now)) }
+{
+    Ok(Move::Update(Assigned {
+        scope: variable.scope,
+        name: variable.name.copy(alloc)?,
+        value: variable.value.copy(alloc)?,
+    }))
+}
+
 /// The event that shows a forced move; `None` of a move that is never forced. It costs what
 /// `Game::definition_of` does.
 pub fn event_of(alloc: Global, shown: Move, game: &Game) -> Option<Event>
@@ -150,6 +166,8 @@ pub fn event_of(alloc: Global, shown: Move, game: &Game) -> Option<Event>
             items: List::empty(alloc),
         })),
         Move::Finish(key) => Some(Event::ElementCompleting(key)),
+        Move::Halt(key) => Some(Event::ElementTerminating(key)),
+        Move::Gone(key) => Some(Event::ElementTerminated(key)),
         Move::Leave(leave) => Some(Event::ElementCompleted(ElementCompleted {
             key: leave.key,
             owed: leave.owed,

@@ -1,4 +1,4 @@
-ghost use Rattle.std.specs.Prelude.{◌≡◌, ◌↔◌, ◌==◌, nat_le, ◌&&◌, ◌<◌, ◌+◌, ◌^◌, max, false, ℕ, List, [], ◌∷◌, ◌++◌, IsTrue, IsFalse, IsErrOf, IfOk, OnOk, Some, is_none, is_some, option_map};
+ghost use Rattle.std.specs.Prelude.{◌≡◌, ◌↔◌, ◌==◌, nat_le, ◌&&◌, ◌<◌, ◌+◌, ◌^◌, max, false, ℕ, List, [], ◌∷◌, ◌++◌, IsTrue, IsFalse, IsErrOf, IfOk, OnOk, Some, is_none, is_some, option_map, option_and_then};
 ghost use Rattle.std.specs.List.{list_any};
 ghost use Rattle.std.specs.Option.{option_copied, option_map_or};
 ghost use Rattle.zb_base.specs.Key.{key_of};
@@ -8,7 +8,10 @@ ghost use Rattle.zb_views.specs.Messages.{buffered, is_buffered, message_at};
 ghost use Rattle.zb_rules.specs.Publish.{is_same};
 ghost use Rattle.zb_rules.specs.Expire.{is_due_at};
 ghost use Rattle.zb_rules.specs.Due.{due_message};
-ghost use Rattle.zb_rules.specs.Applies.{applies, holds_own, is_fresh, has_definition, begins_well, begins_instance, begins_cell, is_definition_of};
+ghost use Rattle.zb_rules.specs.Applies.{applies, holds_own, holds_of_game, has_cell, is_fresh, has_definition, begins_well, begins_instance, begins_cell, is_definition_of};
+ghost use Rattle.zb_rules.specs.Cancel.{has_root, is_terminating};
+ghost use Rattle.zb_rules.specs.Update.{is_named_in};
+ghost use Rattle.zb_tokens.specs.Names.{holder_of};
 ghost use Rattle.zb_views.specs.Definitions.{definitions, definition_for, greatest_version};
 ghost use Rattle.zb_faults.specs.Faults.{is_well_formed};
 ghost use Rattle.zb_rules.specs.Settling.{turn_of, HasQuietGame};
@@ -35,7 +38,7 @@ use zb_model::{
     ProcessCreated, Role, TableFault, TryCopy,
 };
 use zb_table::Table;
-use zb_tokens::Mover;
+use zb_tokens::{Mover, Phase};
 use zb_views::{Begun, Definition};
 
 /// What the events of a partition's log come to. Its clauses hold for all lists of events of which it is
@@ -203,6 +206,47 @@ impl State {
         self.game.copy(alloc)
     }
 
+    /// Whether a cell has this key. It takes the logarithm of how many cells there are, where their keys ascend, as do
+    /// the other questions on one cell.
+    pub fn has_cell(&self, key: Key) -> bool
+        ensures { (es : List Event) → IsStateOf es self.now → result ≡ holds_of_game (has_cell key) es }
+    {
+        self.game.phase_of(key).is_some()
+    }
+
+    /// Whether an instance has this key.
+    pub fn has_root(&self, key: Key) -> bool
+        ensures { (es : List Event) → IsStateOf es self.now → result ≡ holds_of_game (has_root key) es }
+    {
+        self.game.is_instance(key)
+    }
+
+    /// Whether the cell with this key is terminating.
+    pub fn is_terminating(&self, key: Key) -> bool
+        ensures { (es : List Event) → IsStateOf es self.now → result ≡ holds_of_game (is_terminating key) es }
+    {
+        match self.game.phase_of(key) {
+            Some(phase) => phase == Phase::Terminating,
+            None => false,
+        }
+    }
+
+    /// Whether a cell has a variable with this name. It goes through the variables of the cell.
+    pub fn is_named_in(&self, cell: Key, name: &str) -> bool
+        ensures { (es : List Event) → IsStateOf es self.now → result ≡ holds_of_game (is_named_in cell name.now) es }
+    {
+        self.game.has_name(cell, name)
+    }
+
+    /// The cell in which a name is set that is handed up from a scope: the nearest one that has it, or else the root.
+    /// It goes up the scopes, and through the variables of each.
+    pub fn holder_of(&self, scope: Key, name: &str) -> Option<Key>
+        ensures { (es : List Event) → IsStateOf es self.now
+            → result ≡ option_and_then (λ b. holder_of b scope name.now) (board_of es) }
+    {
+        self.game.holder_of(scope, name)
+    }
+
     /// The model of a definition, as a graph; `None` where the definition isn't there. It takes the logarithm of how
     /// many definitions there are, where their keys ascend.
     pub fn graph(&self, definition: Key) -> Option<&Graph>
@@ -280,8 +324,12 @@ impl State {
             Event::ElementActivated(element) => Ok(element.items.as_slice().is_empty()),
             Event::ElementCompleting(_)
             | Event::ElementCompleted(_)
+            | Event::ElementTerminating(_)
+            | Event::ElementTerminated(_)
             | Event::SequenceFlowTaken(_)
-            | Event::VariableCreated(_) => Ok(true),
+            | Event::VariableCreated(_)
+            | Event::VariableUpdated(_) => Ok(true),
+            Event::VariableDocumentUpdated(scope) => Ok(self.has_cell(*scope)),
             Event::MessagePublished(message) => Ok(self.is_fresh(message.key)),
             Event::MessageExpired(key) => Ok(self.messages.contains(*key)),
             _ => Ok(false),

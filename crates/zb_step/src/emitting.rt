@@ -7,6 +7,7 @@ ghost use Rattle.zb_rules.specs.Sound.{HasOrderedNames};
 ghost use Rattle.zb_state.specs.State.{partition_of, IsStateOf, IsReached};
 
 use crate::own::own_events;
+use crate::update;
 use std::alloc::{AllocError, Global};
 use zb_model::{Command, Event, List, Moment};
 use zb_state::{Out, State};
@@ -33,6 +34,9 @@ pub fn emit(
 {
     if !state.has_keys(2) {
         return Err(AllocError);
+    }
+    if let Command::VariableDocumentUpdate(made) = command {
+        return update::put_own(alloc, state, made, out);
     }
     let events = own_events(alloc, state, moment, command)?;
     see_names(command);

@@ -1,6 +1,7 @@
 //! What a command leads to: why it is rejected, or the events that it makes and those that they force.
 #![tactic(auto)]
 
+mod cancel;
 mod create;
 mod deploy;
 mod emitting;
@@ -12,6 +13,7 @@ mod publish;
 mod reasons;
 mod rejection;
 mod settling;
+mod update;
 
 pub use emitting::emit;
 pub use outcome::outcome_of;

@@ -5,14 +5,15 @@ ghost use Rattle.zb_rules.specs.Reason.{reason_for};
 ghost use Rattle.zb_rules.specs.Own.{IsSupported, own_events};
 ghost use Rattle.zb_rules.specs.Sound.{HasKeys};
 ghost use Rattle.zb_state.specs.State.{partition_of, IsStateOf, IsReached};
+ghost use Rattle.zb_step.specs.AtOnce.{IsMadeAtOnce};
 
-use crate::{create, deploy, expire, publish};
+use crate::{cancel, create, deploy, expire, publish};
 use std::alloc::{AllocError, Global};
 use zb_model::{Command, Event, List, Moment};
 use zb_state::State;
 
 /// The events that a command makes of the state as it stands, where two keys are left and there is no reason
-/// against the command.
+/// against the command, and each is made of that state alone.
 pub fn own_events(
     alloc: Global,
     state: &State,
@@ -20,6 +21,7 @@ pub fn own_events(
     command: &Command,
 ) -> Result<List<Event>, AllocError>
     requires run { IsSupported command.now }
+    requires at_once { IsMadeAtOnce command.now }
     requires reached { IsReached state.now }
     requires keys { (es : List Event) → IsStateOf es state.now → HasKeys (partition_of state.now) es 2 }
     requires unrefused { (es : List Event) → IsStateOf es state.now → reason_for es moment command.now ≡ None }
@@ -29,6 +31,7 @@ pub fn own_events(
     match command {
         Command::DeploymentCreate(model) => deploy::own(alloc, state, model),
         Command::ProcessInstanceCreationCreate(instance) => create::own(alloc, state, instance),
+        Command::ProcessInstanceCancel(key) => cancel::own(alloc, *key),
         Command::MessagePublish(message) => publish::own(alloc, state, moment, message),
         Command::MessageExpire(key) => expire::own(alloc, *key),
         Command::ProcessInstanceBatchContinue => Ok(List::empty(alloc)),

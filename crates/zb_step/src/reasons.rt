@@ -3,7 +3,7 @@ ghost use Rattle.zb_model.specs.declared.record.Event.{Event};
 ghost use Rattle.zb_rules.specs.Reason.{reason_for};
 ghost use Rattle.zb_state.specs.State.{IsStateOf};
 
-use crate::{create, deploy, expire, go_on, publish};
+use crate::{cancel, create, deploy, expire, go_on, publish, update};
 use std::alloc::{AllocError, Global};
 use zb_model::{Command, Moment, Rejection};
 use zb_state::State;
@@ -22,6 +22,8 @@ pub fn reason(
     match command {
         Command::DeploymentCreate(model) => deploy::reason(alloc, model),
         Command::ProcessInstanceCreationCreate(instance) => create::reason(alloc, state, instance),
+        Command::ProcessInstanceCancel(key) => cancel::reason(alloc, state, *key),
+        Command::VariableDocumentUpdate(made) => update::reason(alloc, state, made.scope),
         Command::MessagePublish(message) => publish::reason(alloc, state, message),
         Command::MessageExpire(key) => expire::reason(alloc, state, moment, *key),
         Command::ProcessInstanceBatchContinue => go_on::reason(alloc, state),

@@ -1,13 +1,13 @@
 -- What stands on a board (BPMN 2.0.2, 13.1: tokens).
-use Rattle.std.specs.Prelude.{ℕ, ◌==◌, List, [], ◌∷◌, map, filter, Bool, true, false, ◌&&◌, not, Option, option_map, ◌+◌, ◌≤◌}
+use Rattle.std.specs.Prelude.{ℕ, ◌==◌, List, [], ◌∷◌, map, filter, Bool, true, false, ◌&&◌, ◌||◌, not, if◌then◌else◌, Option, option_map, ◌+◌, ◌≤◌}
 use Rattle.std.specs.Option.{option_map_or}
 use Rattle.std.specs.List.{find, list_any}
 use Rattle.std.specs.Str.{bytes_eq}
 use Rattle.zb_process.specs.declared.model.Model.{Model}
 use Rattle.zb_process.specs.declared.model.Node.{Node}
 use Rattle.zb_instance_records.specs.declared.instance.Role.TheVariants as roles
-use Rattle.zb_faults.specs.Elements.{is_start}
-pub use Rattle.zb_faults.specs.Elements.{node_with}
+use Rattle.zb_faults.specs.Elements.{is_start, is_subprocess}
+pub use Rattle.zb_faults.specs.Elements.{node_with, is_at}
 use Rattle.zb_tokens.specs.declared.board.Cell.{Cell}
 use Rattle.zb_tokens.specs.declared.board.Token.{Token}
 use Rattle.zb_tokens.specs.declared.board.Spot.{Spot}
@@ -35,6 +35,10 @@ model_under b key = option_map (λ d. d.model) (find (λ d. d.key == key) b.mode
 abbrev pub flows_out : Model → List ℕ → List (List ℕ)
 flows_out m id = map (λ f. f.id) (filter (λ f. bytes_eq f.from id) m.flows)
 
+-- the ids of the flows into a node, in the order of the model (BPMN 2.0.2, 8.4.13)
+abbrev pub flows_in : Model → List ℕ → List (List ℕ)
+flows_in m id = map (λ f. f.id) (filter (λ f. bytes_eq f.to id) m.flows)
+
 -- the flow with an id leads to a node
 abbrev pub leads_to : Model → List ℕ → List ℕ → Bool
 leads_to m flow id = option_map_or (λ f. bytes_eq f.to id) (find (λ f. bytes_eq f.id flow) m.flows) false
@@ -56,9 +60,21 @@ is_phase a b = false
 abbrev pub is_root : Cell → Bool
 is_root c = c.scope == 0
 
+-- a scope, in which tokens move: a root, or a cell at a subprocess (BPMN 2.0.2, 13.2 and 13.3.4)
+abbrev pub is_scope_in : Model → Cell → Bool
+is_scope_in m c = is_root c || is_at m c.node is_subprocess
+
+-- the id of a scope, which its nodes have as their parent; empty at the top
+abbrev pub scope_id : Cell → List ℕ
+scope_id c = if is_root c then [] else c.node
+
+-- something runs in a cell
+abbrev pub has_child : Board → ℕ → Bool
+has_child b key = list_any (λ c. c.scope == key) b.cells
+
 -- nothing runs in a cell, and no token is in it
 abbrev pub is_empty : Board → ℕ → Bool
-is_empty b key = not (list_any (λ c. c.scope == key) b.cells) && not (list_any (λ t. t.scope == key) b.tokens)
+is_empty b key = not (has_child b key) && not (list_any (λ t. t.scope == key) b.tokens)
 
 -- the spot of a token that comes by a flow, or stands before a node where there is none
 abbrev pub spot_of : List ℕ → List ℕ → Spot
@@ -93,6 +109,17 @@ new_cell key scope definition node before = record {
 -- the cell in another phase, owing these flows
 abbrev pub in_phase : Phase → List (List ℕ) → Cell → Cell
 in_phase phase owed c = record c { phase = phase; owed = owed }
+
+-- the cell leaves, and is in this scope
+abbrev pub leaves_in : ℕ → Cell → Bool
+leaves_in scope c = (c.scope == scope) && is_phase c.phase phases.Leaving
+
+-- the board without the tokens in a scope, and without the cells that leave in it
+abbrev pub emptied : ℕ → Board → Board
+emptied scope b = record b {
+  cells = filter (λ c. not (leaves_in scope c)) b.cells;
+  tokens = filter (λ t. not (t.scope == scope)) b.tokens;
+}
 
 -- the keys of the cells ascend, from `low` on
 abbrev pub CellsAscend : ℕ → List Cell → Type 0

@@ -1,5 +1,5 @@
 -- Who is forced to move (BPMN 2.0.2, 13: a token moves on by itself where nothing is waited for), in which order (own), and to what.
-use Rattle.std.specs.Prelude.{ℕ, max, List, [], ◌∷◌, map, filter, slice_get, position, Bool, true, false, ◌&&◌, not, Option, Some, None, option_map, option_and_then, ◌≡◌}
+use Rattle.std.specs.Prelude.{ℕ, max, List, [], ◌∷◌, map, filter, slice_get, position, Bool, true, false, not, if◌then◌else◌, Option, Some, None, option_map, option_and_then, ◌≡◌, ◌⊎◌}
 use Rattle.std.specs.Option.{option_map_or, option_or}
 use Rattle.std.specs.List.{find}
 use Rattle.std.specs.Str.{bytes_eq}
@@ -15,9 +15,9 @@ use Rattle.zb_tokens.specs.declared.board.Mover.TheVariants as movers
 use Rattle.zb_tokens.specs.declared.board.Phase.{Phase}
 use Rattle.zb_tokens.specs.declared.board.Phase.TheVariants as phases
 use Rattle.zb_tokens.specs.Edits.{is_none_of}
-use Rattle.zb_tokens.specs.Board.{Board, cell_at, model_under}
+use Rattle.zb_tokens.specs.Board.{Board, cell_at, model_under, has_child}
 use Rattle.zb_tokens.specs.Doom.{is_doomed}
-use Rattle.zb_tokens.specs.MoveEnter.{may_enter}
+use Rattle.zb_tokens.specs.MoveEnter.{joins, may_enter}
 use Rattle.zb_tokens.specs.MoveOpen.{opens}
 use Rattle.zb_tokens.specs.MoveFinish.{is_done}
 use Rattle.zb_tokens.specs.MoveLeave.{owed_by}
@@ -28,16 +28,26 @@ goes_on_in b c phases.Activating = opens b c
 goes_on_in b c phases.Active = is_done b c
 goes_on_in b c phases.Completing = true
 goes_on_in b c phases.Leaving = not (is_none_of c.owed)
-goes_on_in b c phases.Terminating = false
+goes_on_in b c phases.Terminating = not (has_child b c.key)
 
--- a cell is forced to a move: it goes on by itself, and nothing calls it off (BPMN 2.0.2, 13)
+-- in a phase a doomed cell ends: it is called off, or is gone once nothing runs in it; one that leaves stays (BPMN 2.0.2, 13.3.2)
+abbrev pub ends_in : Board → Cell → Phase → Bool
+ends_in b c phases.Leaving = false
+ends_in b c phases.Terminating = not (has_child b c.key)
+ends_in b c phase = true
+
+-- a cell is forced to a move: it goes on by itself, or ends where it is doomed (BPMN 2.0.2, 13)
 abbrev pub is_forced : Board → Cell → Bool
-is_forced b c = goes_on_in b c c.phase && not (is_doomed b c)
+is_forced b c = if is_doomed b c then ends_in b c c.phase else goes_on_in b c c.phase
+
+-- the flow that a token comes by to a node: where flows join it is none of them
+abbrev pub way_by : Model → List ℕ → List ℕ → List ℕ
+way_by m node flow = if joins m node then [] else flow
 
 -- the node that a token at a spot would enter, and the flow by which
 abbrev pub entry_at : Model → Spot → Option (List ℕ × List ℕ)
 entry_at m (spots.BeforeNode node) = Some (node, [])
-entry_at m (spots.OnFlow flow) = option_map (λ f. (f.to, flow)) (find (λ f. bytes_eq f.id flow) m.flows)
+entry_at m (spots.OnFlow flow) = option_map (λ f. (f.to, way_by m f.to flow)) (find (λ f. bytes_eq f.id flow) m.flows)
 
 -- the way that a token has, in the model of its scope's cell
 abbrev pub way_of : Board → Token → Option (List ℕ × List ℕ)
@@ -71,7 +81,21 @@ move_in b c phases.Activating = Some (moves.Open c.key)
 move_in b c phases.Active = Some (moves.Finish c.key)
 move_in b c phases.Completing = Some (moves.Leave (record { key = c.key; owed = owed_by b c }))
 move_in b c phases.Leaving = take_first c.key c.owed
-move_in b c phases.Terminating = None
+move_in b c phases.Terminating = Some (moves.Gone c.key)
+
+-- how a doomed cell ends in a phase (BPMN 2.0.2, 13.3.2)
+abbrev pub end_in : Cell → Phase → Option Move
+end_in c phases.Leaving = None
+end_in c phases.Terminating = Some (moves.Gone c.key)
+end_in c phase = Some (moves.Halt c.key)
+
+-- what a cell does by itself, or how it ends where it is doomed (BPMN 2.0.2, 13)
+abbrev pub move_at : Board → Cell → Option Move
+move_at b c = if is_doomed b c then end_in c c.phase else move_in b c c.phase
+
+-- a move by which a cell ends, or none (BPMN 2.0.2, 13.3.2)
+abbrev pub IsEnd : Cell → Option Move → Type 0
+IsEnd c move = (move ≡ None) ⊎ ((move ≡ Some (moves.Halt c.key)) ⊎ (move ≡ Some (moves.Gone c.key)))
 
 -- how a token enters the node that it has come to, where the new cell gets this key (BPMN 2.0.2, 13.3.2)
 abbrev pub entry_of : Board → ℕ → Token → Option Move
@@ -79,5 +103,5 @@ entry_of b key t = option_map (λ way. moves.Enter (record { key = key; scope = 
 
 -- the move of a mover on a board at a moment, where a new cell gets this key (BPMN 2.0.2, 13)
 abbrev pub move_of : Board → ℕ → ℕ → Mover → Option Move
-move_of b moment key (movers.Cell cell) = option_and_then (λ c. move_in b c c.phase) (cell_at b cell)
+move_of b moment key (movers.Cell cell) = option_and_then (move_at b) (cell_at b cell)
 move_of b moment key (movers.Token place) = option_and_then (entry_of b key) (slice_get b.tokens place)

@@ -1,5 +1,5 @@
 -- Laws of forced moves, in the subject's own words.
-use Rattle.std.proofs.Common.{◌≡◌, ◌⊎◌, ℕ, ◌+◌, ◌≤◌, ◌==◌, max, length, get_or, List, [], ◌∷◌, map, filter, slice_get, position, All, Bool, true, false, ◌&&◌, not, cond, IsTrue, IsFalse, Option, Some, None, is_some, option_map, option_and_then, refl, inl, inr, ⊎_elim, ap, sym, ◌∙◌, subst, arith}
+use Rattle.std.proofs.Common.{◌≡◌, ◌⊎◌, ℕ, ◌+◌, ◌≤◌, ◌==◌, max, length, get_or, List, [], ◌∷◌, map, filter, slice_get, position, All, Bool, true, false, ◌||◌, not, cond, if◌then◌else◌, IsTrue, IsFalse, Option, Some, None, is_some, option_map, option_and_then, refl, inl, inr, ⊎_elim, ap, sym, ◌∙◌, subst, arith}
 use Rattle.std.specs.Option.{option_map_or, option_or}
 use Rattle.std.specs.List.{find, position_or_len}
 use Rattle.std.specs.Str.{bytes_eq}
@@ -19,13 +19,14 @@ use Rattle.zb_tokens.specs.declared.board.Mover.TheVariants as movers
 use Rattle.zb_tokens.specs.declared.board.Phase.{Phase}
 use Rattle.zb_tokens.specs.declared.board.Phase.TheVariants as phases
 use Rattle.zb_tokens.specs.Edits.{is_none_of}
-use Rattle.zb_tokens.specs.Board.{Board, cell_at, CellsAscend}
+use Rattle.zb_tokens.specs.Board.{Board, cell_at, is_root, CellsAscend}
 use Rattle.zb_tokens.specs.Doom.{is_doomed}
+use Rattle.zb_tokens.specs.MoveHalt.{is_alive}
 use Rattle.zb_tokens.specs.MoveEnter.{may_enter}
 use Rattle.zb_tokens.specs.MoveLeave.{owed_by, ids_eq, are_among}
 use Rattle.zb_tokens.specs.Game.{fits, agrees}
-use Rattle.zb_tokens.specs.GameLaws.{mapped_some, both_left}
-use Rattle.zb_tokens.specs.Forced.{goes_on_in, is_forced, way_of, can_enter, greatest, next_mover, IsQuiet, take_first, move_in, entry_of, move_of}
+use Rattle.zb_tokens.specs.GameLaws.{mapped_some}
+use Rattle.zb_tokens.specs.Forced.{goes_on_in, ends_in, is_forced, way_of, can_enter, greatest, next_mover, IsQuiet, take_first, move_in, end_in, move_at, entry_of, move_of, IsEnd}
 
 -- a text is the same as itself
 pub same_bytes : (xs : List ℕ) → bytes_eq xs xs ≡ true
@@ -119,12 +120,28 @@ first_some key [] some = absurd (cc)
 first_some key (flow ∷ owed) some = refl
 
 -- a cell that goes on by itself in a phase has a move there (BPMN 2.0.2, 13)
-pub cell_has_move : (b : Board) (c : Cell) (phase : Phase) → goes_on_in b c phase ≡ true → IsTrue (is_some (move_in b c phase))
-cell_has_move b c phases.Activating goes = refl
-cell_has_move b c phases.Active goes = refl
-cell_has_move b c phases.Completing goes = refl
-cell_has_move b c phases.Leaving goes = first_some c.key c.owed goes
-cell_has_move b c phases.Terminating goes = absurd (cc)
+goes_on_somehow : (b : Board) (c : Cell) (phase : Phase) → goes_on_in b c phase ≡ true → IsTrue (is_some (move_in b c phase))
+goes_on_somehow b c phases.Activating goes = refl
+goes_on_somehow b c phases.Active goes = refl
+goes_on_somehow b c phases.Completing goes = refl
+goes_on_somehow b c phases.Leaving goes = first_some c.key c.owed goes
+goes_on_somehow b c phases.Terminating goes = refl
+
+-- and so has a doomed one that ends (BPMN 2.0.2, 13.3.2)
+ends_somehow : (b : Board) (c : Cell) (phase : Phase) → ends_in b c phase ≡ true → IsTrue (is_some (end_in c phase))
+ends_somehow b c phases.Activating ends = refl
+ends_somehow b c phases.Active ends = refl
+ends_somehow b c phases.Completing ends = refl
+ends_somehow b c phases.Leaving ends = absurd (cc)
+ends_somehow b c phases.Terminating ends = refl
+
+has_move_by : (b : Board) (c : Cell) (doomed : Bool) → (if doomed then ends_in b c c.phase else goes_on_in b c c.phase) ≡ true → IsTrue (is_some (if doomed then end_in c c.phase else move_in b c c.phase))
+has_move_by b c true ends = ends_somehow b c c.phase ends
+has_move_by b c false goes = goes_on_somehow b c c.phase goes
+
+-- a cell that is forced has a move (BPMN 2.0.2, 13)
+pub cell_has_move : (b : Board) (c : Cell) → is_forced b c ≡ true → IsTrue (is_some (move_at b c))
+cell_has_move b c forced = has_move_by b c (is_doomed b c) forced
 
 -- a token that can enter has a move
 way_some : {W : Type 0} (enters : W → Bool) (way : Option W) → option_map_or enters way false ≡ true → IsTrue (is_some way)
@@ -133,7 +150,7 @@ way_some enters (Some way) is = refl
 
 -- who is forced has a move
 pub mover_has_move : (b : Board) (moment key : ℕ) (mover : Mover) → IsMover b mover → IsTrue (is_some (move_of b moment key mover))
-mover_has_move b moment key (movers.Cell cell) known = rw known.1 (cell_has_move b known.0 known.0.phase (both_left (goes_on_in b known.0 known.0.phase) (not (is_doomed b known.0)) known.3))
+mover_has_move b moment key (movers.Cell cell) known = rw known.1 (cell_has_move b known.0 known.3)
 mover_has_move b moment key (movers.Token place) known = rw known.1 (mapped_some _ (way_of b known.0) (way_some _ (way_of b known.0) known.2))
 
 -- who is forced has a move, where the cells ascend (BPMN 2.0.2, 13)
@@ -162,7 +179,31 @@ cell_suits b moment c phases.Leaving move at found goes is = by_owed c.owed refl
     by_owed [] owes is = absurd (cc)
     by_owed (flow ∷ owed) owes is =
         subst (Suits b moment) (some_move (moves.Take (record { key = c.key; flow = flow })) move is) (rw (found, at, owes, same_bytes flow) refl, refl)
-cell_suits b moment c phases.Terminating move at found goes is = absurd (cc)
+cell_suits b moment c phases.Terminating move at found goes is =
+    subst (Suits b moment) (some_move (moves.Gone c.key) move is) (rw (found, at, goes) refl, refl)
+
+-- a doomed cell, by its phase
+doomed_or : (root doomed : Bool) → doomed ≡ true → (root || doomed) ≡ true
+doomed_or true doomed is = refl
+doomed_or false doomed is = is
+
+halt_suits : (b : Board) (moment : ℕ) (c : Cell) (move : Move) → is_alive c ≡ true → cell_at b c.key ≡ Some c → is_doomed b c ≡ true → Some (moves.Halt c.key) ≡ Some move → Suits b moment move
+halt_suits b moment c move alive found doomed is =
+    let called : (is_root c || is_doomed b c) ≡ true = doomed_or (is_root c) (is_doomed b c) doomed in
+    subst (Suits b moment) (some_move (moves.Halt c.key) move is) (rw (found, alive, called) refl, refl)
+
+end_suits : (b : Board) (moment : ℕ) (c : Cell) (phase : Phase) (move : Move) → c.phase ≡ phase → cell_at b c.key ≡ Some c → is_doomed b c ≡ true → ends_in b c phase ≡ true → end_in c phase ≡ Some move → Suits b moment move
+end_suits b moment c phases.Activating move at found doomed ends is = halt_suits b moment c move (rw at refl) found doomed is
+end_suits b moment c phases.Active move at found doomed ends is = halt_suits b moment c move (rw at refl) found doomed is
+end_suits b moment c phases.Completing move at found doomed ends is = halt_suits b moment c move (rw at refl) found doomed is
+end_suits b moment c phases.Leaving move at found doomed ends is = absurd (cc)
+end_suits b moment c phases.Terminating move at found doomed ends is =
+    subst (Suits b moment) (some_move (moves.Gone c.key) move is) (rw (found, at, ends) refl, refl)
+
+forced_suits : (b : Board) (moment : ℕ) (c : Cell) (move : Move) (doomed : Bool) → cell_at b c.key ≡ Some c → is_doomed b c ≡ doomed
+    → (if doomed then ends_in b c c.phase else goes_on_in b c c.phase) ≡ true → (if doomed then end_in c c.phase else move_in b c c.phase) ≡ Some move → Suits b moment move
+forced_suits b moment c move true found doomed ends is = end_suits b moment c c.phase move refl found doomed ends is
+forced_suits b moment c move false found alive goes is = cell_suits b moment c c.phase move refl found goes is
 
 entry_suits : (b : Board) (moment key : ℕ) (t : Token) (way : Option (List ℕ × List ℕ)) (move : Move) → option_map_or (λ (w : List ℕ × List ℕ). may_enter b t.scope w.0 w.1) way false ≡ true
     → option_map (λ (w : List ℕ × List ℕ). moves.Enter (record { key = key; scope = t.scope; node = w.0; via = w.1 })) way ≡ Some move → Suits b moment move
@@ -175,8 +216,8 @@ pub mover_suits : (b : Board) (moment key : ℕ) (mover : Mover) (move : Move) �
 mover_suits b moment key (movers.Cell cell) move known is =
     let c = known.0 in
     let found : cell_at b c.key ≡ Some c = subst (λ (k : ℕ). cell_at b k ≡ Some c) (sym known.2) known.1 in
-    let its_move : move_in b c c.phase ≡ Some move = sym (ap (option_and_then (λ (x : Cell). move_in b x x.phase)) known.1) ∙ is in
-    cell_suits b moment c c.phase move refl found (both_left (goes_on_in b c c.phase) (not (is_doomed b c)) known.3) its_move
+    let its_move : move_at b c ≡ Some move = sym (ap (option_and_then (move_at b)) known.1) ∙ is in
+    forced_suits b moment c move (is_doomed b c) found refl known.3 its_move
 mover_suits b moment key (movers.Token place) move known is =
     let t = known.0 in
     let its_move : entry_of b key t ≡ Some move = sym (ap (option_and_then (entry_of b key)) known.1) ∙ is in
@@ -190,13 +231,16 @@ movers_fit b moment key mover move up next is = (mover_suits b moment key mover 
 pub movers_agree : (b : Board) (moment key : ℕ) (mover : Mover) (move : Move) → CellsAscend 0 b.cells → next_mover b ≡ Some mover → move_of b moment key mover ≡ Some move → IsTrue (agrees b moment move)
 movers_agree b moment key mover move up next is = (mover_suits b moment key mover move (mover_known b mover up next) is).1
 
-both_false : (a b : Bool) → b ≡ false → (a && b) ≡ false
-both_false true b is = is
-both_false false b is = refl
+ends_by : (c : Cell) (phase : Phase) → IsEnd c (end_in c phase)
+ends_by c phases.Activating = inr (inl refl)
+ends_by c phases.Active = inr (inl refl)
+ends_by c phases.Completing = inr (inl refl)
+ends_by c phases.Leaving = inl refl
+ends_by c phases.Terminating = inr (inr refl)
 
--- a doomed cell is not forced (BPMN 2.0.2, 13.3.2)
-pub doomed_rests : (b : Board) (c : Cell) → IsTrue (is_doomed b c) → IsFalse (is_forced b c)
-doomed_rests b c is = both_false (goes_on_in b c c.phase) (not (is_doomed b c)) (ap not is)
+-- a doomed cell does nothing but end (BPMN 2.0.2, 13.3.2)
+pub doomed_ends : (b : Board) (c : Cell) → IsTrue (is_doomed b c) → IsEnd c (move_at b c)
+doomed_ends b c is = rw is (ends_by c c.phase)
 
 none_greatest : (ns : List ℕ) → greatest ns ≡ None → ns ≡ []
 none_greatest [] is = refl

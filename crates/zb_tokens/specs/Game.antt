@@ -10,7 +10,9 @@ use Rattle.zb_tokens.specs.MoveOpen.{fits_open, play_open}
 use Rattle.zb_tokens.specs.MoveFinish.{fits_finish, play_finish}
 use Rattle.zb_tokens.specs.MoveLeave.{fits_leave, agrees_leave, play_leave}
 use Rattle.zb_tokens.specs.MoveTake.{fits_take, play_take}
-use Rattle.zb_tokens.specs.MoveAssign.{fits_assign, play_assign}
+use Rattle.zb_tokens.specs.MoveHalt.{fits_halt, play_halt}
+use Rattle.zb_tokens.specs.MoveGone.{fits_gone, play_gone}
+use Rattle.zb_tokens.specs.MoveAssign.{fits_assign, fits_update, play_assign}
 
 -- nothing on the board
 abbrev pub empty_board : Board
@@ -25,7 +27,10 @@ fits b (moves.Open key) = fits_open b key
 fits b (moves.Finish key) = fits_finish b key
 fits b (moves.Leave l) = fits_leave b l
 fits b (moves.Take t) = fits_take b t
+fits b (moves.Halt key) = fits_halt b key
+fits b (moves.Gone key) = fits_gone b key
 fits b (moves.Assign a) = fits_assign b a
+fits b (moves.Update a) = fits_update b a
 
 -- a move agrees with what it evaluates on a board at a moment (BPMN 2.0.2, 13)
 abbrev pub agrees : Board → ℕ → Move → Bool
@@ -41,7 +46,10 @@ played b (moves.Open key) = play_open b key
 played b (moves.Finish key) = play_finish b key
 played b (moves.Leave l) = play_leave b l
 played b (moves.Take t) = play_take b t
+played b (moves.Halt key) = play_halt b key
+played b (moves.Gone key) = play_gone b key
 played b (moves.Assign a) = play_assign b a
+played b (moves.Update a) = play_assign b a
 
 -- a move is legal and leads from one board to another, where what it evaluates is asked of a board from before, at a moment (BPMN 2.0.2, 13)
 pub record IsLegal (evaluated : Board) (moment : ℕ) (board : Board) (move : Move) (after : Board) : Type 0 where

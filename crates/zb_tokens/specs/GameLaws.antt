@@ -1,7 +1,8 @@
 -- Laws of the game, in the subject's own words.
-use Rattle.std.proofs.Common.{◌≡◌, ℕ, ◌==◌, List, [], ◌∷◌, ◌++◌, option_map, option_and_then, is_some, Bool, true, false, ◌&&◌, ◌||◌, if◌then◌else◌, IsTrue, Option, Some, None, refl, sym, ap, ◌∙◌}
+use Rattle.std.proofs.Common.{◌≡◌, ℕ, ◌==◌, List, [], ◌∷◌, ◌++◌, filter, All, cond, option_map, option_and_then, is_some, Bool, true, false, not, ◌&&◌, ◌||◌, if◌then◌else◌, IsTrue, Option, Some, None, refl, sym, ap, ◌∙◌, subst}
 use Rattle.std.specs.Option.{option_map_or}
 use Rattle.std.specs.List.{find, list_any}
+use Rattle.std.proofs.lemmas.List.Elements.{All-head, All-tail}
 use Rattle.zb_tokens.specs.Edits.{edited, removed}
 use Rattle.zb_tokens.specs.declared.board.Cell.{Cell}
 use Rattle.zb_tokens.specs.declared.board.Token.{Token}
@@ -9,10 +10,13 @@ use Rattle.zb_tokens.specs.declared.board.Spot.TheVariants as spots
 use Rattle.zb_tokens.specs.declared.board.Phase.TheVariants as phases
 use Rattle.zb_tokens.specs.declared.board.Move.{Move}
 use Rattle.zb_tokens.specs.declared.board.Move.TheVariants as moves
+use Rattle.zb_tokens.specs.declared.board.Enter.{Enter}
 use Rattle.zb_tokens.specs.declared.board.Take.{Take}
-use Rattle.zb_tokens.specs.Board.{Board, cell_at, model_under, is_phase, is_root, in_phase}
-use Rattle.zb_tokens.specs.MoveEnter.{comes_to}
-use Rattle.zb_tokens.specs.MoveOpen.{start_token, first_tokens, opens}
+use Rattle.zb_process.specs.declared.model.Model.{Model}
+use Rattle.zb_tokens.specs.Board.{Board, cell_at, model_under, node_with, is_phase, in_phase}
+use Rattle.zb_tokens.specs.Doom.{is_called_off}
+use Rattle.zb_tokens.specs.MoveEnter.{spots_of, stand_at_each, arrives, has_come, entered}
+use Rattle.zb_tokens.specs.MoveOpen.{start_tokens, first_tokens, opens}
 use Rattle.zb_tokens.specs.MoveLeave.{leaving}
 use Rattle.zb_tokens.specs.MoveTake.{rest_of, with_token, play_take}
 use Rattle.zb_tokens.specs.MoveAssign.{with_variable}
@@ -60,6 +64,34 @@ module _ {A : Type 0} (passes : A → Bool) where
   any_found [] some = absurd (cc)
   any_found (x ∷ xs) some = found_test (passes x) x xs (any_found xs) some
 
+module _ {A : Type 0} (passes : A → Bool) (P : A → Type 0) where
+  holds_by : (t : Bool) (x y : A) (xs : List A) → passes x ≡ t → All P (x ∷ xs) → (All P xs → find passes xs ≡ Some y → P y × (passes y ≡ true)) → cond t (Some x) (find passes xs) ≡ Some y → P y × (passes y ≡ true)
+  holds_by true x y xs it all later is = let same : x ≡ y = cc in (subst P same (All-head P x xs all), subst (λ (z : A). passes z ≡ true) same it)
+  holds_by false x y xs it all later is = later (All-tail P x xs all) is
+
+  -- what holds of each holds of the one that is found, and that one passes
+  pub found_holds : (xs : List A) (y : A) → All P xs → find passes xs ≡ Some y → P y × (passes y ≡ true)
+  found_holds [] y all is = absurd (cc)
+  found_holds (x ∷ xs) y all is = holds_by (passes x) x y xs refl all (found_holds xs y) is
+
+module _ {A : Type 0} (passes : A → Bool) where
+  -- one that is found passes
+  pub found_passes : (xs : List A) (x : A) → find passes xs ≡ Some x → passes x ≡ true
+  found_passes xs x is = (found_holds passes (λ y. Unit {0}) xs x (λ k d within. tt) is).1
+
+  module _ (stays : A → Bool) where
+    through_by : (t u : Bool) (x : A) (xs : List A) → passes x ≡ t → stays x ≡ u → ((y : A) → cond t (Some x) (find passes xs) ≡ Some y → stays y ≡ true) → (((y : A) → find passes xs ≡ Some y → stays y ≡ true) → find passes (filter stays xs) ≡ find passes xs)
+        → find passes (cond u (x ∷ filter stays xs) (filter stays xs)) ≡ cond t (Some x) (find passes xs)
+    through_by true true x xs it stay each later = ap (λ (t : Bool). cond t (Some x) (find passes (filter stays xs))) it
+    through_by true false x xs it gone each later = let stay = each x refl in absurd (cc)
+    through_by false true x xs it stay each later = ap (λ (t : Bool). cond t (Some x) (find passes (filter stays xs))) it ∙ later each
+    through_by false false x xs it gone each later = later each
+
+    -- the same one is found where others go, and it stays
+    pub found_through : (xs : List A) → ((x : A) → find passes xs ≡ Some x → stays x ≡ true) → find passes (filter stays xs) ≡ find passes xs
+    found_through [] each = refl
+    found_through (x ∷ xs) each = through_by (passes x) (stays x) x xs refl refl each (found_through xs)
+
 -- what is said of a thing that may not be there holds only where it is
 pub holds_some : {A : Type 0} (holds : A → Bool) (o : Option A) → IsTrue (option_map_or holds o false) → IsTrue (is_some o)
 holds_some holds None is = absurd (cc)
@@ -84,13 +116,25 @@ pub leaving_some : (owed : List (List ℕ)) (key : ℕ) (b : Board) → IsTrue (
 leaving_some [] key b there = mapped_some _ (removed (λ c. c.key == key) b.cells) (removed_some (λ c. c.key == key) b.cells (any_found (λ c. c.key == key) b.cells there))
 leaving_some (flow ∷ owed) key b there = mapped_some _ (edited (λ c. c.key == key) (in_phase phases.Leaving (flow ∷ owed)) b.cells) (cells_edited (in_phase phases.Leaving (flow ∷ owed)) key b there)
 
--- a cell whose model is there gets its tokens
-tokens_by : (root : Bool) (b : Board) (c : Cell) → IsTrue (if root then is_some (model_under b c.definition) else true) → IsTrue (is_some (if root then option_map (start_token c.key) (model_under b c.definition) else Some []))
-tokens_by true b c there = mapped_some (start_token c.key) (model_under b c.definition) there
-tokens_by false b c there = refl
+-- where tokens have come, a cell enters
+where_true : {A : Type 0} (t : Bool) (a : A) → IsTrue t → IsTrue (is_some (if t then Some a else None))
+where_true true a is = refl
+where_true false a is = absurd (cc)
 
+entered_in : (b : Board) (e : Enter) (c : Cell) (found : Option Model) → IsTrue (option_map_or (λ m. has_come m b.tokens e.scope e.node e.via) found false)
+    → IsTrue (is_some (option_and_then (λ m. if stand_at_each e.scope (spots_of m e.node e.via) b.tokens then Some (entered b e c m) else None) found))
+entered_in b e c None is = absurd (cc)
+entered_in b e c (Some m) is = where_true (stand_at_each e.scope (spots_of m e.node e.via) b.tokens) (entered b e c m) (both_right (is_some (node_with m e.node) && arrives m e.node e.via) _ is)
+
+entered_by : (b : Board) (e : Enter) (found : Option Cell)
+    → IsTrue (option_map_or (λ c. not (is_called_off b.cells b e.scope) && option_map_or (λ m. has_come m b.tokens e.scope e.node e.via) (model_under b c.definition) false) found false)
+    → IsTrue (is_some (option_and_then (λ c. option_and_then (λ m. if stand_at_each e.scope (spots_of m e.node e.via) b.tokens then Some (entered b e c m) else None) (model_under b c.definition)) found))
+entered_by b e None is = absurd (cc)
+entered_by b e (Some c) is = entered_in b e c (model_under b c.definition) (both_right (not (is_called_off b.cells b e.scope)) _ is)
+
+-- a cell whose model is there gets its tokens
 tokens_some : (b : Board) (c : Cell) → IsTrue (opens b c) → IsTrue (is_some (first_tokens b c))
-tokens_some b c there = tokens_by (is_root c) b c there
+tokens_some b c there = mapped_some (start_tokens c) (model_under b c.definition) there
 
 opened_by : (b : Board) (found : Option Cell) (cells : Option (List Cell)) → IsTrue (is_some cells) → IsTrue (option_map_or (λ c. is_phase c.phase phases.Activating && opens b c) found false)
     → IsTrue (is_some (option_and_then (λ c. option_and_then (λ tokens. option_map (λ cs. record b { cells = cs; tokens = b.tokens ++ tokens }) cells) (first_tokens b c)) found))
@@ -101,18 +145,24 @@ opened_by b (Some c) cells some is = chained_some _ (first_tokens b c) (tokens_s
 pub fitting_is_played : (b : Board) (move : Move) → IsTrue (fits b move) → IsTrue (is_some (played b move))
 fitting_is_played b (moves.Stand d) is = refl
 fitting_is_played b (moves.Start s) is = mapped_some _ (model_under b s.definition) is
-fitting_is_played b (moves.Enter e) is =
-    let there = holds_some _ (cell_at b e.scope) (both_right (list_any (comes_to e.scope e.node e.via) b.tokens) _ is) in
-    chained_some _ (cell_at b e.scope) there (λ c. mapped_some _ (removed (comes_to e.scope e.node e.via) b.tokens) (removed_some (comes_to e.scope e.node e.via) b.tokens (both_left (list_any (comes_to e.scope e.node e.via) b.tokens) _ is)))
+fitting_is_played b (moves.Enter e) is = entered_by b e (cell_at b e.scope) is
 fitting_is_played b (moves.Open key) is =
     opened_by b (cell_at b key) (edited (λ x. x.key == key) (in_phase phases.Active []) b.cells) (cells_edited (in_phase phases.Active []) key b (holds_some _ (cell_at b key) is)) is
 fitting_is_played b (moves.Finish key) is =
     mapped_some _ (edited (λ c. c.key == key) (in_phase phases.Completing []) b.cells) (cells_edited (in_phase phases.Completing []) key b (holds_some _ (cell_at b key) is))
-fitting_is_played b (moves.Leave l) is = leaving_some l.owed l.key b (holds_some _ (cell_at b l.key) is)
+fitting_is_played b (moves.Leave l) is =
+    let there = holds_some _ (cell_at b l.key) is in
+    chained_some _ (cell_at b l.key) there (λ c. mapped_some _ (leaving l.owed l.key b) (leaving_some l.owed l.key b there))
 fitting_is_played b (moves.Take t) is =
     let there = holds_some _ (cell_at b t.key) is in
     chained_some _ (cell_at b t.key) there (λ c. mapped_some (with_token c.scope t.flow) (leaving (rest_of c.owed) t.key b) (leaving_some (rest_of c.owed) t.key b there))
+fitting_is_played b (moves.Halt key) is =
+    mapped_some _ (edited (λ c. c.key == key) (in_phase phases.Terminating []) b.cells) (cells_edited (in_phase phases.Terminating []) key b (holds_some _ (cell_at b key) is))
+fitting_is_played b (moves.Gone key) is =
+    mapped_some _ (removed (λ c. c.key == key) b.cells) (removed_some (λ c. c.key == key) b.cells (any_found (λ c. c.key == key) b.cells (holds_some _ (cell_at b key) is)))
 fitting_is_played b (moves.Assign a) is =
+    mapped_some _ (edited (λ c. c.key == a.scope) (with_variable a.name a.value) b.cells) (cells_edited (with_variable a.name a.value) a.scope b (holds_some _ (cell_at b a.scope) is))
+fitting_is_played b (moves.Update a) is =
     mapped_some _ (edited (λ c. c.key == a.scope) (with_variable a.name a.value) b.cells) (cells_edited (with_variable a.name a.value) a.scope b (holds_some _ (cell_at b a.scope) is))
 
 -- other cells alone are changed as a cell leaves

@@ -8,7 +8,10 @@ pub mod MoveOpen
 pub mod MoveFinish
 pub mod MoveLeave
 pub mod MoveTake
+pub mod MoveHalt
+pub mod MoveGone
 pub mod MoveAssign
+pub mod Names
 pub mod Game
 pub mod Forced
 pub mod Effects

@@ -1,12 +1,12 @@
--- A cell begins to complete (BPMN 2.0.2, 13.3.2; a scope: 13.2, where no token is left).
-use Rattle.std.specs.Prelude.{ℕ, ◌==◌, [], Bool, true, false, ◌&&◌, if◌then◌else◌, Option, option_map, option_and_then}
+-- A cell begins to complete (BPMN 2.0.2, 13.3.2; a scope: 13.2 and 13.3.4, where no token is left).
+use Rattle.std.specs.Prelude.{ℕ, ◌==◌, [], Bool, true, false, ◌&&◌, if◌then◌else◌, Option, option_map}
 use Rattle.std.specs.Option.{option_map_or}
 use Rattle.zb_process.specs.declared.model.NodeKind.{NodeKind}
 use Rattle.zb_process.specs.declared.model.NodeKind.TheVariants as kinds
 use Rattle.zb_tokens.specs.Edits.{edited}
 use Rattle.zb_tokens.specs.declared.board.Cell.{Cell}
 use Rattle.zb_tokens.specs.declared.board.Phase.TheVariants as phases
-use Rattle.zb_tokens.specs.Board.{Board, cell_at, model_under, node_with, is_phase, is_root, is_empty, in_phase}
+use Rattle.zb_tokens.specs.Board.{Board, cell_at, model_under, is_at, is_phase, is_scope_in, is_empty, in_phase}
 
 -- a node of this kind waits for nothing once a token has entered it (BPMN 2.0.2, chapter 13: 13.4 gateways, 13.5 events)
 abbrev pub waits_for_nothing : NodeKind → Bool
@@ -24,13 +24,9 @@ waits_for_nothing kinds.ErrorBoundaryEvent = true
 waits_for_nothing kinds.CompensationBoundaryEvent = true
 waits_for_nothing kind = false
 
--- the node of a cell is there, and waits for nothing
-abbrev pub node_goes_on : Board → Cell → Bool
-node_goes_on b c = option_map_or (λ n. waits_for_nothing n.kind) (option_and_then (λ m. node_with m c.node) (model_under b c.definition)) false
-
--- nothing is left that a cell waits for; a root waits for what is in it
+-- nothing is left that a cell waits for; a scope waits for what is in it (BPMN 2.0.2, 13.2 and 13.3.4)
 abbrev pub is_done : Board → Cell → Bool
-is_done b c = if is_root c then is_empty b c.key else node_goes_on b c
+is_done b c = option_map_or (λ m. if is_scope_in m c then is_empty b c.key else is_at m c.node waits_for_nothing) (model_under b c.definition) false
 
 -- when: it is active, and waits for nothing (BPMN 2.0.2, 13.3.2; a process: 13.2)
 abbrev pub fits_finish : Board → ℕ → Bool

@@ -1,5 +1,5 @@
 -- A cell becomes active (BPMN 2.0.2, 13.3.2), and a scope gets a token before its start event.
-use Rattle.std.specs.Prelude.{ℕ, ◌==◌, List, [], ◌∷◌, ◌++◌, Bool, true, false, ◌&&◌, is_some, if◌then◌else◌, Option, Some, option_map, option_and_then}
+use Rattle.std.specs.Prelude.{ℕ, ◌==◌, List, [], ◌∷◌, ◌++◌, Bool, false, ◌&&◌, is_some, if◌then◌else◌, Option, option_map, option_and_then}
 use Rattle.std.specs.Option.{option_map_or}
 use Rattle.zb_process.specs.declared.model.Model.{Model}
 use Rattle.zb_tokens.specs.Edits.{edited}
@@ -7,21 +7,21 @@ use Rattle.zb_tokens.specs.declared.board.Cell.{Cell}
 use Rattle.zb_tokens.specs.declared.board.Token.{Token}
 use Rattle.zb_tokens.specs.declared.board.Spot.TheVariants as spots
 use Rattle.zb_tokens.specs.declared.board.Phase.TheVariants as phases
-use Rattle.zb_tokens.specs.Board.{Board, cell_at, model_under, start_in, is_phase, is_root, in_phase}
+use Rattle.zb_tokens.specs.Board.{Board, cell_at, model_under, start_in, is_phase, is_scope_in, scope_id, in_phase}
 
--- the token before the start event of a process
-abbrev pub start_token : ℕ → Model → List Token
-start_token scope m = option_map_or (λ n. record { scope = scope; spot = spots.BeforeNode n.id } ∷ []) (start_in m []) []
+-- the token before the start event of a scope; any other cell gets none (BPMN 2.0.2, 13.2 and 13.3.4)
+abbrev pub start_tokens : Cell → Model → List Token
+start_tokens c m = if is_scope_in m c then option_map_or (λ n. record { scope = c.key; spot = spots.BeforeNode n.id } ∷ []) (start_in m (scope_id c)) [] else []
 
--- the tokens that a cell gets; None of a root whose model isn't there
+-- the tokens that a cell gets; None where its model isn't there
 abbrev pub first_tokens : Board → Cell → Option (List Token)
-first_tokens b c = if is_root c then option_map (start_token c.key) (model_under b c.definition) else Some []
+first_tokens b c = option_map (start_tokens c) (model_under b c.definition)
 
--- the model of a root is there, and tells which tokens it gets
+-- the model of a cell is there, and tells which tokens it gets
 abbrev pub opens : Board → Cell → Bool
-opens b c = if is_root c then is_some (model_under b c.definition) else true
+opens b c = is_some (model_under b c.definition)
 
--- when: it is activating, and the model of a root is there (BPMN 2.0.2, 13.3.2)
+-- when: it is activating, and its model is there (BPMN 2.0.2, 13.3.2)
 abbrev pub fits_open : Board → ℕ → Bool
 fits_open b key = option_map_or (λ c. is_phase c.phase phases.Activating && opens b c) (cell_at b key) false
 

@@ -95,8 +95,14 @@ pub enum Move {
     Finish(Key),
     Leave(Leave),
     Take(Take),
+    /// A cell is called off, and begins to terminate.
+    Halt(Key),
+    /// A cell has terminated.
+    Gone(Key),
     /// A new variable has a value.
     Assign(Assigned),
+    /// A variable that is there has another value.
+    Update(Assigned),
 }
 
 /// A process is instantiated under a key.

@@ -11,7 +11,7 @@ pub use board::{
     Assigned, Cell, Deployed, Enter, Leave, Mark, Move, Mover, Phase, Spot, Start, Take, Token,
 };
 pub use laws::{
-    doomed_cells_rest, entries_take_one_token, fitting_moves_are_played, models_stay,
-    movers_have_moves, moves_leave_others_alone, moves_of_movers_fit, quiet_games_rest,
-    taken_flows_make_one_token,
+    doomed_cells_end, ended_scopes_are_emptied, entries_take_first_tokens,
+    fitting_moves_are_played, halted_cells_are_emptied, models_stay, movers_have_moves,
+    moves_leave_others_alone, moves_of_movers_fit, quiet_games_rest, taken_flows_make_one_token,
 };

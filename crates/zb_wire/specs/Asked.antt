@@ -1,5 +1,5 @@
--- What a request asks of a partition.
-use Rattle.std.specs.Prelude.{Option, Some, None}
+-- What a request asks for, and of which partition.
+use Rattle.std.specs.Prelude.{ℕ, ◌/◌, ◌^◌, nat_le, ◌&&◌, if◌then◌else◌, Option, Some, None}
 use Rattle.zb_model.specs.declared.record.Command.{Command}
 use Rattle.zb_model.specs.declared.record.Command.TheVariants as commands
 use Rattle.zb_wire.specs.declared.request.Request.{Request}
@@ -9,6 +9,18 @@ use Rattle.zb_wire.specs.declared.request.Request.TheVariants as requests
 abbrev pub command_of : Request → Option Command
 command_of (requests.Deploy m) = Some (commands.DeploymentCreate m)
 command_of (requests.Create c) = Some (commands.ProcessInstanceCreationCreate c)
+command_of (requests.Cancel key) = Some (commands.ProcessInstanceCancel key)
+command_of (requests.Variables u) = Some (commands.VariableDocumentUpdate u)
 command_of (requests.Publish m) = Some (commands.MessagePublish m)
 command_of requests.Tick = None
 command_of (requests.Advance ms) = None
+
+-- the partition that a key names, of n of them; the first one where it names none (Zeebe's layout of keys; the rest own)
+abbrev pub partition_named : ℕ → ℕ → ℕ
+partition_named n key = if nat_le 1 (key / 2 ^ 51) && nat_le (key / 2 ^ 51) n then key / 2 ^ 51 else 1
+
+-- the partition, of n of them, that is asked for the command of a request
+abbrev pub partition_asked : ℕ → Request → ℕ
+partition_asked n (requests.Cancel key) = partition_named n key
+partition_asked n (requests.Variables u) = partition_named n u.scope
+partition_asked n _ = 1

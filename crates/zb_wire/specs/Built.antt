@@ -1,13 +1,12 @@
 -- What of a process model is built so far; a model that has more than that is refused.
-use Rattle.std.specs.Prelude.{ℕ, List, [], codes, Bool, true, false, not, ◌&&◌, is_some, Option, Some, None, option_and_then}
+use Rattle.std.specs.Prelude.{ℕ, List, codes, Bool, true, false, not, ◌&&◌, is_some, Option, Some, None, option_and_then}
 use Rattle.std.specs.Option.{option_map_or, option_or}
-use Rattle.std.specs.Str.{bytes_eq}
 use Rattle.serde_json.specs.Data.{Data}
 use Rattle.serde_json.specs.Find.{get, as_array}
 use Rattle.zb_process.specs.declared.model.NodeKind.{NodeKind}
 use Rattle.zb_process.specs.declared.model.NodeKind.TheVariants as kinds
 use Rattle.zb_reader.specs.Place.{behind, here_unless, place_from}
-use Rattle.zb_reader.specs.Kinds.{text_in, kind_in}
+use Rattle.zb_reader.specs.Kinds.{kind_in}
 use Rattle.zb_wire.specs.declared.built.Piece.{Piece}
 use Rattle.zb_wire.specs.declared.built.Piece.TheVariants as pieces
 
@@ -15,12 +14,20 @@ use Rattle.zb_wire.specs.declared.built.Piece.TheVariants as pieces
 abbrev pub is_built_kind : Option NodeKind → Bool
 is_built_kind (Some kinds.StartEvent) = true
 is_built_kind (Some kinds.EndEvent) = true
+is_built_kind (Some kinds.TerminateEndEvent) = true
+is_built_kind (Some kinds.SubProcess) = true
+is_built_kind (Some kinds.ParallelGateway) = true
+is_built_kind (Some kinds.ThrowEvent) = true
 is_built_kind kind = false
 
--- a node of such a kind that stands in no subprocess, and a flow without a condition (own)
+-- a value has no field of this name
+abbrev pub lacks : List ℕ → Data → Bool
+lacks field d = not (is_some (get field d))
+
+-- a node of such a kind without mappings and multi-instance, and a flow without a condition (own)
 abbrev pub is_built : Piece → Data → Bool
-is_built pieces.Node d = is_built_kind (kind_in d) && bytes_eq (text_in (codes "parent") d) []
-is_built pieces.Flow d = not (is_some (get (codes "conditionExpression") d))
+is_built pieces.Node d = is_built_kind (kind_in d) && lacks (codes "inputs") d && lacks (codes "outputs") d && lacks (codes "multiInstanceLoopCharacteristics") d
+is_built pieces.Flow d = lacks (codes "conditionExpression") d
 
 -- the field of a model that has these pieces
 abbrev pub list_named : Piece → List ℕ

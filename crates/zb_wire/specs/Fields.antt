@@ -4,7 +4,7 @@ use Rattle.std.specs.Option.{option_map_or, option_or}
 use Rattle.std.specs.List.{list_any}
 use Rattle.std.specs.Str.{bytes_eq}
 use Rattle.serde_json.specs.Data.{Data, null, Members, no_members, member}
-use Rattle.serde_json.specs.Find.{get, as_str, as_object}
+use Rattle.serde_json.specs.Find.{get, as_str, as_bool, as_object}
 use Rattle.zb_base.specs.declared.vars.Variable.{Variable}
 use Rattle.zb_process.specs.declared.model.Model.{Model}
 use Rattle.zb_reader.specs.Layout.{model_of}
@@ -51,12 +51,13 @@ abbrev pub unless_good : Bool → List ℕ → Option LineFault
 unless_good good field = if good then None else Some (field_fault field)
 
 -- FIELD (own): the value isn't of this kind, a text (RFC 8259, section 7), a whole number from 0 (RFC 8259, section
--- 6), an object whose members are of the kinds that variables may have (own), or a model by its layout, of which
--- then each node and each flow is built
+-- 6), a truth value (RFC 8259, section 3), an object whose members are of the kinds that variables may have (own), or
+-- a model by its layout, of which then each node and each flow is built
 abbrev pub kind_fault : List ℕ → Kind → Data → Option LineFault
 kind_fault field (kinds.Text most) d = unless_good (is_some (as_str d)) field
 kind_fault field (kinds.Number least most) d = unless_good (is_some (unsigned_of d)) field
 kind_fault field kinds.Partition d = unless_good (is_some (unsigned_of d)) field
+kind_fault field kinds.Flag d = unless_good (is_some (as_bool d)) field
 kind_fault field kinds.Variables d = unless_good (option_map_or all_variables (as_object d) false) field
 kind_fault field kinds.Model d = option_map (place_fault field) (option_or (place_in_model d) (unbuilt_place d))
 
@@ -69,6 +70,7 @@ abbrev pub allows : Given → Kind → Data → Bool
 allows given (kinds.Text most) d = is_short most d
 allows given (kinds.Number least most) d = is_between least most d
 allows given kinds.Partition d = is_between 1 given.partitions d
+allows given kinds.Flag d = true
 allows given kinds.Variables d = is_some (variables_in d)
 allows given kinds.Model d = true
 

@@ -4,8 +4,10 @@ use Rattle.std.specs.List.{find}
 use Rattle.std.specs.Str.{bytes_eq}
 use Rattle.serde_json.specs.Data.{Data}
 use Rattle.zb_exchange_records.specs.declared.message.MessagePublish.{MessagePublish}
+use Rattle.zb_instance_records.specs.declared.happening.VariableDocumentUpdate.{VariableDocumentUpdate}
 use Rattle.zb_instance_records.specs.declared.instance.ProcessInstanceCreationCreate.{ProcessInstanceCreationCreate}
 use Rattle.zb_reader.specs.Kinds.{text_in}
+use Rattle.zb_reader.specs.Layout.{flag_in}
 use Rattle.zb_wire.specs.Variables.{longest_name}
 use Rattle.zb_wire.specs.Fields.{must, may, count_at, short_count_at, variables_of_field, model_at}
 use Rattle.zb_wire.specs.Op.{Op}
@@ -25,6 +27,10 @@ longest_duration = 4000000000000
 -- how long something lasts, in milliseconds (own)
 abbrev pub a_duration : Kind
 a_duration = kinds.Number 0 longest_duration
+
+-- a key: a whole number of 64 bits (own)
+abbrev pub a_key : Kind
+a_key = kinds.Number 0 18446744073709551615
 
 -- a deploy
 abbrev pub deploy : Op
@@ -51,6 +57,32 @@ create = record {
       ∷ may (codes "partition") kinds.Partition
       ∷ [];
   request = λ d. requests.Create (creation_of d);
+}
+
+-- a cancel of an instance
+abbrev pub cancel : Op
+cancel = record {
+  name = codes "cancel";
+  by_hand = false;
+  fields = must (codes "key") a_key ∷ [];
+  request = λ d. requests.Cancel (count_at (codes "key") d);
+}
+
+-- the values that the fields of a variables line ask to be set
+abbrev pub update_of : Data → VariableDocumentUpdate
+update_of d = record { scope = count_at (codes "key") d; local = flag_in (codes "local") false d; variables = variables_of_field (codes "variables") d }
+
+-- a setting of variables
+abbrev pub set_variables : Op
+set_variables = record {
+  name = codes "variables";
+  by_hand = false;
+  fields =
+      must (codes "key") a_key
+      ∷ must (codes "variables") kinds.Variables
+      ∷ may (codes "local") kinds.Flag
+      ∷ [];
+  request = λ d. requests.Variables (update_of d);
 }
 
 -- the message that the fields of a publish ask for
@@ -87,7 +119,7 @@ advance = record {
 
 -- all of them
 abbrev pub ops : List Op
-ops = deploy ∷ create ∷ publish ∷ tick ∷ advance ∷ []
+ops = deploy ∷ create ∷ cancel ∷ set_variables ∷ publish ∷ tick ∷ advance ∷ []
 
 -- an op has this name, and wants no clock that is moved by hand, or that is given
 abbrev pub is_called : Given → List ℕ → Op → Bool

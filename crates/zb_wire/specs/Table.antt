@@ -16,6 +16,8 @@ field_of (fields.May name kind) = may name.now kind
 abbrev pub op_of : OpName → Op
 op_of names.Deploy = rows.deploy
 op_of names.Create = rows.create
+op_of names.Cancel = rows.cancel
+op_of names.Variables = rows.set_variables
 op_of names.Publish = rows.publish
 op_of names.Tick = rows.tick
 op_of names.Advance = rows.advance

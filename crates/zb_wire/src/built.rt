@@ -6,7 +6,7 @@ ghost use Rattle.zb_wire.specs.Built as spec;
 use serde_json::Value as Json;
 use std::alloc::{AllocError, Global};
 use zb_model::{NodeKind, Text};
-use zb_reader::{behind, behind_item, kind_in, text_in};
+use zb_reader::{behind, behind_item, kind_in};
 
 /// What a model is made of.
 #[derive(Clone, Copy)]
@@ -31,17 +31,39 @@ impl Piece {
         ensures { result ≡ spec.is_built self (view value.now) }
     {
         match self {
-            Piece::Node => is_built_kind(kind_in(value)) && text_in(value, "parent") == "",
-            Piece::Flow => value.get("conditionExpression").is_none(),
+            Piece::Node => {
+                is_built_kind(kind_in(value))
+                    && lacks(value, "inputs")
+                    && lacks(value, "outputs")
+                    && lacks(value, "multiInstanceLoopCharacteristics")
+            }
+            Piece::Flow => lacks(value, "conditionExpression"),
         }
     }
+}
+
+// Whether a value has no field of this name.
+fn lacks(value: &Json, field: &str) -> bool
+    ensures { result ≡ spec.lacks field.now (view value.now) }
+{
+    value.get(field).is_none()
 }
 
 // Whether nodes of this kind are built so far.
 fn is_built_kind(kind: Option<NodeKind>) -> bool
     ensures { result ≡ spec.is_built_kind kind }
 {
-    matches!(kind, Some(NodeKind::StartEvent | NodeKind::EndEvent))
+    matches!(
+        kind,
+        Some(
+            NodeKind::StartEvent
+                | NodeKind::EndEvent
+                | NodeKind::TerminateEndEvent
+                | NodeKind::SubProcess
+                | NodeKind::ParallelGateway
+                | NodeKind::ThrowEvent
+        )
+    )
 }
 
 /// The place of the first node of a model that isn't built so far, or else of the first such flow. It takes a

@@ -24,6 +24,8 @@ pub enum Kind {
     Number(u64, u64),
     /// The number of a partition, from 1.
     Partition,
+    /// A truth value.
+    Flag,
     /// An object whose members are variables.
     Variables,
     /// A process model.
@@ -37,9 +39,7 @@ impl Kind {
     {
         match self {
             Kind::Model => place_fault(alloc, field, Text::empty(alloc)),
-            Kind::Text(_) | Kind::Number(_, _) | Kind::Partition | Kind::Variables => {
-                field_fault(alloc, field)
-            }
+            _ => field_fault(alloc, field),
         }
     }
 
@@ -56,6 +56,7 @@ impl Kind {
             Kind::Text(_) => unless(alloc, value.is_string(), field),
             Kind::Number(_, _) => unless(alloc, value.is_u64(), field),
             Kind::Partition => unless(alloc, value.is_u64(), field),
+            Kind::Flag => unless(alloc, value.is_boolean(), field),
             Kind::Variables => {
                 let good = value.as_object().is_some_and(all_variables);
                 unless(alloc, good, field)
@@ -73,7 +74,7 @@ impl Kind {
             Kind::Number(least, most) => is_between(value, least, most),
             Kind::Partition => is_between(value, 1, u64::from(given.partitions)),
             Kind::Variables => value.as_object().is_some_and(all_within),
-            Kind::Model => true,
+            Kind::Flag | Kind::Model => true,
         }
     }
 }

@@ -1,12 +1,12 @@
 ghost use Rattle.std.specs.Prelude.{◌≡◌, IfOk};
 ghost use Rattle.serde_json.specs.View.{view};
-ghost use Rattle.zb_wire.specs.Ops.{creation_of, message_of};
+ghost use Rattle.zb_wire.specs.Ops.{creation_of, update_of, message_of};
 
 use crate::values::{count_at, short_count_at, variables_at};
 use serde_json::Value as Json;
 use std::alloc::{AllocError, Global};
-use zb_model::{MessagePublish, ProcessInstanceCreationCreate, Text};
-use zb_reader::text_in;
+use zb_model::{Key, MessagePublish, ProcessInstanceCreationCreate, Text, VariableDocumentUpdate};
+use zb_reader::{flag_in, text_in};
 
 /// The instance that the fields of a create ask for.
 pub fn creation_in(alloc: Global, value: &Json) -> Result<ProcessInstanceCreationCreate, AllocError>
@@ -15,6 +15,17 @@ pub fn creation_in(alloc: Global, value: &Json) -> Result<ProcessInstanceCreatio
     Ok(ProcessInstanceCreationCreate {
         process: Text::of(alloc, text_in(value, "process"))?,
         version: short_count_at(value, "version"),
+        variables: variables_at(alloc, value, "variables")?,
+    })
+}
+
+/// The values that the fields of a variables line ask to be set.
+pub fn update_in(alloc: Global, value: &Json) -> Result<VariableDocumentUpdate, AllocError>
+    ensures { IfOk result (λ update. update ≡ update_of (view value.now)) }
+{
+    Ok(VariableDocumentUpdate {
+        scope: Key::new(count_at(value, "key")),
+        local: flag_in(value, "local", false),
         variables: variables_at(alloc, value, "variables")?,
     })
 }

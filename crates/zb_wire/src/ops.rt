@@ -5,12 +5,13 @@ ghost use Rattle.zb_wire.specs.Table.{field_of, op_of};
 
 use crate::fields::Field;
 use crate::kind::Kind;
-use crate::making::{creation_in, message_in};
+use crate::making::{creation_in, message_in, update_in};
 use crate::values::{count_at, model_at};
 use crate::variables::LONGEST_NAME;
 use crate::{Given, Request};
 use serde_json::Value as Json;
 use std::alloc::{AllocError, Global};
+use zb_model::Key;
 
 // The longest time, in milliseconds.
 const LONGEST_DURATION: u64 = 4_000_000_000_000;
@@ -24,6 +25,9 @@ const NAME: Kind = Kind::Text(LONGEST_NAME);
 // A time to wait.
 const DURATION: Kind = Kind::Number(0, LONGEST_DURATION);
 
+// A key.
+const KEY: Kind = Kind::Number(0, u64::MAX);
+
 const DEPLOY: [Field; 1] = [Field::Must("model", Kind::Model)];
 
 const CREATE: [Field; 4] = [
@@ -31,6 +35,14 @@ const CREATE: [Field; 4] = [
     Field::May("version", Kind::Number(0, GREATEST_VERSION)),
     Field::May("variables", Kind::Variables),
     Field::May("partition", Kind::Partition),
+];
+
+const CANCEL: [Field; 1] = [Field::Must("key", KEY)];
+
+const VARIABLES: [Field; 3] = [
+    Field::Must("key", KEY),
+    Field::Must("variables", Kind::Variables),
+    Field::May("local", Kind::Flag),
 ];
 
 const PUBLISH: [Field; 5] = [
@@ -50,6 +62,8 @@ const ADVANCE: [Field; 1] = [Field::Must("ms", DURATION)];
 pub enum OpName {
     Deploy,
     Create,
+    Cancel,
+    Variables,
     Publish,
     Tick,
     Advance,
@@ -64,6 +78,8 @@ impl OpName {
         match name {
             "deploy" => Some(OpName::Deploy),
             "create" => Some(OpName::Create),
+            "cancel" => Some(OpName::Cancel),
+            "variables" => Some(OpName::Variables),
             "publish" => Some(OpName::Publish),
             "tick" => Some(OpName::Tick),
             "advance" if given.manual => Some(OpName::Advance),
@@ -78,6 +94,8 @@ impl OpName {
         match self {
             OpName::Deploy => &DEPLOY,
             OpName::Create => &CREATE,
+            OpName::Cancel => &CANCEL,
+            OpName::Variables => &VARIABLES,
             OpName::Publish => &PUBLISH,
             OpName::Tick => &TICK,
             OpName::Advance => &ADVANCE,
@@ -91,6 +109,8 @@ impl OpName {
         match self {
             OpName::Deploy => Ok(Request::Deploy(model_at(alloc, value, "model")?)),
             OpName::Create => Ok(Request::Create(creation_in(alloc, value)?)),
+            OpName::Cancel => Ok(Request::Cancel(Key::new(count_at(value, "key")))),
+            OpName::Variables => Ok(Request::Variables(update_in(alloc, value)?)),
             OpName::Publish => Ok(Request::Publish(message_in(alloc, value)?)),
             OpName::Tick => Ok(Request::Tick),
             OpName::Advance => Ok(Request::Advance(count_at(value, "ms"))),

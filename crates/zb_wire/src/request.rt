@@ -1,12 +1,19 @@
 ghost use Rattle.std.specs.Prelude.{◌≡◌};
 
-use zb_model::{Command, MessagePublish, Model, ProcessInstanceCreationCreate, Text};
+use zb_model::{
+    Command, Key, MessagePublish, Model, ProcessInstanceCreationCreate, Text,
+    VariableDocumentUpdate,
+};
 
 /// What a line asks for.
 #[derive(Drop)]
 pub enum Request {
     Deploy(Model),
     Create(ProcessInstanceCreationCreate),
+    /// To end the instance of this key.
+    Cancel(Key),
+    /// To set variables.
+    Variables(VariableDocumentUpdate),
     Publish(MessagePublish),
     /// To go on with what is due.
     Tick,
@@ -24,6 +31,8 @@ impl Request {
         match self {
             Request::Deploy(model) => Some(Command::DeploymentCreate(model)),
             Request::Create(creation) => Some(Command::ProcessInstanceCreationCreate(creation)),
+            Request::Cancel(key) => Some(Command::ProcessInstanceCancel(key)),
+            Request::Variables(update) => Some(Command::VariableDocumentUpdate(update)),
             Request::Publish(message) => Some(Command::MessagePublish(message)),
             Request::Tick | Request::Advance(_) => None,
         }

@@ -1,6 +1,7 @@
 ghost use Rattle.std.specs.Prelude.{◌≡◌, Some, None, OnOk, IsErrOf};
-ghost use Rattle.zb_tokens.specs.MoveAssign.{fits_assign, play_assign};
+ghost use Rattle.zb_tokens.specs.MoveAssign.{fits_assign, fits_update, play_assign};
 
+use crate::game::names::has_name;
 use crate::{Game, GameFault};
 use zb_tokens::Assigned;
 
@@ -10,12 +11,19 @@ impl Game {
         ensures { result ≡ fits_assign self.now a.now }
     {
         match self.cell(a.scope) {
-            Some(cell) => cell.variables.get(a.name.as_str()).is_none(),
+            Some(cell) => !has_name(a.name.as_str(), cell),
             None => false,
         }
     }
 
-    // Plays that a variable gets its first value.
+    // Whether a variable may get another value.
+    pub(super) fn fits_update(&self, a: &Assigned) -> bool
+        ensures { result ≡ fits_update self.now a.now }
+    {
+        self.has_name(a.scope, a.name.as_str())
+    }
+
+    // Plays that a variable gets a value, its first or another one.
     pub(super) fn assign(&mut self, a: Assigned) -> Result<(), GameFault>
         ensures played { OnOk result (play_assign self.old a ≡ Some self.new) }
         ensures illegal { IsErrOf result GameFault.Illegal → play_assign self.old a ≡ None }

@@ -1,18 +1,22 @@
-// What changes on the board, and with it what is kept beside the board. Where memory runs out halfway, what is kept
-// counts no more.
-ghost use Rattle.std.specs.Prelude.{◌≡◌, ℕ, true, ◌==◌, ◌<◌, ◌++◌, ◌∷◌, [], Some, None, OnOk, IsErrOf, length, option_map};
-ghost use Rattle.std.specs.List.{remove};
-ghost use Rattle.zb_tokens.specs.Board.{in_phase};
-ghost use Rattle.zb_tokens.specs.Edits.{edited, removed};
+// How models and cells change on the board, and with them what is kept beside the board. Where memory runs out
+// halfway, what is kept counts no more.
+ghost use Rattle.std.specs.Prelude.{◌≡◌, ℕ, true, false, ◌==◌, ◌++◌, ◌∷◌, [], Some, None, OnOk, IsErrOf, option_map};
+ghost use Rattle.std.specs.Option.{option_map_or};
+ghost use Rattle.zb_tokens.specs.declared.board.Phase.TheVariants as phases;
+ghost use Rattle.zb_tokens.specs.Board.{in_phase, is_phase};
+ghost use Rattle.zb_tokens.specs.Doom.{calls_off};
+ghost use Rattle.zb_tokens.specs.Edits.{edited};
 ghost use Rattle.zb_tokens.specs.MoveAssign.{with_variable};
-ghost use Rattle.zb_game.specs.Indexed.{is_ready};
+ghost use Rattle.zb_tokens.specs.MoveLeave.{with_end};
+ghost use Rattle.zb_game.specs.Indexed.{is_kept};
 
-use crate::inside::{one_less, one_more};
+use crate::inside::one_cell_more;
+use crate::keys::keep;
 use crate::{Game, GameFault};
 use std::alloc::AllocError;
 use zb_base::{Key, List, Text, Value};
 use zb_table::{Table, comes_last, place_among};
-use zb_tokens::{Cell, Deployed, Phase, Token};
+use zb_tokens::{Cell, Deployed, Phase};
 
 impl Game {
     // Adds a model.
@@ -29,6 +33,7 @@ impl Game {
 
     // Adds a cell. It may go on by itself.
     pub(super) fn add_cell(&mut self, cell: Cell) -> Result<(), AllocError>
+        requires { calls_off cell ≡ false }
         ensures { OnOk result (self.new ≡ record self.old { cells = self.old.cells ++ cell ∷ [] }) }
     {
         let key = cell.key;
@@ -36,8 +41,8 @@ impl Game {
         let ascends = self.ascends && comes_last(key, &self.cells);
         self.ascends = false;
         self.cells.push(cell)?;
-        one_more(&mut self.inside, scope)?;
-        self.ready.add(key)?;
+        one_cell_more(&mut self.inside, scope)?;
+        keep(&mut self.ready, key)?;
         self.ascends = ascends;
         Ok(())
     }
@@ -56,10 +61,29 @@ impl Game {
         let Some(place) = place_among(key, &self.cells, self.ascends) else {
             return Err(GameFault::Illegal);
         };
-        self.ready.add(key)?;
+        let ascends = self.ascends;
+        self.ascends = false;
+        keep(&mut self.ready, key)?;
+        note_phase(&mut self.calling, key, phase)?;
         let cell = &mut self.cells[place];
         cell.phase = phase;
         cell.owed = owed;
+        self.ascends = ascends;
+        Ok(())
+    }
+
+    // Ends a cell, if it is there: what is in it is called off.
+    pub(super) fn put_ending(&mut self, key: Key) -> Result<(), AllocError>
+        ensures { OnOk result (self.new ≡ record self.old { cells = option_map_or (λ cells. cells) (edited (λ c. c.key == key) with_end self.old.cells) self.old.cells }) }
+    {
+        let Some(place) = place_among(key, &self.cells, self.ascends) else {
+            return Ok(());
+        };
+        let ascends = self.ascends;
+        self.ascends = false;
+        keep(&mut self.calling, key)?;
+        self.cells[place].ending = true;
+        self.ascends = ascends;
         Ok(())
     }
 
@@ -83,61 +107,16 @@ impl Game {
         self.ascends = ascends;
         Ok(())
     }
-
-    // Takes away a cell. Its scope may go on then. Those behind it move up.
-    pub(super) fn take_away(&mut self, key: Key) -> Result<(), GameFault>
-        ensures gone { OnOk result (option_map (λ cells. record self.old { cells = cells }) (removed (λ c. c.key == key) self.old.cells) ≡ Some self.new) }
-        ensures none { IsErrOf result GameFault.Illegal → removed (λ c. c.key == key) self.old.cells ≡ None }
-        ensures kept { IsErrOf result GameFault.Illegal → self.new ≡ self.old }
-    {
-        let Some(place) = place_among(key, &self.cells, self.ascends) else {
-            return Err(GameFault::Illegal);
-        };
-        let around = self.cells[place].scope;
-        let ascends = self.ascends;
-        self.ascends = false;
-        let left = one_less(&mut self.inside, around)?;
-        wake(&mut self.ready, around, left)?;
-        self.cells.remove(place);
-        self.ascends = ascends;
-        self.look_at(key);
-        Ok(())
-    }
-
-    // Adds a token. Its scope may rest then.
-    pub(super) fn add_token(&mut self, token: Token) -> Result<(), AllocError>
-        ensures { OnOk result (self.new ≡ record self.old { tokens = self.old.tokens ++ token ∷ [] }) }
-    {
-        let scope = token.scope;
-        let ascends = self.ascends;
-        self.ascends = false;
-        self.tokens.push(token)?;
-        one_more(&mut self.inside, scope)?;
-        self.ascends = ascends;
-        self.look_at(scope);
-        Ok(())
-    }
-
-    // Takes away the token at a place. Its scope may go on then. Those behind it move up.
-    pub(super) fn take_token(&mut self, place: usize) -> Result<(), AllocError>
-        requires { place < length self.old.tokens }
-        ensures { OnOk result (self.new ≡ record self.old { tokens = remove self.old.tokens place }) }
-    {
-        let scope = self.tokens[place].scope;
-        let ascends = self.ascends;
-        self.ascends = false;
-        let left = one_less(&mut self.inside, scope)?;
-        wake(&mut self.ready, scope, left)?;
-        self.tokens.remove(place);
-        self.ascends = ascends;
-        Ok(())
-    }
 }
 
-// Puts a scope among the ready cells where nothing is left in it.
-fn wake(ready: &mut Table<Key>, scope: Key, left: usize) -> Result<(), AllocError>
-    ensures still { OnOk result ((key : ℕ) → is_ready ready.old key ≡ true → is_ready ready.new key ≡ true) }
-    ensures woken { OnOk result (left ≡ 0 → is_ready ready.new scope ≡ true) }
+// Puts a cell among those that call off what is in them where it is put in a phase that does.
+fn note_phase(calling: &mut Table<Key>, key: Key, phase: Phase) -> Result<(), AllocError>
+    ensures still { OnOk result ((other : ℕ) → is_kept calling.old other ≡ true → is_kept calling.new other ≡ true) }
+    ensures noted { OnOk result (is_phase phase phases.Terminating ≡ true → is_kept calling.new key ≡ true) }
 {
-    if left == 0 { ready.add(scope) } else { Ok(()) }
+    if phase == Phase::Terminating {
+        keep(calling, key)
+    } else {
+        Ok(())
+    }
 }

@@ -1,13 +1,28 @@
-ghost use Rattle.std.specs.Prelude.{◌≡◌};
+ghost use Rattle.std.specs.Prelude.{◌≡◌, true, false, All};
 ghost use Rattle.zb_tokens.specs.Doom.{calls_off, is_called_off, is_doomed};
 
 use crate::Game;
 use zb_base::Key;
+use zb_table::Query;
 use zb_tokens::{Cell, Phase};
 
 impl Game {
-    // Whether a cell or one above it calls off what is in it.
+    // Whether a cell or one above it calls off what is in it. It takes constant time where none is kept that does.
     pub(super) fn is_called_off(&self, key: Key) -> bool
+        ensures { result ≡ is_called_off self.now.cells self.now key }
+    {
+        !self.has_none_calling() && self.is_called_off_above(key)
+    }
+
+    // Whether it is known that no cell calls off what is in it.
+    pub(super) fn has_none_calling(&self) -> bool
+        ensures { result ≡ true → All (λ c. calls_off c ≡ false) self.now.cells }
+    {
+        self.ascends && !self.calling.any(&Each)
+    }
+
+    // The same, up the scopes.
+    fn is_called_off_above(&self, key: Key) -> bool
         ensures { result ≡ is_called_off self.now.cells self.now key }
     {
         let mut key = key;
@@ -38,4 +53,15 @@ fn calls_off(cell: &Cell) -> bool
     ensures { result ≡ calls_off cell.now }
 {
     cell.phase == Phase::Terminating || cell.ending
+}
+
+// Each key.
+struct Each;
+
+impl Query<Key> for Each {
+    ghost passes = { λ _ _. true };
+
+    fn passes(&self, _key: &Key) -> bool {
+        true
+    }
 }

@@ -1,15 +1,12 @@
 ghost use Rattle.std.specs.Prelude.{◌≡◌, Some, None, OnOk, IsErrOf};
-ghost use Rattle.zb_tokens.specs.Board.{is_empty};
-ghost use Rattle.zb_tokens.specs.MoveFinish.{fits_finish, node_goes_on, is_done, play_finish, waits_for_nothing};
-ghost use Rattle.zb_game.specs.Indexed.{goes_on_at};
+ghost use Rattle.zb_tokens.specs.MoveFinish.{fits_finish, is_done, play_finish};
+ghost use Rattle.zb_game.specs.Indexed.{is_done_in};
 
-use crate::inside::counted_in;
-use crate::lookups::{has_cell_in, has_token_in};
+use crate::kinds::{goes_on_at, is_scope_in};
 use crate::{Game, GameFault};
 use std::alloc::Global;
 use zb_base::{Key, List};
 use zb_graph::Graph;
-use zb_process::NodeKind;
 use zb_tokens::{Cell, Phase};
 
 impl Game {
@@ -27,31 +24,20 @@ impl Game {
     pub(super) fn is_done(&self, cell: &Cell) -> bool
         ensures { result ≡ is_done self.now cell.now }
     {
-        if cell.scope == Key::new(0) {
-            self.is_empty(cell.key)
-        } else {
-            self.goes_on(cell)
-        }
-    }
-
-    // Whether the node of a cell is there, and waits for nothing.
-    fn goes_on(&self, cell: &Cell) -> bool
-        ensures { result ≡ node_goes_on self.now cell.now }
-    {
         match self.model(cell.definition) {
-            Some(model) => goes_on_at(model, cell.node.as_str()),
+            Some(model) => self.is_done_in(model, cell),
             None => false,
         }
     }
 
-    // Whether nothing runs in a cell, and no token is in it. Where the keys ascend, the number of what is in it is kept.
-    pub(super) fn is_empty(&self, key: Key) -> bool
-        ensures { result ≡ is_empty self.now key }
+    // Whether in its model nothing is left that a cell waits for.
+    pub(super) fn is_done_in(&self, model: &Graph, cell: &Cell) -> bool
+        ensures { result ≡ is_done_in model.now self.now cell.now }
     {
-        if self.ascends {
-            counted_in(&self.inside, key) == 0
+        if is_scope_in(model, cell) {
+            self.is_empty(cell.key)
         } else {
-            !has_cell_in(key, &self.cells) && !has_token_in(key, &self.tokens)
+            goes_on_at(model, cell.node.as_str())
         }
     }
 
@@ -62,36 +48,5 @@ impl Game {
         ensures kept { IsErrOf result GameFault.Illegal → self.new ≡ self.old }
     {
         self.put_in_phase(key, Phase::Completing, List::empty(alloc))
-    }
-}
-
-// Whether the node with an id is there, and waits for nothing.
-pub(super) fn goes_on_at(model: &Graph, id: &str) -> bool
-    ensures { result ≡ goes_on_at model.now id.now }
-{
-    match model.node_with(id) {
-        Some(node) => waits_for_nothing(node.kind),
-        None => false,
-    }
-}
-
-// Whether a node of this kind waits for nothing once a token has entered it.
-fn waits_for_nothing(kind: NodeKind) -> bool
-    ensures { result ≡ waits_for_nothing kind }
-{
-    match kind {
-        NodeKind::StartEvent
-        | NodeKind::MessageStartEvent
-        | NodeKind::EndEvent
-        | NodeKind::TerminateEndEvent
-        | NodeKind::ExclusiveGateway
-        | NodeKind::ParallelGateway
-        | NodeKind::ThrowEvent
-        | NodeKind::DateBoundaryEvent
-        | NodeKind::DurationBoundaryEvent
-        | NodeKind::MessageBoundaryEvent
-        | NodeKind::ErrorBoundaryEvent
-        | NodeKind::CompensationBoundaryEvent => true,
-        _ => false,
     }
 }

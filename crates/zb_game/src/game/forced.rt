@@ -1,19 +1,23 @@
-ghost use Rattle.std.specs.Prelude.{◌≡◌, position};
+ghost use Rattle.std.specs.Prelude.{◌≡◌, ◌<◌, length, position, slice_get, Some};
 ghost use Rattle.std.specs.Option.{option_copied};
-ghost use Rattle.zb_tokens.specs.Forced.{can_enter, entry_at, goes_on_in, is_forced, next_mover};
+ghost use Rattle.zb_tokens.specs.declared.board.Token.{Token};
+ghost use Rattle.zb_tokens.specs.Forced.{can_enter, ends_in, entry_at, goes_on_in, is_forced, next_mover};
 ghost use Rattle.zb_game.specs.Searches.{enters_by, is_forced_at, is_newer, key_in, newest_key};
 
 use crate::Game;
+use crate::flows::way_by;
 use zb_base::Key;
 use zb_graph::Graph;
 use zb_table::Query;
-use zb_tokens::{Cell, Mover, Phase, Spot, Token};
+use zb_tokens::{Cell, Mover, Phase, Spot};
 
 impl Game {
-    /// Who is forced to move next; `None` where the game is quiet. Where the keys ascend, it goes through the cells
-    /// that may go on by themselves, from the greatest key down to the first that is forced, and through no others;
-    /// where they don't, through all. Where no cell is forced it goes through the tokens up to the first that can
-    /// enter. To see whether a cell or a token moves costs what `fits` does. Nothing is copied.
+    /// Who is forced to move next; `None` where the game is quiet. Where the keys ascend and no cell is terminating or
+    /// ended, it goes through the cells that may go on by themselves, from the greatest key down to the first that is
+    /// forced, and through no others; else through all. Where no cell is forced it goes through the tokens up to the
+    /// first that can enter. To see whether a cell moves costs what `fits` does. So does a token, but that no other one
+    /// is searched for, except where it comes to a gateway at which flows join, and as many tokens are in its scope as
+    /// flows lead in. Nothing is copied.
     pub fn next_mover(&self) -> Option<Mover>
         ensures { result ≡ next_mover self.now }
     {
@@ -26,11 +30,12 @@ impl Game {
         }
     }
 
-    // The greatest key of the cells that are forced. Where the keys ascend, it is among the ready ones.
+    // The greatest key of the cells that are forced. Where the keys ascend and nobody is called off, it is among the
+    // ready ones.
     fn newest_key(&self) -> Option<Key>
         ensures { result ≡ newest_key self.now }
     {
-        if self.ascends {
+        if self.ascends && self.has_none_calling() {
             return self.ready.last_key(&Forced { game: self });
         }
         match self.newest_forced() {
@@ -63,18 +68,26 @@ impl Game {
         best
     }
 
-    // Where the first token is that can enter.
-    fn first_entering(&self) -> Option<usize>
-        ensures { result ≡ position (can_enter self.now) self.now.tokens }
-    {
-        self.tokens.iter().position(|token| self.can_enter(token))
-    }
-
-    // Whether a cell goes on by itself, and nothing calls it off.
+    // Whether a cell is forced: it goes on by itself, or ends where it is doomed.
     fn is_forced(&self, cell: &Cell) -> bool
         ensures { result ≡ is_forced self.now cell.now }
     {
-        self.goes_on_by_itself(cell) && !self.is_doomed(cell)
+        if self.is_doomed(cell) {
+            self.ends(cell)
+        } else {
+            self.goes_on_by_itself(cell)
+        }
+    }
+
+    // Whether a doomed cell ends in its phase.
+    fn ends(&self, cell: &Cell) -> bool
+        ensures { result ≡ ends_in self.now cell.now cell.now.phase }
+    {
+        match cell.phase {
+            Phase::Leaving => false,
+            Phase::Terminating => !self.has_child(cell.key),
+            Phase::Activating | Phase::Active | Phase::Completing => true,
+        }
     }
 
     // Whether a cell goes on by itself.
@@ -87,31 +100,52 @@ impl Game {
             Phase::Active => self.is_done(cell),
             Phase::Completing => true,
             Phase::Leaving => !cell.owed.as_slice().is_empty(),
-            Phase::Terminating => false,
+            Phase::Terminating => !self.has_child(cell.key),
         }
     }
 
-    // Whether a token can enter the node that it has come to.
-    fn can_enter(&self, token: &Token) -> bool
-        ensures { result ≡ can_enter self.now token.now }
+    // Where the first token is that can enter.
+    fn first_entering(&self) -> Option<usize>
+        ensures { result ≡ position (can_enter self.now) self.now.tokens }
     {
-        let Some(cell) = self.cell(token.scope) else {
+        for place in 0..self.tokens.len() {
+            if self.can_enter(place) {
+                return Some(place);
+            }
+        }
+        None
+    }
+
+    // Whether the token at a place can enter the node that it has come to.
+    fn can_enter(&self, place: usize) -> bool
+        requires { place < length self.now.tokens }
+        ensures { (token : Token) → slice_get self.now.tokens place ≡ Some token → result ≡ can_enter self.now token }
+    {
+        let scope = self.tokens[place].scope;
+        let Some(cell) = self.cell(scope) else {
             return false;
         };
         let Some(model) = self.model(cell.definition) else {
             return false;
         };
-        self.can_enter_in(model, token)
+        self.can_enter_in(model, place)
     }
 
-    // Whether a token can enter the node that it has come to in a model.
-    fn can_enter_in(&self, model: &Graph, token: &Token) -> bool
-        ensures { result ≡ enters_by self.now token.now.scope (entry_at model.now token.now.spot) }
+    // Whether the token at a place can enter the node that it has come to in a model. It stands there itself.
+    fn can_enter_in(&self, model: &Graph, place: usize) -> bool
+        requires { place < length self.now.tokens }
+        ensures { (token : Token) → slice_get self.now.tokens place ≡ Some token
+            → result ≡ enters_by model.now self.now token.scope (entry_at model.now token.spot) }
     {
+        let token = &self.tokens[place];
         match &token.spot {
-            Spot::BeforeNode(node) => self.may_enter(token.scope, node.as_str(), ""),
+            Spot::BeforeNode(node) => self.lets_in(model, token.scope, node.as_str(), "", true),
             Spot::OnFlow(id) => match model.flow_with(id.as_str()) {
-                Some(flow) => self.may_enter(token.scope, flow.to.as_str(), id.as_str()),
+                Some(flow) => {
+                    let node = flow.to.as_str();
+                    let via = way_by(model, node, id.as_str());
+                    self.lets_in(model, token.scope, node, via, !via.is_empty())
+                }
                 None => false,
             },
         }

@@ -1,7 +1,8 @@
 ghost use Rattle.std.specs.Prelude.{◌≡◌, Some, None, IfOk, OnOk, IsErrOf};
-ghost use Rattle.zb_tokens.specs.MoveLeave.{are_among, fits_leave, flows_of, leaving, owed_by, play_leave};
+ghost use Rattle.zb_tokens.specs.MoveLeave.{are_among, ends_scope, fits_leave, flows_of, leaving, owed_by, play_leave, scope_ended};
 
 use crate::flows::{are_among_flows, flows_out};
+use crate::kinds::terminates_at;
 use crate::{Game, GameFault};
 use std::alloc::{AllocError, Global};
 use zb_base::{Key, List, Text};
@@ -45,13 +46,43 @@ impl Game {
         }
     }
 
-    // Plays that a cell has completed.
+    // Plays that a cell has completed. At a terminate end event it ends its scope.
     pub(super) fn leave(&mut self, l: Leave) -> Result<(), GameFault>
         ensures played { OnOk result (play_leave self.old l ≡ Some self.new) }
         ensures illegal { IsErrOf result GameFault.Illegal → play_leave self.old l ≡ None }
         ensures kept { IsErrOf result GameFault.Illegal → self.new ≡ self.old }
     {
-        self.leaving(l.key, l.owed)
+        let Some(cell) = self.cell(l.key) else {
+            return Err(GameFault::Illegal);
+        };
+        let scope = cell.scope;
+        let ends = self.ends_scope(cell);
+        self.leaving(l.key, l.owed)?;
+        if ends {
+            self.end(scope)?;
+        }
+        Ok(())
+    }
+
+    // Whether a cell is at a terminate end event.
+    fn ends_scope(&self, cell: &Cell) -> bool
+        ensures { result ≡ ends_scope self.now cell.now }
+    {
+        if cell.scope == Key::new(0) {
+            return false;
+        }
+        match self.model(cell.definition) {
+            Some(model) => terminates_at(model, cell.node.as_str()),
+            None => false,
+        }
+    }
+
+    // Ends a scope, and empties it.
+    fn end(&mut self, scope: Key) -> Result<(), AllocError>
+        ensures { OnOk result (self.new ≡ scope_ended scope self.old) }
+    {
+        self.put_ending(scope)?;
+        self.empty_scope(scope)
     }
 
     // A cell leaves and owes these flows; where there are none it is gone.

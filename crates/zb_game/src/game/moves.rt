@@ -1,8 +1,9 @@
 ghost use Rattle.std.specs.Prelude.{◌≡◌, ℕ, IfOk};
-ghost use Rattle.zb_tokens.specs.Forced.{entry_at, entry_of, move_in, move_of, take_first};
+ghost use Rattle.zb_tokens.specs.Forced.{end_in, entry_at, entry_of, move_at, move_in, move_of, take_first};
 ghost use Rattle.zb_game.specs.Searches.{entry_by};
 
 use crate::Game;
+use crate::flows::way_by;
 use std::alloc::{AllocError, Global};
 use zb_base::{Key, Text, TryCopy};
 use zb_graph::Graph;
@@ -10,14 +11,14 @@ use zb_tokens::{Cell, Enter, Leave, Move, Mover, Phase, Spot, Take, Token};
 
 impl Game {
     /// The move of a mover, where a cell that begins gets this key; `None` where the mover isn't there or does
-    /// nothing. A cell or a model is found as in `fits`; it goes through the flows out of a node, and the texts of the
-    /// move are copied.
+    /// nothing. A cell or a model is found as in `fits`; it goes up the scopes where a cell is terminating or ended,
+    /// and through the flows out of a node, and the texts of the move are copied.
     pub fn move_of(&self, alloc: Global, key: Key, mover: Mover) -> Result<Option<Move>, AllocError>
         ensures { (moment : ℕ) → IfOk result (λ move. move ≡ move_of self.now moment key mover) }
     {
         match mover {
             Mover::Cell(cell) => match self.cell(cell) {
-                Some(cell) => self.move_in(alloc, cell),
+                Some(cell) => self.move_at(alloc, cell),
                 None => Ok(None),
             },
             Mover::Token(place) => match self.tokens.get(place) {
@@ -25,6 +26,16 @@ impl Game {
                 None => Ok(None),
             },
         }
+    }
+
+    // What a cell does by itself, or how it ends where it is doomed.
+    fn move_at(&self, alloc: Global, cell: &Cell) -> Result<Option<Move>, AllocError>
+        ensures { IfOk result (λ move. move ≡ move_at self.now cell.now) }
+    {
+        if self.is_doomed(cell) {
+            return Ok(end_of(cell));
+        }
+        self.move_in(alloc, cell)
     }
 
     // What a cell does by itself in its phase.
@@ -42,7 +53,7 @@ impl Game {
                 })))
             }
             Phase::Leaving => take_first(alloc, cell.key, cell.owed.as_slice()),
-            Phase::Terminating => Ok(None),
+            Phase::Terminating => Ok(Some(Move::Gone(cell.key))),
         }
     }
 
@@ -57,6 +68,17 @@ impl Game {
             return Ok(None);
         };
         entry_in(alloc, model, key, token)
+    }
+}
+
+// How a doomed cell ends in its phase.
+fn end_of(cell: &Cell) -> Option<Move>
+    ensures { result ≡ end_in cell.now cell.now.phase }
+{
+    match cell.phase {
+        Phase::Leaving => None,
+        Phase::Terminating => Some(Move::Gone(cell.key)),
+        Phase::Activating | Phase::Active | Phase::Completing => Some(Move::Halt(cell.key)),
     }
 }
 
@@ -96,8 +118,8 @@ fn entry_in(
         }
         Spot::OnFlow(id) => match model.flow_with(id.as_str()) {
             Some(flow) => {
+                let via = Text::of(alloc, way_by(model, flow.to.as_str(), id.as_str()))?;
                 let node = flow.to.copy(alloc)?;
-                let via = id.copy(alloc)?;
                 let scope = token.scope;
                 Ok(Some(Move::Enter(Enter {
                     key,

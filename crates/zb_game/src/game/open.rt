@@ -1,7 +1,9 @@
 ghost use Rattle.std.specs.Prelude.{◌≡◌, ◌∷◌, [], Some, None, IfOk, OnOk, IsErrOf};
 ghost use Rattle.std.specs.Option.{option_map_or};
+ghost use Rattle.zb_tokens.specs.Board.{scope_id};
 ghost use Rattle.zb_tokens.specs.MoveOpen.{fits_open, first_tokens, opens, play_open};
 
+use crate::kinds::is_scope_in;
 use crate::{Game, GameFault};
 use std::alloc::Global;
 use zb_base::{Key, List, TryCopy};
@@ -18,15 +20,11 @@ impl Game {
         }
     }
 
-    // Whether the model of a cell is there, if the cell is a root.
+    // Whether the model of a cell is there.
     pub(super) fn opens(&self, cell: &Cell) -> bool
         ensures { result ≡ opens self.now cell.now }
     {
-        if cell.scope == Key::new(0) {
-            self.model(cell.definition).is_some()
-        } else {
-            true
-        }
+        self.model(cell.definition).is_some()
     }
 
     // Plays that a cell becomes active.
@@ -57,13 +55,13 @@ impl Game {
         ensures known { IfOk result (λ token. first_tokens self.now cell.now ≡ Some (option_map_or (λ t. t ∷ []) token [])) }
         ensures none { IsErrOf result GameFault.Illegal → first_tokens self.now cell.now ≡ None }
     {
-        if cell.scope != Key::new(0) {
-            return Ok(None);
-        }
         let Some(model) = self.model(cell.definition) else {
             return Err(GameFault::Illegal);
         };
-        let Some(start) = model.start_in("") else {
+        if !is_scope_in(model, cell) {
+            return Ok(None);
+        }
+        let Some(start) = model.start_in(scope_id(cell)) else {
             return Ok(None);
         };
         let id = start.id.copy(alloc)?;
@@ -71,5 +69,16 @@ impl Game {
             scope: cell.key,
             spot: Spot::BeforeNode(id),
         }))
+    }
+}
+
+// The id of a scope, which its nodes have as their parent.
+fn scope_id(cell: &Cell) -> &str
+    ensures { result.now ≡ scope_id cell.now }
+{
+    if cell.scope == Key::new(0) {
+        ""
+    } else {
+        cell.node.as_str()
     }
 }

@@ -3,7 +3,7 @@ ghost use Rattle.std.specs.Prelude.{◌≡◌};
 ghost use Rattle.zb_game.specs.Indexed.{is_awake, rests_in, stays_active};
 
 use crate::Game;
-use crate::game::finish::goes_on_at;
+use crate::keys::forget;
 use zb_base::Key;
 use zb_tokens::{Cell, Phase};
 
@@ -13,7 +13,7 @@ impl Game {
         ensures { self.new ≡ self.old }
     {
         if !self.is_awake(key) {
-            self.ready.remove(key);
+            forget(&mut self.ready, key);
         }
     }
 
@@ -37,19 +37,16 @@ impl Game {
             Phase::Active => self.stays_active(cell),
             Phase::Completing => false,
             Phase::Leaving => cell.owed.as_slice().is_empty(),
-            Phase::Terminating => true,
+            Phase::Terminating => self.has_child(cell.key),
         }
     }
 
-    // Whether an active cell rests: something is in a root, or the node of another cell is there and waits.
+    // Whether an active cell rests: its model is there, and it waits for something.
     fn stays_active(&self, cell: &Cell) -> bool
         ensures { result ≡ stays_active self.now cell.now }
     {
-        if cell.scope == Key::new(0) {
-            return !self.is_empty(cell.key);
-        }
         match self.model(cell.definition) {
-            Some(model) => !goes_on_at(model, cell.node.as_str()),
+            Some(model) => !self.is_done_in(model, cell),
             None => false,
         }
     }

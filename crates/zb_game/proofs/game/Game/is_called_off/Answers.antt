@@ -1,17 +1,8 @@
-use Rattle.std.proofs.Common.{◌≡◌, true, false, sym, ◌∙◌, rules}
-use Rattle.zb_tokens.specs.Doom.{calls_off}
-use Rattle.zb_game.proofs.ScopeLemmas.{called_off-at, called_off-above, called_off-none}
+use Rattle.std.proofs.Common.{◌≡◌, true, not, ap, sym, ◌∙◌, rules}
+use Rattle.zb_game.proofs.ScopeLemmas.{none_called}
 use Rattle.zb_game.proofs.game.Game.is_called_off.Goals as goal
 
-pub returns-then-calls_off : goal.returns-then-calls_off
-returns-then-calls_off c =
-    let is : calls_off c.in-Some.cell.now ≡ true = search rules in
-    sym (called_off-at c.args.self.now c.loop-step.key c.loop-step._step c.in-Some.cell.now (search rules) (sym c.in-Some.ensures) is) ∙ c.loop-step.invariant
-
-pub returns-in-None : goal.returns-in-None
-returns-in-None c = sym (called_off-none c.args.self.now c.loop-step.key c.loop-step._step (sym c.in-None.ensures)) ∙ c.loop-step.invariant
-
-pub loop-step-preserved : goal.loop-step-preserved
-loop-step-preserved c =
-    let is : calls_off c.in-Some.cell.now ≡ false = search rules in
-    sym (called_off-above c.args.self.now c.loop-step.key c.loop-step._step c.in-Some.cell.now (search rules) (sym c.in-Some.ensures) is) ∙ c.loop-step.invariant
+pub returns-else-not-has_none_calling : goal.returns-else-not-has_none_calling
+returns-else-not-has_none_calling c =
+    let none : c.has_none_calling.result ≡ true = search rules in
+    ap not none ∙ sym (none_called c.args.self.now (c.has_none_calling.ensures none) c.args.self.now.cells c.args.key)

@@ -1,0 +1,40 @@
+// What is in a cell. Where the keys ascend, the numbers of it are kept.
+ghost use Rattle.std.specs.Prelude.{◌≡◌};
+ghost use Rattle.zb_tokens.specs.Board.{has_child, is_empty};
+ghost use Rattle.zb_game.specs.Searches.{has_token};
+
+use crate::Game;
+use crate::inside::{cells_counted, tokens_counted};
+use crate::lookups::{has_cell_in, has_token_in};
+use zb_base::Key;
+
+impl Game {
+    // Whether nothing runs in a cell, and no token is in it.
+    pub(super) fn is_empty(&self, key: Key) -> bool
+        ensures { result ≡ is_empty self.now key }
+    {
+        !self.has_child(key) && !self.has_token(key)
+    }
+
+    // Whether something runs in a cell.
+    pub(super) fn has_child(&self, key: Key) -> bool
+        ensures { result ≡ has_child self.now key }
+    {
+        if self.ascends {
+            cells_counted(&self.inside, key) != 0
+        } else {
+            has_cell_in(key, &self.cells)
+        }
+    }
+
+    // Whether a token is in a cell.
+    pub(super) fn has_token(&self, key: Key) -> bool
+        ensures { result ≡ has_token self.now key }
+    {
+        if self.ascends {
+            tokens_counted(&self.inside, key) != 0
+        } else {
+            has_token_in(key, &self.tokens)
+        }
+    }
+}

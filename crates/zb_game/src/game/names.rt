@@ -1,0 +1,74 @@
+ghost use Rattle.std.specs.Prelude.{◌≡◌, ◌||◌, false, option_map};
+ghost use Rattle.std.specs.Option.{option_map_or};
+ghost use Rattle.zb_tokens.specs.Board.{cell_at, is_root};
+ghost use Rattle.zb_tokens.specs.MoveAssign.{has_name};
+ghost use Rattle.zb_tokens.specs.Names.{holder_of};
+
+use crate::Game;
+use zb_base::Key;
+use zb_tokens::{Cell, Phase};
+
+impl Game {
+    /// The cell that has a name, from this one on up, or else the root; `None` where one of them isn't there. It goes
+    /// up the scopes, through the variables of each; a cell is found as in `fits`.
+    pub fn holder_of(&self, scope: Key, name: &str) -> Option<Key>
+        ensures { result ≡ holder_of self.now scope name.now }
+    {
+        let mut key = scope;
+        for _step in 0..self.cells.len() {
+            let Some(cell) = self.cell(key) else {
+                return None;
+            };
+            if holds(name, cell) {
+                return Some(key);
+            }
+            key = cell.scope;
+        }
+        None
+    }
+
+    /// Whether a cell is there and has a variable with this name. It goes through the variables of the cell, which is
+    /// found as in `fits`.
+    pub fn has_name(&self, scope: Key, name: &str) -> bool
+        ensures { result ≡ option_map_or (has_name name.now) (cell_at self.now scope) false }
+    {
+        match self.cell(scope) {
+            Some(cell) => has_name(name, cell),
+            None => false,
+        }
+    }
+
+    /// Whether a cell is there and is a root. It is found as in `fits`.
+    pub fn is_instance(&self, key: Key) -> bool
+        ensures { result ≡ option_map_or is_root (cell_at self.now key) false }
+    {
+        match self.cell(key) {
+            Some(cell) => cell.scope == Key::new(0),
+            None => false,
+        }
+    }
+
+    /// Where in its life a cell is. It is found as in `fits`.
+    pub fn phase_of(&self, key: Key) -> Option<Phase>
+        ensures { result ≡ option_map (λ c. c.phase) (cell_at self.now key) }
+    {
+        match self.cell(key) {
+            Some(cell) => Some(cell.phase),
+            None => None,
+        }
+    }
+}
+
+// Whether a value that is handed up under a name stays in this cell: it has the name, or is a root.
+fn holds(name: &str, cell: &Cell) -> bool
+    ensures { result ≡ (has_name name.now cell.now || is_root cell.now) }
+{
+    has_name(name, cell) || cell.scope == Key::new(0)
+}
+
+// Whether a cell has a variable with this name.
+pub(super) fn has_name(name: &str, cell: &Cell) -> bool
+    ensures { result ≡ has_name name.now cell.now }
+{
+    cell.variables.get(name).is_some()
+}

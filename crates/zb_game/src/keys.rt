@@ -1,0 +1,22 @@
+// Keys that are kept.
+ghost use Rattle.std.specs.Prelude.{◌≡◌, ℕ, true, false, ◌==◌, OnOk};
+ghost use Rattle.zb_game.specs.Indexed.{is_kept};
+
+use std::alloc::AllocError;
+use zb_base::Key;
+use zb_table::Table;
+
+/// Keeps a key beside the others. It costs what `Table::add` does.
+pub fn keep(keys: &mut Table<Key>, key: Key) -> Result<(), AllocError>
+    ensures kept { OnOk result (is_kept keys.new key ≡ true) }
+    ensures others { OnOk result ((other : ℕ) → is_kept keys.old other ≡ true → is_kept keys.new other ≡ true) }
+{
+    keys.add(key)
+}
+
+/// Keeps a key no longer, and the others still. It costs what `Table::remove` does.
+pub fn forget(keys: &mut Table<Key>, key: Key)
+    ensures { (other : ℕ) → (other == key) ≡ false → is_kept keys.old other ≡ true → is_kept keys.new other ≡ true }
+{
+    keys.remove(key);
+}

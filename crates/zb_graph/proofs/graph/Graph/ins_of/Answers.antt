@@ -1,0 +1,9 @@
+use Rattle.std.proofs.Common.{◌∙◌}
+use Rattle.std.specs.Str.{bytes_eq}
+use Rattle.zb_process.specs.declared.model.Model.{Model}
+use Rattle.zb_process.specs.declared.model.Flow.{Flow}
+use Rattle.zb_graph.proofs.PlaceLemmas.{items_kept}
+use Rattle.zb_graph.proofs.graph.Graph.ins_of.Goals as goal
+
+pub returns-clause-flows : goal.returns-clause-flows
+returns-clause-flows c = items_kept (λ (f : Flow). bytes_eq f.to c.args.id.now) (λ (m : Model). m.flows) c.self.inside.model c.args.self.now c.at.result.now c.self.view_is (c.at.ensures ∙ c.self.invariant.flows_in c.args.id.now)

@@ -1,0 +1,61 @@
+-- Each cell of a board of a log has a holder of each name: its scopes go up to a root, each with a lesser key.
+use Rattle.std.proofs.Common.{◌≡◌, ℕ, ◌+◌, ◌<◌, ◌≤◌, ◌==◌, nat_le, length, count_by, List, [], ◌∷◌, Bool, true, false, ◌||◌, cond, if◌then◌else◌, Some, All, refl, arith}
+use Rattle.std.specs.List.{find}
+use Rattle.std.proofs.lemmas.Bool.{or_parts}
+use Rattle.std.proofs.lemmas.Bool.Decides.{nat_tests}
+use Rattle.std.proofs.lemmas.List.Sums.{sum_by-cons, count_by-le-length}
+use Rattle.zb_tokens.specs.declared.board.Cell.{Cell}
+use Rattle.zb_tokens.specs.Board.{Board, CellsAscend, cell_at, is_root}
+use Rattle.zb_tokens.specs.MoveAssign.{has_name}
+use Rattle.zb_tokens.specs.Names.{holder_from, holder_of}
+use Rattle.zb_tokens.specs.GameLaws.{holds_some, found_holds}
+use Rattle.zb_rules.specs.Sound.{IsHolder, holds_others}
+use Rattle.zb_rules.specs.MadeLaws.{is_keyed}
+use Rattle.zb_rules.specs.AppliedLaws.{some_of}
+use Rattle.zb_rules.specs.PlacedLaws.{InScope, inner_scope, key_found}
+use Rattle.zb_rules.specs.MoversLaws.{found_key}
+
+-- how many of some cells have a key up to this one
+abbrev upto : ℕ → List Cell → ℕ
+upto key cells = count_by (λ (c : Cell). nat_le c.key key) cells
+
+upto_step : (key : ℕ) (c : Cell) (cells : List Cell) → upto key (c ∷ cells) ≡ cond (nat_le c.key key) 1 0 + upto key cells
+upto_step key c cells = sum_by-cons (λ (x : Cell). cond (nat_le x.key key) 1 0) c cells
+
+upto_more : (j k : ℕ) (cells : List Cell) → j ≤ k → upto j cells ≤ upto k cells
+upto_more j k [] below = omega arith
+upto_more j k (c ∷ cells) below = grind (arith, nat_tests, upto_step j c cells, upto_step k c cells, upto_more j k cells below)
+
+-- one more where a cell has the greater key
+module _ (j k : ℕ) (below : j < k) where
+  upto_by : (x c : Cell) (cells : List Cell) (t : Bool) → (x.key == k) ≡ t → (find (is_keyed k) cells ≡ Some c → upto j cells + 1 ≤ upto k cells) → (if t then Some x else find (is_keyed k) cells) ≡ Some c → upto j (x ∷ cells) + 1 ≤ upto k (x ∷ cells)
+  upto_by x c cells true same later found = grind (arith, nat_tests, upto_step j x cells, upto_step k x cells, upto_more j k cells (omega arith))
+  upto_by x c cells false other later found = grind (arith, nat_tests, upto_step j x cells, upto_step k x cells, later found)
+
+  upto_one : (cells : List Cell) (c : Cell) → find (is_keyed k) cells ≡ Some c → upto j cells + 1 ≤ upto k cells
+  upto_one [] c found = absurd (cc)
+  upto_one (x ∷ cells) c found = upto_by x c cells (x.key == k) refl (upto_one cells c) found
+
+module _ (b : Board) (up : CellsAscend 1 b.cells) (scopes : All (InScope b) b.cells) (name : List ℕ) where
+  holder_by : (fuel : List Cell) (key : ℕ) (c : Cell) (t : Bool) → cell_at b key ≡ Some c → upto key b.cells ≤ length fuel + 1 → (has_name name c || is_root c) ≡ t
+      → ((x : Cell) → cell_at b c.scope ≡ Some x → upto c.scope b.cells ≤ length fuel → IsHolder b name (holder_from fuel b c.scope name)) → IsHolder b name (if t then Some key else holder_from fuel b c.scope name)
+  holder_by fuel key c true found enough holds later = record { key = key; cell = c; is = refl; there = found; holds = holds }
+  holder_by fuel key c false found enough none later =
+      let inner = (or_parts (has_name name c) (is_root c) none).1 in
+      let scope = inner_scope b c (found_holds (is_keyed key) (InScope b) b.cells c scopes found).0 inner in
+      let around = some_of (cell_at b c.scope) (holds_some (holds_others b) (cell_at b c.scope) scope.0) in
+      let less = scope.1 in
+      let same = key_found b key c found in
+      let fewer = upto_one c.scope key (omega arith) b.cells c found in
+      later around.0 around.1 (omega arith)
+
+  -- the cells that are left are enough to go up from a cell
+  holder_found : (fuel : List Cell) (key : ℕ) (c : Cell) → cell_at b key ≡ Some c → upto key b.cells ≤ length fuel → IsHolder b name (holder_from fuel b key name)
+  holder_found [] key c found enough =
+      let above = found_key 1 key b.cells c up found in
+      absurd (let more = upto_one 0 key (omega arith) b.cells c found in omega arith)
+  holder_found (more ∷ fuel) key c found enough = rw found (holder_by fuel key c (has_name name c || is_root c) found (omega arith) refl (holder_found fuel c.scope))
+
+  -- a cell that is there has a holder of the name
+  pub holder_there : (key : ℕ) (c : Cell) → cell_at b key ≡ Some c → IsHolder b name (holder_of b key name)
+  holder_there key c found = holder_found b.cells key c found (count_by-le-length (λ (x : Cell). nat_le x.key key) b.cells)
