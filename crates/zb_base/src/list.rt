@@ -37,6 +37,13 @@ impl<T: Drop> List<T> {
         })
     }
 
+    /// The list of these items.
+    pub fn from_vec(items: Vec<T>) -> List<T>
+        ensures { result ≡ items.items }
+    {
+        List { items }
+    }
+
     /// Adds an item at the end. After a refusal nothing has changed, and the item is dropped.
     pub fn push(&mut self, item: T) -> Result<(), AllocError>
         ensures ok { OnOk result (self.new ≡ self.old ++ item ∷ []) }

@@ -13,7 +13,7 @@ use Rattle.zb_expr.specs.Spelling.{is_in, is_decimal, begins_name, first_byte, r
 use Rattle.zb_expr.proofs.SplittingLemmas.{where_some_left}
 use Rattle.zb_expr.specs.Lexical.{are_in, stops, backslashed, BeginsWith, number, word, quoted, sign, long, AreSpelled}
 
-both_true : (a b : Bool) → (a && b) ≡ true → (a ≡ true) × (b ≡ true)
+pub both_true : (a b : Bool) → (a && b) ≡ true → (a ≡ true) × (b ≡ true)
 both_true true true h = (refl, refl)
 both_true true false h = absurd cc
 both_true false b h = absurd cc
@@ -37,7 +37,7 @@ run-rest : (class : Class) (w rest : List ℕ) → are_in class w ≡ true → s
 run-rest class w rest h k = drop_at w rest (prefix_len (is_in class) (w ++ rest)) (sym (run-whole class w rest h k))
 
 -- what stands first is of the class
-run-all : (class : Class) (bs : List ℕ) → are_in class (run_of class bs) ≡ true
+pub run-all : (class : Class) (bs : List ℕ) → are_in class (run_of class bs) ≡ true
 run-all class [] = refl
 run-all class (b ∷ bs) = by_first (is_in class b) refl (run-all class bs)
   where
@@ -58,7 +58,7 @@ run-stops class (b ∷ bs) = by_first (is_in class b) refl (run-stops class bs)
         let next : 1 + prefix_len (is_in class) bs ≡ suc (prefix_len (is_in class) bs) = omega arith in
         rw next h
 
-run-split : (class : Class) (bs : List ℕ) → bs ≡ run_of class bs ++ behind_run class bs
+pub run-split : (class : Class) (bs : List ℕ) → bs ≡ run_of class bs ++ behind_run class bs
 run-split class bs = sym (take-append-drop (prefix_len (is_in class) bs) bs)
 
 -- a text in quotes, with what stands behind it
@@ -98,7 +98,7 @@ raw_by b bs so_far c rest false false e f h k l =
     let found = l h in
     (b ∷ found.0, found.1 ∙ append_assoc so_far (b ∷ []) found.0, rw (e, f) (ap (λ (x : List ℕ). b ∷ x) found.2))
 
-quoted-gives : (e : Bool) (bs so_far c rest : List ℕ) → quoted_after e so_far bs ≡ Some (c, rest) → Left e bs so_far c rest
+pub quoted-gives : (e : Bool) (bs so_far c rest : List ℕ) → quoted_after e so_far bs ≡ Some (c, rest) → Left e bs so_far c rest
 quoted-gives true [] so_far c rest h = absurd cc
 quoted-gives false [] so_far c rest h = absurd cc
 quoted-gives true (b ∷ bs) so_far c rest h = escaped_by b bs so_far c rest ((b == 34) || (b == 92)) refl h (quoted-gives false bs (so_far ++ b ∷ []) c rest)
@@ -144,7 +144,7 @@ read-standing t text behind (number d ds e all ends is) =
 read-standing t text behind (word b bs e begins all ends is) =
     rw e (word_by b ((b ∷ bs) ++ behind) (b ∷ bs) behind t begins (run-front classes.Word (b ∷ bs) behind all ends) (run-rest classes.Word (b ∷ bs) behind all ends) is)
 read-standing t text behind (quoted content e is) =
-    rw (e, quoted-on content [] behind) (ap (λ (o : Option Token). with_behind o behind) is)
+    rw (e, quoted-on content [] behind) (ap (λ (x : Token). Some (x, behind)) is)
 read-standing t text behind (sign b e short is) =
     rw e (sign_at_byte b behind (sign_not_decimal b t is) (sign_no_name b t is) (sign_no_quote b t is) ∙ rw short (ap (λ (o : Option Token). with_behind o behind) is))
 read-standing t text behind (long b c o e is same) =
@@ -161,11 +161,11 @@ behind_gives (Some u) r behind t h =
     let pair = some_pair (u, r) (t, behind) h in
     (ap (λ (p : Token × List ℕ). Some p.0) pair, ap (λ (p : Token × List ℕ). p.1) pair)
 
-quote_gives : (found : Option (List ℕ × List ℕ)) (behind : List ℕ) (t : Token) → (found >>= (λ x. with_behind (text_token x.0) x.1)) ≡ Some (t, behind) → (content : List ℕ) × (found ≡ Some (content, behind)) × (text_token content ≡ Some t)
+quote_gives : (found : Option (List ℕ × List ℕ)) (behind : List ℕ) (t : Token) → ◌>>=◌ {B = Token × List ℕ} found (λ x. Some (text_token x.0, x.1)) ≡ Some (t, behind) → (content : List ℕ) × (found ≡ Some (content, behind)) × (text_token content ≡ t)
 quote_gives None behind t h = absurd cc
 quote_gives (Some x) behind t h =
-    let both = behind_gives (text_token x.0) x.1 behind t h in
-    (x.0, ap (λ (r : List ℕ). Some (x.0, r)) both.1, both.0)
+    let pair = some_pair (text_token x.0, x.1) (t, behind) h in
+    (x.0, ap (λ (p : Token × List ℕ). Some (x.0, p.1)) pair, ap (λ (p : Token × List ℕ). p.0) pair)
 
 sign_by_gives : (b : ℕ) (bs behind : List ℕ) (t : Token) (found : Option Operator) → long_sign b (first_byte bs) ≡ found → sign_by found b bs ≡ Some (t, behind) → BeginsWith t (b ∷ bs) behind
 sign_by_gives b bs behind t None e h =
@@ -194,7 +194,7 @@ standing_by t b bs behind false false true e f g h =
     let found = quote_gives (quoted_after false [] bs) behind t h in
     let left = quoted-gives false bs [] found.0 behind found.1 in
     let same : b ≡ 34 = grind (arith, nat_tests) in
-    quoted left.0 (ap (λ (x : ℕ). x ∷ bs) same ∙ ap (λ (r : List ℕ). 34 ∷ r) left.2) (subst (λ (r : List ℕ). text_token r ≡ Some t) left.1 found.2)
+    quoted left.0 (ap (λ (x : ℕ). x ∷ bs) same ∙ ap (λ (r : List ℕ). 34 ∷ r) left.2) (subst (λ (r : List ℕ). text_token r ≡ t) left.1 found.2)
 standing_by t b bs behind false false false e f g h = sign_by_gives b bs behind t (long_sign b (first_byte bs)) refl h
 
 -- a token that is read stands at the front

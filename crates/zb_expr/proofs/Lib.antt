@@ -8,4 +8,5 @@ pub mod ParsingLemmas
 pub mod RunLemmas
 pub mod SoundLemmas
 pub mod SplittingLemmas
+pub mod Utf8Lemmas
 pub mod Worked

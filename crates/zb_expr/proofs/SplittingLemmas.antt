@@ -1,21 +1,15 @@
 -- What the proofs of splitting a text rest on.
-use Rattle.std.proofs.Common.{◌≡◌, ℕ, zero, suc, ◌+◌, ◌-◌, ◌*◌, ◌<◌, ◌≤◌, Bool, true, false, Option, Some, None, List, [], ◌∷◌, ◌++◌, length, take, drop, cond, slice_index, slice_index_or, refl, lit<, arith}
+use Rattle.std.proofs.Common.{◌≡◌, ℕ, zero, suc, ◌+◌, ◌-◌, ◌*◌, ◌<◌, ◌≤◌, Bool, true, false, Option, Some, List, [], ◌∷◌, ◌++◌, length, take, drop, cond, slice_index, slice_index_or, refl, lit<, arith}
 use Rattle.std.proofs.lemmas.List.Sums.{prefix_len-le-length}
 use Rattle.std.proofs.lemmas.Bool.Decides.{nat_tests}
 use Rattle.std.specs.List.{prefix_len}
-use Rattle.std.proofs.lemmas.Str.{IsUtf8-from_is_utf8, is_utf8-from_IsUtf8, IsUtf8-from_ascii}
-use Rattle.std.specs.Str.{IsUtf8, IsAscii, is_utf8}
+use Rattle.std.proofs.lemmas.Str.{IsUtf8-from_ascii}
+use Rattle.std.specs.Str.{IsUtf8, IsAscii}
 use Rattle.zb_expr.specs.declared.class.Class.TheVariants.{Space, Word}
-use Rattle.zb_expr.specs.declared.token.Leaf.TheVariants as leaves
 use Rattle.zb_expr.specs.declared.token.Token.{Token}
-use Rattle.zb_expr.specs.declared.token.Token.TheVariants as tokens
-use Rattle.zb_expr.specs.Spelling.{text_token, is_in, run_of, decimal_after, token_at, tokens_after, where_left, behind_run}
+use Rattle.zb_expr.specs.Spelling.{is_in, run_of, decimal_after, token_at, tokens_after, where_left, behind_run}
 
 pub ruleset runs = (prefix_len-le-length)
-
-not_utf8 : (bytes : List ℕ) (is : Bool) → is_utf8 bytes ≡ is → (IsUtf8 bytes → ⊥) → is_utf8 bytes ≡ false
-not_utf8 bytes true e h = absurd (h (IsUtf8-from_is_utf8 bytes e))
-not_utf8 bytes false e h = e
 
 byte_below : (b : ℕ) → is_in Word b ≡ true → b < 128
 byte_below b h = grind (arith, nat_tests)
@@ -37,14 +31,6 @@ word_ascii (b ∷ bs) k = word_by b bs (is_in Word b) refl (word_ascii bs) k
 
 pub word_utf8 : (bs : List ℕ) → IsUtf8 (run_of Word bs)
 word_utf8 bs = IsUtf8-from_ascii (run_of Word bs) (word_ascii bs)
-
-pub text_token-good : (t : List ℕ) → IsUtf8 t → text_token t ≡ Some (tokens.Leaf (leaves.Text t))
-text_token-good t h = rw (is_utf8-from_IsUtf8 t h)
-
-pub text_token-bad : (t : List ℕ) → (IsUtf8 t → ⊥) → text_token t ≡ None
-text_token-bad t h = rw (not_utf8 t (is_utf8 t) refl h)
-
-pub ruleset texts = (text_token-good, text_token-bad)
 
 -- further digits make no number less
 pub decimal_after-least : (n : ℕ) (ds : List ℕ) → n ≤ decimal_after n ds

@@ -28,7 +28,7 @@ backslashed (b ∷ bs) = if b == 34 || b == 92 then 92 ∷ b ∷ backslashed bs 
 pub data BeginsWith (t : Token) (text behind : List ℕ) : Type 0 where
   number : (d : ℕ) (ds : List ℕ) → text ≡ (d ∷ ds) ++ behind → are_in classes.Digit (d ∷ ds) ≡ true → stops classes.Digit behind ≡ true → number_token (d ∷ ds) ≡ Some t → BeginsWith t text behind
   word : (b : ℕ) (bs : List ℕ) → text ≡ (b ∷ bs) ++ behind → begins_name b ≡ true → are_in classes.Word (b ∷ bs) ≡ true → stops classes.Word behind ≡ true → word_token (b ∷ bs) ≡ t → BeginsWith t text behind
-  quoted : (content : List ℕ) → text ≡ 34 ∷ (backslashed content ++ 34 ∷ behind) → text_token content ≡ Some t → BeginsWith t text behind
+  quoted : (content : List ℕ) → text ≡ 34 ∷ (backslashed content ++ 34 ∷ behind) → text_token content ≡ t → BeginsWith t text behind
   sign : (b : ℕ) → text ≡ b ∷ behind → long_sign b (first_byte behind) ≡ None → sign_alone b ≡ Some t → BeginsWith t text behind
   long : (b c : ℕ) (o : Operator) → text ≡ b ∷ c ∷ behind → long_sign b (Some c) ≡ Some o → tokens.Operator o ≡ t → BeginsWith t text behind
 

@@ -1,7 +1,6 @@
 -- How a text is split into tokens, from left to right. That it is spelled by these tokens is proved.
 use Rattle.std.specs.Prelude.{ℕ, zero, suc, ◌+◌, ◌-◌, ◌*◌, ◌^◌, nat_lt, ◌==◌, pos, Bool, true, false, not, ◌&&◌, ◌||◌, Option, None, Some, List, [], ◌∷◌, ◌++◌, length, take, drop, codes, if◌then◌else◌}
 use Rattle.std.specs.List.{prefix_len}
-use Rattle.std.specs.Str.{is_utf8}
 use Rattle.std.specs.Ordering.{nat_cmp, is_eq}
 use Rattle.std.specs.Cmp.Lexicographic.{slice_cmp}
 use Rattle.zb_format.specs.Reading.{◌>>=◌}
@@ -71,9 +70,9 @@ word_token w =
     (if are_alike w (codes "true") then tokens.Leaf (leaves.Bool true) else
     (if are_alike w (codes "false") then tokens.Leaf (leaves.Bool false) else tokens.Leaf (leaves.Name w)))))
 
--- the token of a text in quotes, which is UTF-8
-abbrev pub text_token : List ℕ → Option Token
-text_token t = if is_utf8 t then Some (tokens.Leaf (leaves.Text t)) else None
+-- the token of a text in quotes
+abbrev pub text_token : List ℕ → Token
+text_token t = tokens.Leaf (leaves.Text t)
 
 -- the bytes up to the next quote, behind these, and the bytes behind the quote; a backslash stands before what is meant itself
 abbrev pub quoted_after : Bool → List ℕ → List ℕ → Option (List ℕ × List ℕ)
@@ -111,7 +110,7 @@ sign_at b behind = sign_by (long_sign b (first_byte behind)) b behind
 
 -- the token of a text, behind its first quote
 abbrev pub text_at_quote : List ℕ → Option (Token × List ℕ)
-text_at_quote bytes = quoted_after false [] bytes >>= (λ x. with_behind (text_token x.0) x.1)
+text_at_quote bytes = quoted_after false [] bytes >>= (λ x. Some (text_token x.0, x.1))
 
 -- the token that begins with this byte, at the front of these
 abbrev pub token_by : Option ℕ → List ℕ → Option (Token × List ℕ)

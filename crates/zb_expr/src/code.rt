@@ -2,12 +2,14 @@ ghost use Rattle.std.specs.Prelude.{◌≡◌, IsTrue};
 ghost use Rattle.zb_expr.specs.Postfix.{tree_written, writes_one};
 
 use crate::instruction::Instruction;
+use std::alloc::{AllocError, Global};
 use std::marker::Model;
+use zb_base::{List, TryCopy};
 
 /// The postfix code of an expression. Contracts see the expression.
 #[derive(Drop)]
 pub struct Code {
-    instructions: Vec<Instruction>,
+    instructions: List<Instruction>,
 }
 
 impl Model for Code {
@@ -21,16 +23,16 @@ impl Model for Code {
 
     ghost use Rattle.zb_expr.specs.Postfix.{tree_written, writes_one};
 
-    ghost view = { λ c. tree_written c.instructions.items };
+    ghost view = { λ c. tree_written c.instructions };
 
-    ghost invariant = { λ c. IsTrue (writes_one c.instructions.items) };
+    ghost invariant = { λ c. IsTrue (writes_one c.instructions) };
 }
 
 impl Code {
     // The code that these instructions are, which write one tree.
-    pub(crate) fn new(instructions: Vec<Instruction>) -> Code
-        requires { IsTrue (writes_one instructions.items) }
-        ensures { result ≡ tree_written instructions.items }
+    pub(crate) fn new(instructions: List<Instruction>) -> Code
+        requires { IsTrue (writes_one instructions) }
+        ensures { result ≡ tree_written instructions }
     {
         Code { instructions }
     }
@@ -41,5 +43,13 @@ impl Code {
         ensures tree { tree_written result.now ≡ self.now }
     {
         self.instructions.as_slice()
+    }
+}
+
+impl TryCopy for Code {
+    fn copy(&self, alloc: Global) -> Result<Code, AllocError> {
+        Ok(Code {
+            instructions: self.instructions.copy(alloc)?,
+        })
     }
 }

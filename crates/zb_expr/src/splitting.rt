@@ -1,4 +1,5 @@
 ghost use Rattle.std.specs.Prelude.{◌≡◌, ◌<◌, ◌+◌, ◌-◌, ◌*◌, ◌^◌, ◌↔◌, pos, false, [], IfOk, IfSome, IsSome};
+ghost use Rattle.std.specs.Str.{IsUtf8};
 ghost use Rattle.zb_expr.specs.Reading.{ComesAs, Parses, ParsesAs};
 ghost use Rattle.zb_expr.specs.Spelling.{token_at, tokens_of, number_token, word_token, text_at_quote, quoted_after, sign_at, sign_by, sign_alone, sign_and_equal, long_sign, with_behind, decimal_after, run_of, behind_run};
 ghost use Rattle.zb_expr.specs.declared.class.Class.TheVariants as classes;
@@ -31,6 +32,7 @@ pub fn tokens_in(alloc: Global, text: &str) -> Result<Vec<Token>, ExprFault>
 // Reads the first token.
 #[tactic(auto, unfolding(crate::specs::Spelling::token_at))]
 fn read_token(alloc: Global, bytes: &mut Bytes<'_>) -> Result<Token, ExprFault>
+    requires { IsUtf8 bytes.old }
     ensures { Parses (token_at bytes.old) result bytes.new }
 {
     let Some(first) = bytes.first() else {
@@ -118,15 +120,14 @@ fn token_of_word(alloc: Global, word: &str) -> Result<Token, AllocError>
 }
 
 // Reads a text behind its first quote.
-#[tactic(auto, using(crate::proofs::SplittingLemmas::texts))]
 fn read_text(alloc: Global, bytes: &mut Bytes<'_>) -> Result<Token, ExprFault>
+    requires { IsUtf8 bytes.old }
     ensures { Parses (text_at_quote bytes.old) result bytes.new }
 {
     let content = read_quoted(alloc, bytes)?;
-    match str::from_utf8(content.as_slice()) {
-        Ok(text) => Ok(Token::Leaf(Leaf::Text(Text::of(alloc, text)?))),
-        Err(_) => Err(ExprFault::NotExpr),
-    }
+    // What stands in quotes is UTF-8, since the bytes around it are, and the check demands it here.
+    let text = unsafe { str::from_utf8_unchecked(content.as_slice()) };
+    Ok(Token::Leaf(Leaf::Text(Text::of(alloc, text)?)))
 }
 
 // Reads the bytes up to the next quote, and the quote.

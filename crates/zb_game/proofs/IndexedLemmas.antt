@@ -1,12 +1,16 @@
 -- What is kept stays right as the board changes.
-use Rattle.std.proofs.Common.{◌≡◌, ℕ, zero, suc, ◌+◌, ◌-◌, ◌^◌, ◌<◌, ◌≤◌, ◌==◌, List, [], ◌∷◌, ◌++◌, length, All, get_or, slice_set, remove, take, drop, Bool, true, false, if◌then◌else◌, Some, option_map, refl, sym, ap, ◌∙◌, subst, arith}
+use Rattle.std.proofs.Common.{◌≡◌, ℕ, zero, suc, ◌+◌, ◌-◌, ◌^◌, ◌<◌, ◌≤◌, ◌==◌, List, [], ◌∷◌, ◌++◌, length, All, get_or, slice_set, remove, take, drop, filter, Bool, true, false, cond, if◌then◌else◌, Some, option_map, refl, sym, ap, ◌∙◌, subst, arith}
 use Rattle.std.specs.List.{find}
+use Rattle.std.specs.Option.{option_map_or}
 use Rattle.std.proofs.lemmas.Bool.Decides.{nat_tests}
 use Rattle.std.proofs.lemmas.List.Elements.{All-push, All-set, All-weaker, All-append, All-take, All-drop, All-cons}
 use Rattle.zb_process.specs.declared.model.Model.{Model}
 use Rattle.zb_base.specs.declared.vars.Variable.{Variable}
-use Rattle.zb_table.specs.Rows.{Ascend, are_below}
-use Rattle.zb_table.proofs.Ascending.{ascend_more, ascend_set, ascend_remove, finds_own, finds_more, not_below}
+use Rattle.zb_table.specs.Rows.{Ascend, are_below, row_at}
+use Rattle.zb_groups.specs.declared.held.Held.{Held}
+use Rattle.zb_groups.specs.Groups.{numbers_in}
+use Rattle.zb_places.proofs.HeldLemmas.{number_in, scope_of, tokens_more}
+use Rattle.zb_table.proofs.Ascending.{ascend_more, ascend_set, ascend_remove, finds_own, finds_more, not_below, lower}
 use Rattle.zb_tokens.specs.declared.board.Cell.{Cell}
 use Rattle.zb_tokens.specs.declared.board.Token.{Token}
 use Rattle.zb_tokens.specs.declared.board.Deployed.{Deployed}
@@ -15,11 +19,22 @@ use Rattle.zb_tokens.specs.declared.board.Phase.TheVariants as phases
 use Rattle.zb_tokens.specs.Board.{Board, cell_at, model_under}
 use Rattle.zb_tokens.specs.Doom.{calls_off}
 use Rattle.zb_game.specs.declared.inside.Inside.{Inside}
-use Rattle.zb_game.specs.Inside.{cells_counted, tokens_counted, cells_in, tokens_in}
-use Rattle.zb_game.specs.Indexed.{IsIndexed, rests_in, is_awake, is_kept}
+use Rattle.zb_places.specs.Places.{held_tokens, count_in_scope, IsFewer}
+use Rattle.zb_game.specs.Inside.{cells_counted, cells_in, tokens_in}
+use Rattle.zb_game.specs.Indexed.{IsIndexed, rests_in, stays_out, is_awake, is_kept}
 use Rattle.zb_game.proofs.EditLemmas.{mapped_from}
-use Rattle.zb_game.proofs.InsideLemmas.{passing_more, passing_fewer, passing_same, passing_within}
+use Rattle.zb_places.proofs.CountLemmas.{passing_more, passing_fewer, passing_same, passing_within}
 use Rattle.zb_game.proofs.RestLemmas.{fuller, fuller_by_child, IsSeen, IsCalling, seen_on}
+use Rattle.zb_game.proofs.ComingLemmas.{IsAwaited, awaited_on, awaited_model, awaited_cell, awaited_set, awaited_away, awaited_more, awaited_fewer, awaited_looked}
+
+-- without some the others go on ascending
+ascend_filter : {A : Type 0} (key : A → ℕ) (stays : A → Bool) (low : ℕ) (rows : List A) → Ascend key low rows → Ascend key low (filter stays rows)
+ascend_filter key stays low [] up = tt
+ascend_filter key stays low (r ∷ rows) up = by_test (stays r) (ascend_filter key stays (key r + 1) rows up.1)
+  where
+    by_test : (t : Bool) → Ascend key (key r + 1) (filter stays rows) → Ascend key low (cond t (r ∷ filter stays rows) (filter stays rows))
+    by_test true later = (up.0, later)
+    by_test false later = lower key low (key r + 1) (filter stays rows) (omega (arith, up.0)) later
 
 -- the others have other keys than one that goes, where the keys ascend
 all_apart : (low : ℕ) (cells : List Cell) (key : ℕ) → key < low → Ascend (λ (x : Cell). x.key) low cells → All (λ (x : Cell). (x.key == key) ≡ false) cells
@@ -38,7 +53,7 @@ apart_gone low (x ∷ cells) (suc i) c up within at =
     let other : (x.key == c.key) ≡ false = grind (arith, nat_tests, above, key) in
     All-cons (λ (y : Cell). (y.key == c.key) ≡ false) x (remove cells i) other (apart_gone (x.key + 1) cells i c up.1 (omega (arith, within)) at)
 
-module _ (b : Board) (inside : List Inside) (ready calling : List ℕ) (kept : IsIndexed b inside ready calling) where
+module _ (b : Board) (rows : List (Held Token)) (inside : List Inside) (ready calling coming : List ℕ) (kept : IsIndexed b rows inside ready calling coming) where
   -- a scope that something is in has a number, and there is one more
   pub some_cell : (i : ℕ) (c : Cell) → i < length b.cells → c ≡ get_or b.cells i c → 1 ≤ cells_counted inside c.scope
   some_cell i c within at =
@@ -46,33 +61,25 @@ module _ (b : Board) (inside : List Inside) (ready calling : List ℕ) (kept : I
       let some = rw same at (passing_fewer (λ (x : Cell). x.scope == c.scope) b.cells i c within at) in
       omega (arith, kept.cells_right c.scope, some)
 
-  pub some_token : (i : ℕ) (t : Token) → i < length b.tokens → t ≡ get_or b.tokens i t → 1 ≤ tokens_counted inside t.scope
-  some_token i t within at =
-      let same : (t.scope == t.scope) ≡ true = grind (arith, nat_tests) in
-      let some = rw same at (passing_fewer (λ (x : Token). x.scope == t.scope) b.tokens i t within at) in
-      omega (arith, kept.tokens_right t.scope, some)
-
   pub more_cells : (scope : ℕ) → length b.cells < 2 ^ 63 → cells_counted inside scope < 2 ^ 64 - 1
   more_cells scope cells = omega (arith, kept.cells_right scope, cells, passing_within (λ (x : Cell). x.scope == scope) b.cells)
-
-  pub more_tokens : (scope : ℕ) → length b.tokens < 2 ^ 63 → tokens_counted inside scope < 2 ^ 64 - 1
-  more_tokens scope tokens = omega (arith, kept.tokens_right scope, tokens, passing_within (λ (x : Token). x.scope == scope) b.tokens)
 
   -- a cell that calls off what is in it is kept as one
   pub calls_as : (i : ℕ) (c : Cell) → i < length b.cells → c ≡ get_or b.cells i c → IsCalling calling c
   calls_as i c within at = subst (IsCalling calling) (sym at) (kept.called i c within)
 
   -- a model more
-  pub kept_model : (d : Deployed) → are_below (λ (x : Deployed). x.key) d.key b.models ≡ true → IsIndexed (record b { models = b.models ++ d ∷ [] }) inside ready calling
+  pub kept_model : (d : Deployed) → are_below (λ (x : Deployed). x.key) d.key b.models ≡ true → IsIndexed (record b { models = b.models ++ d ∷ [] }) rows inside ready calling coming
   kept_model d below =
       let after : Board = record b { models = b.models ++ d ∷ [] } in
       record {
         models_ascend = ascend_more (λ (x : Deployed). x.key) 0 b.models d (omega arith) kept.models_ascend below;
         cells_ascend = kept.cells_ascend;
+        tokens_ascend = kept.tokens_ascend;
         cells_right = kept.cells_right;
-        tokens_right = kept.tokens_right;
         awake = All-weaker (IsSeen b ready) (IsSeen after ready) (λ c. seen_on b after ready ready c (stays c.definition) (λ is. is, λ is. is) (λ is. is)) b.cells kept.awake;
         called = kept.called;
+        awaited = awaited_model b after coming rows refl refl stays kept.awaited;
       }
     where
       stays : (key : ℕ) (m : Model) → model_under b key ≡ Some m → model_under (record b { models = b.models ++ d ∷ [] }) key ≡ Some m
@@ -83,39 +90,41 @@ module _ (b : Board) (inside : List Inside) (ready calling : List ℕ) (kept : I
 
   -- a cell more
   pub kept_cell : (c : Cell) (inside' : List Inside) (ready' : List ℕ) → are_below (λ (x : Cell). x.key) c.key b.cells ≡ true → calls_off c ≡ false
-      → ((k : ℕ) → cells_counted inside' k ≡ cells_counted inside k + (if c.scope == k then 1 else 0)) → ((k : ℕ) → tokens_counted inside' k ≡ tokens_counted inside k)
+      → ((k : ℕ) → cells_counted inside' k ≡ cells_counted inside k + (if c.scope == k then 1 else 0))
       → ((k : ℕ) → is_kept ready k ≡ true → is_kept ready' k ≡ true) → is_kept ready' c.key ≡ true
-      → IsIndexed (record b { cells = b.cells ++ c ∷ [] }) inside' ready' calling
-  kept_cell c inside' ready' below calls_none more same still put =
+      → IsIndexed (record b { cells = b.cells ++ c ∷ [] }) rows inside' ready' calling coming
+  kept_cell c inside' ready' below calls_none more still put =
       let after : Board = record b { cells = b.cells ++ c ∷ [] } in
       let numbers : (k : ℕ) → cells_in after k ≡ cells_in b k + (if c.scope == k then 1 else 0) = λ k. passing_more (λ (x : Cell). x.scope == k) b.cells c in
       record {
         models_ascend = kept.models_ascend;
         cells_ascend = ascend_more (λ (x : Cell). x.key) 0 b.cells c (omega arith) kept.cells_ascend below;
+        tokens_ascend = kept.tokens_ascend;
         cells_right = λ k. omega (arith, more k, kept.cells_right k, numbers k);
-        tokens_right = λ k. same k ∙ kept.tokens_right k;
         awake = All-push (IsSeen after ready') b.cells c
             (All-weaker (IsSeen b ready) (IsSeen after ready') (λ x. seen_on b after ready ready' x (λ m is. is) (fuller b after x.key (omega (arith, numbers x.key)) (omega arith)) (still x.key)) b.cells kept.awake)
             (λ moves. put);
         called = All-push (IsCalling calling) b.cells c kept.called (λ calls. absurd (cc));
+        awaited = awaited_cell b c coming rows kept.awaited;
       }
 
   -- a cell changed, and seen
-  pub kept_changed : (i : ℕ) (c c' : Cell) (ready' calling' : List ℕ) → i < length b.cells → c ≡ get_or b.cells i c → c'.key ≡ c.key → c'.scope ≡ c.scope
+  pub kept_changed : (i : ℕ) (c c' : Cell) (ready' calling' : List ℕ) → i < length b.cells → c ≡ get_or b.cells i c → c'.key ≡ c.key → c'.scope ≡ c.scope → c'.definition ≡ c.definition
       → ((k : ℕ) → is_kept ready k ≡ true → is_kept ready' k ≡ true) → ((k : ℕ) → is_kept calling k ≡ true → is_kept calling' k ≡ true)
       → IsSeen (record b { cells = slice_set b.cells i c' }) ready' c' → IsCalling calling' c'
-      → IsIndexed (record b { cells = slice_set b.cells i c' }) inside ready' calling'
-  kept_changed i c c' ready' calling' within at key scope still calls_still seen' calls' =
+      → IsIndexed (record b { cells = slice_set b.cells i c' }) rows inside ready' calling' coming
+  kept_changed i c c' ready' calling' within at key scope definition still calls_still seen' calls' =
       let after : Board = record b { cells = slice_set b.cells i c' } in
       let numbers : (k : ℕ) → cells_in after k ≡ cells_in b k = λ k. passing_same (λ (x : Cell). x.scope == k) b.cells i c c' within at (ap (λ (s : ℕ). s == k) scope) in
       record {
         models_ascend = kept.models_ascend;
         cells_ascend = ascend_set (λ (x : Cell). x.key) 0 b.cells i c c' at key kept.cells_ascend;
+        tokens_ascend = kept.tokens_ascend;
         cells_right = λ k. kept.cells_right k ∙ sym (numbers k);
-        tokens_right = kept.tokens_right;
         awake = All-set (IsSeen after ready') b.cells i c' seen'
             (All-weaker (IsSeen b ready) (IsSeen after ready') (λ x. seen_on b after ready ready' x (λ m is. is) (fuller b after x.key (omega (arith, numbers x.key)) (omega arith)) (still x.key)) b.cells kept.awake);
         called = All-set (IsCalling calling') b.cells i c' calls' (All-weaker (IsCalling calling) (IsCalling calling') (λ x called calls. calls_still x.key (called calls)) b.cells kept.called);
+        awaited = awaited_set b i c c' coming rows at key definition kept.awaited;
       }
 
   -- a cell is seen where fewer are in one scope alone, which is put among the ready ones where no cell is left in it
@@ -136,11 +145,12 @@ module _ (b : Board) (inside : List Inside) (ready calling : List ℕ) (kept : I
 
   -- a cell fewer, and its scope seen
   pub kept_away : (i : ℕ) (c : Cell) (inside' : List Inside) (ready' calling' : List ℕ) → i < length b.cells → c ≡ get_or b.cells i c
-      → ((k : ℕ) → cells_counted inside k ≡ cells_counted inside' k + (if c.scope == k then 1 else 0)) → ((k : ℕ) → tokens_counted inside' k ≡ tokens_counted inside k)
+      → ((k : ℕ) → cells_counted inside k ≡ cells_counted inside' k + (if c.scope == k then 1 else 0))
       → ((k : ℕ) → (k == c.key) ≡ false → is_kept ready k ≡ true → is_kept ready' k ≡ true) → ((k : ℕ) → (k == c.key) ≡ false → is_kept calling k ≡ true → is_kept calling' k ≡ true)
       → (cells_counted inside' c.scope ≡ 0 → (c.scope == c.key) ≡ false → is_kept ready' c.scope ≡ true)
-      → IsIndexed (record b { cells = remove b.cells i }) inside' ready' calling'
-  kept_away i c inside' ready' calling' within at fewer same still calls_still woken =
+      → All (λ (h : Held Token). (h.row.scope == c.key) ≡ false) rows
+      → IsIndexed (record b { cells = remove b.cells i }) rows inside' ready' calling' coming
+  kept_away i c inside' ready' calling' within at fewer still calls_still woken none =
       let left : List Cell = remove b.cells i in
       let after : Board = record b { cells = left } in
       let numbers : (k : ℕ) → cells_in b k ≡ cells_in after k + (if c.scope == k then 1 else 0) = λ k. passing_fewer (λ (x : Cell). x.scope == k) b.cells i c within at in
@@ -152,61 +162,76 @@ module _ (b : Board) (inside : List Inside) (ready calling : List ℕ) (kept : I
       record {
         models_ascend = kept.models_ascend;
         cells_ascend = ascend_remove (λ (x : Cell). x.key) 0 b.cells i kept.cells_ascend;
+        tokens_ascend = kept.tokens_ascend;
         cells_right = counts;
-        tokens_right = λ k. same k ∙ kept.tokens_right k;
         awake = λ k d there.
             let x = get_or left k d in
             let other = apart k d there in
             seen_of after c.scope ready' x (λ far. (others x.key far, omega arith)) (still x.key other)
-            (λ none is. subst (λ (n : ℕ). is_kept ready' n ≡ true) is (woken (counts c.scope ∙ none) (subst (λ (n : ℕ). (n == c.key) ≡ false) (sym is) other))) (λ m is. is) (seen_left k d there);
+            (λ empty is. subst (λ (n : ℕ). is_kept ready' n ≡ true) is (woken (counts c.scope ∙ empty) (subst (λ (n : ℕ). (n == c.key) ≡ false) (sym is) other))) (λ m is. is) (seen_left k d there);
         called = λ k d there calls. calls_still (get_or left k d).key (apart k d there) (calling_left k d there calls);
+        awaited = awaited_away b i c coming rows at none kept.awaited;
       }
 
   -- a token more
-  pub kept_token : (t : Token) (inside' : List Inside) → ((k : ℕ) → cells_counted inside' k ≡ cells_counted inside k) → ((k : ℕ) → tokens_counted inside' k ≡ tokens_counted inside k + (if t.scope == k then 1 else 0))
-      → IsIndexed (record b { tokens = b.tokens ++ t ∷ [] }) inside' ready calling
-  kept_token t inside' same more =
-      let after : Board = record b { tokens = b.tokens ++ t ∷ [] } in
-      let numbers : (k : ℕ) → tokens_in after k ≡ tokens_in b k + (if t.scope == k then 1 else 0) = λ k. passing_more (λ (x : Token). x.scope == k) b.tokens t in
+  pub kept_token : (h : Held Token) (coming' : List ℕ) → Ascend number_in 0 (rows ++ h ∷ []) → b.tokens ≡ held_tokens rows → ((k : ℕ) → is_kept coming k ≡ true → is_kept coming' k ≡ true)
+      → ((k : ℕ) → is_kept (numbers_in scope_of h.row.scope (rows ++ h ∷ [])) k ≡ true → is_kept coming' k ≡ true)
+      → IsIndexed (record b { tokens = held_tokens (rows ++ h ∷ []) }) (rows ++ h ∷ []) inside ready calling coming'
+  kept_token h coming' up their still here =
+      let after : Board = record b { tokens = held_tokens (rows ++ h ∷ []) } in
+      let numbers : (k : ℕ) → tokens_in after k ≡ tokens_in b k + (if h.row.scope == k then 1 else 0) = λ k. ap (count_in_scope k) (tokens_more rows h ∙ ap (λ (ts : List Token). ts ++ h.row ∷ []) (sym their)) ∙ passing_more (λ (x : Token). x.scope == k) b.tokens h.row in
       record {
         models_ascend = kept.models_ascend;
         cells_ascend = kept.cells_ascend;
-        cells_right = λ k. same k ∙ kept.cells_right k;
-        tokens_right = λ k. omega (arith, more k, kept.tokens_right k, numbers k);
+        tokens_ascend = up;
+        cells_right = kept.cells_right;
         awake = All-weaker (IsSeen b ready) (IsSeen after ready) (λ x. seen_on b after ready ready x (λ m is. is) (fuller b after x.key (omega arith) (omega (arith, numbers x.key))) (λ is. is)) b.cells kept.awake;
         called = kept.called;
+        awaited = awaited_more b h coming coming' rows their still here kept.awaited;
       }
 
-  -- a token fewer, and its scope seen
-  pub kept_taken : (i : ℕ) (t : Token) (inside' : List Inside) (ready' : List ℕ) → i < length b.tokens → t ≡ get_or b.tokens i t
-      → ((k : ℕ) → cells_counted inside' k ≡ cells_counted inside k) → ((k : ℕ) → tokens_counted inside k ≡ tokens_counted inside' k + (if t.scope == k then 1 else 0))
-      → ((k : ℕ) → is_kept ready k ≡ true → is_kept ready' k ≡ true) → (cells_counted inside' t.scope ≡ 0 → is_kept ready' t.scope ≡ true)
-      → IsIndexed (record b { tokens = remove b.tokens i }) inside' ready' calling
-  kept_taken i t inside' ready' within at same fewer still woken =
-      let after : Board = record b { tokens = remove b.tokens i } in
-      let numbers : (k : ℕ) → tokens_in b k ≡ tokens_in after k + (if t.scope == k then 1 else 0) = λ k. passing_fewer (λ (x : Token). x.scope == k) b.tokens i t within at in
-      let others : (k : ℕ) → (t.scope == k) ≡ false → tokens_in b k ≤ tokens_in after k = λ k other. (let n = rw other at (numbers k) in omega (arith, n)) in
-      let counts : (k : ℕ) → cells_counted inside' k ≡ cells_in after k = λ k. same k ∙ kept.cells_right k in
+  -- tokens fewer in a scope, and that seen
+  pub kept_taken : (scope : ℕ) (left : List (Held Token)) (ready' : List ℕ) → b.tokens ≡ held_tokens rows → IsFewer scope rows left
+      → ((k : ℕ) → is_kept ready k ≡ true → is_kept ready' k ≡ true) → (cells_counted inside scope ≡ 0 → is_kept ready' scope ≡ true)
+      → IsIndexed (record b { tokens = held_tokens left }) left inside ready' calling coming
+  kept_taken scope left ready' their fewer still woken =
+      let after : Board = record b { tokens = held_tokens left } in
+      let others : (k : ℕ) → (scope == k) ≡ false → tokens_in b k ≤ tokens_in after k = λ k other. (let n = fewer.elsewhere k other in let all = ap (count_in_scope k) their in omega (arith, n, all)) in
       record {
         models_ascend = kept.models_ascend;
         cells_ascend = kept.cells_ascend;
-        cells_right = counts;
-        tokens_right = λ k. omega (arith, fewer k, kept.tokens_right k, numbers k);
-        awake = All-weaker (IsSeen b ready) (IsSeen after ready') (λ x. seen_of after t.scope ready' x (λ far. (omega arith, others x.key far)) (still x.key)
-            (λ none is. subst (λ (n : ℕ). is_kept ready' n ≡ true) is (woken (counts t.scope ∙ none))) (λ m is. is)) b.cells kept.awake;
+        tokens_ascend = subst (λ (l : List (Held Token)). Ascend number_in 0 l) (sym fewer.among) (ascend_filter number_in fewer.stays 0 rows kept.tokens_ascend);
+        cells_right = kept.cells_right;
+        awake = All-weaker (IsSeen b ready) (IsSeen after ready') (λ x. seen_of after scope ready' x (λ far. (omega arith, others x.key far)) (still x.key)
+            (λ none is. subst (λ (n : ℕ). is_kept ready' n ≡ true) is (woken (kept.cells_right scope ∙ none))) (λ m is. is)) b.cells kept.awake;
         called = kept.called;
+        awaited = awaited_fewer b coming scope rows left their fewer kept.awaited;
       }
 
+  -- a token that was looked at, and rests or isn't there
+  pub kept_looked_token : (number : ℕ) (coming' : List ℕ) → option_map_or (λ h. stays_out b h.row) (row_at number_in number rows) true ≡ true
+      → ((k : ℕ) → (k == number) ≡ false → is_kept coming k ≡ true → is_kept coming' k ≡ true) → IsIndexed b rows inside ready calling coming'
+  kept_looked_token number coming' rests still = record {
+    models_ascend = kept.models_ascend;
+    cells_ascend = kept.cells_ascend;
+    tokens_ascend = kept.tokens_ascend;
+    cells_right = kept.cells_right;
+    awake = kept.awake;
+    called = kept.called;
+    awaited = awaited_looked b coming coming' number rows rests still kept.tokens_ascend kept.awaited;
+  }
+
   -- a cell that was looked at, and rests or isn't there
-  pub kept_looked : (key : ℕ) (ready' : List ℕ) → is_awake b key ≡ false → ((k : ℕ) → (k == key) ≡ false → is_kept ready k ≡ true → is_kept ready' k ≡ true) → IsIndexed b inside ready' calling
+  pub kept_looked : (key : ℕ) (ready' : List ℕ) → is_awake b key ≡ false → ((k : ℕ) → (k == key) ≡ false → is_kept ready k ≡ true → is_kept ready' k ≡ true) → IsIndexed b rows inside ready' calling coming
   kept_looked key ready' rests still = record {
     models_ascend = kept.models_ascend;
     cells_ascend = kept.cells_ascend;
+    tokens_ascend = kept.tokens_ascend;
     cells_right = kept.cells_right;
-    tokens_right = kept.tokens_right;
     awake = λ k d within moves.
         still (get_or b.cells k d).key (other k d within moves) (kept.awake k d within moves);
     called = kept.called;
+    awaited = kept.awaited;
   }
     where
       by_key : (t : Bool) (k : ℕ) (d : Cell) → k < length b.cells → rests_in b (get_or b.cells k d) (get_or b.cells k d).phase ≡ false → ((get_or b.cells k d).key == key) ≡ t → t ≡ false
@@ -230,11 +255,11 @@ module _ (b : Board) (inside : List Inside) (ready calling : List ℕ) (kept : I
 
   pub kept_within : (i : ℕ) (c : Cell) (variables : List Variable) (ending : Bool) (calling' : List ℕ) → i < length b.cells → c ≡ get_or b.cells i c
       → ((k : ℕ) → is_kept calling k ≡ true → is_kept calling' k ≡ true) → IsCalling calling' (record c { variables = variables; ending = ending })
-      → IsIndexed (record b { cells = slice_set b.cells i (record c { variables = variables; ending = ending }) }) inside ready calling'
+      → IsIndexed (record b { cells = slice_set b.cells i (record c { variables = variables; ending = ending }) }) rows inside ready calling' coming
   kept_within i c variables ending calling' within at calls_still calls' =
       let c' : Cell = record c { variables = variables; ending = ending } in
       let after : Board = record b { cells = slice_set b.cells i c' } in
       let numbers : cells_in after c.key ≡ cells_in b c.key = passing_same (λ (x : Cell). x.scope == c.key) b.cells i c c' within at refl in
       let seen : IsSeen b ready c = subst (IsSeen b ready) (sym at) (kept.awake i c within) in
-      kept_changed i c c' ready calling' within at refl refl (λ k is. is) calls_still
+      kept_changed i c c' ready calling' within at refl refl refl (λ k is. is) calls_still
       (λ moves. seen_on b after ready ready c (λ m is. is) (fuller b after c.key (omega (arith, numbers)) (omega arith)) (λ is. is) seen (sym (same_rest after c variables ending c.phase) ∙ moves)) calls'

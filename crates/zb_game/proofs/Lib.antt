@@ -1,13 +1,15 @@
 pub mod ScopeLemmas
 pub mod EditLemmas
-pub mod EntryLemmas
+pub mod ComingLemmas
+pub mod FirstLemmas
 pub mod FlowLemmas
 pub mod BoardLemmas
 pub mod NewestLemmas
 pub mod InsideLemmas
-pub mod JoinLemmas
 pub mod SweepLemmas
 pub mod KeyLemmas
 pub mod RestLemmas
 pub mod IndexedLemmas
 pub mod ReadyLemmas
+pub mod ExitLemmas
+pub mod MappingLemmas

@@ -1,16 +1,19 @@
 -- The greatest key of the forced cells is the last one of the ready keys that is one of a forced cell.
-use Rattle.std.proofs.Common.{◌≡◌, ℕ, ◌+◌, ◌≤◌, ◌==◌, max, List, [], ◌∷◌, map, filter, get_or, All, Bool, true, false, not, ◌||◌, cond, if◌then◌else◌, Option, Some, None, refl, sym, ap, ◌∙◌, subst, arith}
+use Rattle.std.proofs.Common.{◌≡◌, ℕ, ◌+◌, ◌≤◌, ◌==◌, max, List, [], ◌∷◌, map, filter, get_or, All, Bool, true, false, not, ◌&&◌, ◌||◌, cond, if◌then◌else◌, Option, Some, None, refl, sym, ap, ◌∙◌, subst, arith}
 use Rattle.std.specs.Option.{option_map_or, option_or}
 use Rattle.std.specs.List.{find}
 use Rattle.std.proofs.lemmas.Bool.Decides.{nat_tests}
 use Rattle.std.proofs.lemmas.List.Elements.{All-filter, All-map, All-head, All-tail, filter_passes}
 use Rattle.zb_table.specs.Rows.{Ascend, last_passing}
+use Rattle.zb_groups.specs.declared.held.Held.{Held}
 use Rattle.zb_tokens.specs.declared.board.Cell.{Cell}
+use Rattle.zb_tokens.specs.declared.board.Token.{Token}
 use Rattle.zb_tokens.specs.declared.board.Phase.{Phase}
 use Rattle.zb_tokens.specs.declared.board.Phase.TheVariants as phases
 use Rattle.zb_tokens.specs.Edits.{is_none_of}
 use Rattle.zb_tokens.specs.Board.{Board, cell_at, model_under, has_child}
 use Rattle.zb_tokens.specs.Doom.{is_doomed}
+use Rattle.zb_tokens.specs.Incidents.{is_stuck}
 use Rattle.zb_tokens.specs.Forced.{ends_in, goes_on_in, is_forced, greatest}
 use Rattle.zb_process.specs.declared.model.Model.{Model}
 use Rattle.zb_game.specs.declared.inside.Inside.{Inside}
@@ -21,6 +24,10 @@ use Rattle.zb_table.proofs.Ascending.{finds_own}
 is_not : (t : Bool) → not t ≡ true → t ≡ false
 is_not true is = absurd (cc)
 is_not false is = refl
+
+both : (s t : Bool) → (s && t) ≡ true → t ≡ true
+both true t is = is
+both false t is = absurd (cc)
 
 -- a cell that goes on by itself doesn't rest
 goes_not_rests : (b : Board) (c : Cell) (phase : Phase) → goes_on_in b c phase ≡ true → rests_in b c phase ≡ false
@@ -124,7 +131,7 @@ among_kept p key (x ∷ cells) c found it = by_key (x.key == key) (p x) refl ref
     by_key false true other passes found later = rw other (later found)
     by_key false false other fails found later = later found
 
-module _ (b : Board) (inside : List Inside) (ready calling : List ℕ) (kept : IsIndexed b inside ready calling) (free : (c : Cell) → is_doomed b c ≡ false) where
+module _ (b : Board) (rows : List (Held Token)) (inside : List Inside) (ready calling coming : List ℕ) (kept : IsIndexed b rows inside ready calling coming) (free : (c : Cell) → is_doomed b c ≡ false) where
   -- the key of a forced cell is among the ready ones, and one of a forced cell
   abbrev IsFound : ℕ → Type 0
   IsFound n = (is_kept ready n ≡ true) × (is_forced_at b n ≡ true)
@@ -132,7 +139,8 @@ module _ (b : Board) (inside : List Inside) (ready calling : List ℕ) (kept : I
   forced_found : All (λ c. is_forced b c ≡ true → IsFound c.key) b.cells
   forced_found k d within forced =
       let c = get_or b.cells k d in
-      let goes : goes_on_in b c c.phase ≡ true = sym (ap (λ (t : Bool). if t then ends_in b c c.phase else goes_on_in b c c.phase) (free c)) ∙ forced in
+      let goes_free : (not (is_stuck b c) && goes_on_in b c c.phase) ≡ true = sym (ap (λ (t : Bool). if t then ends_in b c c.phase else not (is_stuck b c) && goes_on_in b c c.phase) (free c)) ∙ forced in
+      let goes : goes_on_in b c c.phase ≡ true = both (not (is_stuck b c)) (goes_on_in b c c.phase) goes_free in
       let found : cell_at b c.key ≡ Some c = finds_own (λ (x : Cell). x.key) 0 b.cells k d within kept.cells_ascend in
       (kept.awake k d within (goes_not_rests b c c.phase goes), rw found forced)
 

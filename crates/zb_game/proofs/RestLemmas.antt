@@ -14,7 +14,7 @@ use Rattle.zb_game.specs.Indexed.{is_done_in, rests_in, is_kept}
 use Rattle.zb_game.proofs.InsideLemmas.{child_counted, token_counted}
 
 -- a law of tests
-back : (s t : Bool) → (s ≡ true → t ≡ true) → t ≡ false → s ≡ false
+pub back : (s t : Bool) → (s ≡ true → t ≡ true) → t ≡ false → s ≡ false
 back true t f is = absurd (let it : t ≡ true = f refl in cc)
 back false t f is = refl
 

@@ -8,7 +8,9 @@ use Rattle.zb_tokens.specs.declared.board.Cell.{Cell}
 use Rattle.zb_tokens.specs.Board.{Board, cell_at, is_root}
 use Rattle.zb_tokens.specs.Doom.{calls_off, is_called_off}
 use Rattle.zb_tokens.specs.MoveAssign.{has_name}
-use Rattle.zb_tokens.specs.Names.{holder_from}
+use Rattle.zb_tokens.specs.Names.{holder_from, value_from}
+use Rattle.zb_base.specs.Vars.{value_named}
+use Rattle.zb_base.specs.declared.value.Value.{Value}
 use Rattle.zb_game.proofs.RestLemmas.{IsCalling}
 
 module _ (b : Board) (key : ℕ) where
@@ -43,6 +45,22 @@ module _ (b : Board) (key : ℕ) (name : List ℕ) where
   pub holder-above : (i : ℕ) (c : Cell) → i < length b.cells → cell_at b key ≡ Some c → (has_name name c || is_root c) ≡ false
       → holder_from (drop i b.cells) b key name ≡ holder_from (drop (i + 1) b.cells) b c.scope name
   holder-above i c within at is = at_drop_more (λ cells. holder_from cells b key name) b.cells i c within ∙ rw (at, is) refl
+
+-- the same for the value of a name
+module _ (b : Board) (key : ℕ) (name : List ℕ) where
+  value_nowhere : (cells : List Cell) → cell_at b key ≡ None → value_from cells b key name ≡ None
+  value_nowhere [] none = refl
+  value_nowhere (more ∷ cells) none = rw none refl
+
+  pub value-none : (i : ℕ) → cell_at b key ≡ None → value_from (drop i b.cells) b key name ≡ None
+  value-none i none = value_nowhere (drop i b.cells) none
+
+  pub value-at : (i : ℕ) (c : Cell) (value : Value) → i < length b.cells → cell_at b key ≡ Some c → value_named name c.variables ≡ Some value → value_from (drop i b.cells) b key name ≡ Some value
+  value-at i c value within at is = at_drop_more (λ cells. value_from cells b key name) b.cells i c within ∙ rw (at, is) refl
+
+  pub value-above : (i : ℕ) (c : Cell) → i < length b.cells → cell_at b key ≡ Some c → value_named name c.variables ≡ None
+      → value_from (drop i b.cells) b key name ≡ value_from (drop (i + 1) b.cells) b c.scope name
+  value-above i c within at is = at_drop_more (λ cells. value_from cells b key name) b.cells i c within ∙ rw (at, is) refl
 
 -- a cell that is found is one of those of which something holds
 all_found : (P : Cell → Type 0) (p : Cell → Bool) (cells : List Cell) (c : Cell) → All P cells → find p cells ≡ Some c → P c

@@ -4,14 +4,17 @@ use Rattle.std.specs.List.{list_any}
 use Rattle.std.specs.Option.{option_map_or}
 use Rattle.zb_process.specs.declared.model.Model.{Model}
 use Rattle.zb_table.specs.Rows.{Ascend}
+use Rattle.zb_groups.specs.declared.held.Held.{Held}
 use Rattle.zb_tokens.specs.declared.board.Cell.{Cell}
+use Rattle.zb_tokens.specs.declared.board.Token.{Token}
 use Rattle.zb_tokens.specs.declared.board.Phase.{Phase}
 use Rattle.zb_tokens.specs.declared.board.Phase.TheVariants as phases
 use Rattle.zb_tokens.specs.Edits.{is_none_of}
 use Rattle.zb_tokens.specs.Board.{Board, cell_at, model_under, is_at, is_scope_in, is_empty, has_child}
 use Rattle.zb_tokens.specs.Doom.{calls_off}
 use Rattle.zb_tokens.specs.MoveFinish.{waits_for_nothing}
-use Rattle.zb_game.specs.Inside.{cells_counted, tokens_counted, cells_in, tokens_in}
+use Rattle.zb_places.specs.Places.{comes_in}
+use Rattle.zb_game.specs.Inside.{cells_counted, cells_in}
 use Rattle.zb_game.specs.declared.inside.Inside.{Inside}
 
 -- in a model nothing is left that an active cell waits for (BPMN 2.0.2, 13.2 and 13.3.4)
@@ -22,7 +25,7 @@ is_done_in m b c = if is_scope_in m c then is_empty b c.key else is_at m c.node 
 abbrev pub stays_active : Board → Cell → Bool
 stays_active b c = option_map_or (λ m. not (is_done_in m b c)) (model_under b c.definition) false
 
--- in a phase a cell rests, whatever models come, where nobody is called off (own)
+-- in a phase a cell rests, whatever models come, where nobody is called off or stuck (own)
 abbrev pub rests_in : Board → Cell → Phase → Bool
 rests_in b c phases.Activating = false
 rests_in b c phases.Active = stays_active b c
@@ -34,15 +37,23 @@ rests_in b c phases.Terminating = has_child b c.key
 abbrev pub is_awake : Board → ℕ → Bool
 is_awake b key = option_map_or (λ c. not (rests_in b c c.phase)) (cell_at b key) false
 
+-- a token rests, whatever models and cells come, where nobody is called off: its cell and its model are there, and the
+-- tokens that it needs to enter its node haven't come (own)
+abbrev pub stays_out : Board → Token → Bool
+stays_out b t = option_map_or (λ c. option_map_or (λ m. not (comes_in m b.tokens t)) (model_under b c.definition) false) (cell_at b t.scope) false
+
 -- a key is among some that are kept (own)
 abbrev pub is_kept : List ℕ → ℕ → Bool
 is_kept keys key = list_any (λ k. k == key) keys
 
--- what is kept is right: the keys ascend, the numbers are those of the board, each cell that doesn't rest is among the ready ones, and each that calls off what is in it among those that do (own)
-pub record IsIndexed (b : Board) (inside : List Inside) (ready calling : List ℕ) : Type 0 where
+-- what is kept is right, where the tokens have these numbers: keys and numbers ascend, the counts of cells are those of the board,
+-- each cell that doesn't rest is among the ready ones, each that calls off what is in it among those that do, and each
+-- token that doesn't rest among the coming ones (own)
+pub record IsIndexed (b : Board) (rows : List (Held Token)) (inside : List Inside) (ready calling coming : List ℕ) : Type 0 where
   pub models_ascend : Ascend (λ d. d.key) 0 b.models
   pub cells_ascend : Ascend (λ c. c.key) 0 b.cells
+  pub tokens_ascend : Ascend (λ h. h.number) 0 rows
   pub cells_right : (scope : ℕ) → cells_counted inside scope ≡ cells_in b scope
-  pub tokens_right : (scope : ℕ) → tokens_counted inside scope ≡ tokens_in b scope
   pub awake : All (λ c. rests_in b c c.phase ≡ false → is_kept ready c.key ≡ true) b.cells
   pub called : All (λ c. calls_off c ≡ true → is_kept calling c.key ≡ true) b.cells
+  pub awaited : All (λ h. stays_out b h.row ≡ false → is_kept coming h.number ≡ true) rows

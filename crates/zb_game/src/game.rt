@@ -7,19 +7,27 @@ ghost use Rattle.zb_game.specs.declared.game.GameFault.TheVariants as faults;
 
 mod assign;
 mod changes;
+mod conditions;
 mod contents;
 mod doom;
 mod enter;
+mod entering;
+mod exit;
 mod finish;
 mod forced;
 mod gone;
 mod halt;
+mod hindrances;
+mod incident;
 mod leave;
+mod mappings;
 mod moves;
 mod names;
 mod open;
 mod removals;
+mod repair;
 mod rest;
+mod seen;
 mod stand;
 mod start;
 mod take;
@@ -31,13 +39,14 @@ use std::alloc::{AllocError, AllocFailed, Global};
 use std::marker::Model;
 use zb_base::{Key, TryCopy};
 use zb_graph::Graph;
+use zb_groups::Groups;
 use zb_table::{Table, row_among};
-use zb_tokens::{Cell, Deployed, Move, Token};
+use zb_tokens::{Cell, Deployed, Incident, Move, Token};
 
 /// Why a move was not made.
 #[derive(Clone, Copy, Debug, PartialEq, Eq)]
 pub enum GameFault {
-    /// It doesn't fit the board, or its effect names a cell, a token or a model that isn't there.
+    /// It doesn't fit the board, or its effect names a cell, a token, a model or an incident that isn't there.
     Illegal,
     Memory,
 }
@@ -58,21 +67,24 @@ impl<T: Drop> From<AllocFailed<T>> for GameFault {
     }
 }
 
-/// A game of tokens: the models, the cells and the tokens on a board.
+/// A game of tokens: the models, the cells, the tokens and the incidents on a board.
 #[derive(Drop)]
 pub struct Game {
     models: Vec<Deployed>,
     cells: Vec<Cell>,
-    tokens: Vec<Token>,
+    tokens: Groups<Token>,
+    incidents: Vec<Incident>,
     // Whether the keys of the models and of the cells ascend, and what is kept below is right. Where it isn't set,
     // things are searched for.
     ascends: bool,
-    // How many cells and tokens are in each scope.
+    // How many cells are in each scope.
     inside: Table<Inside>,
-    // The keys of the cells that may go on by themselves, as if nobody were called off.
+    // The keys of the cells that may go on by themselves, as if nobody were called off or stuck.
     ready: Table<Key>,
     // The keys of the cells that call off what is in them.
     calling: Table<Key>,
+    // The numbers of the tokens that may enter by themselves, as if nobody were called off.
+    coming: Table<Key>,
 }
 
 impl Model for Game {
@@ -80,16 +92,19 @@ impl Model for Game {
     ghost use Rattle.zb_tokens.specs.contracts.board.Deployed as deployed;
     ghost use Rattle.zb_tokens.specs.contracts.board.Cell as cell;
     ghost use Rattle.zb_tokens.specs.contracts.board.Token as token;
+    ghost use Rattle.zb_tokens.specs.contracts.board.Incident as incident;
+    ghost use Rattle.zb_places.specs.Places.{held_tokens};
     ghost use Rattle.zb_game.specs.BoardCode.{board_code};
 
     ghost Value = { Board };
 
-    ghost coded = { board_code deployed.the_row.coded cell.the_row.coded token.the_row.coded };
+    ghost coded = { board_code deployed.the_row.coded cell.the_row.coded token.the_row.coded incident.the_row.coded };
 
     ghost view = { λ g. record {
       models = g.models.items;
       cells = g.cells.items;
-      tokens = g.tokens.items;
+      tokens = held_tokens g.tokens;
+      incidents = g.incidents.items;
     } };
 
     ghost use Rattle.std.specs.Prelude.{IsTrue};
@@ -98,8 +113,9 @@ impl Model for Game {
     ghost invariant = { λ g. IsTrue g.ascends → IsIndexed (record {
       models = g.models.items;
       cells = g.cells.items;
-      tokens = g.tokens.items;
-    }) g.inside g.ready g.calling };
+      tokens = held_tokens g.tokens;
+      incidents = g.incidents.items;
+    }) g.tokens g.inside g.ready g.calling g.coming };
 }
 
 impl TryCopy for Game {
@@ -107,11 +123,13 @@ impl TryCopy for Game {
         Ok(Game {
             models: copy_of(alloc, &self.models)?.into_vec(),
             cells: copy_of(alloc, &self.cells)?.into_vec(),
-            tokens: copy_of(alloc, &self.tokens)?.into_vec(),
+            tokens: self.tokens.copy(alloc)?,
+            incidents: copy_of(alloc, &self.incidents)?.into_vec(),
             ascends: self.ascends,
             inside: self.inside.copy(alloc)?,
             ready: self.ready.copy(alloc)?,
             calling: self.calling.copy(alloc)?,
+            coming: self.coming.copy(alloc)?,
         })
     }
 }
@@ -124,21 +142,23 @@ impl Game {
         Game {
             models: Vec::new(alloc),
             cells: Vec::new(alloc),
-            tokens: Vec::new(alloc),
+            tokens: Groups::empty(alloc),
+            incidents: Vec::new(alloc),
             ascends: true,
             inside: Table::empty(alloc),
             ready: Table::empty(alloc),
             calling: Table::empty(alloc),
+            coming: Table::empty(alloc),
         }
     }
 
     /// Whether a move fits the board. Where the keys of the models and of the cells ascend, a cell or a model costs
     /// the logarithm of how many there are, and what is in a cell that of how many scopes there are; where they
-    /// don't, each is searched for from the front. An entry goes through the tokens up to the first that has come; at
-    /// a gateway where flows join, for each of them, where so many tokens are in the scope, and through pairs of the
-    /// flows. Where a cell is terminating or ended, an entry and a halt go up the scopes too. Leaving goes through the
-    /// flows out of a node, and an assignment through the variables of a cell. A node or a flow of a model is found by
-    /// its id in constant time, on average.
+    /// don't, each is searched for from the front. An entry goes through the tokens in its scope up to the first that
+    /// has come; at a gateway where flows join, for each of them, where so many tokens are in the scope, and through
+    /// pairs of the flows. Where a cell is terminating or ended, an entry and a halt go up the scopes too. Leaving goes through the
+    /// flows out of a node, an assignment through the variables of a cell, and an incident or its end through the
+    /// incidents. A node or a flow of a model is found by its id in constant time, on average.
     pub fn fits(&self, m: &Move) -> bool
         ensures { result ≡ fits self.now m.now }
     {
@@ -154,14 +174,17 @@ impl Game {
             Move::Gone(key) => self.fits_gone(*key),
             Move::Assign(a) => self.fits_assign(a),
             Move::Update(a) => self.fits_update(a),
+            Move::Incident(i) => self.fits_incident(i),
+            Move::Repair(key) => self.fits_repair(*key),
         }
     }
 
     /// Plays a move, whether it fits or not; its texts go onto the board. `Illegal` says that its effect names a cell,
-    /// a token or a model that isn't there, and nothing has changed; where all are there, only `Memory` is answered
-    /// for a fault. After `Memory` the game is only dropped. What a move names is found as `fits` does. A new cell,
-    /// model or token takes constant time; those behind a cell or a token that goes move up. A halt and a terminate
-    /// end go through all cells and all tokens, where the scope that they empty has any.
+    /// a token, a model or an incident that isn't there, and nothing has changed; where all are there, only `Memory`
+    /// is answered for a fault. After `Memory` the game is only dropped. What a move names is found as `fits` does. A
+    /// new cell, model or incident takes constant time; those behind one that goes move up. Where a token comes or goes,
+    /// the tokens in its scope are looked at again; each costs what an entry does in `fits`. A halt and a terminate end
+    /// go through all cells, where the scope that they empty has any, and through its tokens.
     pub fn play(&mut self, alloc: Global, m: Move) -> Result<(), GameFault>
         ensures played { OnOk result (played self.old m ≡ Some self.new) }
         ensures illegal { IsErrOf result GameFault.Illegal → played self.old m ≡ None }
@@ -173,12 +196,14 @@ impl Game {
             Move::Enter(e) => self.enter(alloc, e),
             Move::Open(key) => self.open(alloc, key),
             Move::Finish(key) => self.finish(alloc, key),
-            Move::Leave(l) => self.leave(l),
+            Move::Leave(l) => self.leave(alloc, l),
             Move::Take(t) => self.take(alloc, t),
             Move::Halt(key) => self.halt(alloc, key),
-            Move::Gone(key) => self.gone(key),
+            Move::Gone(key) => self.gone(alloc, key),
             Move::Assign(a) => self.assign(a),
             Move::Update(a) => self.assign(a),
+            Move::Incident(i) => self.raise(i),
+            Move::Repair(key) => self.repair(key),
         }
     }
 

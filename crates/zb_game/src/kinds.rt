@@ -1,12 +1,12 @@
 // What kinds of nodes stand in a model.
-ghost use Rattle.std.specs.Prelude.{◌≡◌};
+ghost use Rattle.std.specs.Prelude.{◌≡◌, is_some};
 ghost use Rattle.zb_faults.specs.Elements.{is_at, is_terminate_end};
 ghost use Rattle.zb_tokens.specs.Board.{is_scope_in};
-ghost use Rattle.zb_tokens.specs.MoveEnter.{joins};
+ghost use Rattle.zb_tokens.specs.Choice.{gateway_in};
 ghost use Rattle.zb_tokens.specs.MoveFinish.{waits_for_nothing};
 
 use zb_base::Key;
-use zb_faults::{is_parallel_gateway, is_subprocess, is_terminate_end};
+use zb_faults::{is_exclusive_gateway, is_subprocess, is_terminate_end};
 use zb_graph::Graph;
 use zb_process::NodeKind;
 use zb_tokens::Cell;
@@ -24,12 +24,12 @@ pub fn is_scope_in(model: &Graph, cell: &Cell) -> bool
     }
 }
 
-/// Whether flows join at the node with an id.
-pub fn joins(model: &Graph, id: &str) -> bool
-    ensures { result ≡ joins model.now id.now }
+/// Whether the node with an id is an exclusive gateway.
+pub fn chooses(model: &Graph, id: &str) -> bool
+    ensures { result ≡ is_some (gateway_in model.now id.now) }
 {
     match model.node_with(id) {
-        Some(node) => is_parallel_gateway(node.kind),
+        Some(node) => is_exclusive_gateway(node.kind),
         None => false,
     }
 }

@@ -9,6 +9,5 @@ mod inside;
 mod keys;
 mod kinds;
 mod lookups;
-mod places;
 
 pub use game::{Game, GameFault};

@@ -1,4 +1,5 @@
 pub mod Places
 pub mod PlacesAt
 pub mod Links
+pub mod Codes
 pub mod IsGraph

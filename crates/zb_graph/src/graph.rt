@@ -1,19 +1,23 @@
 ghost use Rattle.std.specs.Prelude.{◌≡◌, ◌<◌, ◌^◌, ◌&&◌, List, ℕ, All, Some, IfOk, filter, length, map, position, slice_get};
 ghost use Rattle.std.specs.List.{find};
-ghost use Rattle.std.specs.Option.{option_and_then, option_copied};
+ghost use Rattle.std.specs.Option.{option_and_then, option_copied, option_map};
 ghost use Rattle.std.specs.Str.{bytes_eq};
 ghost use Rattle.zb_faults.specs.Elements.{is_start};
 ghost use Rattle.zb_graph.specs.Places.{places};
 ghost use Rattle.zb_graph.specs.Links.{bounds_of, id_at, ins_of, outs_of};
+ghost use Rattle.zb_graph.specs.Codes.{codes_of, codes_of_node, inputs_at, outputs_at};
 
+use crate::codes::{Codes, HasCodes, NodeCodes};
 use crate::label::{FlowId, Host, NodeId, Origin, Started, Target};
 use crate::places::{Places, places_by};
 use std::alloc::{AllocError, Global};
 use std::marker::Model;
 use zb_base::TryCopy;
+use zb_expr::Code;
 use zb_process::{Flow, Model as ProcessModel, Node};
 
-/// A process model, whose nodes and flows have their places in its lists as numbers. Contracts see the model.
+/// A process model, whose nodes and flows have their places in its lists as numbers, and the codes of its expressions.
+/// Contracts see the model.
 #[derive(Drop)]
 pub struct Graph {
     model: ProcessModel,
@@ -28,6 +32,8 @@ pub struct Graph {
     bounds: Places,
     // Where the start events of each scope stand.
     starts: Places,
+    // The codes of its expressions.
+    codes: Codes,
 }
 
 impl Model for Graph {
@@ -42,13 +48,25 @@ impl Model for Graph {
 
     ghost view = { λ g. g.model };
 
-    ghost invariant = { λ g. IsGraph g.model g.nodes g.flows g.outs g.ins g.bounds g.starts };
+    ghost invariant = { λ g. IsGraph g.model g.nodes g.flows g.outs g.ins g.bounds g.starts g.codes };
 }
 
-/// The graph of a model. It takes a step for each node and each flow, on average.
+/// The graph of a model. Its expressions are compiled here, once. It takes a step for each node, each flow and each
+/// expression in them, and for each byte of these expressions' texts, on average.
 pub fn compile(alloc: Global, model: ProcessModel) -> Result<Graph, AllocError>
     requires nodes { length model.nodes < 2 ^ 32 }
     requires flows { length model.flows < 2 ^ 32 }
+    ensures { IfOk result (λ graph. graph ≡ model) }
+{
+    let codes = model.compiled(alloc)?;
+    with_codes(alloc, model, codes)
+}
+
+// The graph of a model, whose expressions have these codes.
+fn with_codes(alloc: Global, model: ProcessModel, codes: Codes) -> Result<Graph, AllocError>
+    requires nodes { length model.nodes < 2 ^ 32 }
+    requires flows { length model.flows < 2 ^ 32 }
+    requires codes { codes ≡ codes_of model }
     ensures { IfOk result (λ graph. graph ≡ model) }
 {
     let nodes = model.nodes.as_slice();
@@ -67,13 +85,13 @@ pub fn compile(alloc: Global, model: ProcessModel) -> Result<Graph, AllocError>
         ins,
         bounds,
         starts,
+        codes,
     })
 }
 
 impl TryCopy for Graph {
     fn copy(&self, alloc: Global) -> Result<Graph, AllocError> {
-        let _indexed = &self.nodes;
-        compile(alloc, self.model.copy(alloc)?)
+        with_codes(alloc, self.model.copy(alloc)?, self.codes.copy(alloc)?)
     }
 }
 
@@ -168,6 +186,54 @@ impl Graph {
         ensures { option_copied result ≡ find (λ n. is_start n.kind && bytes_eq n.parent scope.now) self.now.nodes }
     {
         first_of(self.starts.at(scope), self.model.nodes.as_slice())
+    }
+
+    /// The code of the condition of a flow, if it has one. It takes constant time, as do the other questions for codes.
+    pub fn condition(&self, n: u32) -> Option<&Code>
+        requires { n < length self.now.flows }
+        ensures { option_copied result ≡ option_and_then (λ f. f.condition) (slice_get self.now.flows n) }
+    {
+        self.codes.conditions.as_slice()[n as usize].as_ref()
+    }
+
+    /// The code of the expression of a node, if it has one.
+    pub fn expr(&self, n: u32) -> Option<&Code>
+        requires { n < length self.now.nodes }
+        ensures { option_copied result ≡ option_and_then (λ node. node.expr) (slice_get self.now.nodes n) }
+    {
+        self.codes_at(n).expr.as_ref()
+    }
+
+    /// The code of the collection of a node, if it runs once for each item of one.
+    pub fn collection(&self, n: u32) -> Option<&Code>
+        requires { n < length self.now.nodes }
+        ensures { option_copied result ≡ option_and_then (λ node. option_map (λ m. m.collection) node.multi) (slice_get self.now.nodes n) }
+    {
+        self.codes_at(n).collection.as_ref()
+    }
+
+    /// The code of the source of an input of a node: of the one at place `i` in its list.
+    pub fn input(&self, n: u32, i: usize) -> &Code
+        requires { i < length (inputs_at self.now n) }
+        ensures { option_map (λ m. m.source) (slice_get (inputs_at self.now n) i) ≡ Some result.now }
+    {
+        &self.codes_at(n).inputs.as_slice()[i]
+    }
+
+    /// The code of the source of an output of a node.
+    pub fn output(&self, n: u32, i: usize) -> &Code
+        requires { i < length (outputs_at self.now n) }
+        ensures { option_map (λ m. m.source) (slice_get (outputs_at self.now n) i) ≡ Some result.now }
+    {
+        &self.codes_at(n).outputs.as_slice()[i]
+    }
+
+    // The codes of what a node evaluates.
+    fn codes_at(&self, n: u32) -> &NodeCodes
+        requires { n < length self.now.nodes }
+        ensures { option_map codes_of_node (slice_get self.now.nodes n) ≡ Some result.now }
+    {
+        &self.codes.nodes.as_slice()[n as usize]
     }
 }
 

@@ -1,7 +1,8 @@
-//! Process models with their nodes and flows numbered, and found by their names.
+//! Process models with their nodes and flows numbered, and found by their names, and their expressions compiled.
 #![tactic(auto)]
 
 mod boxed;
+mod codes;
 mod graph;
 mod label;
 mod places;

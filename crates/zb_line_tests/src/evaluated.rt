@@ -65,6 +65,7 @@ fn values(rt: HostRuntime) {
             "[1, -2]=[1,0 - 2] and not(\"a\\\"\" = \"\\\\ü\" or a >= 8)"
         )
     );
+    assert!(rt; number_of(alloc, "-9223372036854775807 - 1") == Some(i64::MIN));
     assert!(rt; has_fault(alloc, "9223372036854775807 + 1", EvalFault::Overflow));
     assert!(rt; has_fault(alloc, "false and b", EvalFault::Unknown));
     assert!(rt; has_fault(alloc, "1 = \"1\"", EvalFault::Kind));

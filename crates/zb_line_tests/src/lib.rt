@@ -1,4 +1,4 @@
-//! Tests of what no clause says of values, expressions, models, lines and replies: each public call with
+//! Tests of what no clause says of values, expressions, models, graphs, lines and replies: each public call with
 //! ample memory.
 #![tactic(auto)]
 
@@ -6,6 +6,8 @@
 mod evaluated;
 #[cfg(test)]
 mod expressions;
+#[cfg(test)]
+mod graphs;
 #[cfg(test)]
 mod lines;
 #[cfg(test)]

@@ -99,10 +99,15 @@ fn names_one_of_the_partitions(rt: HostRuntime) {
 
 #[test]
 fn reads_a_key(rt: HostRuntime) {
-    let line = br#"{"op":"cancel","key":18446744073709551615}"#;
-    match &read_line(rt.alloc(), line, given(false)) {
+    let cancel = br#"{"op":"cancel","key":18446744073709551615}"#;
+    match &read_line(rt.alloc(), cancel, given(false)) {
         Ok(Request::Cancel(key)) => assert!(rt; key.number() == u64::MAX),
         _ => panic!(&rt; "no cancel"),
+    }
+    let resolve = br#"{"op":"resolve","key":0}"#;
+    match &read_line(rt.alloc(), resolve, given(false)) {
+        Ok(Request::Resolve(key)) => assert!(rt; key.number() == 0),
+        _ => panic!(&rt; "no resolve"),
     }
 }
 
@@ -126,11 +131,13 @@ fn reads_values_for_a_scope(rt: HostRuntime) {
     assert!(rt; !update_of(&rt, alloc, above).local);
 }
 
-// A deploy with a node of each kind that is built.
+// A deploy with a node of each kind that is built, and a flow with a condition.
 const BUILT: &[u8] =
     br#"{"op":"deploy","model":{"process":"p","nodes":[{"id":"s","kind":"startEvent"},
-    {"id":"u","kind":"subProcess"},{"id":"g","kind":"parallelGateway","parent":"u"},{"id":"t","kind":"intermediateThrowEvent"},
-    {"id":"e","kind":"endEvent"},{"id":"k","kind":"endEvent","terminateEventDefinition":{}}],"flows":[]}}"#;
+    {"id":"u","kind":"subProcess","inputs":[{"source":"=a","target":"b"}],"outputs":[]},{"id":"g","kind":"parallelGateway","parent":"u"},{"id":"t","kind":"intermediateThrowEvent"},
+    {"id":"x","kind":"exclusiveGateway","default":"f"},{"id":"e","kind":"endEvent"},
+    {"id":"k","kind":"endEvent","terminateEventDefinition":{}}],
+    "flows":[{"id":"f","sourceRef":"s","targetRef":"e","conditionExpression":"=a"}]}}"#;
 
 #[test]
 fn deploys_what_is_built(rt: HostRuntime) {

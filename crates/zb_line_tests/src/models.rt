@@ -5,8 +5,8 @@ use std::process::Abort;
 use zb_process::{Flow, Model, Node, NodeKind};
 use zb_reader::{model_place, read_model};
 
-// The JSON value that a text is.
-fn value(rt: &impl Abort, alloc: Global, text: &str) -> Json {
+/// The JSON value that a text is.
+pub fn value(rt: &impl Abort, alloc: Global, text: &str) -> Json {
     match Json::from_str(alloc, text) {
         Ok(value) => value,
         Err(_) => panic!(rt; "no JSON"),

@@ -1,6 +1,6 @@
 // The replies to lines are compared as the program writes them (crates/zbd/stdout). What no line leads to so far stands here.
-ghost use Rattle.std.specs.Prelude.{IsSome};
-ghost use Rattle.zb_reply.specs.Reply.{answer_of};
+ghost use Rattle.std.specs.Prelude.{IsSome, []};
+ghost use Rattle.zb_reply.specs.Reply.{accepted_answer, answer_of};
 
 use std::alloc::Global;
 use std::process::Abort;
@@ -16,7 +16,12 @@ fn writes_replies(rt: HostRuntime) {
     let mut bytes = Vec::from_slice(alloc, b"> ").expect(&rt, "memory");
     let reply = Reply::Publish(Key::new(7));
     reply_text(alloc, &reply, None, &mut bytes).expect(&rt, "memory");
-    for reply in [Reply::Cancel(Key::new(5)), Reply::Variables(Key::new(6))] {
+    let by_key = [
+        Reply::Cancel(Key::new(5)),
+        Reply::Variables(Key::new(6)),
+        Reply::Resolve(Key::new(8)),
+    ];
+    for reply in by_key {
         reply_text(alloc, &reply, Some(2), &mut bytes).expect(&rt, "memory");
     }
     let rejected = Reply::Rejected(Rejection {
@@ -25,7 +30,7 @@ fn writes_replies(rt: HostRuntime) {
     });
     reply_text(alloc, &rejected, Some(1_000), &mut bytes).expect(&rt, "memory");
     let lines =
-        "> {\"ok\":{\"message\":7}}\n{\"ok\":{\"instance\":5},\"units\":2}\n{\"ok\":{\"scope\":6},\"units\":2}\n{\"reason\":\"job 7 isn't due\",\"rejected\":\"INVALID_STATE\",\"units\":1000}\n";
+        "> {\"ok\":{\"message\":7}}\n{\"ok\":{\"instance\":5},\"units\":2}\n{\"ok\":{\"scope\":6},\"units\":2}\n{\"ok\":{\"incident\":8},\"units\":2}\n{\"reason\":\"job 7 isn't due\",\"rejected\":\"INVALID_STATE\",\"units\":1000}\n";
     assert!(rt; bytes.as_slice() == lines.as_bytes());
 }
 
@@ -85,24 +90,31 @@ fn reads_a_reply_off_a_batch(rt: HostRuntime) {
     assert!(rt; is_published(&reply, 5));
 }
 
-// A batch of a cancel: the instance is the one that its command names.
+// A batch without an event, of a command that names the key that it is answered with.
 #[tactic(auto, unfolding(zb_reply::specs::Reply::answer_of))]
-fn cancelled(alloc: Global) -> Batch
+fn silent(alloc: Global, command: Command) -> Batch
+    requires { IsSome (accepted_answer command []) }
     ensures { IsSome (answer_of result) }
 {
     Batch {
         moment: Moment::new(0),
         begin: 0,
-        command: Command::ProcessInstanceCancel(Key::new(5)),
+        command,
         outcome: Outcome::Accepted(List::empty(alloc)),
     }
 }
 
 #[test]
 fn reads_a_reply_off_a_command(rt: HostRuntime) {
-    let batch = cancelled(rt.alloc());
-    match reply_of(rt.alloc(), &batch).expect(&rt, "memory") {
+    let alloc = rt.alloc();
+    let cancelled = silent(alloc, Command::ProcessInstanceCancel(Key::new(5)));
+    match reply_of(alloc, &cancelled).expect(&rt, "memory") {
         Reply::Cancel(key) => assert!(rt; key.number() == 5),
+        _ => panic!(&rt; "another reply"),
+    }
+    let resolved = silent(alloc, Command::IncidentResolve(Key::new(6)));
+    match reply_of(alloc, &resolved).expect(&rt, "memory") {
+        Reply::Resolve(key) => assert!(rt; key.number() == 6),
         _ => panic!(&rt; "another reply"),
     }
 }

@@ -54,6 +54,7 @@ accepted_answer (commands.ProcessInstanceCreationCreate c) es = first_told creat
 accepted_answer (commands.ProcessInstanceCancel key) es = Some (replies.Cancel key)
 accepted_answer (commands.VariableDocumentUpdate u) es = Some (replies.Variables u.scope)
 accepted_answer (commands.MessagePublish m) es = first_told publish_answer es
+accepted_answer (commands.IncidentResolve key) es = Some (replies.Resolve key)
 accepted_answer _ es = None
 
 -- the reply to a command that had this outcome: a rejected one is answered with the rejection
@@ -134,6 +135,7 @@ members_told (replies.Create c) = a_number (codes "definition") c.definition ∷
 members_told (replies.Cancel key) = a_number (codes "instance") key ∷ []
 members_told (replies.Variables key) = a_number (codes "scope") key ∷ []
 members_told (replies.Publish key) = a_number (codes "message") key ∷ []
+members_told (replies.Resolve key) = a_number (codes "incident") key ∷ []
 members_told (replies.Tick due) = a_number (codes "due") due ∷ []
 members_told (replies.Advance now) = a_number (codes "now") now ∷ []
 members_told _ = []

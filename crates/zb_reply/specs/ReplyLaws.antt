@@ -11,7 +11,7 @@ use Rattle.zb_model.specs.declared.record.Outcome.{Outcome}
 use Rattle.zb_model.specs.declared.record.Outcome.TheVariants as outcomes
 use Rattle.zb_model.specs.declared.record.Rejection.{Rejection}
 use Rattle.zb_wire.specs.First.{first_told}
-use Rattle.zb_reply.specs.Reply.{deploy_answer, create_answer, publish_answer, deployed_of, created_of, accepted_answer, answer_to, answer_of, IsSpoken}
+use Rattle.zb_reply.specs.Reply.{deploy_answer, create_answer, publish_answer, accepted_answer, answer_to, answer_of, IsSpoken}
 use Rattle.zb_reply.specs.declared.reply.Reply.{Reply}
 use Rattle.zb_reply.specs.declared.reply.Reply.TheVariants as replies
 
@@ -25,46 +25,43 @@ pub answer_of-rejected : (r : Rejection) (batch : Batch) → batch.outcome ≡ o
 unfolding answer_of
 answer_of-rejected r batch became = rw became refl
 
--- a reply that has a line has one wherever it is told
-told-spoken : (told reply : Reply) → IsSpoken told → Some told ≡ Some reply → IsSpoken reply
-told-spoken told reply speaks is =
-    let same : told ≡ reply = cc in
-    subst IsSpoken same speaks
+-- what is told has a line, if something is told
+abbrev Speaks : Option Reply → Type 0
+Speaks None = Unit {0}
+Speaks (Some reply) = IsSpoken reply
 
-first_spoken_by : (o rest : Option Reply) (reply : Reply) → (o ≡ Some reply → IsSpoken reply) → (rest ≡ Some reply → IsSpoken reply) → option_or o rest ≡ Some reply → IsSpoken reply
-first_spoken_by None rest reply speaks others is = others is
-first_spoken_by (Some r) rest reply speaks others is = speaks is
+first_speaks_by : (o rest : Option Reply) → Speaks o → Speaks rest → Speaks (option_or o rest)
+first_speaks_by None rest speaks others = others
+first_speaks_by (Some r) rest speaks others = speaks
 
--- where what the events tell has a line, the first of it has one
-first_spoken : (tell : Event → Option Reply) (es : List Event) (reply : Reply) → ((e : Event) → tell e ≡ Some reply → IsSpoken reply) → first_told tell es ≡ Some reply → IsSpoken reply
-first_spoken tell [] reply speaks is = absurd (cc)
-first_spoken tell (e ∷ es) reply speaks is = first_spoken_by (tell e) (first_told tell es) reply (speaks e) (first_spoken tell es reply speaks) is
+-- where what each event tells has a line, the first of it has one
+first_speaks : (tell : Event → Option Reply) (es : List Event) → ((e : Event) → Speaks (tell e)) → Speaks (first_told tell es)
+first_speaks tell [] speaks = tt
+first_speaks tell (e ∷ es) speaks = first_speaks_by (tell e) (first_told tell es) (speaks e) (first_speaks tell es speaks)
 
-deploy_answer-spoken : (reply : Reply) (e : Event) → deploy_answer e ≡ Some reply → IsSpoken reply
-deploy_answer-spoken reply (events.ProcessCreated e) is = told-spoken (replies.Deploy (deployed_of e)) reply tt is
-deploy_answer-spoken reply _ is = absurd (cc)
+deploy_answer-speaks : (e : Event) → Speaks (deploy_answer e)
+deploy_answer-speaks (events.ProcessCreated e) = tt
+deploy_answer-speaks _ = tt
 
-create_answer-spoken : (reply : Reply) (e : Event) → create_answer e ≡ Some reply → IsSpoken reply
-create_answer-spoken reply (events.ProcessInstanceCreationCreated e) is = told-spoken (replies.Create (created_of e)) reply tt is
-create_answer-spoken reply _ is = absurd (cc)
+create_answer-speaks : (e : Event) → Speaks (create_answer e)
+create_answer-speaks (events.ProcessInstanceCreationCreated e) = tt
+create_answer-speaks _ = tt
 
-publish_answer-spoken : (reply : Reply) (e : Event) → publish_answer e ≡ Some reply → IsSpoken reply
-publish_answer-spoken reply (events.MessagePublished e) is = told-spoken (replies.Publish e.key) reply tt is
-publish_answer-spoken reply _ is = absurd (cc)
+publish_answer-speaks : (e : Event) → Speaks (publish_answer e)
+publish_answer-speaks (events.MessagePublished e) = tt
+publish_answer-speaks _ = tt
 
-accepted_answer-spoken : (command : Command) (es : List Event) (reply : Reply) → accepted_answer command es ≡ Some reply → IsSpoken reply
-accepted_answer-spoken (commands.DeploymentCreate m) es reply is = first_spoken deploy_answer es reply (deploy_answer-spoken reply) is
-accepted_answer-spoken (commands.ProcessInstanceCreationCreate c) es reply is = first_spoken create_answer es reply (create_answer-spoken reply) is
-accepted_answer-spoken (commands.ProcessInstanceCancel key) es reply is = told-spoken (replies.Cancel key) reply tt is
-accepted_answer-spoken (commands.VariableDocumentUpdate u) es reply is = told-spoken (replies.Variables u.scope) reply tt is
-accepted_answer-spoken (commands.MessagePublish m) es reply is = first_spoken publish_answer es reply (publish_answer-spoken reply) is
-accepted_answer-spoken _ es reply is = absurd (cc)
+accepted_answer-speaks : (command : Command) (es : List Event) → Speaks (accepted_answer command es)
+accepted_answer-speaks (commands.DeploymentCreate m) es = first_speaks deploy_answer es deploy_answer-speaks
+accepted_answer-speaks (commands.ProcessInstanceCreationCreate c) es = first_speaks create_answer es create_answer-speaks
+accepted_answer-speaks (commands.MessagePublish m) es = first_speaks publish_answer es publish_answer-speaks
+accepted_answer-speaks _ es = tt
 
-answer_to-spoken : (command : Command) (outcome : Outcome) (reply : Reply) → answer_to command outcome ≡ Some reply → IsSpoken reply
-answer_to-spoken command (outcomes.Accepted es) reply is = accepted_answer-spoken command es reply is
-answer_to-spoken command (outcomes.Rejected r) reply is = told-spoken (replies.Rejected r) reply tt is
+answer_to-speaks : (command : Command) (outcome : Outcome) → Speaks (answer_to command outcome)
+answer_to-speaks command (outcomes.Accepted es) = accepted_answer-speaks command es
+answer_to-speaks command (outcomes.Rejected r) = tt
 
 -- what a batch is answered with has a line
 pub answer_of-spoken : (batch : Batch) (reply : Reply) → answer_of batch ≡ Some reply → IsSpoken reply
 unfolding answer_of
-answer_of-spoken batch reply is = answer_to-spoken batch.command batch.outcome reply is
+answer_of-spoken batch reply is = subst Speaks is (answer_to-speaks batch.command batch.outcome)

@@ -31,6 +31,7 @@ fn accepted_answer(alloc: Global, command: &Command, events: &[Event]) -> Result
         Command::ProcessInstanceCancel(key) => Ok(Reply::Cancel(*key)),
         Command::VariableDocumentUpdate(update) => Ok(Reply::Variables(update.scope)),
         Command::MessagePublish(_) => first_told::<Publishing>(alloc, events),
+        Command::IncidentResolve(key) => Ok(Reply::Resolve(*key)),
         _ => unreachable!(),
     }
 }

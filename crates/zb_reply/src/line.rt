@@ -60,6 +60,7 @@ fn line(alloc: Global, reply: &Reply, units: Option<u64>) -> Result<String, Allo
         Reply::Cancel(key) => ok_line(alloc, &[Member::Number("instance", key.number())], units),
         Reply::Variables(key) => ok_line(alloc, &[Member::Number("scope", key.number())], units),
         Reply::Publish(key) => ok_line(alloc, &[Member::Number("message", key.number())], units),
+        Reply::Resolve(key) => ok_line(alloc, &[Member::Number("incident", key.number())], units),
         Reply::Tick(due) => ok_line(alloc, &[Member::Number("due", *due)], units),
         Reply::Advance(now) => ok_line(alloc, &[Member::Number("now", now.ms())], units),
         Reply::Rejected(rejection) => rejected_line(alloc, rejection, units),

@@ -14,6 +14,8 @@ pub enum Reply {
     Variables(Key),
     /// The message was published under this key.
     Publish(Key),
+    /// The incident of this key is resolved.
+    Resolve(Key),
     /// So many commands were due.
     Tick(u64),
     /// The clock reads this moment.

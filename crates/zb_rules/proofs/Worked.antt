@@ -1,13 +1,19 @@
 -- Plays worked out by hand: of one start event, one flow and one end event; with two end events; of a fork and a join; of a subprocess that a terminate
--- end event ends; of one that is cancelled while a task waits in it; and the variables that an update sets.
+-- end event ends; of one that is cancelled while a task waits in it; the variables that an update sets; of choices at an exclusive gateway, with their incidents; and of
+-- what a subprocess takes in and gives out, with its incidents.
 use Rattle.std.proofs.Common.{◌≡◌, ℕ, List, [], ◌∷◌, ◌++◌, Bool, true, false, ◌+◌, Some, None, refl}
-use Rattle.std.specs.Prelude.{codes}
+use Rattle.std.specs.Prelude.{codes, pos}
 use Rattle.zb_process.specs.declared.model.Model.{Model}
 use Rattle.zb_process.specs.declared.model.Node.{Node}
 use Rattle.zb_process.specs.declared.model.Flow.{Flow}
+use Rattle.zb_process.specs.declared.model.Mapping.{Mapping}
+use Rattle.zb_process.specs.declared.operator.Operator.TheVariants as operators
+use Rattle.zb_process.specs.Tree.{Tree, Int, Name, Binary}
 use Rattle.zb_process.specs.declared.model.NodeKind.{NodeKind}
 use Rattle.zb_process.specs.declared.model.NodeKind.TheVariants as kinds
 use Rattle.zb_instance_records.specs.declared.instance.Role.TheVariants as roles
+use Rattle.zb_instance_records.specs.declared.happening.IncidentKind.{IncidentKind}
+use Rattle.zb_instance_records.specs.declared.happening.IncidentKind.TheVariants as incidents
 use Rattle.zb_model.specs.declared.record.Command.TheVariants as commands
 use Rattle.zb_model.specs.declared.record.Event.{Event}
 use Rattle.zb_model.specs.declared.record.Event.TheVariants as events
@@ -19,9 +25,11 @@ use Rattle.zb_rules.specs.Create.{created, reason_to_create}
 use Rattle.zb_rules.specs.Shown.{board_of}
 use Rattle.zb_rules.specs.Cancel.{no_instance, instance_terminates, reason_to_cancel, cancelled}
 use Rattle.zb_rules.specs.Update.{no_scope, reason_to_update, updated}
+use Rattle.zb_rules.specs.Resolve.{no_incident, reason_to_resolve, resolved}
 use Rattle.zb_tokens.specs.declared.board.Phase.TheVariants as phases
 use Rattle.zb_tokens.specs.declared.board.Spot.TheVariants as spots
 use Rattle.zb_tokens.specs.Board.{Board, new_cell, in_phase}
+use Rattle.zb_base.specs.declared.value.Value.{Value}
 use Rattle.zb_base.specs.declared.value.Value.TheVariants as values
 use Rattle.zb_base.specs.declared.vars.Variable.{Variable}
 use Rattle.zb_rules.specs.Expire.{no_message, not_due, reason_to_expire}
@@ -272,6 +280,7 @@ joining_end = record {
   models = record { key = key 1; model = joining } ∷ [];
   cells = in_phase phases.Active [] (new_cell (key 3) 0 (key 1) (codes "p") false) ∷ [];
   tokens = record { scope = key 3; spot = spots.OnFlow (codes "d") } ∷ [];
+  incidents = [];
 }
 
 joining_ends : board_of (begun_of joining ++ joining_plays) ≡ Some joining_end
@@ -357,7 +366,7 @@ terminated cell = events.ElementTerminating cell ∷ events.ElementTerminated ce
 abbrev ends_all : List Event
 ends_all = events.ElementTerminating (key 3) ∷ terminated (key 7) ++ (terminated (key 5) ++ events.ElementTerminated (key 3) ∷ [])
 
-cancel_play : cancelled (key 3) ++ turns many (waiting_events ++ cancelled (key 3)) ≡ ends_all
+cancel_play : cancelled 1 1 0 (key 3) waiting_events ++ turns many (waiting_events ++ cancelled 1 1 0 (key 3) waiting_events) ≡ ends_all
 unfolding turn
 cancel_play = refl
 
@@ -371,7 +380,7 @@ cancel_none = refl
 cancel_inner : reason_to_cancel waiting_events (key 5) ≡ Some (record { kind = kinds_of.NotFound; reason = no_instance (key 5) })
 cancel_inner = refl
 
-cancel_twice : reason_to_cancel (waiting_events ++ cancelled (key 3)) (key 3) ≡ Some (record { kind = kinds_of.InvalidState; reason = instance_terminates (key 3) })
+cancel_twice : reason_to_cancel (waiting_events ++ cancelled 1 1 0 (key 3) waiting_events) (key 3) ≡ Some (record { kind = kinds_of.InvalidState; reason = instance_terminates (key 3) })
 cancel_twice = refl
 
 -- variables, which are handed up from the task to where they stand, or else to the root; or are set in the task itself
@@ -399,3 +408,304 @@ nowhere = refl
 
 updates_apply : all_apply 1 set_before (updated (record { scope = key 7; local = false; variables = value 97 ∷ value 98 ∷ value 99 ∷ [] }) set_before) ≡ true
 updates_apply = refl
+
+-- a gateway whose flow a is taken where n is greater than 1, and else its flow b where n is greater than 0
+abbrev above : ℕ → List ℕ → List ℕ → Flow
+above least id to = record (flow id (codes "x") to) { condition = Some (Binary operators.Greater (Name (codes "n")) (Int (pos least))) }
+
+abbrev choice : Model
+choice = record {
+  process = codes "p";
+  tag = [];
+  nodes = node (codes "s") kinds.StartEvent ∷ node (codes "x") kinds.ExclusiveGateway ∷ node (codes "e") kinds.EndEvent ∷ node (codes "d") kinds.EndEvent ∷ [];
+  flows = flow (codes "f") (codes "s") (codes "x") ∷ above 1 (codes "a") (codes "e") ∷ above 0 (codes "b") (codes "d") ∷ [];
+}
+
+choice_is_good : first_fault choice ≡ None
+unfolding first_fault
+choice_is_good = refl
+
+-- one whose default stands in front of a flow that is taken where n is greater than 0
+abbrev choice_or : Model
+choice_or = record choice {
+  nodes = node (codes "s") kinds.StartEvent ∷ record (node (codes "x") kinds.ExclusiveGateway) { otherwise = codes "a" } ∷ node (codes "e") kinds.EndEvent ∷ node (codes "d") kinds.EndEvent ∷ [];
+  flows = flow (codes "f") (codes "s") (codes "x") ∷ flow (codes "a") (codes "x") (codes "e") ∷ above 0 (codes "b") (codes "d") ∷ [];
+}
+
+choice_or_is_good : first_fault choice_or ≡ None
+unfolding first_fault
+choice_or_is_good = refl
+
+-- an instance with this value of n
+abbrev begun_at : Model → Value → List Event
+begun_at m n = begun_of m ++ events.VariableCreated (record { scope = key 3; name = codes "n"; value = n }) ∷ []
+
+-- it comes to the gateway, which completes
+abbrev to_gateway : List Event
+to_gateway =
+    activated (key 3) ∷ passes (key 4) (key 3) (codes "s") [] (codes "f" ∷ [])
+    ++ (taken (key 4) (codes "f") ∷ activating (key 5) (key 3) (codes "x") (codes "f") ∷ activated (key 5) ∷ events.ElementCompleting (key 5) ∷ [])
+
+-- a flow is chosen, and leads to an end event whose cell gets this key
+abbrev goes_by : ℕ → List ℕ → List ℕ → List Event
+goes_by cell id to = completed (key 5) (id ∷ []) ∷ taken (key 5) id ∷ passes cell (key 3) to id [] ++ ends (key 3)
+
+-- an incident of the gateway, under this key
+abbrev stops : ℕ → IncidentKind → List ℕ → Event
+stops incident kind text = events.IncidentCreated (record { key = incident; kind = kind; cell = key 5; job = 0; text = text })
+
+-- worked out by hand: the first flow whose condition is true is taken
+first_true : turns many (begun_at choice (values.Int (pos 2))) ≡ to_gateway ++ goes_by (key 6) (codes "a") (codes "e")
+unfolding turn
+first_true = refl
+
+second_true : turns many (begun_at choice (values.Int (pos 1))) ≡ to_gateway ++ goes_by (key 6) (codes "b") (codes "d")
+unfolding turn
+second_true = refl
+
+-- the default isn't taken before a flow behind it whose condition is true
+not_by_default : turns many (begun_at choice_or (values.Int (pos 1))) ≡ to_gateway ++ goes_by (key 6) (codes "b") (codes "d")
+unfolding turn
+not_by_default = refl
+
+-- it is where there is no such flow
+by_default : turns many (begun_at choice_or (values.Int (pos 0))) ≡ to_gateway ++ goes_by (key 6) (codes "a") (codes "e")
+unfolding turn
+by_default = refl
+
+-- a condition that is no truth value isn't false, and one that has no value isn't either
+no_truth : turns many (begun_at choice_or (values.Text (codes "n"))) ≡ to_gateway ++ stops (key 6) incidents.ExtractValueError (codes "KIND") ∷ []
+unfolding turn
+no_truth = refl
+
+no_value : turns many (begun_of choice_or) ≡ to_gateway ++ stops (key 6) incidents.ExtractValueError (codes "UNKNOWN") ∷ []
+unfolding turn
+no_value = refl
+
+-- where each is false, and none is the default, there is an incident
+abbrev stopped : List Event
+stopped = begun_at choice (values.Int (pos 0)) ++ (to_gateway ++ stops (key 6) incidents.ConditionError (codes "x") ∷ [])
+
+all_false : turns many (begun_at choice (values.Int (pos 0))) ≡ to_gateway ++ stops (key 6) incidents.ConditionError (codes "x") ∷ []
+unfolding turn
+all_false = refl
+
+stopped_applies : all_apply 1 [] stopped ≡ true
+unfolding first_fault
+stopped_applies = refl
+
+stopped_waits : turn 1 1 0 stopped ≡ None
+unfolding turn
+stopped_waits = refl
+
+-- it is resolved while n is what it was, and stands again; or after n is another
+resolve_none : reason_to_resolve stopped (key 6) ≡ None
+resolve_none = refl
+
+resolve_cell : reason_to_resolve stopped (key 5) ≡ Some (record { kind = kinds_of.NotFound; reason = no_incident (key 5) })
+resolve_cell = refl
+
+resolve_twice : reason_to_resolve (stopped ++ resolved (key 6)) (key 6) ≡ Some (record { kind = kinds_of.NotFound; reason = no_incident (key 6) })
+resolve_twice = refl
+
+again : turns many (stopped ++ resolved (key 6)) ≡ stops (key 7) incidents.ConditionError (codes "x") ∷ []
+unfolding turn
+again = refl
+
+abbrev set_n : List Event
+set_n = updated (record { scope = key 3; local = false; variables = record { name = codes "n"; value = values.Int (pos 1) } ∷ [] }) stopped
+
+goes_on : turns many (stopped ++ (set_n ++ resolved (key 6))) ≡ goes_by (key 7) (codes "b") (codes "d")
+unfolding turn
+goes_on = refl
+
+goes_on_applies : all_apply 1 stopped (set_n ++ (resolved (key 6) ++ goes_by (key 7) (codes "b") (codes "d"))) ≡ true
+goes_on_applies = refl
+
+-- a cancel calls the gateway off, and its incident is resolved right behind
+abbrev stopped_ends : List Event
+stopped_ends = events.ElementTerminating (key 3) ∷ events.ElementTerminating (key 5) ∷ events.IncidentResolved (record { key = key 6; job = 0 }) ∷ events.ElementTerminated (key 5) ∷ events.ElementTerminated (key 3) ∷ []
+
+stopped_cancel : cancelled 1 1 0 (key 3) stopped ++ turns many (stopped ++ cancelled 1 1 0 (key 3) stopped) ≡ stopped_ends
+unfolding turn
+stopped_cancel = refl
+
+stopped_cancel_applies : all_apply 1 stopped stopped_ends ≡ true
+stopped_cancel_applies = refl
+
+-- a subprocess with a start event and an end event in it, which takes in and gives out variables
+abbrev mapping : Tree → List ℕ → Mapping
+mapping source target = record { source = source; target = target }
+
+abbrev mapping_model : (ins outs : List Mapping) → Model
+mapping_model ins outs = record {
+  process = codes "p";
+  tag = [];
+  nodes = node (codes "s") kinds.StartEvent
+      ∷ record (node (codes "t") kinds.SubProcess) { inputs = ins; outputs = outs }
+      ∷ record (node (codes "i") kinds.StartEvent) { parent = codes "t" }
+      ∷ record (node (codes "o") kinds.EndEvent) { parent = codes "t" }
+      ∷ node (codes "e") kinds.EndEvent
+      ∷ [];
+  flows = flow (codes "f") (codes "s") (codes "t") ∷ flow (codes "g") (codes "i") (codes "o") ∷ flow (codes "h") (codes "t") (codes "e") ∷ [];
+}
+
+-- x gets the value of y, and y that of x
+abbrev swap : List Mapping
+swap = mapping (Name (codes "y")) (codes "x") ∷ mapping (Name (codes "x")) (codes "y") ∷ []
+
+-- n gets 1, and then 2
+abbrev twice : List Mapping
+twice = mapping (Int (pos 1)) (codes "n") ∷ mapping (Int (pos 2)) (codes "n") ∷ []
+
+-- x gets one more than y
+abbrev more : List Mapping
+more = mapping (Binary operators.Add (Name (codes "y")) (Int (pos 1))) (codes "x") ∷ []
+
+mapping_is_good : first_fault (mapping_model swap swap) ≡ None
+unfolding first_fault
+mapping_is_good = refl
+
+-- a variable gets its first value, and another one
+abbrev made : ℕ → List ℕ → Value → Event
+made cell name value = events.VariableCreated (record { scope = cell; name = name; value = value })
+
+abbrev reset : ℕ → List ℕ → Value → Event
+reset cell name value = events.VariableUpdated (record { scope = cell; name = name; value = value })
+
+-- an instance comes to the subprocess
+abbrev to_mapping : List Event
+to_mapping = activated (key 3) ∷ passes (key 4) (key 3) (codes "s") [] (codes "f" ∷ []) ++ (taken (key 4) (codes "f") ∷ activating (key 5) (key 3) (codes "t") (codes "f") ∷ [])
+
+-- it runs, with these keys from the one of its start event on, and has completed
+abbrev runs_inside : ℕ → List Event
+runs_inside n = activated (key 5) ∷ passes (key n) (key 5) (codes "i") [] (codes "g" ∷ []) ++ (taken (key n) (codes "g") ∷ passes (key (n + 1)) (key 5) (codes "o") (codes "g") [] ++ events.ElementCompleting (key 5) ∷ [])
+
+-- it is left, and the instance ends
+abbrev goes_out : ℕ → List Event
+goes_out n = completed (key 5) (codes "h" ∷ []) ∷ taken (key 5) (codes "h") ∷ passes (key n) (key 3) (codes "e") (codes "h") [] ++ ends (key 3)
+
+-- an instance whose x is 1 and whose y is 2
+abbrev begun_with_two : (ins outs : List Mapping) → List Event
+begun_with_two ins outs = begun_of (mapping_model ins outs) ++ (made (key 3) (codes "x") (values.Int (pos 1)) ∷ made (key 3) (codes "y") (values.Int (pos 2)) ∷ [])
+
+-- worked out by hand: both inputs are evaluated before one is set, and they are set in the subprocess itself
+abbrev swaps_in : List Event
+swaps_in = to_mapping ++ (made (key 5) (codes "x") (values.Int (pos 2)) ∷ made (key 5) (codes "y") (values.Int (pos 1)) ∷ runs_inside 6 ++ goes_out 8)
+
+swap_in : turns many (begun_with_two swap []) ≡ swaps_in
+unfolding turn
+swap_in = refl
+
+swap_in_applies : all_apply 1 [] (begun_with_two swap [] ++ swaps_in) ≡ true
+unfolding first_fault
+swap_in_applies = refl
+
+-- both outputs too, and they are handed up from the scope around it, to the root that has the names
+abbrev swaps_out : List Event
+swaps_out = to_mapping ++ (runs_inside 6 ++ (reset (key 3) (codes "x") (values.Int (pos 2)) ∷ reset (key 3) (codes "y") (values.Int (pos 1)) ∷ goes_out 8))
+
+swap_out : turns many (begun_with_two [] swap) ≡ swaps_out
+unfolding turn
+swap_out = refl
+
+swap_out_applies : all_apply 1 [] (begun_with_two [] swap ++ swaps_out) ≡ true
+unfolding first_fault
+swap_out_applies = refl
+
+-- with both, the outputs are evaluated in the names that the subprocess sees, and so give the root its own values back
+swap_both : turns many (begun_with_two swap swap) ≡
+    to_mapping ++ (made (key 5) (codes "x") (values.Int (pos 2)) ∷ made (key 5) (codes "y") (values.Int (pos 1)) ∷ runs_inside 6
+    ++ (reset (key 3) (codes "x") (values.Int (pos 1)) ∷ reset (key 3) (codes "y") (values.Int (pos 2)) ∷ goes_out 8))
+unfolding turn
+swap_both = refl
+
+-- two values for one target are both set, in their order: in the subprocess, and in the root
+abbrev sets_twice : List Event
+sets_twice =
+    to_mapping ++ (made (key 5) (codes "n") (values.Int (pos 1)) ∷ reset (key 5) (codes "n") (values.Int (pos 2)) ∷ runs_inside 6
+    ++ (made (key 3) (codes "n") (values.Int (pos 1)) ∷ reset (key 3) (codes "n") (values.Int (pos 2)) ∷ goes_out 8))
+
+set_twice : turns many (begun_of (mapping_model twice twice)) ≡ sets_twice
+unfolding turn
+set_twice = refl
+
+set_twice_applies : all_apply 1 [] (begun_of (mapping_model twice twice) ++ sets_twice) ≡ true
+unfolding first_fault
+set_twice_applies = refl
+
+-- an input that has no value keeps the subprocess from becoming active; once y is 1 and the incident is resolved it goes on
+abbrev begun_of_more : List Event → List Event
+begun_of_more first = begun_of (mapping_model more []) ++ first
+
+abbrev kept_at_input : List Event → List ℕ → List Event
+kept_at_input first text = begun_of_more first ++ (to_mapping ++ stops (key 6) incidents.ExtractValueError text ∷ [])
+
+abbrev mended_input : List Event → List ℕ → List Event
+mended_input first text = updated (record { scope = key 3; local = false; variables = record { name = codes "y"; value = values.Int (pos 1) } ∷ [] }) (kept_at_input first text) ++ resolved (key 6)
+
+abbrev input_goes_on : List Event
+input_goes_on = made (key 5) (codes "x") (values.Int (pos 2)) ∷ runs_inside 7 ++ goes_out 9
+
+-- y has no value
+unknown_input : turns many (begun_of_more []) ≡ to_mapping ++ stops (key 6) incidents.ExtractValueError (codes "UNKNOWN") ∷ []
+unfolding turn
+unknown_input = refl
+
+unknown_input_mended : turns many (kept_at_input [] (codes "UNKNOWN") ++ mended_input [] (codes "UNKNOWN")) ≡ input_goes_on
+unfolding turn
+unknown_input_mended = refl
+
+unknown_input_applies : all_apply 1 [] (kept_at_input [] (codes "UNKNOWN") ++ (mended_input [] (codes "UNKNOWN") ++ input_goes_on)) ≡ true
+unfolding first_fault
+unknown_input_applies = refl
+
+-- y is a text
+abbrev y_text : List Event
+y_text = made (key 3) (codes "y") (values.Text (codes "1")) ∷ []
+
+kind_of_input : turns many (begun_of_more y_text) ≡ to_mapping ++ stops (key 6) incidents.ExtractValueError (codes "KIND") ∷ []
+unfolding turn
+kind_of_input = refl
+
+kind_of_input_mended : turns many (kept_at_input y_text (codes "KIND") ++ mended_input y_text (codes "KIND")) ≡ input_goes_on
+unfolding turn
+kind_of_input_mended = refl
+
+-- y is the greatest whole number
+abbrev y_greatest : List Event
+y_greatest = made (key 3) (codes "y") (values.Int (pos 9223372036854775807)) ∷ []
+
+input_overflows : turns many (begun_of_more y_greatest) ≡ to_mapping ++ stops (key 6) incidents.ExtractValueError (codes "OVERFLOW") ∷ []
+unfolding turn
+input_overflows = refl
+
+input_overflow_mended : turns many (kept_at_input y_greatest (codes "OVERFLOW") ++ mended_input y_greatest (codes "OVERFLOW")) ≡ input_goes_on
+unfolding turn
+input_overflow_mended = refl
+
+-- an output that has no value keeps it from being left, and none is set: x is set once both have values
+abbrev half_out : List Mapping
+half_out = mapping (Int (pos 1)) (codes "x") ∷ mapping (Name (codes "z")) (codes "y") ∷ []
+
+abbrev kept_at_output : List Event
+kept_at_output = begun_of (mapping_model [] half_out) ++ (to_mapping ++ (runs_inside 6 ++ stops (key 8) incidents.ExtractValueError (codes "UNKNOWN") ∷ []))
+
+unknown_output : turns many (begun_of (mapping_model [] half_out)) ≡ to_mapping ++ (runs_inside 6 ++ stops (key 8) incidents.ExtractValueError (codes "UNKNOWN") ∷ [])
+unfolding turn
+unknown_output = refl
+
+-- z is set in the subprocess alone, where the outputs see it
+abbrev mended_output : List Event
+mended_output = updated (record { scope = key 5; local = true; variables = record { name = codes "z"; value = values.Int (pos 3) } ∷ [] }) kept_at_output ++ resolved (key 8)
+
+abbrev output_goes_on : List Event
+output_goes_on = made (key 3) (codes "x") (values.Int (pos 1)) ∷ made (key 3) (codes "y") (values.Int (pos 3)) ∷ goes_out 9
+
+unknown_output_mended : turns many (kept_at_output ++ mended_output) ≡ output_goes_on
+unfolding turn
+unknown_output_mended = refl
+
+unknown_output_applies : all_apply 1 [] (kept_at_output ++ (mended_output ++ output_goes_on)) ≡ true
+unfolding first_fault
+unknown_output_applies = refl

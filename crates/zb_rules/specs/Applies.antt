@@ -78,6 +78,8 @@ holds_own p before (events.VariableUpdated e) = true
 holds_own p before (events.VariableDocumentUpdated key) = holds_of_game (has_cell key) before
 holds_own p before (events.MessagePublished m) = is_fresh p before m.key
 holds_own p before (events.MessageExpired key) = is_buffered key before
+holds_own p before (events.IncidentCreated e) = is_fresh p before e.key && (e.job == 0)
+holds_own p before (events.IncidentResolved e) = e.job == 0
 holds_own p before _ = false
 
 -- a move fits the board, if there is one

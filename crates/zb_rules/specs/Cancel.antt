@@ -1,5 +1,5 @@
 -- Cancelling an instance of a process (BPMN 2.0.2, 13.3.2; the records as in Zeebe).
-use Rattle.std.specs.Prelude.{ℕ, List, [], ◌∷◌, ◌++◌, codes, Bool, false, not, if◌then◌else◌, Option, Some, None}
+use Rattle.std.specs.Prelude.{ℕ, List, ◌++◌, codes, Bool, false, not, if◌then◌else◌, Option, Some, None}
 use Rattle.std.specs.Fmt.{decimal}
 use Rattle.std.specs.Option.{option_map_or}
 use Rattle.zb_model.specs.declared.record.Event.{Event}
@@ -9,6 +9,8 @@ use Rattle.zb_model.specs.declared.record.RejectionKind.TheVariants as kinds
 use Rattle.zb_tokens.specs.declared.board.Phase.TheVariants as phases
 use Rattle.zb_tokens.specs.Board.{Board, cell_at, is_phase, is_root}
 use Rattle.zb_rules.specs.Applies.{holds_of_game}
+use Rattle.zb_rules.specs.Making.{Making}
+use Rattle.zb_rules.specs.Behind.{with_events_behind}
 
 -- what is told where no instance has this key
 abbrev pub no_instance : ℕ → List ℕ
@@ -32,6 +34,6 @@ reason_to_cancel before key = if not (holds_of_game (has_root key) before) then 
     else if holds_of_game (is_terminating key) before then Some (record { kind = kinds.InvalidState; reason = instance_terminates key })
     else None
 
--- the root begins to terminate; what is in it is then forced to end (BPMN 2.0.2, 13.3.2; Zeebe, the records)
-abbrev pub cancelled : ℕ → List Event
-cancelled key = events.ElementTerminating key ∷ []
+-- the root begins to terminate, with the events behind that; what is in it is then forced to end (BPMN 2.0.2, 13.3.2; Zeebe, the records)
+abbrev pub cancelled : (p n moment key : ℕ) → Making
+cancelled p n moment key = with_events_behind p n moment (events.ElementTerminating key)

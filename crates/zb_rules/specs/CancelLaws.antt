@@ -1,5 +1,5 @@
--- The own event of a cancel applies: a root that isn't terminating may begin to.
-use Rattle.std.proofs.Common.{◌≡◌, ℕ, List, Bool, true, false, not, if◌then◌else◌, IsTrue, Option, Some, None, refl, subst}
+-- The own events of a cancel apply: a root that isn't terminating may begin to.
+use Rattle.std.proofs.Common.{◌≡◌, ℕ, List, [], ◌∷◌, ◌++◌, Bool, true, false, not, if◌then◌else◌, IsTrue, Option, Some, None, refl, subst}
 use Rattle.std.specs.Option.{option_map_or}
 use Rattle.zb_model.specs.declared.record.Event.{Event}
 use Rattle.zb_model.specs.declared.record.Event.TheVariants as events
@@ -14,11 +14,12 @@ use Rattle.zb_tokens.specs.GameLaws.{holds_some, found_holds}
 use Rattle.zb_rules.specs.Shown.{board_of}
 use Rattle.zb_rules.specs.Applies.{holds_of_game, applies, all_apply}
 use Rattle.zb_rules.specs.Cancel.{has_root, is_terminating, reason_to_cancel, cancelled}
-use Rattle.zb_rules.specs.AppliedLaws.{some_of, game_holds, applied_from}
+use Rattle.zb_rules.specs.AppliedLaws.{some_of, game_holds, applied_from, applied_board, board_behind}
 use Rattle.zb_rules.specs.MadeLaws.{is_keyed}
 use Rattle.zb_rules.specs.ScopesLaws.{at_cell}
 use Rattle.zb_rules.specs.OwesLaws.{Owes}
 use Rattle.zb_rules.specs.SoundLaws.{BoardKeeps}
+use Rattle.zb_rules.specs.BehindLaws.{behind_apply}
 
 -- where there is no reason, a root is there, and isn't terminating
 no_reason : (root ends : Bool) (a z : Rejection) → (if not root then Some a else if ends then Some z else None) ≡ None → IsTrue root × (ends ≡ false)
@@ -42,11 +43,13 @@ module _ (p : ℕ) (es : List Event) (b : Board) (is : board_of es ≡ Some b) (
       let alive = alive_by c (is_phase c.phase phases.Leaving) refl owes its still in
       rw (found.1, alive, its) refl
 
-  -- the own event of a cancel applies
-  pub cancel_applies : (key : ℕ) → reason_to_cancel es key ≡ None → IsTrue (all_apply p es (cancelled key))
-  cancel_applies key none =
+  -- the own events of a cancel apply
+  pub cancel_applies : (n moment key : ℕ) → reason_to_cancel es key ≡ None → IsTrue (all_apply p es (cancelled p n moment key es))
+  cancel_applies n moment key none =
       let r = no_reason (holds_of_game (has_root key) es) (holds_of_game (is_terminating key) es) _ _ none in
       let root = game_holds (has_root key) es b is r.0 in
       let runs : is_terminating key b ≡ false = subst (λ (o : Option Board). option_map_or (is_terminating key) o false ≡ false) is r.1 in
       let first : IsTrue (applies p es (events.ElementTerminating key)) = applied_from p es b (events.ElementTerminating key) (moves.Halt key) is refl refl (halts key root runs) in
-      rw first refl
+      let after = applied_board p es b (events.ElementTerminating key) is first in
+      let behind = behind_apply p (es ++ events.ElementTerminating key ∷ []) after.0 (board_behind p es b (events.ElementTerminating key) after.0 after.1) n moment (events.ElementTerminating key) in
+      rw (first, behind) refl

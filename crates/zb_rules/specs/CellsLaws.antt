@@ -127,6 +127,8 @@ module _ (low high : ℕ) (b : Board) (is : Between low high b.cells) where
     between_made (moves.Gone key) new = without key
     between_made (moves.Assign a) new = with_edit a.scope (with_variable a.name a.value) (λ c. refl)
     between_made (moves.Update a) new = with_edit a.scope (with_variable a.name a.value) (λ c. refl)
+    between_made (moves.Incident i) new = between_higher low high top b.cells more is
+    between_made (moves.Repair key) new = λ incidents gone. between_higher low high top b.cells more is
 
   -- a move keeps the order; a new cell has a key behind all
   pub between_played : (after : Board) (move : Move) (top : ℕ) → high ≤ top → IfSome (key_made move) (λ key. (high ≤ key) × (key < top)) → played b move ≡ Some after → Between low top after.cells

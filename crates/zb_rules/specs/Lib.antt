@@ -1,9 +1,11 @@
 pub mod Making
 pub mod Shown
+pub mod Behind
 pub mod Deploy
 pub mod Create
 pub mod Cancel
 pub mod Update
+pub mod Resolve
 pub mod Publish
 pub mod Expire
 pub mod Continue
@@ -12,6 +14,7 @@ pub mod Reason
 pub mod Own
 pub mod Applies
 pub mod Legal
+pub mod InFront
 pub mod Settling
 pub mod Step
 pub mod Sound
@@ -21,12 +24,15 @@ pub mod DueLaws
 pub mod MadeLaws
 pub mod CellsLaws
 pub mod AppliedLaws
+pub mod LegalLaws
+pub mod BehindLaws
 pub mod KeysLaws
 pub mod ModelsLaws
 pub mod PlayedLaws
 pub mod ScopesLaws
 pub mod OwesLaws
 pub mod PlacedLaws
+pub mod IncidentsLaws
 pub mod SoundLaws
 pub mod OwnLaws
 pub mod CreateLaws
@@ -34,4 +40,5 @@ pub mod MoversLaws
 pub mod HolderLaws
 pub mod CancelLaws
 pub mod UpdateLaws
+pub mod FrontLaws
 pub mod ProgressLaws

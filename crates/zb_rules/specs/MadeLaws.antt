@@ -4,6 +4,7 @@ use Rattle.std.specs.Option.{option_map_or}
 use Rattle.zb_process.specs.declared.model.Model.{Model}
 use Rattle.zb_tokens.specs.declared.board.Cell.{Cell}
 use Rattle.zb_tokens.specs.declared.board.Token.{Token}
+use Rattle.zb_tokens.specs.declared.board.Incident.{Incident}
 use Rattle.zb_tokens.specs.declared.board.Move.{Move}
 use Rattle.zb_tokens.specs.declared.board.Move.TheVariants as moves
 use Rattle.zb_tokens.specs.declared.board.Phase.TheVariants as phases
@@ -59,6 +60,8 @@ HoldsMade b Q (moves.Halt key) = HoldsEdited b (λ x. Q (emptied key x)) key (in
 HoldsMade b Q (moves.Gone key) = HoldsWithout b (λ x. Q (record x { tokens = filter (λ t. not (t.scope == key)) b.tokens })) key
 HoldsMade b Q (moves.Assign a) = HoldsEdited b Q a.scope (with_variable a.name a.value)
 HoldsMade b Q (moves.Update a) = HoldsEdited b Q a.scope (with_variable a.name a.value)
+HoldsMade b Q (moves.Incident i) = Q (record b { incidents = b.incidents ++ i ∷ [] })
+HoldsMade b Q (moves.Repair key) = (incidents : List Incident) → removed (λ i. i.key == key) b.incidents ≡ Some incidents → Q (record b { incidents = incidents })
 
 -- what holds of a list as it was and of another one that may have been made of it holds of the one that is there
 pub edited_or : {A : Type 0} (P : List A → Type 0) (xs : List A) (made : Option (List A)) → P xs → ((after : List A) → made ≡ Some after → P after) → P (option_map_or (λ ys. ys) made xs)
@@ -98,3 +101,5 @@ module _ (b : Board) (Q : Board → Type 0) where
   made_holds after (moves.Gone key) holds made = mapped_holds Q _ (removed (is_keyed key) b.cells) after holds made
   made_holds after (moves.Assign a) holds made = mapped_holds Q _ (edited (is_keyed a.scope) (with_variable a.name a.value) b.cells) after holds made
   made_holds after (moves.Update a) holds made = mapped_holds Q _ (edited (is_keyed a.scope) (with_variable a.name a.value) b.cells) after holds made
+  made_holds after (moves.Incident i) holds made = subst Q (let same : record b { incidents = b.incidents ++ i ∷ [] } ≡ after = cc in same) holds
+  made_holds after (moves.Repair key) holds made = mapped_holds Q _ (removed (λ i. i.key == key) b.incidents) after holds made

@@ -21,7 +21,7 @@ use Rattle.zb_tokens.specs.Board.{Board, model_under}
 use Rattle.zb_tokens.specs.MoveLeave.{leaving, ends_scope, scope_ended}
 use Rattle.zb_tokens.specs.MoveTake.{rest_of}
 use Rattle.zb_tokens.specs.Game.{empty_board}
-use Rattle.zb_tokens.specs.ForcedLaws.{same_bytes}
+use Rattle.zb_tokens.specs.LeaveLaws.{same_bytes}
 use Rattle.zb_rules.specs.Shown.{shown, after_shown, board_of}
 use Rattle.zb_rules.specs.Applies.{all_apply, has_definition, is_process_of}
 use Rattle.zb_rules.specs.MadeLaws.{HoldsMade, left_holds, made_holds}
@@ -57,6 +57,8 @@ module _ (b : Board) where
   by_move (moves.Gone key) = λ cells made. none_more
   by_move (moves.Assign a) = λ cells made. none_more
   by_move (moves.Update a) = λ cells made. none_more
+  by_move (moves.Incident i) = none_more
+  by_move (moves.Repair key) = λ incidents gone. none_more
 
   -- the models after the move that an event shows
   pub models_shown : (after : Board) (move : Option Move) → after_shown b move ≡ Some after → after.models ≡ b.models ++ option_map_or models_made move []

@@ -1,7 +1,8 @@
 -- Which moves a mover makes, and that each has an event.
-use Rattle.std.proofs.Common.{◌≡◌, ℕ, ◌+◌, ◌≤◌, ◌==◌, List, [], ◌∷◌, Bool, true, false, if◌then◌else◌, IsTrue, is_some, Option, Some, None, option_map, option_and_then, slice_get, refl, subst, arith}
+use Rattle.std.proofs.Common.{◌≡◌, ℕ, ◌+◌, ◌≤◌, ◌==◌, List, [], ◌∷◌, Bool, true, false, if◌then◌else◌, IsTrue, is_some, Option, Some, None, option_map, option_and_then, Result, Ok, Err, slice_get, refl, subst, arith}
 use Rattle.std.specs.List.{find}
 use Rattle.std.proofs.lemmas.Bool.Decides.{nat_tests}
+use Rattle.zb_base.specs.declared.vars.Variable.{Variable}
 use Rattle.zb_tokens.specs.declared.board.Cell.{Cell}
 use Rattle.zb_tokens.specs.declared.board.Token.{Token}
 use Rattle.zb_tokens.specs.declared.board.Move.{Move}
@@ -14,16 +15,21 @@ use Rattle.zb_tokens.specs.Board.{Board, CellsAscend, cell_at}
 use Rattle.zb_tokens.specs.Doom.{is_doomed}
 use Rattle.zb_tokens.specs.Game.{fits}
 use Rattle.zb_tokens.specs.GameLaws.{holds_some, mapped_some}
-use Rattle.zb_tokens.specs.Forced.{move_in, end_in, move_at, take_first, entry_of, move_of, way_of}
+use Rattle.zb_tokens.specs.Incidents.{Hindrance}
+use Rattle.zb_tokens.specs.Mappings.{inputs_of}
+use Rattle.zb_tokens.specs.MoveLeave.{completion_of}
+use Rattle.zb_tokens.specs.Forced.{open_by, leave_by, move_in, end_in, move_at, take_first, move_of, way_of}
 use Rattle.zb_rules.specs.Shown.{event_of}
 
--- the moves that a mover makes, where a new cell gets this key
+-- the moves that a mover makes, where a new cell or an incident gets this key
 abbrev pub IsMade : ℕ → Move → Type 0
 IsMade key (moves.Stand d) = ⊥
 IsMade key (moves.Start s) = ⊥
 IsMade key (moves.Assign a) = ⊥
 IsMade key (moves.Update a) = ⊥
+IsMade key (moves.Repair other) = ⊥
 IsMade key (moves.Enter e) = e.key ≡ key
+IsMade key (moves.Incident i) = i.key ≡ key
 IsMade key _ = Unit {0}
 
 some_made : (key : ℕ) (a b : Move) → IsMade key a → Some a ≡ Some b → IsMade key b
@@ -33,10 +39,18 @@ first_made : (key cell : ℕ) (owed : List (List ℕ)) (move : Move) → take_fi
 first_made key cell [] move is = absurd (cc)
 first_made key cell (flow ∷ owed) move is = some_made key (moves.Take (record { key = cell; flow = flow })) move tt is
 
-phase_made : (b : Board) (key : ℕ) (c : Cell) (phase : Phase) (move : Move) → move_in b c phase ≡ Some move → IsMade key move
-phase_made b key c phases.Activating move is = some_made key (moves.Open c.key) move tt is
+open_made : (key : ℕ) (c : Cell) (inputs : Result (List Variable) Hindrance) → IsMade key (open_by key c inputs)
+open_made key c (Ok vs) = tt
+open_made key c (Err hindrance) = refl
+
+leave_made : (key : ℕ) (c : Cell) (exit : Result (List (List ℕ)) Hindrance) → IsMade key (leave_by key c exit)
+leave_made key c (Ok owed) = tt
+leave_made key c (Err hindrance) = refl
+
+phase_made : (b : Board) (key : ℕ) (c : Cell) (phase : Phase) (move : Move) → move_in b key c phase ≡ Some move → IsMade key move
+phase_made b key c phases.Activating move is = some_made key (open_by key c (inputs_of b c)) move (open_made key c (inputs_of b c)) is
 phase_made b key c phases.Active move is = some_made key (moves.Finish c.key) move tt is
-phase_made b key c phases.Completing move is = some_made key _ move tt is
+phase_made b key c phases.Completing move is = some_made key (leave_by key c (completion_of b c)) move (leave_made key c (completion_of b c)) is
 phase_made b key c phases.Leaving move is = first_made key c.key c.owed move is
 phase_made b key c phases.Terminating move is = some_made key (moves.Gone c.key) move tt is
 
@@ -47,11 +61,11 @@ end_made key c phases.Completing move is = some_made key (moves.Halt c.key) move
 end_made key c phases.Leaving move is = absurd (cc)
 end_made key c phases.Terminating move is = some_made key (moves.Gone c.key) move tt is
 
-doomed_made : (b : Board) (key : ℕ) (c : Cell) (doomed : Bool) (move : Move) → (if doomed then end_in c c.phase else move_in b c c.phase) ≡ Some move → IsMade key move
+doomed_made : (b : Board) (key : ℕ) (c : Cell) (doomed : Bool) (move : Move) → (if doomed then end_in c c.phase else move_in b key c c.phase) ≡ Some move → IsMade key move
 doomed_made b key c true move is = end_made key c c.phase move is
 doomed_made b key c false move is = phase_made b key c c.phase move is
 
-cell_made : (b : Board) (key : ℕ) (found : Option Cell) (move : Move) → option_and_then (move_at b) found ≡ Some move → IsMade key move
+cell_made : (b : Board) (key : ℕ) (found : Option Cell) (move : Move) → option_and_then (move_at b key) found ≡ Some move → IsMade key move
 cell_made b key None move is = absurd (cc)
 cell_made b key (Some c) move is = doomed_made b key c (is_doomed b c) move is
 
@@ -60,14 +74,10 @@ way_made : (key : ℕ) (t : Token) (way : Option (List ℕ × List ℕ)) (move :
 way_made key t None move is = absurd (cc)
 way_made key t (Some way) move is = some_made key (moves.Enter (record { key = key; scope = t.scope; node = way.0; via = way.1 })) move refl is
 
-token_made : (b : Board) (key : ℕ) (found : Option Token) (move : Move) → option_and_then (entry_of b key) found ≡ Some move → IsMade key move
-token_made b key None move is = absurd (cc)
-token_made b key (Some t) move is = way_made key t (way_of b t) move is
-
 -- the move of a mover is one of those that somebody is forced to, under this key
 pub mover_made : (b : Board) (moment key : ℕ) (mover : Mover) (move : Move) → move_of b moment key mover ≡ Some move → IsMade key move
 mover_made b moment key (movers.Cell cell) move is = cell_made b key (cell_at b cell) move is
-mover_made b moment key (movers.Token place) move is = token_made b key (slice_get b.tokens place) move is
+mover_made b moment key (movers.Token t) move is = way_made key t (way_of b t) move is
 
 -- a cell that is found has a key of its own
 found_by : (low key : ℕ) (cells : List Cell) (x c : Cell) (t : Bool) → low ≤ x.key → (x.key == key) ≡ t → (find (λ y. y.key == key) cells ≡ Some c → x.key + 1 ≤ key)
@@ -98,3 +108,5 @@ event_there b key (moves.Halt cell) made fit = refl
 event_there b key (moves.Gone cell) made fit = refl
 event_there b key (moves.Assign a) made fit = absurd made
 event_there b key (moves.Update a) made fit = absurd made
+event_there b key (moves.Incident i) made fit = refl
+event_there b key (moves.Repair other) made fit = absurd made

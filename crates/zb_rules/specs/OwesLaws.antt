@@ -10,7 +10,7 @@ use Rattle.zb_tokens.specs.declared.board.Move.TheVariants as moves
 use Rattle.zb_tokens.specs.declared.board.Phase.TheVariants as phases
 use Rattle.zb_tokens.specs.Edits.{is_none_of}
 use Rattle.zb_tokens.specs.Board.{Board, cell_at, model_under, is_phase, is_root}
-use Rattle.zb_tokens.specs.MoveLeave.{flows_of, are_among}
+use Rattle.zb_tokens.specs.MoveLeave.{flows_of, are_among, may_owe}
 use Rattle.zb_tokens.specs.MoveTake.{is_first}
 use Rattle.zb_tokens.specs.Game.{fits}
 use Rattle.zb_tokens.specs.GameLaws.{both_left, both_right, found_holds}
@@ -47,6 +47,8 @@ model_kept b after (moves.Halt key) still all = λ c found has. has
 model_kept b after (moves.Gone key) still all = tt
 model_kept b after (moves.Assign a) still all = λ c found has. has
 model_kept b after (moves.Update a) still all = λ c found has. has
+model_kept b after (moves.Incident i) still all = tt
+model_kept b after (moves.Repair key) still all = tt
 
 -- each cell has its model after the move that an event shows
 pub models_on : (b after : Board) (move : Option Move) → after_shown b move ≡ Some after → All (HasModel b) b.cells → All (HasModel after) after.cells
@@ -64,8 +66,9 @@ not_root false flow owed others is = refl
 owes_leave : (b : Board) (l : Leave) → IsTrue (fits b (moves.Leave l)) → CellKept b Owes (moves.Leave l)
 owes_leave b l fit = (
   λ flow owed is c found has phase.
-      let h = at_cell (λ (x : Cell). is_phase x.phase phases.Completing && are_among l.owed (flows_of b x)) (cell_at b l.key) c found fit in
-      let among : IsTrue (are_among (flow ∷ owed) (flows_of b c)) = subst (λ (ids : List (List ℕ)). IsTrue (are_among ids (flows_of b c))) is (both_right (is_phase c.phase phases.Completing) _ h) in
+      let h = at_cell (λ (x : Cell). is_phase x.phase phases.Completing && may_owe b x l.owed) (cell_at b l.key) c found fit in
+      let its = both_left (are_among l.owed (flows_of b c)) _ (both_right (is_phase c.phase phases.Completing) (may_owe b c l.owed) h) in
+      let among : IsTrue (are_among (flow ∷ owed) (flows_of b c)) = subst (λ (ids : List (List ℕ)). IsTrue (are_among ids (flows_of b c))) is its in
       (refl, not_root (is_root c) flow owed _ among),
   λ c has. has,
 )
@@ -87,6 +90,8 @@ owes_kept b (moves.Halt key) fit = λ c found has phase. absurd (cc)
 owes_kept b (moves.Gone key) fit = tt
 owes_kept b (moves.Assign a) fit = λ c found has. has
 owes_kept b (moves.Update a) fit = λ c found has. has
+owes_kept b (moves.Incident i) fit = tt
+owes_kept b (moves.Repair key) fit = tt
 
 -- each leaving cell owes a flow after it
 pub owes_on : (b after : Board) (move : Option Move) → IsTrue (may_fit move b) → after_shown b move ≡ Some after → All Owes b.cells → All Owes after.cells

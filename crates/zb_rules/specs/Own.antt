@@ -9,6 +9,7 @@ use Rattle.zb_rules.specs.Deploy.{deployed}
 use Rattle.zb_rules.specs.Create.{created}
 use Rattle.zb_rules.specs.Cancel.{cancelled}
 use Rattle.zb_rules.specs.Update.{updated}
+use Rattle.zb_rules.specs.Resolve.{resolved}
 use Rattle.zb_rules.specs.Expire.{expired}
 
 -- a command that is run so far
@@ -17,6 +18,7 @@ IsSupported (commands.DeploymentCreate m) = Unit {0}
 IsSupported (commands.ProcessInstanceCreationCreate c) = Unit {0}
 IsSupported (commands.ProcessInstanceCancel key) = Unit {0}
 IsSupported (commands.VariableDocumentUpdate c) = Unit {0}
+IsSupported (commands.IncidentResolve key) = Unit {0}
 IsSupported (commands.MessagePublish c) = Unit {0}
 IsSupported (commands.MessageExpire key) = Unit {0}
 IsSupported commands.ProcessInstanceBatchContinue = Unit {0}
@@ -26,8 +28,9 @@ IsSupported _ = ⊥
 abbrev pub own_events : (p n : ℕ) → List Event → ℕ → Command → Option (List Event)
 own_events p n before moment (commands.DeploymentCreate m) = Some (deployed p m before)
 own_events p n before moment (commands.ProcessInstanceCreationCreate c) = created p before c
-own_events p n before moment (commands.ProcessInstanceCancel key) = Some (cancelled key)
+own_events p n before moment (commands.ProcessInstanceCancel key) = Some (cancelled p n moment key before)
 own_events p n before moment (commands.VariableDocumentUpdate c) = Some (updated c before)
+own_events p n before moment (commands.IncidentResolve key) = Some (resolved key)
 own_events p n before moment (commands.MessagePublish c) = Some (published_under (next_key p before) moment c)
 own_events p n before moment (commands.MessageExpire key) = Some (expired key)
 own_events p n before moment commands.ProcessInstanceBatchContinue = Some []

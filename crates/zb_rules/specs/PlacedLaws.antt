@@ -22,7 +22,7 @@ use Rattle.zb_tokens.specs.Board.{Board, cell_at, model_under, new_cell, in_phas
 use Rattle.zb_tokens.specs.MoveEnter.{spots_of, stands_at, stand_at_each, without_each, entering}
 use Rattle.zb_tokens.specs.MoveOpen.{start_tokens}
 use Rattle.zb_tokens.specs.MoveFinish.{is_done, waits_for_nothing}
-use Rattle.zb_tokens.specs.MoveLeave.{leaving, flows_of, are_among, ends_scope, with_end, scope_ended}
+use Rattle.zb_tokens.specs.MoveLeave.{leaving, may_owe, ends_scope, with_end, scope_ended}
 use Rattle.zb_tokens.specs.MoveTake.{is_first, rest_of}
 use Rattle.zb_tokens.specs.MoveAssign.{with_variable}
 use Rattle.zb_tokens.specs.Game.{fits}
@@ -259,7 +259,7 @@ open_placed b key placed c m found stands cells made =
 leave_placed : (b : Board) (l : Leave) → IsTrue (fits b (moves.Leave l)) → Placed b → HoldsMade b Placed (moves.Leave l)
 leave_placed b l fit placed c found left made =
     let none : (x : Cell) → cell_at b l.key ≡ Some x → holds_others b x ≡ false = λ x there.
-    no_scope_in b x phases.Completing (both_left (is_phase x.phase phases.Completing) _ (at_cell (λ (y : Cell). is_phase y.phase phases.Completing && are_among l.owed (flows_of b y)) (cell_at b l.key) x there fit)) refl in
+    no_scope_in b x phases.Completing (both_left (is_phase x.phase phases.Completing) _ (at_cell (λ (y : Cell). is_phase y.phase phases.Completing && may_owe b y l.owed) (cell_at b l.key) x there fit)) refl in
     ended_placed (ends_scope b c) c.scope left (left_placed b l.owed l.key left none placed made).1
 
 -- a cell that is no root stands in a scope with a lesser key
@@ -291,6 +291,8 @@ made_placed b (moves.Halt key) fit new owes placed = λ cells made. emptied_plac
 made_placed b (moves.Gone key) fit new owes placed = gone_placed b key fit placed
 made_placed b (moves.Assign a) fit new owes placed = scope_edited b a.scope (with_variable a.name a.value) (λ c. refl) (λ x c is. is) (λ c found is. is) placed
 made_placed b (moves.Update a) fit new owes placed = scope_edited b a.scope (with_variable a.name a.value) (λ c. refl) (λ x c is. is) (λ c found is. is) placed
+made_placed b (moves.Incident i) fit new owes placed = record { scopes = placed.scopes; tokens = placed.tokens }
+made_placed b (moves.Repair key) fit new owes placed = λ incidents gone. record { scopes = placed.scopes; tokens = placed.tokens }
 
 -- each cell and each token stands in a scope after the move that an event shows
 pub placed_on : (b after : Board) (move : Option Move) → IsTrue (may_fit move b) → IfSome move (IsNewIn b) → after_shown b move ≡ Some after → All Owes b.cells → Placed b → Placed after

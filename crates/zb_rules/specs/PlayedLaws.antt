@@ -1,7 +1,8 @@
 -- What holds of each cell after a move, and of each member of a list that is edited.
-use Rattle.std.proofs.Common.{◌≡◌, ℕ, List, [], ◌∷◌, Bool, true, false, not, if◌then◌else◌, IsTrue, is_some, Option, Some, None, option_map, All, refl, subst}
-use Rattle.std.specs.List.{find}
+use Rattle.std.proofs.Common.{◌≡◌, ℕ, zero, suc, List, [], ◌∷◌, Bool, true, false, not, if◌then◌else◌, IsTrue, is_some, Option, Some, None, option_map, All, refl, subst, arith}
+use Rattle.std.specs.List.{find, AllPairs}
 use Rattle.std.proofs.lemmas.List.Elements.{All-cons, All-head, All-tail, All-push, All-filter}
+use Rattle.std.proofs.lemmas.List.Kept.{AllPairs-cons}
 use Rattle.zb_process.specs.declared.model.Model.{Model}
 use Rattle.zb_tokens.specs.declared.board.Cell.{Cell}
 use Rattle.zb_tokens.specs.declared.board.Move.{Move}
@@ -44,6 +45,23 @@ module _ {A : Type 0} (passes : A → Bool) (P : A → Type 0) where
   removed_all [] after all made = absurd (cc)
   removed_all (x ∷ xs) after all made = removed_by x xs after (passes x) (removed passes xs) all (λ rest is. removed_all xs rest (All-tail P x xs all) is) made
 
+module _ {A : Type 0} (passes : A → Bool) (R : A → A → Type 0) where
+  pairs_by : (x : A) (xs after : List A) (t : Bool) (later : Option (List A)) → All (R x) xs → AllPairs R xs → ((rest : List A) → later ≡ Some rest → All (R x) rest × AllPairs R rest)
+      → (if t then Some xs else option_map (λ ys. x ∷ ys) later) ≡ Some after → AllPairs R after
+  pairs_by x xs after true later head tail behind made = subst (AllPairs R) (let same : xs ≡ after = cc in same) tail
+  pairs_by x xs after false None head tail behind made = absurd (cc)
+  pairs_by x xs after false (Some rest) head tail behind made =
+      let r = behind rest refl in
+      subst (AllPairs R) (let same : x ∷ rest ≡ after = cc in same) (AllPairs-cons R x rest r.0 r.1)
+
+  -- what holds of each pair holds of each without one
+  pub removed_pairs : (xs after : List A) → AllPairs R xs → removed passes xs ≡ Some after → AllPairs R after
+  removed_pairs [] after all made = absurd (cc)
+  removed_pairs (x ∷ xs) after all made =
+      let head : All (R x) xs = λ k d within. all zero (suc k) d (omega arith) (omega arith) in
+      let tail : AllPairs R xs = λ i j d lt within. all (suc i) (suc j) d (omega arith) (omega arith) in
+      pairs_by x xs after (passes x) (removed passes xs) head tail (λ rest is. (removed_all passes (R x) xs rest head is, removed_pairs xs rest tail is)) made
+
 -- what has to be shown of the cell with a key as it is edited, so that P holds of each cell
 abbrev pub EditKept : Board → (Cell → Type 0) → ℕ → (Cell → Cell) → Type 0
 EditKept b P key edit = (c : Cell) → cell_at b key ≡ Some c → P c → P (edit c)
@@ -61,6 +79,8 @@ CellKept b P (moves.Halt key) = EditKept b P key (in_phase phases.Terminating []
 CellKept b P (moves.Gone key) = Unit {0}
 CellKept b P (moves.Assign a) = EditKept b P a.scope (with_variable a.name a.value)
 CellKept b P (moves.Update a) = EditKept b P a.scope (with_variable a.name a.value)
+CellKept b P (moves.Incident i) = Unit {0}
+CellKept b P (moves.Repair key) = Unit {0}
 
 module _ (b : Board) (P : Cell → Type 0) (all : All P b.cells) where
   abbrev Each : Board → Type 0
@@ -86,6 +106,8 @@ module _ (b : Board) (P : Cell → Type 0) (all : All P b.cells) where
   made_all (moves.Gone key) kept = λ cells made. removed_all (is_keyed key) P b.cells cells all made
   made_all (moves.Assign a) kept = edit_all a.scope (with_variable a.name a.value) kept
   made_all (moves.Update a) kept = edit_all a.scope (with_variable a.name a.value) kept
+  made_all (moves.Incident i) kept = all
+  made_all (moves.Repair key) kept = λ incidents gone. all
 
   -- a move keeps what holds of each cell
   pub cells_played : (after : Board) (move : Move) → CellKept b P move → played b move ≡ Some after → All P after.cells

@@ -9,6 +9,7 @@ use Rattle.zb_rules.specs.Deploy.{reason_to_deploy}
 use Rattle.zb_rules.specs.Create.{reason_to_create}
 use Rattle.zb_rules.specs.Cancel.{reason_to_cancel}
 use Rattle.zb_rules.specs.Update.{reason_to_update}
+use Rattle.zb_rules.specs.Resolve.{reason_to_resolve}
 use Rattle.zb_rules.specs.Expire.{reason_to_expire}
 use Rattle.zb_rules.specs.Continue.{reason_to_continue}
 
@@ -18,6 +19,7 @@ reason_for before moment (commands.DeploymentCreate m) = reason_to_deploy m
 reason_for before moment (commands.ProcessInstanceCreationCreate c) = reason_to_create before c
 reason_for before moment (commands.ProcessInstanceCancel key) = reason_to_cancel before key
 reason_for before moment (commands.VariableDocumentUpdate c) = reason_to_update before c.scope
+reason_for before moment (commands.IncidentResolve key) = reason_to_resolve before key
 reason_for before moment (commands.MessagePublish c) = reason_to_publish before c
 reason_for before moment (commands.MessageExpire key) = reason_to_expire before moment key
 reason_for before moment commands.ProcessInstanceBatchContinue = reason_to_continue before

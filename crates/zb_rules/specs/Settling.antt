@@ -2,28 +2,28 @@
 use Rattle.std.specs.Prelude.{◌≡◌, ◌⊎◌, ◌<◌, ◌≤◌, ◌+◌, ℕ, List, [], ◌∷◌, ◌++◌, length, Option, Some, option_map, option_and_then}
 use Rattle.zb_model.specs.declared.record.Event.{Event}
 use Rattle.zb_views.specs.View.{next_key}
+use Rattle.zb_tokens.specs.declared.board.Assignments.{Assignments}
 use Rattle.zb_tokens.specs.Board.{Board}
+use Rattle.zb_tokens.specs.Mappings.{assignments_of}
 use Rattle.zb_tokens.specs.declared.board.Move.{Move}
 use Rattle.zb_tokens.specs.declared.board.Mover.{Mover}
 use Rattle.zb_tokens.specs.Forced.{next_mover, move_of, IsQuiet}
-use Rattle.zb_rules.specs.Making.{Making, just, and_then}
+use Rattle.zb_rules.specs.Making.{Making, and_then}
 use Rattle.zb_rules.specs.Shown.{board_of, event_of}
+use Rattle.zb_rules.specs.InFront.{assigning}
+use Rattle.zb_rules.specs.Behind.{with_events_behind}
 
 -- a batch is full with so many events
 unfoldable pub full : ℕ
 full = 1024
 
--- the events in front of that of a move; so far there are none
-abbrev pub events_in_front : (n moment : ℕ) → Board → Move → Making
-events_in_front n moment b move before = []
-
--- the events behind an event; so far there are none
-abbrev pub events_behind : (p n moment : ℕ) → Event → Making
-events_behind p n moment e before = []
+-- an event, behind the variables that are set in front of it, and with those behind it
+abbrev pub turn_with : (p n moment : ℕ) → Option Assignments → Event → Making
+turn_with p n moment assignments e = and_then (assigning assignments) (with_events_behind p n moment e)
 
 -- a move in events: those in front, its own, those behind
 abbrev pub in_events : (p n moment : ℕ) → Board → Move → Event → Making
-in_events p n moment b move e = and_then (events_in_front n moment b move) (and_then (just e) (events_behind p n moment e))
+in_events p n moment b move = turn_with p n moment (assignments_of b move)
 
 -- what a mover does on the board of some events, in events
 abbrev pub turn_of : (p n moment : ℕ) → List Event → Board → Mover → Option (List Event)

@@ -21,6 +21,8 @@ shown before (events.ElementTerminated key) = Some (moves.Gone key)
 shown before (events.SequenceFlowTaken e) = Some (moves.Take (record { key = e.key; flow = e.flow }))
 shown before (events.VariableCreated e) = Some (moves.Assign (record { scope = e.scope; name = e.name; value = e.value }))
 shown before (events.VariableUpdated e) = Some (moves.Update (record { scope = e.scope; name = e.name; value = e.value }))
+shown before (events.IncidentCreated e) = Some (moves.Incident (record { key = e.key; kind = e.kind; cell = e.cell; text = e.text }))
+shown before (events.IncidentResolved e) = Some (moves.Repair e.key)
 shown before _ = None
 
 -- the board after the move that an event shows, if it shows one
@@ -50,3 +52,5 @@ event_of b (moves.Halt key) = Some (events.ElementTerminating key)
 event_of b (moves.Gone key) = Some (events.ElementTerminated key)
 event_of b (moves.Assign a) = None
 event_of b (moves.Update a) = None
+event_of b (moves.Incident i) = Some (events.IncidentCreated (record { key = i.key; kind = i.kind; cell = i.cell; job = 0; text = i.text }))
+event_of b (moves.Repair key) = None

@@ -1,6 +1,7 @@
 -- What holds of the board of every log whose events apply.
-use Rattle.std.specs.Prelude.{◌≡◌, ◌⊎◌, ◌<◌, ◌+◌, ◌^◌, ℕ, List, Bool, false, ◌&&◌, ◌||◌, Option, Some, IsTrue, IsFalse, is_some, All}
+use Rattle.std.specs.Prelude.{◌≡◌, ◌⊎◌, ◌<◌, ◌+◌, ◌^◌, ◌==◌, ℕ, List, ◌++◌, Bool, false, ◌&&◌, ◌||◌, Option, Some, IsTrue, IsFalse, is_some, All}
 use Rattle.std.specs.Option.{option_map_or}
+use Rattle.std.specs.List.{AllPairs}
 use Rattle.zb_base.specs.Vars.{is_ascending}
 use Rattle.zb_model.specs.declared.record.Event.{Event}
 use Rattle.zb_model.specs.declared.record.Command.{Command}
@@ -8,6 +9,7 @@ use Rattle.zb_model.specs.declared.record.Command.TheVariants as commands
 use Rattle.zb_views.specs.View.{greatest_counter, next_key}
 use Rattle.zb_tokens.specs.declared.board.Cell.{Cell}
 use Rattle.zb_tokens.specs.declared.board.Token.{Token}
+use Rattle.zb_tokens.specs.declared.board.Incident.{Incident}
 use Rattle.zb_tokens.specs.declared.board.Move.{Move}
 use Rattle.zb_tokens.specs.declared.board.Mover.{Mover}
 use Rattle.zb_tokens.specs.declared.board.Phase.{Phase}
@@ -18,7 +20,8 @@ use Rattle.zb_tokens.specs.MoveAssign.{has_name}
 use Rattle.zb_tokens.specs.Game.{agrees}
 use Rattle.zb_tokens.specs.Forced.{move_of}
 use Rattle.zb_rules.specs.Shown.{shown, event_of}
-use Rattle.zb_rules.specs.Applies.{applies}
+use Rattle.zb_rules.specs.Applies.{applies, all_apply}
+use Rattle.zb_rules.specs.InFront.{events_in_front}
 
 -- in this phase others may be in a scope (BPMN 2.0.2, 13.3.2)
 abbrev pub runs : Phase → Bool
@@ -32,7 +35,11 @@ holds_others b c = runs c.phase && option_map_or (λ m. is_scope_in m c) (model_
 abbrev pub is_scope : Board → ℕ → Bool
 is_scope b key = option_map_or (holds_others b) (cell_at b key) false
 
--- a board of a log: cells ascend, scopes and models are there, tokens stand in scopes (BPMN 2.0.2, 13.1)
+-- two incidents stand on different cells, and have different keys (Zeebe, incidents)
+abbrev pub StandApart : Incident → Incident → Type 0
+StandApart i other = IsFalse (i.cell == other.cell) × IsFalse (i.key == other.key)
+
+-- a board of a log: cells ascend, scopes and models are there, tokens stand in scopes, incidents on different cells (BPMN 2.0.2, 13.1)
 pub record IsSound (b : Board) : Type 0 where
   -- the keys of the cells ascend, and none is 0
   pub cells : CellsAscend 1 b.cells
@@ -44,6 +51,8 @@ pub record IsSound (b : Board) : Type 0 where
   pub tokens : All (λ (t : Token). IsTrue (is_scope b t.scope)) b.tokens
   -- a leaving cell owes a flow, and is no root
   pub leaving : All (λ (c : Cell). IsTrue (is_phase c.phase phases.Leaving) → IsFalse (is_none_of c.owed) × IsFalse (is_root c)) b.cells
+  -- at most one incident stands on each cell, and no two have one key
+  pub incidents : AllPairs StandApart b.incidents
 
 -- a cell is found that has the name, or else a root: in it a value is set that is handed up (BPMN 2.0.2, 10.4.1)
 pub record IsHolder (b : Board) (name : List ℕ) (found : Option ℕ) : Type 0 where
@@ -62,12 +71,14 @@ abbrev pub HasOrderedNames : Command → Type 0
 HasOrderedNames (commands.ProcessInstanceCreationCreate c) = IsTrue (is_ascending c.variables)
 HasOrderedNames _ = Unit {0}
 
--- the move of a mover behind these events of partition p, on their board at a moment, and the event of it: that applies, and shows the move
+-- the move of a mover behind these events of partition p, on their board at a moment, and the event of it: the events in front of that apply,
+-- and behind them it applies and shows the move
 pub record IsForcedEvent (p moment : ℕ) (es : List Event) (b : Board) (mover : Mover) : Type 0 where
   pub move : Move
   pub event : Event
   pub is_move : move_of b moment (next_key p es) mover ≡ Some move
   pub is_event : event_of b move ≡ Some event
-  pub applied : IsTrue (applies p es event)
-  pub shows : shown es event ≡ Some move
+  pub in_front : IsTrue (all_apply p es (events_in_front b move es))
+  pub applied : IsTrue (applies p (es ++ events_in_front b move es) event)
+  pub shows : shown (es ++ events_in_front b move es) event ≡ Some move
   pub agreed : IsTrue (agrees b moment move)

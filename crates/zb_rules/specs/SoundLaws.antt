@@ -18,6 +18,7 @@ use Rattle.zb_rules.specs.AppliedLaws.{Advances, holds_on, holds_of_all}
 use Rattle.zb_rules.specs.KeysLaws.{HasOrderedCells, board_stands, stands_on, stands_first, begins_by, fresh_is}
 use Rattle.zb_rules.specs.OwesLaws.{HasModel, Owes, models_on, owes_on}
 use Rattle.zb_rules.specs.PlacedLaws.{InScope, IsIn, Placed, IsNewIn, placed_on}
+use Rattle.zb_rules.specs.IncidentsLaws.{HasApartIncidents, apart_on, apart_first}
 
 -- the board of a log whose events apply is there
 pub board_is_there : (p : ℕ) (es : List Event) → IsTrue (all_apply p [] es) → IsTrue (is_some (board_of es))
@@ -47,6 +48,7 @@ pub record BoardKeeps (p : ℕ) (es : List Event) (b : Board) : Type 0 where
   pub models : All (HasModel b) b.cells
   pub owes : All Owes b.cells
   pub placed : Placed b
+  pub incidents : HasApartIncidents p es b
 
 -- an event that applies keeps it
 pub keeps_on : (p : ℕ) (before : List Event) (b : Board) (e : Event) (after : Board) → Advances p before b e after → BoardKeeps p before b → BoardKeeps p (before ++ e ∷ []) after
@@ -55,6 +57,7 @@ keeps_on p before b e after h k = record {
   models = models_on b after (shown before e) h.leads k.models;
   owes = owes_on b after (shown before e) h.fit h.leads k.owes;
   placed = placed_on b after (shown before e) h.fit (shown_new p before b e after h k.stands) h.leads k.owes k.placed;
+  incidents = apart_on p before b e after h k.incidents;
 }
 
 keeps_first : (p : ℕ) → BoardKeeps p [] empty_board
@@ -63,6 +66,7 @@ keeps_first p = record {
   models = All-nil (HasModel empty_board);
   owes = All-nil Owes;
   placed = record { scopes = All-nil (InScope empty_board); tokens = All-nil (IsIn empty_board) };
+  incidents = apart_first p;
 }
 
 -- the board of a log whose events apply has it
@@ -76,6 +80,7 @@ sound_from p es b k = record {
   models = k.models;
   tokens = k.placed.tokens;
   leaving = k.owes;
+  incidents = k.incidents.apart;
 }
 
 -- and is sound

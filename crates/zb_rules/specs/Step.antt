@@ -10,17 +10,19 @@ use Rattle.zb_views.specs.View.{events_of, moment_of_last}
 use Rattle.zb_rules.specs.Reason.{reason_for}
 use Rattle.zb_rules.specs.Own.{own_events}
 use Rattle.zb_rules.specs.Applies.{all_apply}
-use Rattle.zb_rules.specs.Legal.{AllLegal}
+use Rattle.zb_rules.specs.Legal.{EachLegal, TurnsLegal}
 use Rattle.zb_rules.specs.Settling.{IsRest}
 
--- the events of a command that is run: its own, and then what is forced. Each applies to those before it, and each move that one shows is legal.
+-- the events of a command that is run: its own, and then what is forced. Each applies to those before it, and each move that one shows is legal:
+-- what it evaluates is asked of the board before its turn, or, for an own event, of the board before that.
 pub record IsAcceptance (p n moment : ℕ) (before : List Event) (command : Command) (outcome : Outcome) : Type 0 where
   pub own : List Event
   pub rest : List Event
   pub are_own : own_events p n before moment command ≡ Some own
   pub settles : IsRest p n moment before own rest
   pub applied : IsTrue (all_apply p before (own ++ rest))
-  pub legal : AllLegal moment before (own ++ rest)
+  pub own_legal : EachLegal moment before own
+  pub rest_legal : TurnsLegal moment (before ++ own) settles.turns
   pub accepted : outcome ≡ outcomes.Accepted (own ++ rest)
 
 -- a command with a reason is rejected by it; one without is run

@@ -95,7 +95,7 @@ all_apply_on p before [] more = rw (append-nil before) refl
 all_apply_on p before (x ∷ es) more = rw (all_apply_on p (before ++ x ∷ []) es more, append_assoc before (x ∷ []) es) (grind arith)
 
 -- legal moves, and those behind them
-pub all_legal_on : (moment : ℕ) (before es more : List Event) → AllLegal moment before es → AllLegal moment (before ++ es) more → AllLegal moment before (es ++ more)
-all_legal_on moment before [] more each behind = subst (λ (l : List Event). AllLegal moment l more) (append-nil before) behind
-all_legal_on moment before (e ∷ es) more each behind =
-    (each.0, all_legal_on moment (before ++ e ∷ []) es more each.1 (subst (λ (l : List Event). AllLegal moment l more) (sym (append_assoc before (e ∷ []) es)) behind))
+pub all_legal_on : (moment : ℕ) (seen before es more : List Event) → AllLegal moment seen before es → AllLegal moment seen (before ++ es) more → AllLegal moment seen before (es ++ more)
+all_legal_on moment seen before [] more each behind = subst (λ (l : List Event). AllLegal moment seen l more) (append-nil before) behind
+all_legal_on moment seen before (e ∷ es) more each behind =
+    (each.0, all_legal_on moment seen (before ++ e ∷ []) es more each.1 (subst (λ (l : List Event). AllLegal moment seen l more) (sym (append_assoc before (e ∷ []) es)) behind))

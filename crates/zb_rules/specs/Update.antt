@@ -33,18 +33,18 @@ abbrev pub set_in : ℕ → Variable → Making
 set_in cell v before = if holds_of_game (is_named_in cell v.name) before then events.VariableUpdated (record { scope = cell; name = v.name; value = v.value }) ∷ [] else variable_event cell v ∷ []
 
 -- the cell in which a name is set: the scope itself where it is local, else the one that it is handed up to
-abbrev pub place_of : VariableDocumentUpdate → List ℕ → List Event → Option ℕ
-place_of c name before = if c.local then Some c.scope else option_and_then (λ b. holder_of b c.scope name) (board_of before)
+abbrev pub place_of : Bool → ℕ → List ℕ → List Event → Option ℕ
+place_of local scope name before = if local then Some scope else option_and_then (λ b. holder_of b scope name) (board_of before)
 
--- one of the variables is set
-abbrev pub set_by : VariableDocumentUpdate → Variable → Making
-set_by c v before = option_map_or (λ cell. set_in cell v before) (place_of c v.name before) []
+-- a variable is set, in a scope where it is local, or from it on up
+abbrev pub set_by : Bool → ℕ → Variable → Making
+set_by local scope v before = option_map_or (λ cell. set_in cell v before) (place_of local scope v.name before) []
 
 -- each of these variables is set, in order
-abbrev pub set_each : VariableDocumentUpdate → List Variable → Making
-set_each c [] before = []
-set_each c (v ∷ vs) before = and_then (set_by c v) (set_each c vs) before
+abbrev pub set_each : Bool → ℕ → List Variable → Making
+set_each local scope [] before = []
+set_each local scope (v ∷ vs) before = and_then (set_by local scope v) (set_each local scope vs) before
 
 -- each variable is set, and then the document is (Zeebe, the records)
 abbrev pub updated : VariableDocumentUpdate → Making
-updated c before = and_then (set_each c c.variables) (just (events.VariableDocumentUpdated c.scope)) before
+updated c before = and_then (set_each c.local c.scope c.variables) (just (events.VariableDocumentUpdated c.scope)) before

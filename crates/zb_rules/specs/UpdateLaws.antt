@@ -73,39 +73,48 @@ module _ (p : ℕ) (before : List Event) (b : Board) (is : board_of before ≡ S
   local_by true cell v c found holder = set_there cell v c found
   local_by false cell v c found holder = rw holder.is (set_there holder.key v holder.cell holder.there)
 
-  place_is : (u : VariableDocumentUpdate) (name : List ℕ) → place_of u name before ≡ (if u.local then Some u.scope else holder_of b u.scope name)
-  place_is u name = rw is refl
+  place_is : (local : Bool) (scope : ℕ) (name : List ℕ) → place_of local scope name before ≡ (if local then Some scope else holder_of b scope name)
+  place_is local scope name = rw is refl
 
   -- wherever it is set from one that is there
-  set_from : (u : VariableDocumentUpdate) (v : Variable) (c : Cell) → BoardKeeps p before b → cell_at b u.scope ≡ Some c → IsSet p before b (set_by u v before)
-  set_from u v c k found = subst (λ (o : Option ℕ). IsSet p before b (option_map_or (λ x. set_in x v before) o [])) (sym (place_is u v.name)) (local_by u.local u.scope v c found (holder_there b (ascend_between 1 (next_key p before) b.cells k.stands.between) k.placed.scopes v.name u.scope c found))
+  set_from : (local : Bool) (scope : ℕ) (v : Variable) (c : Cell) → BoardKeeps p before b → cell_at b scope ≡ Some c → IsSet p before b (set_by local scope v before)
+  set_from local scope v c k found = subst (λ (o : Option ℕ). IsSet p before b (option_map_or (λ x. set_in x v before) o [])) (sym (place_is local scope v.name))
+      (local_by local scope v c found (holder_there b (ascend_between 1 (next_key p before) b.cells k.stands.between) k.placed.scopes v.name scope c found))
 
--- events that set so many variables, each of which applies, behind which the scope is there
-record AreSet (p scope : ℕ) (before : List Event) (count : ℕ) (made : List Event) : Type 0 where
-  after : Board
-  is : board_of (before ++ made) ≡ Some after
-  there : IsTrue (has_cell scope after)
-  applied : IsTrue (all_apply p before made)
-  counted : length made ≡ count
+-- what holds of a board still does as a value is set
+abbrev pub KeptBySetting : (Board → Type 0) → Type 0
+KeptBySetting Holds = (b after : Board) (a : Assigned) → play_assign b a ≡ Some after → Holds b → Holds after
+
+-- events that set so many variables, each of which applies, behind which the scope is there, and this holds
+pub record AreSet (p scope : ℕ) (Holds : Board → Type 0) (before : List Event) (count : ℕ) (made : List Event) : Type 0 where
+  pub after : Board
+  pub is : board_of (before ++ made) ≡ Some after
+  pub there : IsTrue (has_cell scope after)
+  pub holds : Holds after
+  pub applied : IsTrue (all_apply p before made)
+  pub counted : length made ≡ count
 
 -- each variable is set
-each_set : (p : ℕ) (u : VariableDocumentUpdate) (vs : List Variable) (before : List Event) (b : Board) → board_of before ≡ Some b → BoardKeeps p before b → IsTrue (has_cell u.scope b) → AreSet p u.scope before (length vs) (set_each u vs before)
-each_set p u [] before b is k there = record { after = b; is = rw (append-nil before) is; there = there; applied = refl; counted = refl }
-each_set p u (v ∷ vs) before b is k there =
-    let found = some_of (cell_at b u.scope) there in
-    let one = set_from p before b is u v found.0 k found.1 in
-    let e = one.event in
-    let r = applied_board p before b e is one.applied in
-    let led : play_assign b one.assigned ≡ Some r.0 = sym one.leads ∙ r.1.leads in
-    let rest = each_set p u vs (before ++ e ∷ []) r.0 (board_behind p before b e r.0 r.1) (keeps_on p before b e r.0 r.1 k) (still_there b r.0 one.assigned u.scope led there) in
-    let all : AreSet p u.scope before (length (v ∷ vs)) (e ∷ set_each u vs (before ++ e ∷ [])) = record {
-      after = rest.after;
-      is = rw append_assoc at rest.is;
-      there = rest.there;
-      applied = rw (one.applied) rest.applied;
-      counted = omega (arith, rest.counted);
-    } in
-    subst (λ (made : List Event). AreSet p u.scope before (length (v ∷ vs)) (made ++ set_each u vs (before ++ made))) (sym one.is) all
+module _ (p : ℕ) (local : Bool) (scope : ℕ) (Holds : Board → Type 0) (keeps : KeptBySetting Holds) where
+  -- each of these variables is set, one after the other
+  pub each_set : (vs : List Variable) (before : List Event) (b : Board) → board_of before ≡ Some b → BoardKeeps p before b → Holds b → IsTrue (has_cell scope b) → AreSet p scope Holds before (length vs) (set_each local scope vs before)
+  each_set [] before b is k h there = record { after = b; is = rw (append-nil before) is; there = there; holds = h; applied = refl; counted = refl }
+  each_set (v ∷ vs) before b is k h there =
+      let found = some_of (cell_at b scope) there in
+      let one = set_from p before b is local scope v found.0 k found.1 in
+      let e = one.event in
+      let r = applied_board p before b e is one.applied in
+      let led : play_assign b one.assigned ≡ Some r.0 = sym one.leads ∙ r.1.leads in
+      let rest = each_set vs (before ++ e ∷ []) r.0 (board_behind p before b e r.0 r.1) (keeps_on p before b e r.0 r.1 k) (keeps b r.0 one.assigned led h) (still_there b r.0 one.assigned scope led there) in
+      let all : AreSet p scope Holds before (length (v ∷ vs)) (e ∷ set_each local scope vs (before ++ e ∷ [])) = record {
+        after = rest.after;
+        is = rw append_assoc at rest.is;
+        there = rest.there;
+        holds = rest.holds;
+        applied = rw (one.applied) rest.applied;
+        counted = omega (arith, rest.counted);
+      } in
+      subst (λ (made : List Event). AreSet p scope Holds before (length (v ∷ vs)) (made ++ set_each local scope vs (before ++ made))) (sym one.is) all
 
 -- where there is no reason, the scope is there
 no_reason : (t : Bool) (a : Rejection) → (if not t then Some a else None) ≡ None → IsTrue t
@@ -113,20 +122,20 @@ no_reason true a none = refl
 no_reason false a none = absurd (cc)
 
 module _ (p : ℕ) (es : List Event) (b : Board) (is : board_of es ≡ Some b) (k : BoardKeeps p es b) (u : VariableDocumentUpdate) (none : reason_to_update es u.scope ≡ None) where
-  all_set : AreSet p u.scope es (length u.variables) (set_each u u.variables es)
-  all_set = each_set p u u.variables es b is k (game_holds (has_cell u.scope) es b is (no_reason (holds_of_game (has_cell u.scope) es) _ none))
+  all_set : AreSet p u.scope (λ x. Unit {0}) es (length u.variables) (set_each u.local u.scope u.variables es)
+  all_set = each_set p u.local u.scope (λ x. Unit {0}) (λ x after a made h. tt) u.variables es b is k tt (game_holds (has_cell u.scope) es b is (no_reason (holds_of_game (has_cell u.scope) es) _ none))
 
   -- the own events of an update apply
   pub update_applies : IsTrue (all_apply p es (updated u es))
   update_applies =
-      let made = set_each u u.variables es in
+      let made = set_each u.local u.scope u.variables es in
       let own = game_holds_from (has_cell u.scope) (es ++ made) all_set.after all_set.is all_set.there in
       let last : IsTrue (applies p (es ++ made) (events.VariableDocumentUpdated u.scope)) = silent_applies p (es ++ made) all_set.after (events.VariableDocumentUpdated u.scope) all_set.is own refl in
       rw (all_apply_on p es made (events.VariableDocumentUpdated u.scope ∷ []), all_set.applied, last) refl
 
   -- one for each of its variables, and one behind them
   pub update_counts : length (updated u es) ≡ length u.variables + 1
-  update_counts = omega (arith, length-append (set_each u u.variables es) (events.VariableDocumentUpdated u.scope ∷ []), all_set.counted)
+  update_counts = omega (arith, length-append (set_each u.local u.scope u.variables es) (events.VariableDocumentUpdated u.scope ∷ []), all_set.counted)
 
 -- a cell that is there has a holder of each name
 pub holder_is_there : (p : ℕ) (es : List Event) (b : Board) (scope : ℕ) (name : List ℕ) → IsTrue (all_apply p [] es) → board_of es ≡ Some b → IsTrue (is_some (cell_at b scope)) → IsHolder b name (holder_of b scope name)

@@ -1,22 +1,26 @@
-ghost use Rattle.std.specs.Prelude.{◌≡◌, ◌≤◌, ◌<◌, ◌+◌, ◌↔◌, ℕ, length, List, [], Option, Some, None, All, IsTrue, is_some};
+ghost use Rattle.std.specs.Prelude.{◌≡◌, ◌≤◌, ◌<◌, ◌+◌, ◌++◌, ◌↔◌, ℕ, length, List, [], ◌∷◌, Option, Some, None, All, IsTrue, is_some};
 ghost use Rattle.std.specs.Option.{IfSome};
 ghost use Rattle.zb_instance_records.specs.declared.happening.VariableDocumentUpdate.{VariableDocumentUpdate};
 ghost use Rattle.zb_exchange_records.specs.declared.message.MessagePublished.{MessagePublished};
 ghost use Rattle.zb_model.specs.declared.record.Command.{Command};
 ghost use Rattle.zb_model.specs.declared.record.Command.TheVariants as commands;
 ghost use Rattle.zb_model.specs.declared.record.Event.{Event};
+ghost use Rattle.zb_model.specs.declared.record.Event.TheVariants as events;
 ghost use Rattle.zb_views.specs.Messages.{buffered};
 ghost use Rattle.zb_tokens.specs.declared.board.Move.{Move};
 ghost use Rattle.zb_tokens.specs.declared.board.Mover.{Mover};
 ghost use Rattle.zb_tokens.specs.Board.{Board, cell_at};
 ghost use Rattle.zb_tokens.specs.Names.{holder_of};
-ghost use Rattle.zb_tokens.specs.Game.{agrees};
+ghost use Rattle.zb_tokens.specs.Incidents.{incident_on};
+ghost use Rattle.zb_tokens.specs.Game.{agrees, fits};
 ghost use Rattle.zb_tokens.specs.Forced.{next_mover};
 ghost use Rattle.zb_rules.specs.Shown.{shown, board_of};
 ghost use Rattle.zb_rules.specs.Applies.{applies, all_apply};
-ghost use Rattle.zb_rules.specs.Legal.{IsMadeLegally, AllLegal};
+ghost use Rattle.zb_rules.specs.Legal.{IsMadeLegally, AllLegal, EachLegal};
+ghost use Rattle.zb_rules.specs.InFront.{count_in_front, events_in_front};
 ghost use Rattle.zb_rules.specs.Settling.{turn, HasQuietGame};
 ghost use Rattle.zb_rules.specs.Sound.{IsSound, HasKeys, HasOrderedNames, IsForcedEvent, IsHolder};
+ghost use Rattle.zb_rules.specs.Cancel.{reason_to_cancel, cancelled};
 ghost use Rattle.zb_rules.specs.Update.{reason_to_update, updated};
 ghost use Rattle.zb_rules.specs.Reason.{reason_for};
 ghost use Rattle.zb_rules.specs.Own.{IsSupported, own_events};
@@ -38,17 +42,26 @@ pub fn due_commands_have_no_reason()
 
 /// A log whose events apply has a board, and that is sound: its cells ascend, each has its model, and each of them
 /// but a root stands in an earlier cell, as each token does: in a scope of its model that is active or terminating.
-/// A cell that leaves owes a flow, and is no root.
+/// A cell that leaves owes a flow, and is no root. At most one incident stands on each cell, and no
+/// two have one key.
 pub fn boards_of_logs_are_sound()
     ensures there { (p : ℕ) (es : List Event) → IsTrue (all_apply p [] es) → IsTrue (is_some (board_of es)) }
     ensures sound { (p : ℕ) (es : List Event) (board : Board) → IsTrue (all_apply p [] es) → board_of es ≡ Some board → IsSound board }
 {}
 
-/// Who is forced behind a log whose events apply has an event, where a key is left: that applies, and shows the
-/// move of the mover, which agrees with what it evaluates.
+/// Who is forced behind a log whose events apply has an event, where a key is left: those in front of it apply,
+/// and behind them it does, and shows the move of the mover, which agrees with what it evaluates on the board
+/// before them.
 pub fn forced_events_apply()
     ensures { (p moment : ℕ) (es : List Event) (board : Board) (mover : Mover) → IsTrue (all_apply p [] es) → HasKeys p es 1
         → board_of es ≡ Some board → next_mover board ≡ Some mover → IsForcedEvent p moment es board mover }
+{}
+
+/// Behind a log whose events apply each variable that is set by a move which fits has an event in front of
+/// that of the move: none is passed over.
+pub fn assignments_have_events()
+    ensures { (p : ℕ) (es : List Event) (board : Board) (move : Move) → IsTrue (all_apply p [] es) → board_of es ≡ Some board
+        → IsTrue (fits board move) → length (events_in_front board move es) ≡ count_in_front board move }
 {}
 
 /// Behind a log whose events apply there is no turn exactly where the game is quiet.
@@ -57,11 +70,36 @@ pub fn no_turn_is_quiet()
         → (turn p n moment es ≡ None) ↔ HasQuietGame es }
 {}
 
-/// An event that applies makes the move that it shows legally, where that agrees with what it evaluates.
+/// Behind a log whose events apply, and where a key is left, each event of a turn applies, and each
+/// move that one of them shows is legal, where what they evaluate is asked of the board before the turn.
+pub fn turns_apply()
+    ensures apply { (p n moment : ℕ) (es made : List Event) → IsTrue (all_apply p [] es)
+        → HasKeys p es 1 → turn p n moment es ≡ Some made → IsTrue (all_apply p es made) }
+    ensures legal { (p n moment : ℕ) (es made : List Event) → IsTrue (all_apply p [] es)
+        → HasKeys p es 1 → turn p n moment es ≡ Some made → AllLegal moment es es made }
+{}
+
+/// Behind a log whose events apply: where a turn or a cancel begins to end a cell, no incident
+/// stands on it any more.
+pub fn ended_cells_have_no_incident()
+    ensures turn { (p n moment : ℕ) (es : List Event) (cell : ℕ) (rest : List Event) (after : Board)
+        → IsTrue (all_apply p [] es) → HasKeys p es 1
+        → turn p n moment es ≡ Some (events.ElementTerminating cell ∷ rest)
+        → board_of (es ++ events.ElementTerminating cell ∷ rest) ≡ Some after
+        → incident_on after cell ≡ None }
+    ensures cancel { (p n moment : ℕ) (es : List Event) (root : ℕ) (after : Board)
+        → IsTrue (all_apply p [] es) → reason_to_cancel es root ≡ None
+        → board_of (es ++ cancelled p n moment root es) ≡ Some after
+        → incident_on after root ≡ None }
+{}
+
+/// An event that applies makes the move that it shows legally, where that agrees with what it evaluates
+/// on the board of the events that were seen.
 pub fn applied_moves_are_legal()
-    ensures { (p moment : ℕ) (es : List Event) (event : Event) → IsTrue (applies p es event)
-        → ((board : Board) (move : Move) → board_of es ≡ Some board → shown es event ≡ Some move → IsTrue (agrees board moment move))
-        → IfSome (shown es event) (IsMadeLegally moment es event) }
+    ensures { (p moment : ℕ) (seen : List Event) (evaluated : Board) → board_of seen ≡ Some evaluated
+        → (es : List Event) (event : Event) → IsTrue (applies p es event)
+        → ((move : Move) → shown es event ≡ Some move → IsTrue (agrees evaluated moment move))
+        → IfSome (shown es event) (IsMadeLegally moment seen es event) }
 {}
 
 /// A command that is run, and has no reason against it, has own events. Behind a log whose events apply, and where
@@ -74,7 +112,7 @@ pub fn own_events_apply()
         → HasKeys p es 2 → HasOrderedNames command → IsSupported command → reason_for es moment command ≡ None
         → own_events p n es moment command ≡ Some own → IsTrue (all_apply p es own) }
     ensures legal { (p n : ℕ) (es : List Event) (moment : ℕ) (command : Command) (own : List Event) → IsTrue (all_apply p es own)
-        → own_events p n es moment command ≡ Some own → AllLegal moment es own }
+        → own_events p n es moment command ≡ Some own → EachLegal moment es own }
 {}
 
 /// Behind a log whose events apply each cell has a holder of each name: itself or a cell around it that has the name,

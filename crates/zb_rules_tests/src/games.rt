@@ -24,7 +24,7 @@ fn started(rt: &impl Abort, alloc: Global, last: NodeKind) -> Game {
 
 // Makes the forced move with this key, and says whether there was one.
 fn goes_on(rt: &impl Abort, alloc: Global, game: &mut Game, key: Key) -> bool {
-    let Some(mover) = game.next_mover() else {
+    let Some(mover) = game.next_mover(alloc).expect(rt, "memory") else {
         return false;
     };
     match game.move_of(alloc, key, mover).expect(rt, "memory") {

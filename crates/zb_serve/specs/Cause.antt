@@ -15,8 +15,8 @@ status_of causes.Memory = 7
 status_of (causes.LogFull partition length_told frame limit) = 8
 status_of (causes.InputFull session) = 9
 
--- the order in which causes are told: what keeps a run from beginning, a disk fault, a full log, want of memory, a
--- source's fault, a sink's, a full input, and nothing of these
+-- the order in which causes are told: what keeps a run from beginning, a disk fault, a full log,
+-- want of memory, a source's fault, a sink's, a full input, and nothing of these
 abbrev pub rank_of : Cause → ℕ
 rank_of causes.Usage = 0
 rank_of (causes.BadLog partition frame) = 0

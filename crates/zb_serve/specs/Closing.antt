@@ -22,24 +22,31 @@ abbrev pub clock_at_hand : Bool → List ℕ → ClockAtHand
 clock_at_hand tells moments = record { tells = tells; moments = moments }
 
 -- the words, a clock, and what was handed in led to this
-pub record Closes {S K D : Type 0} (devices : Devices S K D) (clock : ClockAtHand) (words : List (List ℕ)) (sessions : List (Session S K)) (volumes : List (Volume D))
+pub record Closes {S K D : Type 0} (devices : Devices S K D) (clock : ClockAtHand)
+    (words : List (List ℕ)) (sessions : List (Session S K)) (volumes : List (Volume D))
     (closed : Closed S K D) : Type 0 where
   -- the status is that of the cause
   pub status : closed.status ≡ status_of closed.cause
-  -- It is a question of usage exactly where the words or the numbers can't be served. Nothing was touched then.
-  pub usage : closed.cause ≡ causes.Usage → (plan : Plan) → IsPlanned words (length sessions) (length volumes) plan → ⊥
+  -- It is a question of usage exactly where the words or the numbers can't be served. Nothing was
+  -- touched then.
+  pub usage : closed.cause ≡ causes.Usage → (plan : Plan)
+      → IsPlanned words (length sessions) (length volumes) plan → ⊥
   pub unopened : closed.cause ≡ causes.Usage → (closed.stamps.items ≡ []) × (closed.units ≡ 0)
   pub untouched : closed.cause ≡ causes.Usage → closed.volumes.items ≡ volumes
   -- no session is touched before the logs are open
   pub unread : closed.stamps.items ≡ [] → closed.sessions.items ≡ sessions
   -- nor is a log that was there before put at risk where none was opened
-  pub spared : closed.stamps.items ≡ [] → IsTrue (told_of devices).images → AllZip (IsSafe devices.disk) volumes closed.volumes.items
+  pub spared : closed.stamps.items ≡ [] → IsTrue (told_of devices).images
+      → AllZip (IsSafe devices.disk) volumes closed.volumes.items
   -- everything is handed back in order, and the slots for snapshots as they were
   pub same_sessions : length closed.sessions.items ≡ length sessions
   pub same_volumes : length closed.volumes.items ≡ length volumes
   pub slots : slots_of_all closed.volumes.items ≡ slots_of_all volumes
-  -- what the run is, by the plan of the words: its causes, its logs, its sessions, the units of work behind the last line,
-  -- and what a crash leaves, now and ever
-  pub run : closed.cause ≢ causes.Usage → (plan : Plan) × IsPlanned words (length sessions) (length volumes) plan
-      × IsRun (told_of devices) (setting_of plan clock.tells clock.moments) (ends_of devices sessions closed.sessions.items volumes closed.volumes.items)
-      (crashes_of devices.disk volumes closed.volumes.items) (answer_of_run closed.cause (map (λ list. list.items) closed.stamps.items) closed.units)
+  -- what the run is, by the plan of the words: its causes, its logs, its sessions, the units of
+  -- work behind the last line, and what a crash leaves, now and ever
+  pub run : closed.cause ≢ causes.Usage → (plan : Plan)
+      × IsPlanned words (length sessions) (length volumes) plan
+      × IsRun (told_of devices) (setting_of plan clock.tells clock.moments)
+      (ends_of devices sessions closed.sessions.items volumes closed.volumes.items)
+      (crashes_of devices.disk volumes closed.volumes.items)
+      (answer_of_run closed.cause (map (λ list. list.items) closed.stamps.items) closed.units)

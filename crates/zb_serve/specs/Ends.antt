@@ -20,7 +20,8 @@ pub record RunEnds : Type 0 where
   pub sessions : List SessionEnds
   pub logs : List LogEnds
 
--- what the types handed in tell, which of their calls may want memory, and which of them count nothing but failures
+-- what the types handed in tell, which of their calls may want memory, and which of them count
+-- nothing but failures
 pub record Told : Type 0 where
   pub source : Bool
   pub sink : Bool
@@ -39,11 +40,13 @@ pub record Devices (S K D : Type 0) : Type 1 where
   pub disk : disk_trait.Ghosts D
 
 -- the devices of a run, by their traits
-abbrev pub devices_of : {S K D : Type 0} → source_trait.Ghosts S → sink_trait.Ghosts K → disk_trait.Ghosts D → Devices S K D
+abbrev pub devices_of : {S K D : Type 0} → source_trait.Ghosts S → sink_trait.Ghosts K
+    → disk_trait.Ghosts D → Devices S K D
 devices_of source sink disk = record { source = source; sink = sink; disk = disk }
 
 -- what a sink and a disk tell, beside a source that tells and counts so
-abbrev pub told : {K D : Type 0} → (source_tells source_counts : Bool) → sink_trait.Ghosts K → disk_trait.Ghosts D → Told
+abbrev pub told : {K D : Type 0} → (source_tells source_counts : Bool) → sink_trait.Ghosts K
+    → disk_trait.Ghosts D → Told
 told source_tells source_counts sink disk = record {
   source = source_tells;
   sink = sink.tells;
@@ -61,7 +64,8 @@ abbrev pub told_of : {S K D : Type 0} → Devices S K D → Told
 told_of devices = told devices.source.tells devices.source.counts_failures devices.sink devices.disk
 
 -- the ends of each session
-abbrev pub sessions_ends : {S K D : Type 0} → Devices S K D → List (Session S K) → List (Session S K) → List SessionEnds
+abbrev pub sessions_ends : {S K D : Type 0} → Devices S K D → List (Session S K)
+    → List (Session S K) → List SessionEnds
 sessions_ends devices (old ∷ olds) (new ∷ news) = record {
   source = devices.source.view old.source;
   source_after = devices.source.view new.source;
@@ -72,34 +76,43 @@ sessions_ends devices [] news = []
 sessions_ends devices (old ∷ olds) [] = []
 
 -- the ends of each volume's log
-abbrev pub logs_ends : {D : Type 0} → disk_trait.Ghosts D → List (Volume D) → List (Volume D) → List LogEnds
-logs_ends disks (old ∷ olds) (new ∷ news) = record { disk = disks.view old.log; disk_after = disks.view new.log } ∷ logs_ends disks olds news
+abbrev pub logs_ends : {D : Type 0} → disk_trait.Ghosts D → List (Volume D) → List (Volume D)
+    → List LogEnds
+logs_ends disks (old ∷ olds) (new ∷ news) =
+    record { disk = disks.view old.log; disk_after = disks.view new.log }
+    ∷ logs_ends disks olds news
 logs_ends disks [] news = []
 logs_ends disks (old ∷ olds) [] = []
 
--- the log of a volume was not put at risk: a crash now, or at any moment since the run began, leaves no more of it than
--- what one before might have left, or an opening
+-- the log of a volume was not put at risk: a crash now, or at any moment since the run began,
+-- leaves no more of it than what one before might have left, or an opening
 pub record IsSafe {D : Type 0} (disks : disk_trait.Ghosts D) (old new : Volume D) : Type 0 where
-  pub now : 1 < length (disks.view old.log).contents → (image : List ℕ) → disks.images new.log image → disks.images old.log image
-  pub ever : (image : List ℕ) → disks.since new.log (disks.view old.log).moment image → LeftByOpening (disks.view old.log).contents (disks.images old.log) image
+  pub now : 1 < length (disks.view old.log).contents → (image : List ℕ)
+      → disks.images new.log image → disks.images old.log image
+  pub ever : (image : List ℕ) → disks.since new.log (disks.view old.log).moment image
+      → LeftByOpening (disks.view old.log).contents (disks.images old.log) image
 
--- what crashes may leave of the log of each partition, by its number: as the run began, now, and what one might have left
--- at some moment since one
+-- what crashes may leave of the log of each partition, by its number: as the run began, now, and
+-- what one might have left at some moment since one
 pub record Crashes : Type 1 where
   pub before : (number : ℕ) → List ℕ → Type 0
   pub now : (number : ℕ) → List ℕ → Type 0
   pub since : (number moment : ℕ) → List ℕ → Type 0
 
 -- what crashes may leave of the logs of these volumes, as they were at first and as they are
-abbrev pub crashes_of : {D : Type 0} → disk_trait.Ghosts D → (before now : List (Volume D)) → Crashes
+abbrev pub crashes_of : {D : Type 0} → disk_trait.Ghosts D → (before now : List (Volume D))
+    → Crashes
 crashes_of disks before now = record {
   before = λ number image. OfNumber before number (λ volume. disks.images volume.log image);
   now = λ number image. OfNumber now number (λ volume. disks.images volume.log image);
-  since = λ number moment image. OfNumber now number (λ volume. disks.since volume.log moment image);
+  since = λ number moment image.
+      OfNumber now number (λ volume. disks.since volume.log moment image);
 }
 
 -- the ends of a run's sessions and logs, as they were handed in and handed back
-abbrev pub ends_of : {S K D : Type 0} → Devices S K D → (sessions sessions_after : List (Session S K)) → (volumes volumes_after : List (Volume D)) → RunEnds
+abbrev pub ends_of : {S K D : Type 0} → Devices S K D
+    → (sessions sessions_after : List (Session S K)) → (volumes volumes_after : List (Volume D))
+    → RunEnds
 ends_of devices sessions sessions_after volumes volumes_after = record {
   sessions = sessions_ends devices sessions sessions_after;
   logs = logs_ends devices.disk volumes volumes_after;

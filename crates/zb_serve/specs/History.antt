@@ -12,12 +12,13 @@ use Rattle.zb_partition.specs.Log.{bodies_of}
 abbrev pub parts_of : ℕ → List Entry → List (List Batch)
 parts_of n h = map (λ p. part_of p h) (range_with_len 1 n)
 
--- the places of the entries of n partitions, by their numbers, where the first entry has the place first
+-- the places of the entries of n partitions, by their numbers, where the first entry has the place
+-- first
 abbrev pub stamps_of : (n first : ℕ) → List Entry → List (List ℕ)
 stamps_of n first h = map (λ p. places_of p first h) (range_with_len 1 n)
 
--- behind a history of n partitions, that of the logs as they were opened, these entries are one history with it, and in
--- that one what happens at most once does
+-- behind a history of n partitions, that of the logs as they were opened, these entries are one
+-- history with it, and in that one what happens at most once does
 abbrev pub GoesOnWith : ℕ → List (List Batch) → List Entry → Type 0
 GoesOnWith n logs entries = (base : List Entry) → IsHistory n base → parts_of n base ≡ logs
     → IsHistory n (base ++ entries) × HappensOnce (base ++ entries)
@@ -30,4 +31,5 @@ pub record AreCut (n : ℕ) (h : List Entry) (kept : List (List ℕ)) : Type 0 w
 
 -- each of these is an image of the log of the partition with its number
 abbrev pub AreImages : ((number : ℕ) → List ℕ → Type 0) → List (List ℕ) → Type 0
-AreImages images kept = (place : ℕ) (image : List ℕ) → slice_get kept place ≡ Some image → images (suc place) image
+AreImages images kept = (place : ℕ) (image : List ℕ) → slice_get kept place ≡ Some image
+    → images (suc place) image

@@ -1,5 +1,6 @@
 -- A partition's log in a run.
-use Rattle.std.specs.Prelude.{◌≡◌, ◌⊎◌, ◌<◌, ◌≤◌, ◌+◌, ℕ, List, [], ◌∷◌, ◌++◌, IsTrue, Bool, true, false, Option, Some, None}
+use Rattle.std.specs.Prelude.{◌≡◌, ◌⊎◌, ◌<◌, ◌≤◌, ◌+◌, ℕ, List, [], ◌∷◌, ◌++◌, IsTrue, Bool, true}
+use Rattle.std.specs.Prelude.{false, Option, Some, None}
 use Rattle.zb_disk.specs.Cause.{Rose}
 use Rattle.zb_model.specs.declared.record.Batch.{Batch}
 use Rattle.zb_model.specs.RecordFits.{IsBatch}
@@ -17,8 +18,9 @@ use Rattle.zb_serve.specs.Setting.{RunSetting}
 use Rattle.zb_serve.specs.declared.run.Cause.{Cause}
 use Rattle.zb_serve.specs.declared.run.Cause.TheVariants as causes
 
--- a run that came to its end: what its devices tell, what it went by, how many partitions it has, the entries that it
--- made, by their places, the entry that was made last and isn't in its log, if there is one, and why it ended
+-- a run that came to its end: what its devices tell, what it went by, how many partitions it has,
+-- the entries that it made, by their places, the entry that was made last and isn't in its log, if
+-- there is one, and why it ended
 pub record Course : Type 0 where
   pub told : Told
   pub setting : RunSetting
@@ -38,7 +40,8 @@ course_of told setting partitions entries unlogged cause = record {
   cause = cause;
 }
 
--- a log as the run found it: the batches that it had, and the moment of its disk at which it was open
+-- a log as the run found it: the batches that it had, and the moment of its disk at which it was
+-- open
 pub record OpenedLog : Type 0 where
   pub batches : List Batch
   pub moment : ℕ
@@ -62,20 +65,23 @@ abbrev pub IsDiskHurt : Told → LogEnds → Cause → Type 0
 IsDiskHurt told ends cause = Rose ends.disk.faults ends.disk_after.faults
     ⊎ (IsTrue told.disk_memory × (cause ≡ causes.Memory))
 
--- a file stands for the log, or, where the disk was hurt, for the log and the batch that was in writing, which fits its
--- spelling
+-- a file stands for the log, or, where the disk was hurt, for the log and the batch that was in
+-- writing, which fits its spelling
 abbrev pub IsKept : Told → LogEnds → Cause → Option Batch → List Batch → List ℕ → Type 0
 IsKept told ends cause unlogged log file = Stands file (bodies_of log)
-    ⊎ (((batch : Batch) × (unlogged ≡ Some batch) × IsBatch batch × Stands file (bodies_of (log ++ batch ∷ [])))
+    ⊎ (((batch : Batch) × (unlogged ≡ Some batch) × IsBatch batch
+    × Stands file (bodies_of (log ++ batch ∷ [])))
     × IsDiskHurt told ends cause)
 
 -- a file is what the run left of the log of the partition with this number
 abbrev pub IsLeftOf : Course → (number : ℕ) → LogEnds → OpenedLog → List ℕ → Type 0
 IsLeftOf course number ends opened file =
-    IsKept course.told ends course.cause (batch_of number course.unlogged) (log_in course number opened) file
+    IsKept course.told ends course.cause (batch_of number course.unlogged)
+    (log_in course number opened) file
 
 -- the log of the partition with this number in a run, and what crashes leave of it
-pub record IsLog (course : Course) (crashes : Crashes) (number : ℕ) (ends : LogEnds) (opened : OpenedLog) : Type 0 where
+pub record IsLog (course : Course) (crashes : Crashes) (number : ℕ) (ends : LogEnds)
+    (opened : OpenedLog) : Type 0 where
   -- the file stood for the batches that it had at opening, whose events apply
   pub stood : IsTrue course.told.disk → Stands ends.disk.contents (bodies_of opened.batches)
   pub applied : IsApplied number opened.batches
@@ -88,23 +94,32 @@ pub record IsLog (course : Course) (crashes : Crashes) (number : ℕ) (ends : Lo
   pub next : (batch : Batch) → batch_of number course.unlogged ≡ Some batch
       → IsStep number course.partitions (log_in course number opened) batch
   -- the file stands for all of them
-  pub contents : IsTrue course.told.disk → IsLeftOf course number ends opened ends.disk_after.contents
-  -- the disk is named only where it failed, with the batch that was being written, for which the log had room
+  pub contents : IsTrue course.told.disk
+      → IsLeftOf course number ends opened ends.disk_after.contents
+  -- the disk is named only where it failed, with the batch that was being written, for which the
+  -- log had room
   pub disk_fault : (batch : Option Batch) → course.cause ≡ causes.DiskFault number batch
       → Rose ends.disk.faults ends.disk_after.faults × (batch ≡ batch_of number course.unlogged)
       × HasRoomFor course.setting.limit (log_in course number opened) batch
-  -- what was added to the log fits, and it is called full only where the frame of the batch that was made next doesn't
-  pub fits : (part_of number course.entries ≡ []) ⊎ (extent (bodies_of (log_in course number opened)) ≤ course.setting.limit)
-  pub log_full : (length_told frame most : ℕ) → course.cause ≡ causes.LogFull number length_told frame most
+  -- what was added to the log fits, and it is called full only where the frame of the batch that
+  -- was made next doesn't
+  pub fits : (part_of number course.entries ≡ [])
+      ⊎ (extent (bodies_of (log_in course number opened)) ≤ course.setting.limit)
+  pub log_full : (length_told frame most : ℕ)
+      → course.cause ≡ causes.LogFull number length_told frame most
       → (length_told ≡ extent (bodies_of (log_in course number opened)))
       × (most ≡ course.setting.limit) × (most < length_told + frame)
-      × ((batch : Batch) × (batch_of number course.unlogged ≡ Some batch) × (frame ≡ frame_of batch))
+      × ((batch : Batch) × (batch_of number course.unlogged ≡ Some batch)
+      × (frame ≡ frame_of batch))
   -- what a crash now leaves stands for the log
   pub crash_now : IsTrue course.told.images → (image : List ℕ) → crashes.now number image
       → IsLeftOf course number ends opened image
   -- one at any moment since it was opened left no more than that, or a front of the log
-  pub crash_ever : IsTrue course.told.images → (image : List ℕ) → crashes.since number opened.moment image
-      → IsFront opened.batches (part_of number course.entries) image ⊎ IsLeftOf course number ends opened image
+  pub crash_ever : IsTrue course.told.images → (image : List ℕ)
+      → crashes.since number opened.moment image
+      → IsFront opened.batches (part_of number course.entries) image
+      ⊎ IsLeftOf course number ends opened image
   -- one before, since the run began, left what one before the run might have left
-  pub crash_opening : IsTrue course.told.images → (image : List ℕ) → crashes.since number ends.disk.moment image
+  pub crash_opening : IsTrue course.told.images → (image : List ℕ)
+      → crashes.since number ends.disk.moment image
       → crashes.before number image ⊎ crashes.since number opened.moment image

@@ -39,18 +39,21 @@ abbrev pub ends_alone : SessionEnds → LogEnds → RunEnds
 ends_alone session log = record { sessions = session ∷ []; logs = log ∷ [] }
 
 -- what crashes leave of the one log
-abbrev pub crashes_alone : (before images : List ℕ → Type 0) → (since : ℕ → List ℕ → Type 0) → Crashes
-crashes_alone before images since = record { before = λ number. before; now = λ number. images; since = λ number. since }
+abbrev pub crashes_alone : (before images : List ℕ → Type 0) → (since : ℕ → List ℕ → Type 0)
+    → Crashes
+crashes_alone before images since =
+    record { before = λ number. before; now = λ number. images; since = λ number. since }
 
 -- the cause that a stop of a partition is told as, with the batch that was in writing
 abbrev pub stop_cause_of : Option Batch → Option (ℕ × Stop) → Cause
 stop_cause_of in_writing (Some (partition, stops.DiskFault)) = causes.DiskFault partition in_writing
-stop_cause_of in_writing (Some (partition, stops.LogFull length_told frame limit)) = causes.LogFull partition length_told frame limit
+stop_cause_of in_writing (Some (partition, stops.LogFull length_told frame limit)) =
+    causes.LogFull partition length_told frame limit
 stop_cause_of in_writing (Some (partition, stops.Memory)) = causes.Memory
 stop_cause_of in_writing None = causes.Memory
 
--- the cause of a run whose one session ended so, with the stop of a partition, if there was one, and the batch that was
--- in writing
+-- the cause of a run whose one session ended so, with the stop of a partition, if there was one,
+-- and the batch that was in writing
 abbrev pub cause_of : Option Batch → Option (ℕ × Stop) → End → Cause
 cause_of in_writing stop ends.Done = causes.Done
 cause_of in_writing stop ends.SourceFault = causes.SourceFault 1

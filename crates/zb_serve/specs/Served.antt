@@ -1,5 +1,6 @@
 -- What a run of the server is.
-use Rattle.std.specs.Prelude.{◌≡◌, ◌⊎◌, ◌<◌, ◌≤◌, ◌+◌, ℕ, List, [], ◌∷◌, ◌++◌, length, map, nat_lt, Bool, All, IsTrue, IsFalse, IsSome, Option, Some, None, Ok}
+use Rattle.std.specs.Prelude.{◌≡◌, ◌⊎◌, ◌<◌, ◌≤◌, ◌+◌, ℕ, List, [], ◌∷◌, ◌++◌, length, map, nat_lt}
+use Rattle.std.specs.Prelude.{Bool, All, IsTrue, IsFalse, IsSome, Option, Some, None, Ok}
 use Rattle.std.specs.List.{flat_map, AllByRecursion}
 use Rattle.zb_disk.specs.Cause.{Rose}
 use Rattle.zb_model.specs.declared.record.Batch.{Batch}
@@ -10,7 +11,8 @@ use Rattle.zb_wire.specs.Request.{request_of}
 use Rattle.zb_partition.specs.Log.{IsBadAt}
 use Rattle.zb_store.specs.declared.volume.Volume.{Volume}
 use Rattle.zb_desk.specs.Numbered.{EachFrom, OfNumber}
-use Rattle.zb_desk.specs.Serial.{Basis, basis_of, place_behind, next_unit, IsNextEntry, AreMadeFor, IsNextUnit, AreUnits}
+use Rattle.zb_desk.specs.Serial.{Basis, basis_of, place_behind, next_unit, IsNextEntry, AreMadeFor}
+use Rattle.zb_desk.specs.Serial.{IsNextUnit, AreUnits}
 use Rattle.zb_session.specs.Hours.{given_of, IsReadingOf}
 use Rattle.zb_session.specs.Answer.{Answer, found_in, entries_made, AreSerial}
 use Rattle.zb_session.specs.Session.{SessionRun}
@@ -34,7 +36,8 @@ MayEnd sessions partitions (causes.DiskFault partition batch) = IsPartitionOf pa
 MayEnd sessions partitions (causes.BadLog partition frame) = ⊥
 MayEnd sessions partitions (causes.SinkFault session) = (1 ≤ session) × (session ≤ sessions)
 MayEnd sessions partitions causes.Memory = Unit {0}
-MayEnd sessions partitions (causes.LogFull partition length_told frame limit) = IsPartitionOf partitions partition
+MayEnd sessions partitions (causes.LogFull partition length_told frame limit) =
+    IsPartitionOf partitions partition
 MayEnd sessions partitions (causes.InputFull session) = (1 ≤ session) × (session ≤ sessions)
 
 -- the batches that each of the logs had at opening
@@ -45,7 +48,8 @@ batches_of logs = map (λ log. log.batches) logs
 abbrev pub answers_of : List SessionRun → List Answer
 answers_of runs = flat_map (λ run. run.answers) runs
 
--- what may leave a line undone: the disk failed or the log was full at what was made for it, or memory ran out
+-- what may leave a line undone: the disk failed or the log was full at what was made for it, or
+-- memory ran out
 abbrev pub IsWhyUndone : {A : Type 0} → Cause → Option A → Type 0
 IsWhyUndone (causes.DiskFault partition batch) unlogged = IsSome unlogged
 IsWhyUndone (causes.LogFull partition length_told frame limit) unlogged = IsSome unlogged
@@ -61,15 +65,17 @@ IsWhyUndone (causes.InputFull session) unlogged = ⊥
 abbrev pub basis_in_run : Course → List OpenedLog → Basis
 basis_in_run course logs = basis_of (batches_of logs) course.setting.units
 
--- a line was read and not answered, the first one that its session has not served: its request, at a reading of the
--- clock, made these entries behind those of all answers, and the one that isn't in its log, if there is one
-pub record IsUnfinished (course : Course) (basis : Basis) (answers : List Answer) (rest : List Entry)
-    (run : SessionRun) : Type 0 where
+-- a line was read and not answered, the first one that its session has not served: its request, at
+-- a reading of the clock, made these entries behind those of all answers, and the one that isn't in
+-- its log, if there is one
+pub record IsUnfinished (course : Course) (basis : Basis) (answers : List Answer)
+    (rest : List Entry) (run : SessionRun) : Type 0 where
   pub line : List ℕ
   pub lines : List (List ℕ)
   pub first : run.unserved ≡ line ∷ lines
   pub request : Request
-  pub asks : request_of (given_of course.setting.hours course.partitions (length run.served + 1)) line ≡ Ok request
+  pub asks : request_of
+      (given_of course.setting.hours course.partitions (length run.served + 1)) line ≡ Ok request
   pub reading : ℕ
   pub read : IsReadingOf course.setting.hours (found_in answers ++ Ok request ∷ []) reading
   pub made : AreMadeFor basis request reading (entries_made answers) rest
@@ -77,20 +83,23 @@ pub record IsUnfinished (course : Course) (basis : Basis) (answers : List Answer
       → IsNextEntry basis request reading (entries_made answers) rest entry
   pub why : IsWhyUndone course.cause course.unlogged
 
--- behind all answers these units of work were done at one reading of the clock, and they were cut off, with the one that
--- isn't in its log, if there is one
-pub record IsUnfinishedWork (course : Course) (basis : Basis) (answers : List Answer) (closing : List Entry) : Type 0 where
+-- behind all answers these units of work were done at one reading of the clock, and they were cut
+-- off, with the one that isn't in its log, if there is one
+pub record IsUnfinishedWork (course : Course) (basis : Basis) (answers : List Answer)
+    (closing : List Entry) : Type 0 where
   pub reading : ℕ
   pub read : IsReadingOf course.setting.hours (found_in answers) reading
   pub made : AreUnits basis reading (entries_made answers) closing
-  pub next : (entry : Entry) → course.unlogged ≡ Some entry → IsNextUnit basis reading (entries_made answers) closing entry
+  pub next : (entry : Entry) → course.unlogged ≡ Some entry
+      → IsNextUnit basis reading (entries_made answers) closing entry
   pub why : IsWhyUndone course.cause course.unlogged
 
--- nothing was left undone; or the first unserved line of one of the sessions, and no unit was done behind it; or units of
--- work behind the last line
+-- nothing was left undone; or the first unserved line of one of the sessions, and no unit was done
+-- behind it; or units of work behind the last line
 abbrev pub IsUndone : Course → Basis → List SessionRun → (rest closing : List Entry) → Type 0
 IsUndone course basis runs rest closing = ((rest ≡ []) × (course.unlogged ≡ None))
-    ⊎ (((closing ≡ []) × ((number : ℕ) × OfNumber runs number (IsUnfinished course basis (answers_of runs) rest)))
+    ⊎ (((closing ≡ [])
+    × ((number : ℕ) × OfNumber runs number (IsUnfinished course basis (answers_of runs) rest)))
     ⊎ ((rest ≡ []) × IsUnfinishedWork course basis (answers_of runs) closing))
 
 -- the cause cut the run off
@@ -100,9 +109,11 @@ cuts_off cause = nat_lt (rank_of cause) 4
 -- the units of work behind the last line: none, or these, at one reading of the clock
 abbrev pub AreClosing : Course → Basis → List Answer → (closing : List Entry) → Type 0
 AreClosing course basis answers closing = (closing ≡ [])
-    ⊎ ((reading : ℕ) × IsReadingOf course.setting.hours (found_in answers) reading × AreUnits basis reading (entries_made answers) closing)
+    ⊎ ((reading : ℕ) × IsReadingOf course.setting.hours (found_in answers) reading
+    × AreUnits basis reading (entries_made answers) closing)
 
--- what a run answered: its cause, the stamps of each partition, and how many units of work were done behind the last line
+-- what a run answered: its cause, the stamps of each partition, and how many units of work were
+-- done behind the last line
 pub record RunAnswer : Type 0 where
   pub cause : Cause
   pub stamps : List (List ℕ)
@@ -113,53 +124,61 @@ abbrev pub answer_of_run : Cause → List (List ℕ) → ℕ → RunAnswer
 answer_of_run cause stamps units = record { cause = cause; stamps = stamps; units = units }
 
 -- a run whose logs were opened, with these ends, what crashes leave of its logs, and its answer
-pub record Serves (course : Course) (ends : RunEnds) (crashes : Crashes) (stamps : List (List ℕ)) (units : ℕ) : Type 0 where
-  -- the logs as they were opened, each session's part, the entries of a line that was not answered, and the units of work
-  -- behind the last line
+pub record Serves (course : Course) (ends : RunEnds) (crashes : Crashes) (stamps : List (List ℕ))
+    (units : ℕ) : Type 0 where
+  -- the logs as they were opened, each session's part, the entries of a line that was not answered,
+  -- and the units of work behind the last line
   pub logs : List OpenedLog
   pub runs : List SessionRun
   pub rest : List Entry
   pub closing : List Entry
   -- the causes that there are, and no cause that is told before it was met
   pub status : MayEnd (length ends.sessions) course.partitions course.cause
-  pub first_met : (other : Cause) → WasMet course ends runs logs other → IsFalse (comes_before other course.cause)
-  -- the entries are of the partitions, which have their places as stamps, from the count of all opened batches on
+  pub first_met : (other : Cause) → WasMet course ends runs logs other
+      → IsFalse (comes_before other course.cause)
+  -- the entries are of the partitions, which have their places as stamps, from the count of all
+  -- opened batches on
   pub within : All (λ entry. IsPartitionOf course.partitions entry.partition) course.entries
-  pub stamped : stamps ≡ stamps_of course.partitions (place_behind (batches_of logs) []) course.entries
+  pub stamped : stamps
+      ≡ stamps_of course.partitions (place_behind (batches_of logs) []) course.entries
   -- each log has what it had at opening, and behind it the batches of its partition's entries
   pub are_logs : EachFrom (IsLog course crashes) 1 ends.logs logs
-  -- they are one history of the engine, where they were one at opening: each entry a step of its partition, and no
-  -- message correlated twice with a process, no job ended twice
+  -- they are one history of the engine, where they were one at opening: each entry a step of its
+  -- partition, and no message correlated twice with a process, no job ended twice
   pub history : GoesOnWith course.partitions (batches_of logs) course.entries
   -- the lines that were served, and the reply to each, by its entries
   pub sessions : EachFrom (IsSession course) 1 ends.sessions runs
-  -- the entries are those of the served lines, of one that was not answered, and the units behind the last, and no others
+  -- the entries are those of the served lines, of one that was not answered, and the units behind
+  -- the last, and no others
   pub all : course.entries ≡ entries_made (answers_of runs) ++ (rest ++ closing)
   -- they are those of the serial run
   pub serial : AreSerial course.setting.hours (basis_in_run course logs) (answers_of runs)
   pub delivered : AreClosing course (basis_in_run course logs) (answers_of runs) closing
   pub undone : IsUndone course (basis_in_run course logs) runs rest closing
-  -- where nothing cut the run off every game is quiet at its end, or as many units were done as may be, and their number
-  -- is told
+  -- where nothing cut the run off every game is quiet at its end, or as many units were done as may
+  -- be, and their number is told
   pub settled : IsFalse (cuts_off course.cause) → (units ≡ length closing)
       × (next_unit (basis_in_run course logs) (length closing) course.entries ≡ None)
   pub unsettled : IsTrue (cuts_off course.cause) → units ≡ 0
-  -- what a crash now leaves of all logs is a cut of the history at its end: all of it, and of a partition at most one
-  -- step more
+  -- what a crash now leaves of all logs is a cut of the history at its end: all of it, and of a
+  -- partition at most one step more
   pub crash_cut : IsTrue course.told.images → (base : List Entry) → IsHistory course.partitions base
-      → parts_of course.partitions base ≡ batches_of logs → (kept : List (List ℕ)) → length kept ≡ course.partitions
+      → parts_of course.partitions base ≡ batches_of logs → (kept : List (List ℕ))
+      → length kept ≡ course.partitions
       → AreImages crashes.now kept → AreCut course.partitions (base ++ course.entries) kept
 
 -- no call of a log's disk failed, as its count tells
 abbrev pub IsUntroubled : Told → LogEnds → Type 0
 IsUntroubled told ends = IsTrue told.disk_counts → ends.disk_after.faults ≡ ends.disk.faults
 
--- Opening ended the run: a disk failed, a log has a first frame that can't be read, or there was no memory.
+-- Opening ended the run: a disk failed, a log has a first frame that can't be read, or there was no
+-- memory.
 abbrev pub FailsToOpen : Told → List LogEnds → Cause → Type 0
 FailsToOpen told volumes (causes.DiskFault partition batch) = (batch ≡ None)
     × OfNumber volumes partition (λ ends. Rose ends.disk.faults ends.disk_after.faults)
 FailsToOpen told volumes (causes.BadLog partition frame) =
-    OfNumber volumes partition (λ ends. IsTrue told.disk → IsBadAt partition ends.disk.contents frame)
+    OfNumber volumes partition
+    (λ ends. IsTrue told.disk → IsBadAt partition ends.disk.contents frame)
     × AllByRecursion (IsUntroubled told) volumes
 FailsToOpen told volumes causes.Memory = AllByRecursion (IsUntroubled told) volumes
 FailsToOpen told volumes causes.Done = ⊥
@@ -178,11 +197,14 @@ IsSpared told ends = IsTrue told.disk
 -- a run whose logs were opened came to its end with this answer
 abbrev pub HasRun : Told → RunSetting → RunEnds → Crashes → RunAnswer → Type 0
 HasRun told setting ends crashes answer = (entries : List Entry) × (unlogged : Option Entry)
-    × Serves (course_of told setting (length ends.logs) entries unlogged answer.cause) ends crashes answer.stamps answer.units
+    × Serves (course_of told setting (length ends.logs) entries unlogged answer.cause)
+    ends crashes answer.stamps answer.units
 
--- a run of planned words, by its stamps: its logs were opened, and then it has stamps for each of them, or they weren't
+-- a run of planned words, by its stamps: its logs were opened, and then it has stamps for each of
+-- them, or they weren't
 abbrev pub IsRunBy : List (List ℕ) → Told → RunSetting → RunEnds → Crashes → RunAnswer → Type 0
-IsRunBy [] told setting ends crashes answer = FailsToOpen told ends.logs answer.cause × AllByRecursion (IsSpared told) ends.logs × (answer.units ≡ 0)
+IsRunBy [] told setting ends crashes answer = FailsToOpen told ends.logs answer.cause
+    × AllByRecursion (IsSpared told) ends.logs × (answer.units ≡ 0)
 IsRunBy (first ∷ more) told setting ends crashes answer = HasRun told setting ends crashes answer
 
 -- a run of planned words

@@ -5,7 +5,8 @@ use Rattle.zb_words.specs.declared.plan.ClockKind.TheVariants as kinds
 use Rattle.zb_words.specs.declared.plan.Plan.{Plan}
 use Rattle.zb_session.specs.Hours.{Hours, manual, real}
 
--- what a run goes by: its clock, how many bytes a log may have, and how many units of work are done behind a request
+-- what a run goes by: its clock, how many bytes a log may have, and how many units of work are done
+-- behind a request
 pub record RunSetting : Type 0 where
   pub hours : Hours
   pub limit : ℕ
@@ -16,6 +17,8 @@ abbrev pub hours_of : ClockKind → Bool → List ℕ → Hours
 hours_of kinds.Manual tells moments = manual
 hours_of kinds.Real tells moments = real tells moments
 
--- what a run goes by under a plan, with a real clock at hand that may tell the moments that it reads
+-- what a run goes by under a plan, with a real clock at hand that may tell the moments that it
+-- reads
 abbrev pub setting_of : Plan → Bool → List ℕ → RunSetting
-setting_of plan tells moments = record { hours = hours_of plan.clock tells moments; limit = plan.limit; units = plan.units }
+setting_of plan tells moments =
+    record { hours = hours_of plan.clock tells moments; limit = plan.limit; units = plan.units }

@@ -17,10 +17,12 @@ use Rattle.zb_engine.specs.declared.solo.Solo.{Solo}
 
 -- what is known of an engine whose log was opened so
 abbrev pub facts_in : {D : Type 0} {disks : Ghosts D} → Opening D → Solo D disks → Facts
-facts_in opening solo = facts_of (λ made. HasMade opening made solo) (λ made left stop. HasEnded opening made left stop solo)
+facts_in opening solo = facts_of (λ made. HasMade opening made solo)
+    (λ made left stop. HasEnded opening made left stop solo)
 
--- what lies before the last units of work of a run: its clock, what its lines were found to be, the entries that were made
--- for them, the one that isn't in its log, if there is one, and how the session ended
+-- what lies before the last units of work of a run: its clock, what its lines were found to be, the
+-- entries that were made for them, the one that isn't in its log, if there is one, and how the
+-- session ended
 pub record Behind : Type 0 where
   pub hours : Hours
   pub found : List (Result Request LineFault)
@@ -29,18 +31,22 @@ pub record Behind : Type 0 where
   pub end : End
 
 -- what lies before them, by its parts
-abbrev pub behind_of : Hours → List (Result Request LineFault) → List Entry → Option Entry → End → Behind
-behind_of hours found entries unlogged end = record { hours = hours; found = found; entries = entries; unlogged = unlogged; end = end }
+abbrev pub behind_of : Hours → List (Result Request LineFault) → List Entry → Option Entry → End
+    → Behind
+behind_of hours found entries unlogged end =
+    record { hours = hours; found = found; entries = entries; unlogged = unlogged; end = end }
 
 -- all units of work were done: so many, and the session ended as it did
-pub record AreWorkedOff (basis : Basis) (behind : Behind) (facts : Facts) (end : End) (count : ℕ) : Type 0 where
+pub record AreWorkedOff (basis : Basis) (behind : Behind) (facts : Facts) (end : End)
+    (count : ℕ) : Type 0 where
   pub reading : ℕ
   pub read : IsReadingOf behind.hours behind.found reading
   pub delivered : IsDelivered basis reading behind.entries facts.has count
   pub same : end ≡ behind.end
 
 -- they were cut off: the engine stopped, and none is told
-pub record AreWorkCut (basis : Basis) (behind : Behind) (facts : Facts) (end : End) (count : ℕ) : Type 0 where
+pub record AreWorkCut (basis : Basis) (behind : Behind) (facts : Facts) (end : End)
+    (count : ℕ) : Type 0 where
   pub reading : ℕ
   pub read : IsReadingOf behind.hours behind.found reading
   pub stop : Stop
@@ -56,4 +62,6 @@ pub record IsWorkless (behind : Behind) (facts : Facts) (end : End) (count : ℕ
 -- what became of the last units of work of a run
 abbrev pub IsWorkedOff : Basis → Behind → Facts → End × ℕ → Type 0
 IsWorkedOff basis behind facts result = IsWorkless behind facts result.0 result.1
-    ⊎ ((CutsOff behind.end → ⊥) × (AreWorkedOff basis behind facts result.0 result.1 ⊎ AreWorkCut basis behind facts result.0 result.1))
+    ⊎ ((CutsOff behind.end → ⊥)
+    × (AreWorkedOff basis behind facts result.0 result.1
+    ⊎ AreWorkCut basis behind facts result.0 result.1))

@@ -75,8 +75,8 @@ pub struct Closed<S, K, D> {
     pub cause: Cause,
     pub sessions: Vec<Session<S, K>>,
     pub volumes: Vec<Volume<D>>,
-    /// For each partition the places that its batches have in the history. Empty where a log could not
-    /// be opened.
+    /// For each partition the places that its batches have in the history. Empty where a log could
+    /// not be opened.
     pub stamps: Vec<Vec<u64>>,
     /// The units of work that were done after the last line.
     pub units: u64,

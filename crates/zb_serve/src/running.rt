@@ -1,4 +1,5 @@
-ghost use Rattle.std.specs.Prelude.{◌≡◌, ◌≤◌, ◌^◌, ◌<◌, List, [], None, Option, Result, map, IsTrue, IsFalse, is_some, vec_len, vec_capacity};
+ghost use Rattle.std.specs.Prelude.{◌≡◌, ◌≤◌, ◌^◌, ◌<◌, List, [], None, Option, Result, map};
+ghost use Rattle.std.specs.Prelude.{IsTrue, IsFalse, is_some, vec_len, vec_capacity};
 ghost use Rattle.zb_words.specs.declared.plan.ClockKind.TheVariants as kinds;
 ghost use Rattle.zb_session.specs.Hours.{Hours};
 ghost use Rattle.zb_wire.specs.declared.request.Request.{Request as Asked};
@@ -12,9 +13,9 @@ ghost use Rattle.zb_serve.specs.Setting.{setting_of};
 ghost use Rattle.zb_serve.specs.Ends.{told, IsSafe};
 ghost use Rattle.zb_serve.specs.Served.{answer_of_run, IsRun};
 ghost use Rattle.zb_serve.specs.WorkOff.{facts_in, behind_of, IsWorkedOff};
-ghost use Rattle.zb_serve.specs.Running.{log_ends, ends_alone, crashes_alone};
+ghost use Rattle.zb_serve.specs.Running.{log_ends, ends_alone, crashes_alone, cause_of, is_cut};
+ghost use Rattle.zb_serve.specs.Running.{stop_cause_of, failed_at, open_cause_of, is_by_hand};
 ghost use Rattle.zb_model.specs.declared.record.Batch.{Batch as Record};
-ghost use Rattle.zb_serve.specs.Running.{cause_of, stop_cause_of, failed_at, is_cut, open_cause_of, is_by_hand};
 
 use crate::run::{Cause, PARTITION, SESSION};
 use std::alloc::{AllocError, Global};
@@ -96,12 +97,13 @@ fn serve_partition<S: Source, K: Sink, D: Disk, C: Clock>(
 ) -> Ran<D>
     requires room { vec_len stamps < vec_capacity stamps }
     requires none { stamps.items ≡ [] }
-    requires opened { (opening : Opening D) × IsOpenedAs opening partition × (opening.units ≡ plan.units) }
+    requires opened { (opening : Opening D) × IsOpenedAs opening partition
+        × (opening.units ≡ plan.units) }
     ensures some { ¬ (result.stamps.items ≡ []) }
 
     // However it may have been opened.
-    ensures slots { (opening : Opening D) → IsOpenedAs opening partition → opening.units ≡ plan.units
-        → slots_in result.volume ≡ slots_in opening.volume }
+    ensures slots { (opening : Opening D) → IsOpenedAs opening partition
+        → opening.units ≡ plan.units → slots_in result.volume ≡ slots_in opening.volume }
     ensures run { (opening : Opening D) → IsOpenedAs opening partition → opening.limit ≡ plan.limit
         → opening.units ≡ plan.units → IsRun
         (told S.tells S.counts_failures K.Sink D.Disk)
@@ -131,8 +133,8 @@ fn serve_partition<S: Source, K: Sink, D: Disk, C: Clock>(
     }
 }
 
-// Does the units of work behind the last line, where nothing cut the run off, and tells how the run ended by then, and
-// how many they were.
+// Does the units of work behind the last line, where nothing cut the run off, and tells how the run
+// ended by then, and how many they were.
 fn work_off<D: Disk, C: Clock>(
     alloc: Global,
     end: End,
@@ -140,14 +142,17 @@ fn work_off<D: Disk, C: Clock>(
     dial: &Dial,
     clock: &mut C,
 ) -> (End, u64)
-    requires left { (opening : Opening D) × (hours : Hours) × (found : List (Result Asked LineFault))
-        × (entries : List Entry) × (unlogged : Option Entry)
+    requires left { (opening : Opening D) × (hours : Hours)
+        × (found : List (Result Asked LineFault)) × (entries : List Entry)
+        × (unlogged : Option Entry)
         × LeavesDesk (facts_in opening solo.old) entries unlogged end
-        × (IsFalse (is_cut end) → AreAt hours found (clocks_of dial.now C.tells (C.moments clock.old))) }
+        × (IsFalse (is_cut end)
+        → AreAt hours found (clocks_of dial.now C.tells (C.moments clock.old))) }
     ensures worked { (opening : Opening D) (hours : Hours) (found : List (Result Asked LineFault))
         (entries : List Entry) (unlogged : Option Entry)
         → LeavesDesk (facts_in opening solo.old) entries unlogged end
-        → (IsFalse (is_cut end) → AreAt hours found (clocks_of dial.now C.tells (C.moments clock.old)))
+        → (IsFalse (is_cut end)
+        → AreAt hours found (clocks_of dial.now C.tells (C.moments clock.old)))
         → IsWorkedOff (basis_in opening) (behind_of hours found entries unlogged end)
         (facts_in opening solo.new) result }
     ensures moments { C.moments clock.new ≡ C.moments clock.old }
@@ -203,8 +208,8 @@ fn goes_by_hand(clock: ClockKind) -> bool
     }
 }
 
-// Why a run ends whose one session ended so, with the stop of a partition, if there was one, and the batch that was
-// in writing.
+// Why a run ends whose one session ended so, with the stop of a partition, if there was one, and
+// the batch that was in writing.
 fn cause(end: End, stop: Option<(PartitionId, Stop)>, in_writing: Option<Batch>) -> Cause
     ensures { result ≡ cause_of in_writing stop end }
 {
@@ -232,7 +237,8 @@ fn failed_at(end: End, stop: &Option<(PartitionId, Stop)>) -> Option<u32>
 
 // Why a run ends where no disk failed.
 fn other_cause(end: End, stop: Option<(PartitionId, Stop)>) -> Cause
-    ensures { failed_at end stop ≡ None → (in_writing : Option Record) → result ≡ cause_of in_writing stop end }
+    ensures { failed_at end stop ≡ None → (in_writing : Option Record)
+        → result ≡ cause_of in_writing stop end }
 {
     match end {
         End::Done => Cause::Done,
@@ -246,7 +252,8 @@ fn other_cause(end: End, stop: Option<(PartitionId, Stop)>) -> Cause
 
 // Why a run ends whose partition stopped, where its disk didn't fail.
 fn full_at(stop: Option<(PartitionId, Stop)>) -> Cause
-    ensures { failed_at End.Stopped stop ≡ None → (in_writing : Option Record) → result ≡ stop_cause_of in_writing stop }
+    ensures { failed_at End.Stopped stop ≡ None → (in_writing : Option Record)
+        → result ≡ stop_cause_of in_writing stop }
 {
     let Some((partition, stop)) = stop else {
         return Cause::Memory;

@@ -18,10 +18,10 @@ use zb_session::Session;
 use zb_store::Volume;
 use zb_words::{Plan, plan_of};
 
-/// Serves sessions over volumes by the words of a command line, and hands everything back with why it
-/// ended. It takes one step for each byte of the lines, four calls of a disk for each batch, and for each
-/// batch of a tick a walk over the buffered messages. So far one session over one volume can be served, and
-/// this thread does all of it: see `serve_alone`.
+/// Serves sessions over volumes by the words of a command line, and hands everything back with why
+/// it ended. It takes one step for each byte of the lines, four calls of a disk for each batch, and
+/// for each batch of a tick a walk over the buffered messages. So far one session over one volume
+/// can be served, and this thread does all of it: see `serve_alone`.
 pub fn serve<R, S, K, D, C, G>(
     rt: &R,
     alloc: Global,
@@ -43,7 +43,8 @@ where
         (clock_at_hand C.tells (C.moments clock.old)) (map string_bytes words.now)
         sessions.items volumes.items result }
 
-    // The clock is read under a plan that goes by it alone, and not where the words can't be served.
+    // The clock is read under a plan that goes by it alone, and not where the words can't be
+    // served.
     ensures unasked { result.cause ≡ Cause.Usage → clock.new ≡ clock.old }
     ensures untouched { (plan : Plan) → IsPlan (map string_bytes words.now) plan
         → plan.clock ≡ kinds.Manual → clock.new ≡ clock.old }
@@ -67,7 +68,8 @@ pub fn serve_alone<S: Source, K: Sink, D: Disk, C: Clock>(
         (clock_at_hand C.tells (C.moments clock.old)) (map string_bytes words.now)
         sessions.items volumes.items result }
 
-    // The clock is read under a plan that goes by it alone, and not where the words can't be served.
+    // The clock is read under a plan that goes by it alone, and not where the words can't be
+    // served.
     ensures unasked { result.cause ≡ Cause.Usage → clock.new ≡ clock.old }
     ensures untouched { (plan : Plan) → IsPlan (map string_bytes words.now) plan
         → plan.clock ≡ kinds.Manual → clock.new ≡ clock.old }

@@ -14,7 +14,7 @@ use Rattle.zb_reply.specs.Reply.{line_of, IsSpoken}
 use Rattle.zb_reply.specs.ReplyLaws.{answer_of-spoken}
 use Rattle.zb_reply.specs.declared.reply.Reply.{Reply}
 use Rattle.zb_reply.specs.declared.reply.Reply.TheVariants as replies
-use Rattle.zb_desk.specs.Replies.{reply_of_one, clocked_reply, reply_if, reply_to}
+use Rattle.zb_desk.specs.Replies.{reply_of_one, clocked_reply, reply_if}
 use Rattle.zb_session.specs.Answer.{Answer, IsAnswer, found_in, entries_made}
 
 -- one answer more

@@ -1,5 +1,5 @@
 -- Laws of a call whose result is handed on.
-use Rattle.std.proofs.Common.{◌≡◌, Result, Ok, Err, OnOk, OnErr, IfErr, IsErrOf}
+use Rattle.std.proofs.Common.{Result, Ok, Err, OnOk, OnErr, IfErr}
 
 -- a premise goes in under Ok
 pub on_ok_under : {T E : Type 0} (r : Result T E) (A P : Type 0) → (A → OnOk r P) → OnOk r (A → P)
@@ -10,12 +10,3 @@ on_ok_under (Err e) A P f = tt
 pub if_err_both : {T E : Type 0} (r : Result T E) (A P : Type 0) (Q R : E → Type 0) → (A → OnErr r P) → IfErr r Q → ((e : E) → (A → P) → Q e → R e) → IfErr r R
 if_err_both (Ok x) A P Q R f q g = tt
 if_err_both (Err e) A P Q R f q g = g e f q
-
--- what a clause says of an error
-pub if_err_as : {T E : Type 0} (r : Result T E) (P Q : E → Type 0) → ((e : E) → P e → Q e) → IfErr r P → IfErr r Q
-if_err_as (Ok x) P Q f p = tt
-if_err_as (Err e) P Q f p = f e p
-
--- an error that is this one
-pub err_same : {T E : Type 0} (x y : E) → IsErrOf {T = T} (Err x) y → x ≡ y
-err_same x y is = cc

@@ -22,7 +22,10 @@ use Rattle.zb_tokens.specs.Board.{Board}
 use Rattle.zb_rules.specs.Shown.{shown, after_shown, board_of, event_of}
 use Rattle.zb_rules.specs.Applies.{applies, holds_own, may_fit}
 use Rattle.zb_rules.specs.StepLaws.{all_apply_more}
-use Rattle.zb_rules.specs.Settling.{turn_of}
+use Rattle.zb_rules.specs.Making.{just, and_then}
+use Rattle.zb_rules.specs.Settling.{in_events, turn_of, turn_with}
+use Rattle.zb_tokens.specs.Mappings.{assignments_of}
+use Rattle.zb_state.specs.declared.turn.Turn.{Turn}
 use Rattle.zb_tokens.specs.Forced.{next_mover, move_of}
 use Rattle.zb_tokens.specs.declared.board.Move.{Move}
 use Rattle.zb_tokens.specs.declared.board.Mover.{Mover}
@@ -146,12 +149,18 @@ same_board o a b first second = let e : Some a ≡ Some b = sym first ∙ second
 pub applies_by : (p : ℕ) (es : List Event) (e : Event) (b : Board) → holds_own p es e ≡ true → board_of es ≡ Some b → applies p es e ≡ may_fit (shown es e) b
 applies_by p es e b own is = rw (own, is) refl
 
--- what a mover does is one event
-pub turn_told : (p n moment : ℕ) (es : List Event) (b game : Board) (mover : Mover) (key : ℕ) (move : Move) (event : Option Event)
-    → b ≡ game → key ≡ next_key p es → Some move ≡ move_of game moment key mover → event ≡ event_of game move → turn_of p n moment es b mover ≡ option_map (λ e. e ∷ []) event
-turn_told p n moment es b game mover key move event same drawn is_move is_event =
+-- what a mover does is one event, with what is set in front of it and those behind it
+pub turn_told : (p n moment : ℕ) (es : List Event) (b game : Board) (mover : Mover) (key : ℕ) (move : Move) (turn : Option Turn)
+    → b ≡ game → key ≡ next_key p es → Some move ≡ move_of game moment key mover → turn ≡ option_map (λ e. record { assignments = assignments_of game move; event = e }) (event_of game move)
+    → turn_of p n moment es b mover ≡ option_map (λ t. turn_with p n moment t.assignments t.event es) turn
+turn_told p n moment es b game mover key move turn same drawn is_move is_turn =
     let told : move_of game moment (next_key p es) mover ≡ Some move = subst (λ (k : ℕ). move_of game moment k mover ≡ Some move) drawn (sym is_move) in
-    rw (same, told, is_event) refl
+    rw (same, told, is_turn) (by_event (event_of game move))
+  where
+    by_event : (event : Option Event) → option_map (λ e. in_events p n moment game move e es) event
+        ≡ option_map (λ (t : Turn). turn_with p n moment t.assignments t.event es) (option_map (λ e. record { assignments = assignments_of game move; event = e }) event)
+    by_event None = refl
+    by_event (Some e) = refl
 
 -- and nothing where he has no move
 pub no_turn_told : (p n moment : ℕ) (es : List Event) (b game : Board) (mover : Mover) (key : ℕ)

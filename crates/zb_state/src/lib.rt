@@ -8,6 +8,8 @@ mod keys;
 mod moves;
 mod out;
 mod state;
+mod turn;
 
 pub use out::Out;
 pub use state::State;
+pub use turn::Turn;

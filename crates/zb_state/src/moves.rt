@@ -12,10 +12,11 @@ use std::alloc::{AllocError, Global};
 use zb_game::{Game, GameFault};
 use zb_graph::{BoxedGraph, compile};
 use zb_model::{
-    ElementActivated, ElementActivating, ElementCompleted, Event, Key, List, ProcessCreated, Role,
-    SequenceFlowTaken, TableFault, Text, TryCopy, VariableCreated, VariableUpdated,
+    ElementActivated, ElementActivating, ElementCompleted, Event, IncidentCreated, Key, List,
+    ProcessCreated, Role, SequenceFlowTaken, TableFault, Text, TryCopy, VariableCreated,
+    VariableUpdated,
 };
-use zb_tokens::{Assigned, Deployed, Enter, Leave, Move, Start, Take};
+use zb_tokens::{Assigned, Deployed, Enter, Incident, Leave, Move, Start, Take};
 
 /// Makes the move that the event shows, if it shows one. At `NotApplicable`, exactly where it doesn't fit,
 /// nothing has changed; after `Memory` the game is only dropped. It costs a copy of the event's texts, its
@@ -49,6 +50,8 @@ pub fn shows_move(event: &Event) -> bool
             | Event::SequenceFlowTaken(_)
             | Event::VariableCreated(_)
             | Event::VariableUpdated(_)
+            | Event::IncidentCreated(_)
+            | Event::IncidentResolved(_)
     )
 }
 
@@ -82,6 +85,8 @@ fn shown(alloc: Global, event: &Event) -> Result<Option<Move>, AllocError>
         Event::SequenceFlowTaken(flow) => Ok(Some(take_of(alloc, flow)?)),
         Event::VariableCreated(variable) => Ok(Some(assign_of(alloc, variable)?)),
         Event::VariableUpdated(variable) => Ok(Some(update_of(alloc, variable)?)),
+        Event::IncidentCreated(incident) => Ok(Some(incident_of(alloc, incident)?)),
+        Event::IncidentResolved(incident) => Ok(Some(Move::Repair(incident.key))),
         _ => Ok(None),
     }
 }
@@ -154,6 +159,17 @@ fn update_of(alloc: Global, variable: &VariableUpdated) -> Result<Move, AllocErr
     }))
 }
 
+fn incident_of(alloc: Global, made: &IncidentCreated) -> Result<Move, AllocError>
+    ensures { IfOk result (λ move. Some move ≡ shown [] (events.IncidentCreated made.now)) }
+{
+    Ok(Move::Incident(Incident {
+        key: made.key,
+        kind: made.kind,
+        cell: made.cell,
+        text: made.text.copy(alloc)?,
+    }))
+}
+
 /// The event that shows a forced move; `None` of a move that is never forced. It costs what
 /// `Game::definition_of` does.
 pub fn event_of(alloc: Global, shown: Move, game: &Game) -> Option<Event>
@@ -175,6 +191,13 @@ pub fn event_of(alloc: Global, shown: Move, game: &Game) -> Option<Event>
         Move::Take(take) => Some(Event::SequenceFlowTaken(SequenceFlowTaken {
             key: take.key,
             flow: take.flow,
+        })),
+        Move::Incident(incident) => Some(Event::IncidentCreated(IncidentCreated {
+            key: incident.key,
+            kind: incident.kind,
+            cell: incident.cell,
+            job: Key::new(0),
+            text: incident.text,
         })),
         _ => None,
     }

@@ -11,10 +11,12 @@ ghost use Rattle.zb_rules.specs.Due.{due_message};
 ghost use Rattle.zb_rules.specs.Applies.{applies, holds_own, holds_of_game, has_cell, is_fresh, has_definition, begins_well, begins_instance, begins_cell, is_definition_of};
 ghost use Rattle.zb_rules.specs.Cancel.{has_root, is_terminating};
 ghost use Rattle.zb_rules.specs.Update.{is_named_in};
+ghost use Rattle.zb_rules.specs.Resolve.{has_incident};
+ghost use Rattle.zb_tokens.specs.Incidents.{incident_on};
 ghost use Rattle.zb_tokens.specs.Names.{holder_of};
 ghost use Rattle.zb_views.specs.Definitions.{definitions, definition_for, greatest_version};
 ghost use Rattle.zb_faults.specs.Faults.{is_well_formed};
-ghost use Rattle.zb_rules.specs.Settling.{turn_of, HasQuietGame};
+ghost use Rattle.zb_rules.specs.Settling.{turn_of, turn_with, HasQuietGame};
 ghost use Rattle.zb_rules.specs.Continue.{is_quiet};
 ghost use Rattle.zb_rules.specs.Sound.{HasKeys};
 ghost use Rattle.zb_tokens.specs.Board.{Board, model_under};
@@ -28,14 +30,15 @@ use crate::buffered::{self, Buffered};
 use crate::change::{Change, copied_change, moved_change};
 use crate::definitions;
 use crate::keys::greatest_counter_of;
-use crate::moves::{event_of, play, shows_move};
+use crate::moves::{play, shows_move};
+use crate::turn::{Turn, turn_by};
 use std::alloc::{AllocError, Global};
 use zb_check::{ModelFault, check};
 use zb_game::Game;
 use zb_graph::Graph;
 use zb_model::{
-    ElementActivating, Event, Key, MessagePublish, Model as ProcessModel, Moment, PartitionId,
-    ProcessCreated, Role, TableFault, TryCopy,
+    ElementActivating, Event, IncidentCreated, Key, MessagePublish, Model as ProcessModel, Moment,
+    PartitionId, ProcessCreated, Role, TableFault, TryCopy,
 };
 use zb_table::Table;
 use zb_tokens::{Mover, Phase};
@@ -258,34 +261,54 @@ impl State {
 
     /// Who moves next; `None` where the game is quiet. It costs what `Game::next_mover` does, and nothing where nobody
     /// was forced when it was last asked and no move was made since.
-    pub fn next_mover(&mut self) -> Option<Mover>
-        ensures mover { (es : List Event) (b : Board) → IsStateOf es self.new → board_of es ≡ Some b → result ≡ next_mover b }
+    pub fn next_mover(&mut self, alloc: Global) -> Result<Option<Mover>, AllocError>
+        ensures mover { (es : List Event) (b : Board) → IsStateOf es self.new → board_of es ≡ Some b → IfOk result (λ mover. mover ≡ next_mover b) }
         ensures state { (es : List Event) → IsStateOf es self.old → IsStateOf es self.new }
         ensures place { partition_of self.new ≡ partition_of self.old }
     {
         if self.rests {
-            return None;
+            return Ok(None);
         }
-        let mover = self.game.next_mover();
+        let mover = self.game.next_mover(alloc)?;
         self.rests = mover.is_none();
-        mover
+        Ok(mover)
     }
 
-    /// Whether nobody is forced to move. It costs what `Game::next_mover` does, where that isn't known.
+    /// Whether nobody is forced to move. It costs what `Game::is_quiet` does, where that isn't known.
     pub fn quiet(&self) -> bool
         ensures game { (es : List Event) → IsStateOf es self.now → IsTrue result ↔ HasQuietGame es }
         ensures told { (es : List Event) → IsStateOf es self.now → result ≡ is_quiet es }
     {
-        self.rests || self.game.next_mover().is_none()
+        self.rests || self.game.is_quiet()
     }
 
-    /// The event of the move of a mover, if it has one. It costs what `Game::move_of` does.
-    pub fn event_of(&self, alloc: Global, mover: Mover) -> Result<Option<Event>, AllocError>
+    /// Whether an incident with this key stands. It goes through the incidents.
+    pub fn has_incident(&self, key: Key) -> bool
+        ensures { (es : List Event) → IsStateOf es self.now → result ≡ holds_of_game (has_incident key) es }
+    {
+        self.game.has_incident(key)
+    }
+
+    /// The key of the incident on a cell. It goes through the incidents.
+    pub fn incident_on(&self, cell: Key) -> Option<Key>
+        ensures { (es : List Event) → IsStateOf es self.now
+            → result ≡ option_map (λ i. i.key) (option_and_then (λ b. incident_on b cell) (board_of es)) }
+    {
+        match self.game.incident_on(cell) {
+            Some(incident) => Some(incident.key),
+            None => None,
+        }
+    }
+
+    /// What a mover does, if it does anything: the event of its move, and the variables that are set in front of that;
+    /// the turn has the events behind it too. It costs what `Game::move_of` and `Game::assignments_of` do.
+    pub fn turn_of(&self, alloc: Global, mover: Mover) -> Result<Option<Turn>, AllocError>
         ensures { (n moment : ℕ) (es : List Event) (b : Board) → IsStateOf es self.now → board_of es ≡ Some b
-            → IfOk result (λ event. turn_of (partition_of self.now) n moment es b mover ≡ option_map (λ e. e ∷ []) event) }
+            → IfOk result (λ turn. turn_of (partition_of self.now) n moment es b mover
+            ≡ option_map (λ t. turn_with (partition_of self.now) n moment t.assignments t.event es) turn) }
     {
         match self.game.move_of(alloc, self.next_key(), mover)? {
-            Some(made) => Ok(event_of(alloc, made, &self.game)),
+            Some(made) => turn_by(alloc, made, &self.game),
             None => Ok(None),
         }
     }
@@ -330,6 +353,8 @@ impl State {
             | Event::VariableCreated(_)
             | Event::VariableUpdated(_) => Ok(true),
             Event::VariableDocumentUpdated(scope) => Ok(self.has_cell(*scope)),
+            Event::IncidentCreated(incident) => Ok(self.begins_incident(incident)),
+            Event::IncidentResolved(incident) => Ok(incident.job == Key::new(0)),
             Event::MessagePublished(message) => Ok(self.is_fresh(message.key)),
             Event::MessageExpired(key) => Ok(self.messages.contains(*key)),
             _ => Ok(false),
@@ -372,6 +397,14 @@ impl State {
         } else {
             self.begins_cell(element)
         }
+    }
+
+    // Whether the key of an incident is fresh, and no job its cause.
+    fn begins_incident(&self, incident: &IncidentCreated) -> bool
+        ensures { (es : List Event) → IsStateOf es self.now
+            → result ≡ (is_fresh (partition_of self.now) es incident.now.key && (incident.now.job == 0)) }
+    {
+        self.is_fresh(incident.key) && incident.job == Key::new(0)
     }
 
     // Whether the root is that of the instance that the last event made.

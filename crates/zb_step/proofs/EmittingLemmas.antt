@@ -1,5 +1,5 @@
 -- Events that apply, one after the other.
-use Rattle.std.proofs.Common.{ℕ, List, [], ◌∷◌, ◌++◌, IsTrue}
+use Rattle.std.proofs.Common.{ℕ, List, [], ◌∷◌, ◌++◌, IsTrue, Result, Ok, Err, OnOk}
 use Rattle.zb_model.specs.declared.record.Event.{Event}
 use Rattle.zb_tokens.specs.GameLaws.{both_left, both_right}
 use Rattle.zb_rules.specs.Applies.{applies, all_apply}
@@ -14,3 +14,8 @@ next_applies p es done e rest all =
 -- events that apply behind others apply to them
 pub behind_apply : (p : ℕ) (es more : List Event) → IsTrue (all_apply p [] (es ++ more)) → IsTrue (all_apply p es more)
 behind_apply p es more all = both_right (all_apply p [] es) (all_apply p es more) (rw (all_apply_on p [] es more) at all)
+
+-- what two facts of a success lead to
+pub on_ok_both : {T E : Type 0} (A B C : Type 0) (result : Result T E) → (A → B → C) → OnOk result A → OnOk result B → OnOk result C
+on_ok_both A B C (Ok x) leads a b = leads a b
+on_ok_both A B C (Err e) leads a b = tt

@@ -6,14 +6,14 @@ use Rattle.zb_model.specs.declared.record.Command.{Command}
 use Rattle.zb_model.specs.declared.record.Outcome.TheVariants as outcomes
 use Rattle.zb_rules.specs.Own.{own_events}
 use Rattle.zb_rules.specs.Applies.{all_apply}
-use Rattle.zb_rules.specs.Legal.{AllLegal}
-use Rattle.zb_rules.specs.StepLaws.{all_apply_on, all_legal_on}
+use Rattle.zb_rules.specs.Legal.{EachLegal}
+use Rattle.zb_rules.specs.StepLaws.{all_apply_on}
 use Rattle.zb_rules.specs.Step.{IsAcceptance}
 use Rattle.zb_step.specs.Settled.{SettlesTo}
 
 -- own events that apply legally, and what they settle to
 pub acceptance_of : (p n moment : ℕ) (before events made : List Event) (command : Command)
-    → own_events p n before moment command ≡ Some events → IsTrue (all_apply p before events) → AllLegal moment before events → SettlesTo p n moment before events made
+    → own_events p n before moment command ≡ Some events → IsTrue (all_apply p before events) → EachLegal moment before events → SettlesTo p n moment before events made
     → IsAcceptance p n moment before command (outcomes.Accepted made)
 acceptance_of p n moment before events made command are_own applied legal settled = record {
   own = events;
@@ -21,6 +21,7 @@ acceptance_of p n moment before events made command are_own applied legal settle
   are_own = are_own;
   settles = settled.settles;
   applied = rw (all_apply_on p before events settled.rest) (both_true applied settled.applied);
-  legal = all_legal_on moment before events settled.rest legal settled.legal;
+  own_legal = legal;
+  rest_legal = settled.legal;
   accepted = ap outcomes.Accepted settled.is;
 }

@@ -4,9 +4,9 @@ use Rattle.std.specs.Cmp.Derive.{both_true}
 use Rattle.std.proofs.lemmas.List.{length-append}
 use Rattle.zb_model.specs.declared.record.Event.{Event}
 use Rattle.zb_rules.specs.Applies.{all_apply}
-use Rattle.zb_rules.specs.Legal.{AllLegal}
+use Rattle.zb_rules.specs.Legal.{AllLegal, TurnsLegal}
 use Rattle.zb_rules.specs.Settling.{full, turn, AreTurns, joined, HasQuietGame}
-use Rattle.zb_rules.specs.StepLaws.{all_apply_more, all_legal_on}
+use Rattle.zb_rules.specs.StepLaws.{all_apply_on}
 use Rattle.zb_step.specs.Settled.{IsTurn, SettlesTo}
 
 -- the events of some turns, and of one behind them
@@ -27,6 +27,12 @@ are_turns_more p n moment es count (first ∷ turns) made each room next =
     let behind : turn p n moment ((es ++ first) ++ joined turns) ≡ Some made = subst (λ (l : List Event). turn p n moment l ≡ Some made) (sym (append_assoc es first (joined turns))) next in
     (each.0, each.1, are_turns_more p n moment (es ++ first) (count + length first) turns made each.2 left behind)
 
+-- the moves of some turns are legal, and those of the one behind them
+turns_legal_more : (moment : ℕ) (es : List Event) (turns : List (List Event)) (made : List Event) → TurnsLegal moment es turns → AllLegal moment (es ++ joined turns) (es ++ joined turns) made → TurnsLegal moment es (turns ++ made ∷ [])
+turns_legal_more moment es [] made each next = (subst (λ (l : List Event). AllLegal moment l l made) (append-nil es) next, tt)
+turns_legal_more moment es (first ∷ turns) made each next =
+    (each.0, turns_legal_more moment (es ++ first) turns made each.1 (subst (λ (l : List Event). AllLegal moment l l made) (sym (append_assoc es first (joined turns))) next))
+
 -- how many events a full batch has
 pub full_is : full ≡ 1024
 unfolding full
@@ -38,27 +44,27 @@ pub record GoesOn (p n moment : ℕ) (before own made : List Event) : Type 0 whe
   pub is : made ≡ own ++ joined turns
   pub each : AreTurns p n moment (before ++ own) (length own) turns
   pub applied : IsTrue (all_apply p (before ++ own) (joined turns))
-  pub legal : AllLegal moment (before ++ own) (joined turns)
+  pub legal : TurnsLegal moment (before ++ own) turns
 
 -- no turn came so far
 pub goes_on_start : (p n moment : ℕ) (before own : List Event) → GoesOn p n moment before own own
 goes_on_start p n moment before own = record { turns = []; is = sym (append-nil own); each = tt; applied = refl; legal = tt }
 
--- and then came a turn of one event
-pub goes_on_more : (p n moment : ℕ) (before own made : List Event) (e : Event)
-    → GoesOn p n moment before own made → length made < full → IsTurn p n moment (before ++ made) e → GoesOn p n moment before own (made ++ e ∷ [])
-goes_on_more p n moment before own made e so_far room next =
+-- and then came a turn
+pub goes_on_more : (p n moment : ℕ) (before own made next_turn : List Event)
+    → GoesOn p n moment before own made → length made < full → IsTurn p n moment (before ++ made) next_turn → GoesOn p n moment before own (made ++ next_turn)
+goes_on_more p n moment before own made next_turn so_far room next =
     let turns = so_far.turns in
     let behind : before ++ made ≡ (before ++ own) ++ joined turns = ap (λ (l : List Event). before ++ l) so_far.is ∙ sym (append_assoc before own (joined turns)) in
     let count : length made ≡ length own + length (joined turns) = ap length so_far.is ∙ length-append own (joined turns) in
-    let more = joined_more turns (e ∷ []) in
-    let this : IsTurn p n moment ((before ++ own) ++ joined turns) e = subst (λ (l : List Event). IsTurn p n moment l e) behind next in
+    let more = joined_more turns next_turn in
+    let this : IsTurn p n moment ((before ++ own) ++ joined turns) next_turn = subst (λ (l : List Event). IsTurn p n moment l next_turn) behind next in
     record {
-      turns = turns ++ (e ∷ []) ∷ [];
-      is = ap (λ (l : List Event). l ++ e ∷ []) so_far.is ∙ append_assoc own (joined turns) (e ∷ []) ∙ ap (λ (l : List Event). own ++ l) (sym more);
-      each = are_turns_more p n moment (before ++ own) (length own) turns (e ∷ []) so_far.each (omega (arith, room, count)) this.forced;
-      applied = rw (more, all_apply_more p (before ++ own) (joined turns) e) (both_true so_far.applied this.applied);
-      legal = subst (λ (l : List Event). AllLegal moment (before ++ own) l) (sym more) (all_legal_on moment (before ++ own) (joined turns) (e ∷ []) so_far.legal (this.legal, tt));
+      turns = turns ++ next_turn ∷ [];
+      is = ap (λ (l : List Event). l ++ next_turn) so_far.is ∙ append_assoc own (joined turns) next_turn ∙ ap (λ (l : List Event). own ++ l) (sym more);
+      each = are_turns_more p n moment (before ++ own) (length own) turns next_turn so_far.each (omega (arith, room, count)) this.forced;
+      applied = rw (more, all_apply_on p (before ++ own) (joined turns) next_turn) (both_true so_far.applied this.applied);
+      legal = turns_legal_more moment (before ++ own) turns next_turn so_far.legal this.legal;
     }
 
 -- the end of the turns, said of their events

@@ -1,51 +1,38 @@
 // Cancelling an instance.
-ghost use Rattle.std.specs.Prelude.{◌≡◌, List, IfOk};
+ghost use Rattle.std.specs.Prelude.{◌≡◌, ◌++◌, ℕ, List, IfOk, OnOk};
 ghost use Rattle.zb_model.specs.declared.record.Event.{Event};
-ghost use Rattle.zb_rules.specs.Cancel.{reason_to_cancel, no_instance, instance_terminates, cancelled};
-ghost use Rattle.zb_state.specs.State.{IsStateOf};
+ghost use Rattle.zb_rules.specs.Cancel.{reason_to_cancel, cancelled};
+ghost use Rattle.zb_state.specs.State.{partition_of, IsStateOf, IsReached, AdmitsMade};
 
-use crate::rejection::rejection;
+use crate::behind::put_with_behind;
+use crate::rejection::{no_such, wrong_state};
 use std::alloc::{AllocError, Global};
-use zb_model::{Event, Key, List, Rejection, RejectionKind};
-use zb_state::State;
+use zb_model::{Event, Key, Rejection};
+use zb_state::{Out, State};
 
 /// Why an instance isn't cancelled: there is none with this key, or it is being terminated.
 pub fn reason(alloc: Global, state: &State, key: Key) -> Result<Option<Rejection>, AllocError>
     ensures { (es : List Event) → IsStateOf es state.now → IfOk result (λ rejection. rejection ≡ reason_to_cancel es key) }
 {
     if !state.has_root(key) {
-        return Ok(Some(unknown(alloc, key)?));
+        return Ok(Some(no_such(alloc, "no instance ", key)?));
     }
     if state.is_terminating(key) {
-        return Ok(Some(terminating(alloc, key)?));
+        return Ok(Some(wrong_state(alloc, "instance ", key, " is being terminated")?));
     }
     Ok(None)
 }
 
-// The rejection where no instance has this key.
-fn unknown(alloc: Global, key: Key) -> Result<Rejection, AllocError>
-    ensures { IfOk result (λ rejection. rejection ≡ record { kind = RejectionKind.NotFound; reason = no_instance key }) }
+/// Puts the events of an instance that is cancelled: its root begins to terminate, and the incident on that is
+/// resolved. It costs what `put_with_behind` does. After a refusal the state and the events are only dropped.
+pub fn put_own(alloc: Global, state: &mut State, key: Key, out: &mut Out) -> Result<(), AllocError>
+    requires { (n moment : ℕ) → AdmitsMade state.old (cancelled (partition_of state.old) n moment key) }
+    ensures put { (n moment : ℕ) (es : List Event) → IsStateOf es state.old
+        → OnOk result (out.new ≡ out.old ++ cancelled (partition_of state.old) n moment key es) }
+    ensures state { (n moment : ℕ) (es : List Event) → IsStateOf es state.old
+        → OnOk result (IsStateOf (es ++ cancelled (partition_of state.old) n moment key es) state.new) }
+    ensures place { partition_of state.new ≡ partition_of state.old }
+    ensures reached { OnOk result (IsReached state.new) }
 {
-    let mut text = String::from_str(alloc, "no instance ")?;
-    text.write(key.number())?;
-    rejection(alloc, RejectionKind::NotFound, text.as_str())
-}
-
-// The rejection where it is being terminated.
-fn terminating(alloc: Global, key: Key) -> Result<Rejection, AllocError>
-    ensures { IfOk result (λ rejection. rejection ≡ record { kind = RejectionKind.InvalidState; reason = instance_terminates key }) }
-{
-    let mut text = String::from_str(alloc, "instance ")?;
-    text.write(key.number())?;
-    text.push_str(" is being terminated")?;
-    rejection(alloc, RejectionKind::InvalidState, text.as_str())
-}
-
-/// The event of an instance that is cancelled: its root begins to terminate.
-pub fn own(alloc: Global, key: Key) -> Result<List<Event>, AllocError>
-    ensures { IfOk result (λ events. events ≡ cancelled key) }
-{
-    let mut events = List::empty(alloc);
-    events.push(Event::ElementTerminating(key))?;
-    Ok(events)
+    put_with_behind(alloc, state, Event::ElementTerminating(key), out)
 }

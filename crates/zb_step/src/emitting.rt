@@ -7,7 +7,7 @@ ghost use Rattle.zb_rules.specs.Sound.{HasOrderedNames};
 ghost use Rattle.zb_state.specs.State.{partition_of, IsStateOf, IsReached};
 
 use crate::own::own_events;
-use crate::update;
+use crate::{cancel, update};
 use std::alloc::{AllocError, Global};
 use zb_model::{Command, Event, List, Moment};
 use zb_state::{Out, State};
@@ -35,12 +35,15 @@ pub fn emit(
     if !state.has_keys(2) {
         return Err(AllocError);
     }
-    if let Command::VariableDocumentUpdate(made) = command {
-        return update::put_own(alloc, state, made, out);
+    match command {
+        Command::ProcessInstanceCancel(key) => cancel::put_own(alloc, state, *key, out),
+        Command::VariableDocumentUpdate(made) => update::put_own(alloc, state, made, out),
+        _ => {
+            let events = own_events(alloc, state, moment, command)?;
+            see_names(command);
+            put_all(alloc, state, events, out)
+        }
     }
-    let events = own_events(alloc, state, moment, command)?;
-    see_names(command);
-    put_all(alloc, state, events, out)
 }
 
 // A command has its variables by ascending names.

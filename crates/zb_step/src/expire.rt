@@ -1,12 +1,12 @@
 // Expiring a message.
-ghost use Rattle.std.specs.Prelude.{◌≡◌, List, IfOk, string_bytes};
+ghost use Rattle.std.specs.Prelude.{◌≡◌, List, IfOk};
 ghost use Rattle.zb_model.specs.declared.record.Event.{Event};
-ghost use Rattle.zb_rules.specs.Expire.{reason_to_expire, no_message, not_due, expired};
+ghost use Rattle.zb_rules.specs.Expire.{reason_to_expire, expired};
 ghost use Rattle.zb_state.specs.State.{IsStateOf};
 
-use crate::rejection::rejection;
+use crate::rejection::{no_such, wrong_state};
 use std::alloc::{AllocError, Global};
-use zb_model::{Event, Key, List, Moment, Rejection, RejectionKind};
+use zb_model::{Event, Key, List, Moment, Rejection};
 use zb_state::State;
 
 /// Why a message doesn't expire: it isn't buffered, or its deadline lies ahead. It goes through the buffered
@@ -20,29 +20,15 @@ pub fn reason(
     ensures { (es : List Event) → IsStateOf es state.now → IfOk result (λ rejection. rejection ≡ reason_to_expire es moment key) }
 {
     match state.deadline_of(key) {
-        None => Ok(Some(unknown(alloc, key)?)),
-        Some(deadline) if moment < deadline => Ok(Some(early(alloc, key)?)),
+        None => Ok(Some(no_such(alloc, "no message ", key)?)),
+        Some(deadline) if moment < deadline => Ok(Some(wrong_state(
+            alloc,
+            "message ",
+            key,
+            " isn't due",
+        )?)),
         Some(_) => Ok(None),
     }
-}
-
-// The rejection where no message with this key is buffered.
-fn unknown(alloc: Global, key: Key) -> Result<Rejection, AllocError>
-    ensures { IfOk result (λ rejection. rejection ≡ record { kind = RejectionKind.NotFound; reason = no_message key }) }
-{
-    let mut text = String::from_str(alloc, "no message ")?;
-    text.write(key.number())?;
-    rejection(alloc, RejectionKind::NotFound, text.as_str())
-}
-
-// The rejection where its deadline lies ahead.
-fn early(alloc: Global, key: Key) -> Result<Rejection, AllocError>
-    ensures { IfOk result (λ rejection. rejection ≡ record { kind = RejectionKind.InvalidState; reason = not_due key }) }
-{
-    let mut text = String::from_str(alloc, "message ")?;
-    text.write(key.number())?;
-    text.push_str(" isn't due")?;
-    rejection(alloc, RejectionKind::InvalidState, text.as_str())
 }
 
 /// The event of a message that expires.

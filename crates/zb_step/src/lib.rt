@@ -1,6 +1,8 @@
 //! What a command leads to: why it is rejected, or the events that it makes and those that they force.
 #![tactic(auto)]
 
+mod assigning;
+mod behind;
 mod cancel;
 mod create;
 mod deploy;
@@ -12,7 +14,9 @@ mod own;
 mod publish;
 mod reasons;
 mod rejection;
+mod resolve;
 mod settling;
+mod turning;
 mod update;
 
 pub use emitting::emit;

@@ -7,7 +7,7 @@ ghost use Rattle.zb_rules.specs.Sound.{HasKeys};
 ghost use Rattle.zb_state.specs.State.{partition_of, IsStateOf, IsReached};
 ghost use Rattle.zb_step.specs.AtOnce.{IsMadeAtOnce};
 
-use crate::{cancel, create, deploy, expire, publish};
+use crate::{create, deploy, expire, publish, resolve};
 use std::alloc::{AllocError, Global};
 use zb_model::{Command, Event, List, Moment};
 use zb_state::State;
@@ -31,7 +31,7 @@ pub fn own_events(
     match command {
         Command::DeploymentCreate(model) => deploy::own(alloc, state, model),
         Command::ProcessInstanceCreationCreate(instance) => create::own(alloc, state, instance),
-        Command::ProcessInstanceCancel(key) => cancel::own(alloc, *key),
+        Command::IncidentResolve(key) => resolve::own(alloc, *key),
         Command::MessagePublish(message) => publish::own(alloc, state, moment, message),
         Command::MessageExpire(key) => expire::own(alloc, *key),
         Command::ProcessInstanceBatchContinue => Ok(List::empty(alloc)),

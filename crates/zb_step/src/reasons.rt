@@ -3,13 +3,13 @@ ghost use Rattle.zb_model.specs.declared.record.Event.{Event};
 ghost use Rattle.zb_rules.specs.Reason.{reason_for};
 ghost use Rattle.zb_state.specs.State.{IsStateOf};
 
-use crate::{cancel, create, deploy, expire, go_on, publish, update};
+use crate::{cancel, create, deploy, expire, go_on, publish, resolve, update};
 use std::alloc::{AllocError, Global};
 use zb_model::{Command, Moment, Rejection};
 use zb_state::State;
 
 /// Why a command is rejected at this moment, if there is a reason. A model costs its check, an instance a walk
-/// over the definitions, an expiry or a message with an id one over those that are buffered, and a command to go
+/// over the definitions, a repair one over the incidents, an expiry or a message with an id one over those that are buffered, and a command to go
 /// on what `State::quiet` does.
 pub fn reason(
     alloc: Global,
@@ -24,6 +24,7 @@ pub fn reason(
         Command::ProcessInstanceCreationCreate(instance) => create::reason(alloc, state, instance),
         Command::ProcessInstanceCancel(key) => cancel::reason(alloc, state, *key),
         Command::VariableDocumentUpdate(made) => update::reason(alloc, state, made.scope),
+        Command::IncidentResolve(key) => resolve::reason(alloc, state, *key),
         Command::MessagePublish(message) => publish::reason(alloc, state, message),
         Command::MessageExpire(key) => expire::reason(alloc, state, moment, *key),
         Command::ProcessInstanceBatchContinue => go_on::reason(alloc, state),

@@ -1,8 +1,9 @@
 // Rejections.
-ghost use Rattle.std.specs.Prelude.{◌≡◌, IfOk};
+ghost use Rattle.std.specs.Prelude.{◌≡◌, ◌++◌, IfOk};
+ghost use Rattle.std.specs.Fmt.{decimal};
 
 use std::alloc::{AllocError, Global};
-use zb_model::{Rejection, RejectionKind, Text};
+use zb_model::{Key, Rejection, RejectionKind, Text};
 
 /// The rejection of this kind that says this.
 pub fn rejection(alloc: Global, kind: RejectionKind, reason: &str) -> Result<Rejection, AllocError>
@@ -12,4 +13,29 @@ pub fn rejection(alloc: Global, kind: RejectionKind, reason: &str) -> Result<Rej
         kind,
         reason: Text::of(alloc, reason)?,
     })
+}
+
+/// The rejection where nothing has this key. What it would be stands in front of the key.
+pub fn no_such(alloc: Global, front: &str, key: Key) -> Result<Rejection, AllocError>
+    ensures { IfOk result (λ rejection. rejection ≡ record { kind = RejectionKind.NotFound; reason = front.now ++ decimal key }) }
+{
+    let mut text = String::from_str(alloc, front)?;
+    text.write(key.number())?;
+    rejection(alloc, RejectionKind::NotFound, text.as_str())
+}
+
+/// The rejection where what has this key isn't in the right state. What it is stands in front of the key, and its state
+/// behind.
+pub fn wrong_state(
+    alloc: Global,
+    front: &str,
+    key: Key,
+    behind: &str,
+) -> Result<Rejection, AllocError>
+    ensures { IfOk result (λ rejection. rejection ≡ record { kind = RejectionKind.InvalidState; reason = front.now ++ (decimal key ++ behind.now) }) }
+{
+    let mut text = String::from_str(alloc, front)?;
+    text.write(key.number())?;
+    text.push_str(behind)?;
+    rejection(alloc, RejectionKind::InvalidState, text.as_str())
 }

@@ -4,13 +4,13 @@ ghost use Rattle.zb_model.specs.declared.record.Event.{Event};
 ghost use Rattle.zb_tokens.specs.Board.{Board};
 ghost use Rattle.zb_tokens.specs.Forced.{next_mover};
 ghost use Rattle.zb_rules.specs.Shown.{board_of};
-ghost use Rattle.zb_rules.specs.Settling.{HasQuietGame};
+ghost use Rattle.zb_rules.specs.Settling.{turn_with, HasQuietGame};
 ghost use Rattle.zb_state.specs.State.{partition_of, IsStateOf, IsReached};
 ghost use Rattle.zb_step.specs.Settled.{IsTurn, SettlesTo};
 
+use crate::turning::put_turn;
 use std::alloc::{AllocError, Global};
-use zb_model::Event;
-use zb_state::{Out, State};
+use zb_state::{Out, State, Turn};
 use zb_tokens::Mover;
 
 // A batch is full with so many events.
@@ -18,8 +18,8 @@ const FULL: usize = 1024;
 
 /// Makes the forced moves behind the events that a command has made so far, one after the other, until the
 /// game is quiet or the batch is full. Tells whether the game is quiet. Each move costs what
-/// `State::next_mover` and `State::take_in` do. Where no key is left it is answered as want of memory. After a refusal the state and the
-/// events are only dropped.
+/// `State::next_mover` and `State::take_in` do. Where no key is left it is answered as want of memory.
+/// After a refusal the state and the events are only dropped.
 pub fn settle(alloc: Global, state: &mut State, out: &mut Out) -> Result<bool, AllocError>
     requires { IsReached state.old }
     ensures settled { (n moment : ℕ) (before : List Event) → IsStateOf (before ++ out.old) state.old
@@ -31,28 +31,28 @@ pub fn settle(alloc: Global, state: &mut State, out: &mut Out) -> Result<bool, A
     ensures reached { OnOk result (IsReached state.new) }
 {
     while out.len() < FULL {
-        match state.next_mover() {
+        match state.next_mover(alloc)? {
             None => return Ok(true),
             Some(mover) => {
-                let event = forced_event(alloc, state, mover)?;
-                out.put(alloc, state, event)?;
+                let turn = next_turn(alloc, state, mover)?;
+                put_turn(alloc, state, turn, out)?;
             }
         }
     }
     Ok(state.quiet())
 }
 
-// The event of who is forced to move next.
-fn forced_event(alloc: Global, state: &State, mover: Mover) -> Result<Event, AllocError>
+// What who is forced to move next does: that is the next turn.
+fn next_turn(alloc: Global, state: &State, mover: Mover) -> Result<Turn, AllocError>
     requires reached { IsReached state.now }
     requires next { (es : List Event) (board : Board) → IsStateOf es state.now → board_of es ≡ Some board → next_mover board ≡ Some mover }
-    ensures { (n moment : ℕ) (es : List Event) → IsStateOf es state.now → IfOk result (IsTurn (partition_of state.now) n moment es) }
+    ensures { (n moment : ℕ) (es : List Event) → IsStateOf es state.now → IfOk result (λ turn. IsTurn (partition_of state.now) n moment es (turn_with (partition_of state.now) n moment turn.assignments turn.event es)) }
 {
     if !state.has_keys(1) {
         return Err(AllocError);
     }
-    match state.event_of(alloc, mover)? {
-        Some(event) => Ok(event),
+    match state.turn_of(alloc, mover)? {
+        Some(turn) => Ok(turn),
         None => unreachable!(),
     }
 }

@@ -9,7 +9,7 @@ use Rattle.zb_table.proofs.Finding.{rows_ascend}
 
 module _ {A : Type 0} (key : A → ℕ) where
   -- rows with greater keys
-  without_none : (k low : ℕ) (rows : List A) → Ascend key low rows → k < low → without key k rows ≡ rows
+  pub without_none : (k low : ℕ) (rows : List A) → Ascend key low rows → k < low → without key k rows ≡ rows
   without_none k low [] up below = refl
   without_none k low (r ∷ rows) up below =
       let other : (key r == k) ≡ false = grind (arith, nat_tests, up.0, below) in

@@ -5,3 +5,4 @@ pub mod Scanning
 pub mod Growing
 pub mod Backwards
 pub mod InOrder
+pub mod Reading

@@ -2,7 +2,7 @@
 ghost use Rattle.std.specs.Prelude.{◌≡◌, IfOk, IfErr, false, [], option_map};
 ghost use Rattle.std.specs.List.{list_any};
 ghost use Rattle.std.specs.Option.{option_map_or};
-ghost use Rattle.zb_table.specs.Rows.{last_passing};
+ghost use Rattle.zb_table.specs.Rows.{first_passing, last_passing};
 ghost use Rattle.zb_table.specs.Places.{held, rows_in, AreOrdered, count_below, HasKey, IsFree};
 
 use crate::row::Place;
@@ -63,6 +63,18 @@ pub fn any<R: Row, Q: Query<R>>(query: &Q, places: &[Place<R>]) -> bool
         }
     }
     false
+}
+
+/// The key of the first row that passes. It goes from the first place on to it.
+pub fn first_key<R: Row, Q: Query<R>>(query: &Q, places: &[Place<R>]) -> Option<Key>
+    ensures { result ≡ option_map R.key_in (first_passing (Q.passes query.now) (rows_in places.now)) }
+{
+    for place in places {
+        if let Some(key) = passing_key(query, place) {
+            return Some(key);
+        }
+    }
+    None
 }
 
 /// The key of the last row that passes. It goes from the last place back to it.

@@ -2,7 +2,7 @@ ghost use Rattle.std.specs.Prelude.{◌≡◌, ◌≤◌, [], None, OnOk, OnErr,
 ghost use Rattle.std.specs.List.{insert, list_any};
 ghost use Rattle.std.specs.Option.{option_copied};
 ghost use Rattle.zb_table.specs.Earliest.{first_due};
-ghost use Rattle.zb_table.specs.Rows.{Ascend, last_passing, row_at, with_row, without};
+ghost use Rattle.zb_table.specs.Rows.{Ascend, first_passing, last_passing, row_at, with_row, without};
 ghost use Rattle.zb_table.specs.Places.{rows_in, AreOrdered};
 
 use crate::row::Place;
@@ -68,6 +68,14 @@ impl<R: Row> Table<R> {
         search::any(query, &self.places)
     }
 
+    /// The key of the first row that passes. It goes from the first one on to it.
+    pub fn first_key<Q: Query<R>>(&self, query: &Q) -> Option<Key>
+        ensures key { result ≡ option_map R.key_in (first_passing (Q.passes query.now) self.now) }
+        ensures order { Ascend R.key_in 0 self.now }
+    {
+        search::first_key(query, &self.places)
+    }
+
     /// The key of the last row that passes. It goes from the last one back to it.
     pub fn last_key<Q: Query<R>>(&self, query: &Q) -> Option<Key>
         ensures key { result ≡ option_map R.key_in (last_passing (Q.passes query.now) self.now) }
@@ -101,10 +109,22 @@ impl<R: Row> Table<R> {
     pub fn remove(&mut self, key: Key)
         ensures { self.new ≡ without R.key_in key self.old }
     {
-        if let Ok(place) = find(key, &self.places) {
-            self.places[place].row = None;
-            self.empty = self.empty.saturating_add(1);
-            self.sweep();
+        self.take(key);
+    }
+
+    /// Takes out the row with this key, if there is one. It costs what `remove` does.
+    pub fn take(&mut self, key: Key) -> Option<R>
+        ensures row { result ≡ row_at R.key_in key self.old }
+        ensures left { self.new ≡ without R.key_in key self.old }
+    {
+        match find(key, &self.places) {
+            Ok(place) => {
+                let row = self.places[place].row.take();
+                self.empty = self.empty.saturating_add(1);
+                self.sweep();
+                row
+            }
+            Err(_) => None,
         }
     }
 

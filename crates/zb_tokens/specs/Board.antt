@@ -12,16 +12,19 @@ use Rattle.zb_tokens.specs.declared.board.Cell.{Cell}
 use Rattle.zb_tokens.specs.declared.board.Token.{Token}
 use Rattle.zb_tokens.specs.declared.board.Spot.{Spot}
 use Rattle.zb_tokens.specs.declared.board.Spot.TheVariants as spots
+use Rattle.zb_tokens.specs.declared.board.Incident.{Incident}
 use Rattle.zb_tokens.specs.declared.board.Deployed.{Deployed}
 use Rattle.zb_tokens.specs.declared.board.Mark.TheVariants as marks
 use Rattle.zb_tokens.specs.declared.board.Phase.{Phase}
 use Rattle.zb_tokens.specs.declared.board.Phase.TheVariants as phases
 
--- a game of tokens: the models, the cells in the order of their keys, the tokens in the order in which they were made
+-- a game of tokens: the models, the cells in the order of their keys, the tokens and the incidents in the order in
+-- which they were made
 pub record Board : Type 0 where
   pub models : List Deployed
   pub cells : List Cell
   pub tokens : List Token
+  pub incidents : List Incident
 
 -- the cell with a key
 abbrev pub cell_at : Board → ℕ → Option Cell

@@ -13,6 +13,7 @@ use Rattle.zb_process.specs.declared.model.Model.{Model}
 use Rattle.zb_process.specs.declared.model.Node.{Node}
 use Rattle.zb_tokens.specs.declared.board.Cell.{Cell}
 use Rattle.zb_tokens.specs.declared.board.Token.{Token}
+use Rattle.zb_tokens.specs.declared.board.Incident.{Incident}
 use Rattle.zb_tokens.specs.declared.board.Spot.{Spot}
 use Rattle.zb_tokens.specs.declared.board.Spot.TheVariants as spots
 use Rattle.zb_tokens.specs.declared.board.Enter.{Enter}
@@ -33,7 +34,7 @@ use Rattle.zb_tokens.specs.MoveGone.{play_gone}
 use Rattle.zb_tokens.specs.MoveAssign.{with_variable}
 use Rattle.zb_tokens.specs.Game.{played}
 use Rattle.zb_tokens.specs.GameLaws.{removed_some, edited_some, any_found, found_passes, found_holds, found_through, both_left, both_right}
-use Rattle.zb_tokens.specs.Effects.{is_or_leaves_in, scope_ended_by, names_cell, names_scope, other_cells, other_tokens, is_stand, is_emptied, are_apart, IsWithoutFirst, IsWithoutEach, IsEntered}
+use Rattle.zb_tokens.specs.Effects.{is_or_leaves_in, scope_ended_by, names_cell, names_scope, other_cells, other_tokens, is_stand, is_of_incident, is_emptied, are_apart, IsWithoutFirst, IsWithoutEach, IsEntered}
 
 same_key : (key : ℕ) → (key == key) ≡ true
 same_key key = grind (arith, nat_tests)
@@ -143,11 +144,12 @@ module _ {A : Type 0} (passes : A → Bool) (edit : A → A) (still : (x : A) �
   found_edited [] ys is = absurd (cc)
   found_edited (x ∷ xs) ys is = found_edited_by (passes x) x xs ys refl (found_edited xs) is
 
--- behind a move a board has the same models, and the same of the cells and of the tokens that pass these tests
+-- behind a move a board has the same models and incidents, and the same of the cells and of the tokens that pass these tests
 record IsSameIn (cells : Cell → Bool) (tokens : Token → Bool) (b after : Board) : Type 0 where
   same_cells : filter cells after.cells ≡ filter cells b.cells
   same_tokens : filter tokens after.tokens ≡ filter tokens b.tokens
   same_models : after.models ≡ b.models
+  same_incidents : after.incidents ≡ b.incidents
 
 -- what is known of an entry that was played
 enter_parts : (b after : Board) (e : Enter) → play_enter b e ≡ Some after
@@ -181,11 +183,12 @@ module _ (keep : Cell → Bool) (stay : Token → Bool) where
     same_cells = two.same_cells ∙ one.same_cells;
     same_tokens = two.same_tokens ∙ one.same_tokens;
     same_models = two.same_models ∙ one.same_models;
+    same_incidents = two.same_incidents ∙ one.same_incidents;
   }
 
   -- other cells, and the same tokens
   with_cells : (b : Board) (cs : List Cell) → filter keep cs ≡ filter keep b.cells → IsSameIn keep stay b (record b { cells = cs })
-  with_cells b cs same = record { same_cells = same; same_tokens = refl; same_models = refl }
+  with_cells b cs same = record { same_cells = same; same_tokens = refl; same_models = refl; same_incidents = refl }
 
   -- a process is instantiated
   same_started : (b after : Board) (s : Start) → ((c : Cell) → (c.key == s.key) ≡ true → keep c ≡ false) → play_start b s ≡ Some after → IsSameIn keep stay b after
@@ -208,6 +211,7 @@ module _ (keep : Cell → Bool) (stay : Token → Bool) where
         same_cells = kept_with_one keep b.cells (entering e r.0 r.1) (out (entering e r.0 r.1) (same_key e.key));
         same_tokens = each_stays e.scope away (spots_of r.1 e.node e.via) b.tokens;
         same_models = refl;
+        same_incidents = refl;
       })
 
   module _ (key : ℕ) (out : (c : Cell) → (c.key == key) ≡ true → keep c ≡ false) where
@@ -248,6 +252,7 @@ module _ (keep : Cell → Bool) (stay : Token → Bool) where
           same_cells = edit_same (in_phase phases.Active []) (λ c. refl) b.cells u.0 u.1;
           same_tokens = kept_with_more stay b.tokens s.0 (ap (filter stay) (sym m.2) ∙ none);
           same_models = refl;
+          same_incidents = refl;
         })
 
     -- a flow is taken
@@ -260,6 +265,7 @@ module _ (keep : Cell → Bool) (stay : Token → Bool) where
           same_cells = left.same_cells;
           same_tokens = kept_with_one stay s.0.tokens (record { scope = r.0.scope; spot = spots.OnFlow flow }) (away r.0 r.1) ∙ left.same_tokens;
           same_models = left.same_models;
+          same_incidents = left.same_incidents;
         })
 
     -- a cell has terminated
@@ -270,6 +276,7 @@ module _ (keep : Cell → Bool) (stay : Token → Bool) where
           same_cells = removed_keeps keep (λ (c : Cell). c.key == key) out b.cells r.0 r.1;
           same_tokens = filtered_keeps stay (λ (t : Token). t.scope == key) away b.tokens;
           same_models = refl;
+          same_incidents = refl;
         })
 
   module _ (scope : ℕ) (out : (c : Cell) → is_or_leaves_in scope c ≡ true → keep c ≡ false) (away : (t : Token) → (t.scope == scope) ≡ true → stay t ≡ false) where
@@ -279,6 +286,7 @@ module _ (keep : Cell → Bool) (stay : Token → Bool) where
       same_cells = filtered_keeps keep (leaves_in scope) (λ c it. out c (or_right (c.key == scope) (leaves_in scope c) it)) cs ∙ same;
       same_tokens = filtered_keeps stay (λ (t : Token). t.scope == scope) away b.tokens;
       same_models = refl;
+      same_incidents = refl;
     }
 
     at_scope : (edit : Cell → Cell) → ((c : Cell) → (edit c).key ≡ c.key) → (cs left : List Cell) → edited (λ c. c.key == scope) edit cs ≡ Some left → filter keep left ≡ filter keep cs
@@ -321,34 +329,57 @@ leave_stays b after l is =
     (λ scope ends c it. ap not (or_right (c.key == l.key) (option_map_or (λ one. is_or_leaves_in one c) its false) (ap (λ (o : Option ℕ). option_map_or (λ one. is_or_leaves_in one c) o false) ends ∙ it)))
     (λ scope ends t it. ap not (ap (λ (o : Option ℕ). option_map_or (λ one. t.scope == one) o false) ends ∙ it)) r.0 r.1 r.2
 
--- every move but Stand leaves alone what it doesn't name
-others_stay : (b after : Board) (move : Move) → IsFalse (is_stand move) → played b move ≡ Some after → OthersStay b move after
-others_stay b after (moves.Stand d) other is = absurd (cc)
-others_stay b after (moves.Start s) other is = same_started (λ c. not (c.key == s.key)) (λ t. true) b after s (λ c it. ap not it) is
-others_stay b after (moves.Enter e) other is = same_entered (λ c. not (c.key == e.key)) (λ t. not (t.scope == e.scope)) b after e (λ c it. ap not it) (λ t it. ap not it) is
-others_stay b after (moves.Open key) other is = same_opened (λ c. not (c.key == key)) (λ t. not (t.scope == key)) key (λ c it. ap not it) b after (λ t it. ap not it) is
-others_stay b after (moves.Finish key) other is = edit_stays b after key (in_phase phases.Completing []) (λ c. refl) is
-others_stay b after (moves.Leave l) other is = leave_stays b after l is
-others_stay b after (moves.Take t) other is = same_taken (λ c. not (c.key == t.key)) (λ x. not (names_scope b (moves.Take t) x.scope)) t.key (λ c it. ap not it) b after t.flow
+-- every move leaves alone what it doesn't name, but for Stand and those that change incidents
+others_stay : (b after : Board) (move : Move) → IsFalse (is_stand move) → IsFalse (is_of_incident move) → played b move ≡ Some after → OthersStay b move after
+others_stay b after (moves.Stand d) other game is = absurd (cc)
+others_stay b after (moves.Start s) other game is = same_started (λ c. not (c.key == s.key)) (λ t. true) b after s (λ c it. ap not it) is
+others_stay b after (moves.Enter e) other game is = same_entered (λ c. not (c.key == e.key)) (λ t. not (t.scope == e.scope)) b after e (λ c it. ap not it) (λ t it. ap not it) is
+others_stay b after (moves.Open key) other game is = same_opened (λ c. not (c.key == key)) (λ t. not (t.scope == key)) key (λ c it. ap not it) b after (λ t it. ap not it) is
+others_stay b after (moves.Finish key) other game is = edit_stays b after key (in_phase phases.Completing []) (λ c. refl) is
+others_stay b after (moves.Leave l) other game is = leave_stays b after l is
+others_stay b after (moves.Take t) other game is = same_taken (λ c. not (c.key == t.key)) (λ x. not (names_scope b (moves.Take t) x.scope)) t.key (λ c it. ap not it) b after t.flow
     (λ c found. ap not (ap (λ (o : Option Cell). option_map_or (λ x. c.scope == x.scope) o false) found ∙ same_key c.scope)) is
-others_stay b after (moves.Halt key) other is = same_halted (λ c. not (is_or_leaves_in key c)) (λ t. not (t.scope == key)) key (λ c it. ap not it) (λ t it. ap not it) b after is
-others_stay b after (moves.Gone key) other is = same_gone (λ c. not (c.key == key)) (λ t. not (t.scope == key)) key (λ c it. ap not it) b after (λ t it. ap not it) is
-others_stay b after (moves.Assign a) other is = edit_stays b after a.scope (with_variable a.name a.value) (λ c. refl) is
-others_stay b after (moves.Update a) other is = edit_stays b after a.scope (with_variable a.name a.value) (λ c. refl) is
+others_stay b after (moves.Halt key) other game is = same_halted (λ c. not (is_or_leaves_in key c)) (λ t. not (t.scope == key)) key (λ c it. ap not it) (λ t it. ap not it) b after is
+others_stay b after (moves.Gone key) other game is = same_gone (λ c. not (c.key == key)) (λ t. not (t.scope == key)) key (λ c it. ap not it) b after (λ t it. ap not it) is
+others_stay b after (moves.Assign a) other game is = edit_stays b after a.scope (with_variable a.name a.value) (λ c. refl) is
+others_stay b after (moves.Update a) other game is = edit_stays b after a.scope (with_variable a.name a.value) (λ c. refl) is
+others_stay b after (moves.Incident i) other game is = absurd (cc)
+others_stay b after (moves.Repair key) other game is = absurd (cc)
+
+-- a move that changes the incidents changes nothing else
+pub incidents_alone : (b after : Board) (move : Move) → IsTrue (is_of_incident move) → played b move ≡ Some after → after ≡ record b { incidents = after.incidents }
+incidents_alone b after (moves.Incident i) it is =
+    let e : record b { incidents = b.incidents ++ i ∷ [] } ≡ after = cc in
+    subst (λ (x : Board). x ≡ record b { incidents = x.incidents }) e refl
+incidents_alone b after (moves.Repair key) it is =
+    let r = mapped_from (λ (xs : List Incident). record b { incidents = xs }) (removed (λ i. i.key == key) b.incidents) after is in
+    subst (λ (x : Board). x ≡ record b { incidents = x.incidents }) r.2 refl
+incidents_alone b after move it is = absurd (cc)
 
 -- a move leaves the cells alone that it doesn't name
 pub other_cells_stay : (b after : Board) (move : Move) → played b move ≡ Some after → other_cells b move after ≡ other_cells b move b
 other_cells_stay b after (moves.Stand d) is = let e : record b { models = b.models ++ d ∷ [] } ≡ after = cc in ap (other_cells b (moves.Stand d)) (sym e)
-other_cells_stay b after move is = (others_stay b after move refl is).same_cells
+other_cells_stay b after (moves.Incident i) is = ap (other_cells b (moves.Incident i)) (incidents_alone b after (moves.Incident i) refl is)
+other_cells_stay b after (moves.Repair key) is = ap (other_cells b (moves.Repair key)) (incidents_alone b after (moves.Repair key) refl is)
+other_cells_stay b after move is = (others_stay b after move refl refl is).same_cells
 
 -- a move leaves the tokens alone in the scopes that it doesn't name
 pub other_tokens_stay : (b after : Board) (move : Move) → played b move ≡ Some after → other_tokens b move after ≡ other_tokens b move b
 other_tokens_stay b after (moves.Stand d) is = let e : record b { models = b.models ++ d ∷ [] } ≡ after = cc in ap (other_tokens b (moves.Stand d)) (sym e)
-other_tokens_stay b after move is = (others_stay b after move refl is).same_tokens
+other_tokens_stay b after (moves.Incident i) is = ap (other_tokens b (moves.Incident i)) (incidents_alone b after (moves.Incident i) refl is)
+other_tokens_stay b after (moves.Repair key) is = ap (other_tokens b (moves.Repair key)) (incidents_alone b after (moves.Repair key) refl is)
+other_tokens_stay b after move is = (others_stay b after move refl refl is).same_tokens
 
 -- only Stand changes the models
 pub models_stay : (b after : Board) (move : Move) → IsFalse (is_stand move) → played b move ≡ Some after → after.models ≡ b.models
-models_stay b after move other is = (others_stay b after move other is).same_models
+models_stay b after (moves.Incident i) other is = ap (λ (x : Board). x.models) (incidents_alone b after (moves.Incident i) refl is)
+models_stay b after (moves.Repair key) other is = ap (λ (x : Board). x.models) (incidents_alone b after (moves.Repair key) refl is)
+models_stay b after move other is = (others_stay b after move other refl is).same_models
+
+-- only Incident and Repair change the incidents
+pub incidents_stay : (b after : Board) (move : Move) → IsFalse (is_of_incident move) → played b move ≡ Some after → after.incidents ≡ b.incidents
+incidents_stay b after (moves.Stand d) game is = let e : record b { models = b.models ++ d ∷ [] } ≡ after = cc in ap (λ (x : Board). x.incidents) (sym e)
+incidents_stay b after move game is = (others_stay b after move refl game is).same_incidents
 
 -- the list without its first member that passes, taken apart
 taken_by : (passes : Token → Bool) (t : Bool) (x : Token) (xs ys : List Token) → passes x ≡ t → ((zs : List Token) → removed passes xs ≡ Some zs → IsWithoutFirst passes xs zs)

@@ -34,6 +34,8 @@ names_cell b (moves.Halt key) c = is_or_leaves_in key c
 names_cell b (moves.Gone key) c = c.key == key
 names_cell b (moves.Assign a) c = c.key == a.scope
 names_cell b (moves.Update a) c = c.key == a.scope
+names_cell b (moves.Incident i) c = false
+names_cell b (moves.Repair key) c = false
 
 -- a move makes or takes a token in this scope (own)
 abbrev pub names_scope : Board → Move → ℕ → Bool
@@ -57,6 +59,12 @@ other_tokens named move b = filter (λ t. not (names_scope named move t.scope)) 
 abbrev pub is_stand : Move → Bool
 is_stand (moves.Stand d) = true
 is_stand move = false
+
+-- it is a move by which an incident stands there or is gone
+abbrev pub is_of_incident : Move → Bool
+is_of_incident (moves.Incident i) = true
+is_of_incident (moves.Repair key) = true
+is_of_incident move = false
 
 -- no token is in this scope, and no cell leaves in it (BPMN 2.0.2, 13.3.2 and 13.5.6)
 abbrev pub is_emptied : ℕ → Board → Bool

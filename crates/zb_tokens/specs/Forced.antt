@@ -1,8 +1,9 @@
 -- Who is forced to move (BPMN 2.0.2, 13: a token moves on by itself where nothing is waited for), in which order (own), and to what.
-use Rattle.std.specs.Prelude.{ℕ, max, List, [], ◌∷◌, map, filter, slice_get, position, Bool, true, false, not, if◌then◌else◌, Option, Some, None, option_map, option_and_then, ◌≡◌, ◌⊎◌}
+use Rattle.std.specs.Prelude.{ℕ, max, List, [], ◌∷◌, map, filter, Bool, true, false, ◌&&◌, not, if◌then◌else◌, Option, Some, None, option_map, option_and_then, Result, Ok, Err, ◌≡◌, ◌⊎◌}
 use Rattle.std.specs.Option.{option_map_or, option_or}
 use Rattle.std.specs.List.{find}
 use Rattle.std.specs.Str.{bytes_eq}
+use Rattle.zb_base.specs.declared.vars.Variable.{Variable}
 use Rattle.zb_process.specs.declared.model.Model.{Model}
 use Rattle.zb_tokens.specs.declared.board.Cell.{Cell}
 use Rattle.zb_tokens.specs.declared.board.Token.{Token}
@@ -20,9 +21,11 @@ use Rattle.zb_tokens.specs.Doom.{is_doomed}
 use Rattle.zb_tokens.specs.MoveEnter.{joins, may_enter}
 use Rattle.zb_tokens.specs.MoveOpen.{opens}
 use Rattle.zb_tokens.specs.MoveFinish.{is_done}
-use Rattle.zb_tokens.specs.MoveLeave.{owed_by}
+use Rattle.zb_tokens.specs.Incidents.{Hindrance, is_stuck}
+use Rattle.zb_tokens.specs.Mappings.{inputs_of}
+use Rattle.zb_tokens.specs.MoveLeave.{completion_of}
 
--- in a phase a cell goes on by itself (BPMN 2.0.2, 13)
+-- in a phase a cell that isn't stuck goes on by itself (BPMN 2.0.2, 13)
 abbrev pub goes_on_in : Board → Cell → Phase → Bool
 goes_on_in b c phases.Activating = opens b c
 goes_on_in b c phases.Active = is_done b c
@@ -36,9 +39,9 @@ ends_in b c phases.Leaving = false
 ends_in b c phases.Terminating = not (has_child b c.key)
 ends_in b c phase = true
 
--- a cell is forced to a move: it goes on by itself, or ends where it is doomed (BPMN 2.0.2, 13)
+-- a cell is forced to a move: it goes on by itself where it isn't stuck, or ends where it is doomed (BPMN 2.0.2, 13; Zeebe, incidents)
 abbrev pub is_forced : Board → Cell → Bool
-is_forced b c = if is_doomed b c then ends_in b c c.phase else goes_on_in b c c.phase
+is_forced b c = if is_doomed b c then ends_in b c c.phase else not (is_stuck b c) && goes_on_in b c c.phase
 
 -- the flow that a token comes by to a node: where flows join it is none of them
 abbrev pub way_by : Model → List ℕ → List ℕ → List ℕ
@@ -64,7 +67,7 @@ greatest (n ∷ ns) = Some (option_map_or (max n) (greatest ns) n)
 
 -- who moves next: the forced cell with the greatest key, or else the first token that can enter (own)
 abbrev pub next_mover : Board → Option Mover
-next_mover b = option_or (option_map movers.Cell (greatest (map (λ c. c.key) (filter (is_forced b) b.cells)))) (option_map movers.Token (position (can_enter b) b.tokens))
+next_mover b = option_or (option_map movers.Cell (greatest (map (λ c. c.key) (filter (is_forced b) b.cells)))) (option_map movers.Token (find (can_enter b) b.tokens))
 
 -- nobody is forced to move
 abbrev pub IsQuiet : Board → Type 0
@@ -75,13 +78,27 @@ abbrev pub take_first : ℕ → List (List ℕ) → Option Move
 take_first key [] = None
 take_first key (flow ∷ owed) = Some (moves.Take (record { key = key; flow = flow }))
 
--- what a cell does by itself in a phase (BPMN 2.0.2, 13)
-abbrev pub move_in : Board → Cell → Phase → Option Move
-move_in b c phases.Activating = Some (moves.Open c.key)
-move_in b c phases.Active = Some (moves.Finish c.key)
-move_in b c phases.Completing = Some (moves.Leave (record { key = c.key; owed = owed_by b c }))
-move_in b c phases.Leaving = take_first c.key c.owed
-move_in b c phases.Terminating = Some (moves.Gone c.key)
+-- an incident under this key tells what keeps a cell from going on (Zeebe, incidents)
+abbrev pub stop_by : ℕ → Cell → Hindrance → Move
+stop_by key c hindrance = moves.Incident (record { key = key; kind = hindrance.kind; cell = c.key; text = hindrance.text })
+
+-- a cell becomes active with these variables, or an incident under this key tells why it can't (BPMN 2.0.2, 13.3.2; Zeebe, incidents)
+abbrev pub open_by : ℕ → Cell → Result (List Variable) Hindrance → Move
+open_by key c (Ok vs) = moves.Open c.key
+open_by key c (Err hindrance) = stop_by key c hindrance
+
+-- a cell is left by these flows, or an incident under this key tells why it can't be (BPMN 2.0.2, 13.3.1; Zeebe, incidents)
+abbrev pub leave_by : ℕ → Cell → Result (List (List ℕ)) Hindrance → Move
+leave_by key c (Ok owed) = moves.Leave (record { key = c.key; owed = owed })
+leave_by key c (Err hindrance) = stop_by key c hindrance
+
+-- what a cell does by itself in a phase, where an incident gets this key (BPMN 2.0.2, 13)
+abbrev pub move_in : Board → ℕ → Cell → Phase → Option Move
+move_in b key c phases.Activating = Some (open_by key c (inputs_of b c))
+move_in b key c phases.Active = Some (moves.Finish c.key)
+move_in b key c phases.Completing = Some (leave_by key c (completion_of b c))
+move_in b key c phases.Leaving = take_first c.key c.owed
+move_in b key c phases.Terminating = Some (moves.Gone c.key)
 
 -- how a doomed cell ends in a phase (BPMN 2.0.2, 13.3.2)
 abbrev pub end_in : Cell → Phase → Option Move
@@ -90,8 +107,8 @@ end_in c phases.Terminating = Some (moves.Gone c.key)
 end_in c phase = Some (moves.Halt c.key)
 
 -- what a cell does by itself, or how it ends where it is doomed (BPMN 2.0.2, 13)
-abbrev pub move_at : Board → Cell → Option Move
-move_at b c = if is_doomed b c then end_in c c.phase else move_in b c c.phase
+abbrev pub move_at : Board → ℕ → Cell → Option Move
+move_at b key c = if is_doomed b c then end_in c c.phase else move_in b key c c.phase
 
 -- a move by which a cell ends, or none (BPMN 2.0.2, 13.3.2)
 abbrev pub IsEnd : Cell → Option Move → Type 0
@@ -101,7 +118,7 @@ IsEnd c move = (move ≡ None) ⊎ ((move ≡ Some (moves.Halt c.key)) ⊎ (move
 abbrev pub entry_of : Board → ℕ → Token → Option Move
 entry_of b key t = option_map (λ way. moves.Enter (record { key = key; scope = t.scope; node = way.0; via = way.1 })) (way_of b t)
 
--- the move of a mover on a board at a moment, where a new cell gets this key (BPMN 2.0.2, 13)
+-- the move of a mover on a board at a moment, where a new cell or an incident gets this key (BPMN 2.0.2, 13)
 abbrev pub move_of : Board → ℕ → ℕ → Mover → Option Move
-move_of b moment key (movers.Cell cell) = option_and_then (move_at b) (cell_at b cell)
-move_of b moment key (movers.Token place) = option_and_then (entry_of b key) (slice_get b.tokens place)
+move_of b moment key (movers.Cell cell) = option_and_then (move_at b key) (cell_at b cell)
+move_of b moment key (movers.Token t) = entry_of b key t

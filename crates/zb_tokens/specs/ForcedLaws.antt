@@ -1,17 +1,19 @@
 -- Laws of forced moves, in the subject's own words.
-use Rattle.std.proofs.Common.{◌≡◌, ◌⊎◌, ℕ, ◌+◌, ◌≤◌, ◌==◌, max, length, get_or, List, [], ◌∷◌, map, filter, slice_get, position, All, Bool, true, false, ◌||◌, not, cond, if◌then◌else◌, IsTrue, IsFalse, Option, Some, None, is_some, option_map, option_and_then, refl, inl, inr, ⊎_elim, ap, sym, ◌∙◌, subst, arith}
+use Rattle.std.proofs.Common.{◌≡◌, ◌⊎◌, ℕ, ◌+◌, ◌≤◌, ◌==◌, max, length, get_or, List, [], ◌∷◌, map, filter, slice_get, position, All, Contains, Bool, true, false, ◌&&◌, ◌||◌, not, cond, if◌then◌else◌, IsTrue, IsFalse, Option, Some, None, is_some, option_map, option_and_then, Result, Ok, Err, refl, inl, inr, ⊎_elim, ap, sym, ◌∙◌, subst, arith}
 use Rattle.std.specs.Option.{option_map_or, option_or}
 use Rattle.std.specs.List.{find, position_or_len}
-use Rattle.std.specs.Str.{bytes_eq}
+use Rattle.std.proofs.lemmas.Bool.{and_parts, not-true}
 use Rattle.std.proofs.lemmas.Bool.Decides.{nat_tests}
 use Rattle.std.proofs.lemmas.Grind.{common_steps}
-use Rattle.std.proofs.lemmas.List.Elements.{All-nil, All-cons}
+use Rattle.std.proofs.lemmas.List.Elements.{All-nil, All-cons, All-contains_itself}
 use Rattle.std.proofs.lemmas.List.Quantifiers.{position-Some}
 use Rattle.std.proofs.lemmas.List.Sums.{fails_before_first}
 use Rattle.std.proofs.lemmas.Option.{slice_get-get_or}
-use Rattle.std.proofs.lemmas.Slice.Eq.{bytes_eq-Decides}
+use Rattle.zb_base.specs.declared.vars.Variable.{Variable}
+use Rattle.zb_instance_records.specs.Layouts.{incident_byte}
 use Rattle.zb_tokens.specs.declared.board.Cell.{Cell}
 use Rattle.zb_tokens.specs.declared.board.Token.{Token}
+use Rattle.zb_tokens.specs.declared.board.Incident.{Incident}
 use Rattle.zb_tokens.specs.declared.board.Move.{Move}
 use Rattle.zb_tokens.specs.declared.board.Move.TheVariants as moves
 use Rattle.zb_tokens.specs.declared.board.Mover.{Mover}
@@ -23,24 +25,16 @@ use Rattle.zb_tokens.specs.Board.{Board, cell_at, is_root, CellsAscend}
 use Rattle.zb_tokens.specs.Doom.{is_doomed}
 use Rattle.zb_tokens.specs.MoveHalt.{is_alive}
 use Rattle.zb_tokens.specs.MoveEnter.{may_enter}
-use Rattle.zb_tokens.specs.MoveLeave.{owed_by, ids_eq, are_among}
+use Rattle.zb_tokens.specs.Incidents.{Hindrance, is_stuck}
+use Rattle.zb_tokens.specs.Mappings.{inputs_of}
+use Rattle.zb_tokens.specs.MoveOpen.{opens}
+use Rattle.zb_tokens.specs.MoveLeave.{completion_of}
+use Rattle.zb_tokens.specs.MoveIncident.{evaluates, hindrance_in}
 use Rattle.zb_tokens.specs.Game.{fits, agrees}
-use Rattle.zb_tokens.specs.GameLaws.{mapped_some}
-use Rattle.zb_tokens.specs.Forced.{goes_on_in, ends_in, is_forced, way_of, can_enter, greatest, next_mover, IsQuiet, take_first, move_in, end_in, move_at, entry_of, move_of, IsEnd}
-
--- a text is the same as itself
-pub same_bytes : (xs : List ℕ) → bytes_eq xs xs ≡ true
-same_bytes xs = (bytes_eq-Decides xs xs).1 refl
-
--- a list of ids is the same as itself
-pub ids_same : (ids : List (List ℕ)) → ids_eq ids ids ≡ true
-ids_same [] = refl
-ids_same (id ∷ ids) = rw (same_bytes id, ids_same ids) refl
-
--- ids are among themselves, in order
-pub among_themselves : (ids : List (List ℕ)) → are_among ids ids ≡ true
-among_themselves [] = refl
-among_themselves (id ∷ ids) = rw (same_bytes id, among_themselves ids) refl
+use Rattle.zb_tokens.specs.GameLaws.{mapped_some, both_right, found_where, found_holds, none_found}
+use Rattle.zb_tokens.specs.LeaveLaws.{same_bytes, ids_same, exit_may_be_owed}
+use Rattle.zb_tokens.specs.MappingLaws.{completed_with}
+use Rattle.zb_tokens.specs.Forced.{goes_on_in, ends_in, is_forced, way_of, can_enter, greatest, next_mover, IsQuiet, take_first, stop_by, open_by, leave_by, move_in, end_in, move_at, entry_of, move_of, IsEnd}
 
 -- a cell with this key that passes is the one that is found with it, and its key is not below `low`
 abbrev pub IsKeyOfCell : (Cell → Bool) → ℕ → List Cell → ℕ → Type 0
@@ -80,30 +74,20 @@ module _ (passes : Cell → Bool) where
   greatest_found low [] key up is = absurd (cc)
   greatest_found low (c ∷ cells) key up is = found_from low c cells key (passes c) up.0 refl (λ k. greatest_found (c.key + 1) cells k up.1) is
 
-module _ {A : Type 0} (passes : A → Bool) where
-  -- the first that passes is at its place
-  pub position_found : (xs : List A) (i : ℕ) → position passes xs ≡ Some i → (x : A) × (slice_get xs i ≡ Some x) × (passes x ≡ true)
-  position_found [] i is = absurd (cc)
-  position_found (y ∷ ys) i is =
-      let r = position-Some passes (y ∷ ys) i y is in
-      (get_or (y ∷ ys) i y, slice_get-get_or (y ∷ ys) i y r.0, r.1)
-
-  -- where none is the first, none passes
-  pub position_none : (xs : List A) → position passes xs ≡ None → All (λ x. IsFalse (passes x)) xs
-  position_none xs is =
-      let past : length xs ≤ position_or_len passes xs = grind (arith, common_steps) in
-      λ k d within. fails_before_first passes xs k d (omega arith)
-
--- what is known of a mover: the cell with its key is forced, and the token at its place can enter
+-- what is known of a mover: the cell with its key is forced, and the token is on the board and can enter
 abbrev pub IsMover : Board → Mover → Type 0
 IsMover b (movers.Cell key) = (c : Cell) × (cell_at b key ≡ Some c) × (c.key ≡ key) × (is_forced b c ≡ true)
-IsMover b (movers.Token place) = (t : Token) × (slice_get b.tokens place ≡ Some t) × (can_enter b t ≡ true)
+IsMover b (movers.Token t) = Contains b.tokens t × (can_enter b t ≡ true)
 
-mover_by : (cells tokens : Option ℕ) (mover : Mover) → option_or (option_map movers.Cell cells) (option_map movers.Token tokens) ≡ Some mover
-    → ((key : ℕ) × (cells ≡ Some key) × (movers.Cell key ≡ mover)) ⊎ ((place : ℕ) × (tokens ≡ Some place) × (movers.Token place ≡ mover))
+mover_by : (cells : Option ℕ) (tokens : Option Token) (mover : Mover) → option_or (option_map movers.Cell cells) (option_map movers.Token tokens) ≡ Some mover
+    → ((key : ℕ) × (cells ≡ Some key) × (movers.Cell key ≡ mover)) ⊎ ((t : Token) × (tokens ≡ Some t) × (movers.Token t ≡ mover))
 mover_by (Some key) tokens mover is = inl (key, refl, cc)
-mover_by None (Some place) mover is = inr (place, refl, cc)
+mover_by None (Some t) mover is = inr (t, refl, cc)
 mover_by None None mover is = absurd (cc)
+
+-- the first token that can enter is on the board
+token_found : (b : Board) (t : Token) → find (can_enter b) b.tokens ≡ Some t → Contains b.tokens t × (can_enter b t ≡ true)
+token_found b t is = found_holds (can_enter b) (Contains b.tokens) b.tokens t (All-contains_itself b.tokens) is
 
 -- who moves next is there, and is forced (own)
 pub mover_known : (b : Board) (mover : Mover) → CellsAscend 0 b.cells → next_mover b ≡ Some mover → IsMover b mover
@@ -111,8 +95,8 @@ mover_known b mover up is = ⊎_elim
     (λ by_cell.
     let r = greatest_found (is_forced b) 0 b.cells by_cell.0 up by_cell.1 in
     subst (IsMover b) by_cell.2 (r.0, r.3, r.2, r.4))
-    (λ by_token. subst (IsMover b) by_token.2 (position_found (can_enter b) b.tokens by_token.0 by_token.1))
-    (mover_by (greatest (map (λ c. c.key) (filter (is_forced b) b.cells))) (position (can_enter b) b.tokens) mover is)
+    (λ by_token. subst (IsMover b) by_token.2 (token_found b by_token.0 by_token.1))
+    (mover_by (greatest (map (λ c. c.key) (filter (is_forced b) b.cells))) (find (can_enter b) b.tokens) mover is)
 
 -- a cell that goes on has a move
 first_some : (key : ℕ) (owed : List (List ℕ)) → not (is_none_of owed) ≡ true → IsTrue (is_some (take_first key owed))
@@ -120,12 +104,12 @@ first_some key [] some = absurd (cc)
 first_some key (flow ∷ owed) some = refl
 
 -- a cell that goes on by itself in a phase has a move there (BPMN 2.0.2, 13)
-goes_on_somehow : (b : Board) (c : Cell) (phase : Phase) → goes_on_in b c phase ≡ true → IsTrue (is_some (move_in b c phase))
-goes_on_somehow b c phases.Activating goes = refl
-goes_on_somehow b c phases.Active goes = refl
-goes_on_somehow b c phases.Completing goes = refl
-goes_on_somehow b c phases.Leaving goes = first_some c.key c.owed goes
-goes_on_somehow b c phases.Terminating goes = refl
+goes_on_somehow : (b : Board) (key : ℕ) (c : Cell) (phase : Phase) → goes_on_in b c phase ≡ true → IsTrue (is_some (move_in b key c phase))
+goes_on_somehow b key c phases.Activating goes = refl
+goes_on_somehow b key c phases.Active goes = refl
+goes_on_somehow b key c phases.Completing goes = refl
+goes_on_somehow b key c phases.Leaving goes = first_some c.key c.owed goes
+goes_on_somehow b key c phases.Terminating goes = refl
 
 -- and so has a doomed one that ends (BPMN 2.0.2, 13.3.2)
 ends_somehow : (b : Board) (c : Cell) (phase : Phase) → ends_in b c phase ≡ true → IsTrue (is_some (end_in c phase))
@@ -135,13 +119,13 @@ ends_somehow b c phases.Completing ends = refl
 ends_somehow b c phases.Leaving ends = absurd (cc)
 ends_somehow b c phases.Terminating ends = refl
 
-has_move_by : (b : Board) (c : Cell) (doomed : Bool) → (if doomed then ends_in b c c.phase else goes_on_in b c c.phase) ≡ true → IsTrue (is_some (if doomed then end_in c c.phase else move_in b c c.phase))
-has_move_by b c true ends = ends_somehow b c c.phase ends
-has_move_by b c false goes = goes_on_somehow b c c.phase goes
+has_move_by : (b : Board) (key : ℕ) (c : Cell) (doomed : Bool) → (if doomed then ends_in b c c.phase else not (is_stuck b c) && goes_on_in b c c.phase) ≡ true → IsTrue (is_some (if doomed then end_in c c.phase else move_in b key c c.phase))
+has_move_by b key c true ends = ends_somehow b c c.phase ends
+has_move_by b key c false goes = goes_on_somehow b key c c.phase (both_right (not (is_stuck b c)) (goes_on_in b c c.phase) goes)
 
 -- a cell that is forced has a move (BPMN 2.0.2, 13)
-pub cell_has_move : (b : Board) (c : Cell) → is_forced b c ≡ true → IsTrue (is_some (move_at b c))
-cell_has_move b c forced = has_move_by b c (is_doomed b c) forced
+pub cell_has_move : (b : Board) (key : ℕ) (c : Cell) → is_forced b c ≡ true → IsTrue (is_some (move_at b key c))
+cell_has_move b key c forced = has_move_by b key c (is_doomed b c) forced
 
 -- a token that can enter has a move
 way_some : {W : Type 0} (enters : W → Bool) (way : Option W) → option_map_or enters way false ≡ true → IsTrue (is_some way)
@@ -150,8 +134,8 @@ way_some enters (Some way) is = refl
 
 -- who is forced has a move
 pub mover_has_move : (b : Board) (moment key : ℕ) (mover : Mover) → IsMover b mover → IsTrue (is_some (move_of b moment key mover))
-mover_has_move b moment key (movers.Cell cell) known = rw known.1 (cell_has_move b known.0 known.3)
-mover_has_move b moment key (movers.Token place) known = rw known.1 (mapped_some _ (way_of b known.0) (way_some _ (way_of b known.0) known.2))
+mover_has_move b moment key (movers.Cell cell) known = rw known.1 (cell_has_move b key known.0 known.3)
+mover_has_move b moment key (movers.Token t) known = mapped_some _ (way_of b t) (way_some _ (way_of b t) known.1)
 
 -- who is forced has a move, where the cells ascend (BPMN 2.0.2, 13)
 pub movers_move : (b : Board) (moment key : ℕ) (mover : Mover) → CellsAscend 0 b.cells → next_mover b ≡ Some mover → IsTrue (is_some (move_of b moment key mover))
@@ -164,22 +148,37 @@ Suits b moment move = IsTrue (fits b move) × IsTrue (agrees b moment move)
 some_move : (a b : Move) → Some a ≡ Some b → a ≡ b
 some_move a b e = cc
 
+-- an incident tells of what keeps a cell from going on (Zeebe, incidents)
+stop_suits : (b : Board) (moment key : ℕ) (c : Cell) (hindrance : Hindrance) → evaluates c.phase ≡ true → cell_at b c.key ≡ Some c → is_stuck b c ≡ false → hindrance_in b c c.phase ≡ Some hindrance → Suits b moment (stop_by key c hindrance)
+stop_suits b moment key c hindrance at found free stops =
+    let kind : (incident_byte hindrance.kind == incident_byte hindrance.kind) ≡ true = grind (arith, nat_tests) in
+    (rw (found, at, free) refl, rw (found, stops, kind, same_bytes hindrance.text) refl)
+
+-- a cell becomes active, or an incident tells why it can't (BPMN 2.0.2, 13.3.2; Zeebe, incidents)
+open_suits : (b : Board) (moment key : ℕ) (c : Cell) (inputs : Result (List Variable) Hindrance) (move : Move) → c.phase ≡ phases.Activating → cell_at b c.key ≡ Some c → is_stuck b c ≡ false → opens b c ≡ true → inputs_of b c ≡ inputs → open_by key c inputs ≡ move
+    → Suits b moment move
+open_suits b moment key c (Ok vs) move at found free opens gives is = subst (Suits b moment) is (rw (found, at, opens) refl, rw (found, gives) refl)
+open_suits b moment key c (Err hindrance) move at found free opens gives is = subst (Suits b moment) is (stop_suits b moment key c hindrance (rw at refl) found free (rw (at, gives) refl))
+
+-- a cell that has completed is left, or an incident tells why it can't be (BPMN 2.0.2, 13.3.1; Zeebe, incidents)
+leave_suits : (b : Board) (moment key : ℕ) (c : Cell) (exit : Result (List (List ℕ)) Hindrance) (move : Move) → c.phase ≡ phases.Completing → cell_at b c.key ≡ Some c → is_stuck b c ≡ false → completion_of b c ≡ exit → leave_by key c exit ≡ move → Suits b moment move
+leave_suits b moment key c (Ok owed) move at found free exits is =
+    subst (Suits b moment) is (rw (found, at, exit_may_be_owed b c owed (completed_with b c owed exits).1) refl, rw (found, exits, ids_same owed) refl)
+leave_suits b moment key c (Err hindrance) move at found free exits is = subst (Suits b moment) is (stop_suits b moment key c hindrance (rw at refl) found free (rw (at, exits) refl))
+
 -- by the phase of the cell
-pub cell_suits : (b : Board) (moment : ℕ) (c : Cell) (phase : Phase) (move : Move) → c.phase ≡ phase → cell_at b c.key ≡ Some c → goes_on_in b c phase ≡ true → move_in b c phase ≡ Some move → Suits b moment move
-cell_suits b moment c phases.Activating move at found goes is =
-    subst (Suits b moment) (some_move (moves.Open c.key) move is) (rw (found, at, goes) refl, refl)
-cell_suits b moment c phases.Active move at found goes is =
+pub cell_suits : (b : Board) (moment key : ℕ) (c : Cell) (phase : Phase) (move : Move) → c.phase ≡ phase → cell_at b c.key ≡ Some c → is_stuck b c ≡ false → goes_on_in b c phase ≡ true → move_in b key c phase ≡ Some move → Suits b moment move
+cell_suits b moment key c phases.Activating move at found free goes is = open_suits b moment key c (inputs_of b c) move at found free goes refl (some_move (open_by key c (inputs_of b c)) move is)
+cell_suits b moment key c phases.Active move at found free goes is =
     subst (Suits b moment) (some_move (moves.Finish c.key) move is) (rw (found, at, goes) refl, refl)
-cell_suits b moment c phases.Completing move at found goes is =
-    subst (Suits b moment) (some_move (moves.Leave (record { key = c.key; owed = owed_by b c })) move is)
-    (rw (found, at, among_themselves (owed_by b c)) refl, rw (found, ids_same (owed_by b c)) refl)
-cell_suits b moment c phases.Leaving move at found goes is = by_owed c.owed refl is
+cell_suits b moment key c phases.Completing move at found free goes is = leave_suits b moment key c (completion_of b c) move at found free refl (some_move (leave_by key c (completion_of b c)) move is)
+cell_suits b moment key c phases.Leaving move at found free goes is = by_owed c.owed refl is
   where
     by_owed : (owed : List (List ℕ)) → c.owed ≡ owed → take_first c.key owed ≡ Some move → Suits b moment move
     by_owed [] owes is = absurd (cc)
     by_owed (flow ∷ owed) owes is =
         subst (Suits b moment) (some_move (moves.Take (record { key = c.key; flow = flow })) move is) (rw (found, at, owes, same_bytes flow) refl, refl)
-cell_suits b moment c phases.Terminating move at found goes is =
+cell_suits b moment key c phases.Terminating move at found free goes is =
     subst (Suits b moment) (some_move (moves.Gone c.key) move is) (rw (found, at, goes) refl, refl)
 
 -- a doomed cell, by its phase
@@ -200,10 +199,12 @@ end_suits b moment c phases.Leaving move at found doomed ends is = absurd (cc)
 end_suits b moment c phases.Terminating move at found doomed ends is =
     subst (Suits b moment) (some_move (moves.Gone c.key) move is) (rw (found, at, ends) refl, refl)
 
-forced_suits : (b : Board) (moment : ℕ) (c : Cell) (move : Move) (doomed : Bool) → cell_at b c.key ≡ Some c → is_doomed b c ≡ doomed
-    → (if doomed then ends_in b c c.phase else goes_on_in b c c.phase) ≡ true → (if doomed then end_in c c.phase else move_in b c c.phase) ≡ Some move → Suits b moment move
-forced_suits b moment c move true found doomed ends is = end_suits b moment c c.phase move refl found doomed ends is
-forced_suits b moment c move false found alive goes is = cell_suits b moment c c.phase move refl found goes is
+forced_suits : (b : Board) (moment key : ℕ) (c : Cell) (move : Move) (doomed : Bool) → cell_at b c.key ≡ Some c → is_doomed b c ≡ doomed
+    → (if doomed then ends_in b c c.phase else not (is_stuck b c) && goes_on_in b c c.phase) ≡ true → (if doomed then end_in c c.phase else move_in b key c c.phase) ≡ Some move → Suits b moment move
+forced_suits b moment key c move true found doomed ends is = end_suits b moment c c.phase move refl found doomed ends is
+forced_suits b moment key c move false found alive goes is =
+    let it = and_parts (not (is_stuck b c)) (goes_on_in b c c.phase) goes in
+    cell_suits b moment key c c.phase move refl found (not-true (is_stuck b c) it.0) it.1 is
 
 entry_suits : (b : Board) (moment key : ℕ) (t : Token) (way : Option (List ℕ × List ℕ)) (move : Move) → option_map_or (λ (w : List ℕ × List ℕ). may_enter b t.scope w.0 w.1) way false ≡ true
     → option_map (λ (w : List ℕ × List ℕ). moves.Enter (record { key = key; scope = t.scope; node = w.0; via = w.1 })) way ≡ Some move → Suits b moment move
@@ -216,12 +217,9 @@ pub mover_suits : (b : Board) (moment key : ℕ) (mover : Mover) (move : Move) �
 mover_suits b moment key (movers.Cell cell) move known is =
     let c = known.0 in
     let found : cell_at b c.key ≡ Some c = subst (λ (k : ℕ). cell_at b k ≡ Some c) (sym known.2) known.1 in
-    let its_move : move_at b c ≡ Some move = sym (ap (option_and_then (move_at b)) known.1) ∙ is in
-    forced_suits b moment c move (is_doomed b c) found refl known.3 its_move
-mover_suits b moment key (movers.Token place) move known is =
-    let t = known.0 in
-    let its_move : entry_of b key t ≡ Some move = sym (ap (option_and_then (entry_of b key)) known.1) ∙ is in
-    entry_suits b moment key t (way_of b t) move known.2 its_move
+    let its_move : move_at b key c ≡ Some move = sym (ap (option_and_then (move_at b key)) known.1) ∙ is in
+    forced_suits b moment key c move (is_doomed b c) found refl known.3 its_move
+mover_suits b moment key (movers.Token t) move known is = entry_suits b moment key t (way_of b t) move known.1 is
 
 -- a forced move fits the board (BPMN 2.0.2, 13)
 pub movers_fit : (b : Board) (moment key : ℕ) (mover : Mover) (move : Move) → CellsAscend 0 b.cells → next_mover b ≡ Some mover → move_of b moment key mover ≡ Some move → IsTrue (fits b move)
@@ -239,8 +237,14 @@ ends_by c phases.Leaving = inl refl
 ends_by c phases.Terminating = inr (inr refl)
 
 -- a doomed cell does nothing but end (BPMN 2.0.2, 13.3.2)
-pub doomed_ends : (b : Board) (c : Cell) → IsTrue (is_doomed b c) → IsEnd c (move_at b c)
-doomed_ends b c is = rw is (ends_by c c.phase)
+pub doomed_ends : (b : Board) (key : ℕ) (c : Cell) → IsTrue (is_doomed b c) → IsEnd c (move_at b key c)
+doomed_ends b key c is = rw is (ends_by c c.phase)
+
+-- a cell on which an incident stands is forced to nothing where it isn't doomed (Zeebe, incidents)
+pub stuck_waits : (b : Board) (i : Incident) (c : Cell) → Contains b.incidents i → i.cell ≡ c.key → IsFalse (is_doomed b c) → IsFalse (is_forced b c)
+stuck_waits b i c among on alive =
+    let stuck : is_stuck b c ≡ true = found_where (λ (x : Incident). x.cell == c.key) b.incidents i among (grind (arith, nat_tests, on)) in
+    rw (alive, stuck) refl
 
 none_greatest : (ns : List ℕ) → greatest ns ≡ None → ns ≡ []
 none_greatest [] is = refl
@@ -259,13 +263,13 @@ module _ (passes : Cell → Bool) where
   none_filtered [] is = All-nil (λ (x : Cell). IsFalse (passes x))
   none_filtered (c ∷ cells) is = none_by (passes c) c cells refl (none_filtered cells) is
 
-none_moves : (cells tokens : Option ℕ) → option_or (option_map movers.Cell cells) (option_map movers.Token tokens) ≡ None → (cells ≡ None) × (tokens ≡ None)
+none_moves : (cells : Option ℕ) (tokens : Option Token) → option_or (option_map movers.Cell cells) (option_map movers.Token tokens) ≡ None → (cells ≡ None) × (tokens ≡ None)
 none_moves None None is = (refl, refl)
-none_moves None (Some place) is = absurd (cc)
+none_moves None (Some t) is = absurd (cc)
 none_moves (Some key) tokens is = absurd (cc)
 
-both_rest : (b : Board) → IsQuiet b → (greatest (map (λ c. c.key) (filter (is_forced b) b.cells)) ≡ None) × (position (can_enter b) b.tokens ≡ None)
-both_rest b is = none_moves (greatest (map (λ c. c.key) (filter (is_forced b) b.cells))) (position (can_enter b) b.tokens) is
+both_rest : (b : Board) → IsQuiet b → (greatest (map (λ c. c.key) (filter (is_forced b) b.cells)) ≡ None) × (find (can_enter b) b.tokens ≡ None)
+both_rest b is = none_moves (greatest (map (λ c. c.key) (filter (is_forced b) b.cells))) (find (can_enter b) b.tokens) is
 
 -- in a quiet game no cell is forced (BPMN 2.0.2, 13)
 pub quiet_cells : (b : Board) → IsQuiet b → All (λ (c : Cell). IsFalse (is_forced b c)) b.cells
@@ -273,4 +277,4 @@ quiet_cells b is = none_filtered (is_forced b) b.cells (no_keys (filter (is_forc
 
 -- and no token can enter (BPMN 2.0.2, 13)
 pub quiet_tokens : (b : Board) → IsQuiet b → All (λ (t : Token). IsFalse (can_enter b t)) b.tokens
-quiet_tokens b is = position_none (can_enter b) b.tokens (both_rest b is).1
+quiet_tokens b is = none_found (can_enter b) (λ (t : Token). IsFalse (can_enter b t)) (λ t fails. fails) b.tokens (both_rest b is).1

@@ -6,17 +6,19 @@ use Rattle.zb_tokens.specs.declared.board.Move.TheVariants as moves
 use Rattle.zb_tokens.specs.MoveStand.{fits_stand, play_stand}
 use Rattle.zb_tokens.specs.MoveStart.{fits_start, play_start}
 use Rattle.zb_tokens.specs.MoveEnter.{fits_enter, play_enter}
-use Rattle.zb_tokens.specs.MoveOpen.{fits_open, play_open}
+use Rattle.zb_tokens.specs.MoveOpen.{fits_open, agrees_open, play_open}
 use Rattle.zb_tokens.specs.MoveFinish.{fits_finish, play_finish}
 use Rattle.zb_tokens.specs.MoveLeave.{fits_leave, agrees_leave, play_leave}
 use Rattle.zb_tokens.specs.MoveTake.{fits_take, play_take}
 use Rattle.zb_tokens.specs.MoveHalt.{fits_halt, play_halt}
 use Rattle.zb_tokens.specs.MoveGone.{fits_gone, play_gone}
 use Rattle.zb_tokens.specs.MoveAssign.{fits_assign, fits_update, play_assign}
+use Rattle.zb_tokens.specs.MoveIncident.{fits_incident, agrees_incident, play_incident}
+use Rattle.zb_tokens.specs.MoveRepair.{fits_repair, play_repair}
 
 -- nothing on the board
 abbrev pub empty_board : Board
-empty_board = record { models = []; cells = []; tokens = [] }
+empty_board = record { models = []; cells = []; tokens = []; incidents = [] }
 
 -- a move fits the board: all that its rule asks but for what it evaluates (BPMN 2.0.2, 13)
 abbrev pub fits : Board → Move → Bool
@@ -31,13 +33,17 @@ fits b (moves.Halt key) = fits_halt b key
 fits b (moves.Gone key) = fits_gone b key
 fits b (moves.Assign a) = fits_assign b a
 fits b (moves.Update a) = fits_update b a
+fits b (moves.Incident i) = fits_incident b i
+fits b (moves.Repair key) = fits_repair b key
 
 -- a move agrees with what it evaluates on a board at a moment (BPMN 2.0.2, 13)
 abbrev pub agrees : Board → ℕ → Move → Bool
+agrees b moment (moves.Open key) = agrees_open b key
 agrees b moment (moves.Leave l) = agrees_leave b l
+agrees b moment (moves.Incident i) = agrees_incident b i
 agrees b moment move = true
 
--- the board after a move; None where it names a cell, a token or a model that isn't there (BPMN 2.0.2, 13)
+-- the board after a move; None where it needs a cell, a token, a model or an incident that isn't there (BPMN 2.0.2, 13)
 abbrev pub played : Board → Move → Option Board
 played b (moves.Stand d) = play_stand b d
 played b (moves.Start s) = play_start b s
@@ -50,6 +56,8 @@ played b (moves.Halt key) = play_halt b key
 played b (moves.Gone key) = play_gone b key
 played b (moves.Assign a) = play_assign b a
 played b (moves.Update a) = play_assign b a
+played b (moves.Incident i) = play_incident b i
+played b (moves.Repair key) = play_repair b key
 
 -- a move is legal and leads from one board to another, where what it evaluates is asked of a board from before, at a moment (BPMN 2.0.2, 13)
 pub record IsLegal (evaluated : Board) (moment : ℕ) (board : Board) (move : Move) (after : Board) : Type 0 where

@@ -1,8 +1,8 @@
 -- Laws of the game, in the subject's own words.
-use Rattle.std.proofs.Common.{◌≡◌, ℕ, ◌==◌, List, [], ◌∷◌, ◌++◌, filter, All, cond, option_map, option_and_then, is_some, Bool, true, false, not, ◌&&◌, ◌||◌, if◌then◌else◌, IsTrue, Option, Some, None, refl, sym, ap, ◌∙◌, subst}
+use Rattle.std.proofs.Common.{◌≡◌, ℕ, ◌==◌, List, [], ◌∷◌, ◌++◌, filter, All, Contains, cond, option_map, option_and_then, is_some, Bool, true, false, not, ◌&&◌, ◌||◌, if◌then◌else◌, IsTrue, Option, Some, None, refl, sym, ap, ◌∙◌, subst}
 use Rattle.std.specs.Option.{option_map_or}
 use Rattle.std.specs.List.{find, list_any}
-use Rattle.std.proofs.lemmas.List.Elements.{All-head, All-tail}
+use Rattle.std.proofs.lemmas.List.Elements.{All-nil, All-cons, All-head, All-tail, All-contains}
 use Rattle.zb_tokens.specs.Edits.{edited, removed}
 use Rattle.zb_tokens.specs.declared.board.Cell.{Cell}
 use Rattle.zb_tokens.specs.declared.board.Token.{Token}
@@ -92,6 +92,27 @@ module _ {A : Type 0} (passes : A → Bool) where
     found_through [] each = refl
     found_through (x ∷ xs) each = through_by (passes x) (stays x) x xs refl refl each (found_through xs)
 
+module _ {A : Type 0} (passes : A → Bool) (P : A → Type 0) (fails : (x : A) → passes x ≡ false → P x) where
+  none_by : (t : Bool) (y : A) (ys : List A) → passes y ≡ t → (find passes ys ≡ None → All P ys) → cond t (Some y) (find passes ys) ≡ None → All P (y ∷ ys)
+  none_by true y ys it later is = absurd (cc)
+  none_by false y ys it later is = All-cons P y ys (fails y it) (later is)
+
+  -- where none is found, none passes
+  pub none_found : (xs : List A) → find passes xs ≡ None → All P xs
+  none_found [] is = All-nil P
+  none_found (y ∷ ys) is = none_by (passes y) y ys refl (none_found ys) is
+
+module _ {A : Type 0} (passes : A → Bool) where
+  where_by : (xs : List A) (x : A) (found : Option A) → find passes xs ≡ found → Contains xs x → passes x ≡ true → is_some found ≡ true
+  where_by xs x (Some y) is among it = refl
+  where_by xs x None is among it =
+      let out = All-contains (λ (y : A). passes y ≡ false) xs x (none_found passes (λ (y : A). passes y ≡ false) (λ y fails. fails) xs is) among in
+      absurd (cc)
+
+  -- where one that passes is among them, one is found
+  pub found_where : (xs : List A) (x : A) → Contains xs x → passes x ≡ true → is_some (find passes xs) ≡ true
+  found_where xs x among it = where_by xs x (find passes xs) refl among it
+
 -- what is said of a thing that may not be there holds only where it is
 pub holds_some : {A : Type 0} (holds : A → Bool) (o : Option A) → IsTrue (option_map_or holds o false) → IsTrue (is_some o)
 holds_some holds None is = absurd (cc)
@@ -164,6 +185,8 @@ fitting_is_played b (moves.Assign a) is =
     mapped_some _ (edited (λ c. c.key == a.scope) (with_variable a.name a.value) b.cells) (cells_edited (with_variable a.name a.value) a.scope b (holds_some _ (cell_at b a.scope) is))
 fitting_is_played b (moves.Update a) is =
     mapped_some _ (edited (λ c. c.key == a.scope) (with_variable a.name a.value) b.cells) (cells_edited (with_variable a.name a.value) a.scope b (holds_some _ (cell_at b a.scope) is))
+fitting_is_played b (moves.Incident i) is = refl
+fitting_is_played b (moves.Repair key) is = mapped_some _ (removed (λ i. i.key == key) b.incidents) (removed_some (λ i. i.key == key) b.incidents (any_found (λ i. i.key == key) b.incidents is))
 
 -- other cells alone are changed as a cell leaves
 cells_alone : (b after : Board) (cells : Option (List Cell)) → option_map (λ cs. record b { cells = cs }) cells ≡ Some after → after.tokens ≡ b.tokens

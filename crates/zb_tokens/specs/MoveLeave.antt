@@ -1,13 +1,18 @@
--- A cell has completed, and a token is to go out on each of its flows (BPMN 2.0.2, 13.3.1).
-use Rattle.std.specs.Prelude.{ℕ, ◌==◌, List, [], ◌∷◌, Bool, true, false, ◌&&◌, not, if◌then◌else◌, Option, option_map, option_and_then}
+-- A cell has completed, and a token is to go out on each of the flows that it owes (BPMN 2.0.2, 13.3.1 and 13.4.2).
+use Rattle.std.specs.Prelude.{ℕ, ◌==◌, List, [], ◌∷◌, Bool, true, false, ◌&&◌, not, is_some, if◌then◌else◌, Option, option_map, option_and_then, Result, Ok, Err}
 use Rattle.std.specs.Option.{option_map_or}
 use Rattle.std.specs.Str.{bytes_eq}
+use Rattle.zb_base.specs.Results.{◌>>=◌}
 use Rattle.zb_faults.specs.Elements.{is_terminate_end}
 use Rattle.zb_tokens.specs.Edits.{edited, removed}
 use Rattle.zb_tokens.specs.declared.board.Cell.{Cell}
 use Rattle.zb_tokens.specs.declared.board.Leave.{Leave}
 use Rattle.zb_tokens.specs.declared.board.Phase.TheVariants as phases
 use Rattle.zb_tokens.specs.Board.{Board, cell_at, model_under, is_at, flows_out, is_phase, is_root, in_phase, emptied}
+use Rattle.zb_tokens.specs.Names.{value_seen}
+use Rattle.zb_tokens.specs.Incidents.{Hindrance}
+use Rattle.zb_tokens.specs.Choice.{gateway_of, choice_at}
+use Rattle.zb_tokens.specs.Mappings.{outputs_of}
 
 -- the flows out of the node of a cell; a root has none
 abbrev pub flows_of : Board → Cell → List (List ℕ)
@@ -25,17 +30,36 @@ ids_eq [] [] = true
 ids_eq (x ∷ xs) (y ∷ ys) = bytes_eq x y && ids_eq xs ys
 ids_eq xs ys = false
 
--- the flows that a cell owes as it leaves: all that go out of its node (BPMN 2.0.2, 13.3.1)
-abbrev pub owed_by : Board → Cell → List (List ℕ)
-owed_by b c = flows_of b c
+-- there is one of these, and no other
+abbrev pub is_single : List (List ℕ) → Bool
+is_single (x ∷ []) = true
+is_single xs = false
 
--- when, but for what is evaluated: it is completing, and these flows go out of its node (BPMN 2.0.2, 13.3.1)
+-- a cell may owe these flows: they go out of its node, and are one at an exclusive gateway (BPMN 2.0.2, 13.3.1 and 13.4.2)
+abbrev pub may_owe : Board → Cell → List (List ℕ) → Bool
+may_owe b c owed = are_among owed (flows_of b c) && (if is_some (gateway_of b c) then is_single owed else true)
+
+-- the flows by which a cell is left, or why it can't be: the chosen one at an exclusive gateway, or else all that go out
+-- of its node (BPMN 2.0.2, 13.3.1 and 13.4.2)
+abbrev pub exit_of : Board → Cell → Result (List (List ℕ)) Hindrance
+exit_of b c = option_map_or (λ g. choice_at (value_seen b c.key) g >>= (λ f. Ok (f.id ∷ []))) (gateway_of b c) (Ok (flows_of b c))
+
+-- how a cell completes: once its outputs are evaluated, by which flows it is left, or why it can't go on (BPMN 2.0.2, 10.4.2 and 13.3.2)
+abbrev pub completion_of : Board → Cell → Result (List (List ℕ)) Hindrance
+completion_of b c = outputs_of b c >>= (λ vs. exit_of b c)
+
+-- these flows are the outcome
+abbrev pub are_exit : List (List ℕ) → Result (List (List ℕ)) Hindrance → Bool
+are_exit owed (Ok flows) = ids_eq owed flows
+are_exit owed (Err hindrance) = false
+
+-- when, but for what is evaluated: it is completing, and may owe these flows (BPMN 2.0.2, 13.3.1 and 13.4.2)
 abbrev pub fits_leave : Board → Leave → Bool
-fits_leave b l = option_map_or (λ c. is_phase c.phase phases.Completing && are_among l.owed (flows_of b c)) (cell_at b l.key) false
+fits_leave b l = option_map_or (λ c. is_phase c.phase phases.Completing && may_owe b c l.owed) (cell_at b l.key) false
 
--- what is evaluated: these are the flows that it owes (BPMN 2.0.2, 13.3.1)
+-- what is evaluated: its outputs have values, and it is left by these flows (BPMN 2.0.2, 13.3.1, 13.3.2 and 13.4.2)
 abbrev pub agrees_leave : Board → Leave → Bool
-agrees_leave b l = option_map_or (λ c. ids_eq l.owed (owed_by b c)) (cell_at b l.key) false
+agrees_leave b l = option_map_or (λ c. are_exit l.owed (completion_of b c)) (cell_at b l.key) false
 
 -- the board where a cell owes these flows and is leaving; where there are none, it is gone
 abbrev pub leaving : List (List ℕ) → ℕ → Board → Option Board

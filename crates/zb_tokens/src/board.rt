@@ -1,6 +1,6 @@
-use zb_base::{Key, List, Text, Value, Vars};
+use zb_base::{Key, List, Text, Value, Variable, Vars};
 use zb_graph::BoxedGraph;
-use zb_instance_records::Role;
+use zb_instance_records::{IncidentKind, Role};
 
 /// Where a cell is in its life.
 #[derive(Clone, Copy, Debug, PartialEq, Eq)]
@@ -68,6 +68,16 @@ pub struct Token {
     pub spot: Spot,
 }
 
+/// What keeps a cell from going on.
+#[derive(Drop)]
+pub struct Incident {
+    pub key: Key,
+    pub kind: IncidentKind,
+    /// The cell on which it stands.
+    pub cell: Key,
+    pub text: Text,
+}
+
 /// A model under the key of its definition. It is kept as a graph.
 #[derive(Drop)]
 pub struct Deployed {
@@ -82,6 +92,16 @@ pub struct Assigned {
     pub scope: Key,
     pub name: Text,
     pub value: Value,
+}
+
+/// Variables that are set one by one where a move is made: in a cell itself where they are local to it, else each
+/// is handed up from it.
+#[derive(Drop)]
+pub struct Assignments {
+    /// The cell.
+    pub scope: Key,
+    pub local: bool,
+    pub variables: List<Variable>,
 }
 
 /// A move of the game.
@@ -103,6 +123,10 @@ pub enum Move {
     Assign(Assigned),
     /// A variable that is there has another value.
     Update(Assigned),
+    /// An incident stands on a cell.
+    Incident(Incident),
+    /// An incident is gone.
+    Repair(Key),
 }
 
 /// A process is instantiated under a key.
@@ -136,10 +160,9 @@ pub struct Take {
 }
 
 /// Who makes a forced move.
-#[derive(Clone, Copy, Debug, PartialEq, Eq)]
+#[derive(Drop)]
 pub enum Mover {
     /// The cell with this key.
     Cell(Key),
-    /// The token at this place among all tokens.
-    Token(usize),
+    Token(Token),
 }

@@ -1,5 +1,5 @@
 // Copies of what stands on a board.
-use crate::{Cell, Deployed, Mark, Spot, Token};
+use crate::{Cell, Deployed, Incident, Mark, Spot, Token};
 use std::alloc::{AllocError, Global};
 use zb_base::TryCopy;
 
@@ -49,6 +49,17 @@ impl TryCopy for Token {
         Ok(Token {
             scope: self.scope,
             spot: self.spot.copy(alloc)?,
+        })
+    }
+}
+
+impl TryCopy for Incident {
+    fn copy(&self, alloc: Global) -> Result<Incident, AllocError> {
+        Ok(Incident {
+            key: self.key,
+            kind: self.kind,
+            cell: self.cell,
+            text: self.text.copy(alloc)?,
         })
     }
 }

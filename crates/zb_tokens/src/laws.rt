@@ -1,6 +1,14 @@
-ghost use Rattle.std.specs.Prelude.{◌≡◌, ℕ, ◌==◌, IsTrue, IsFalse, is_some, Some, option_map, [], ◌∷◌, ◌++◌, All};
+ghost use Rattle.std.specs.Prelude.{◌≡◌, ℕ, ◌==◌, IsTrue, IsFalse, is_some, List, Option, Some, Ok, Err, option_map, [], ◌∷◌, ◌++◌, All, Contains, not, ◌||◌};
+ghost use Rattle.std.specs.Result.{is_ok};
+ghost use Rattle.zb_base.specs.declared.value.Value.{Value};
+ghost use Rattle.zb_base.specs.declared.vars.Variable.{Variable};
+ghost use Rattle.zb_process.specs.declared.model.Mapping.{Mapping};
+ghost use Rattle.zb_process.specs.Expr.{ValueFault};
+ghost use Rattle.zb_process.specs.declared.model.Model.{Model};
+ghost use Rattle.zb_faults.specs.Elements.{is_exclusive_gateway};
 ghost use Rattle.zb_tokens.specs.declared.board.Cell.{Cell};
 ghost use Rattle.zb_tokens.specs.declared.board.Token.{Token};
+ghost use Rattle.zb_tokens.specs.declared.board.Incident.{Incident};
 ghost use Rattle.zb_tokens.specs.declared.board.Move.{Move};
 ghost use Rattle.zb_tokens.specs.declared.board.Mover.{Mover};
 ghost use Rattle.zb_tokens.specs.declared.board.Spot.TheVariants as spots;
@@ -8,11 +16,17 @@ ghost use Rattle.zb_tokens.specs.declared.board.Phase.TheVariants as phases;
 ghost use Rattle.zb_tokens.specs.declared.board.Enter.{Enter};
 ghost use Rattle.zb_tokens.specs.declared.board.Leave.{Leave};
 ghost use Rattle.zb_tokens.specs.declared.board.Take.{Take};
-ghost use Rattle.zb_tokens.specs.Board.{Board, cell_at, in_phase, CellsAscend};
+ghost use Rattle.zb_tokens.specs.Board.{Board, cell_at, model_under, is_at, is_root, in_phase, CellsAscend};
 ghost use Rattle.zb_tokens.specs.Game.{fits, agrees, played};
-ghost use Rattle.zb_tokens.specs.Effects.{is_stand, other_cells, other_tokens, scope_ended_by, is_emptied, IsEntered};
+ghost use Rattle.zb_tokens.specs.Effects.{is_stand, is_of_incident, other_cells, other_tokens, scope_ended_by, is_emptied, IsEntered};
 ghost use Rattle.zb_tokens.specs.MoveEnter.{play_enter};
-ghost use Rattle.zb_tokens.specs.MoveLeave.{play_leave, with_end};
+ghost use Rattle.zb_tokens.specs.Names.{value_seen};
+ghost use Rattle.zb_tokens.specs.Incidents.{Hindrance};
+ghost use Rattle.zb_tokens.specs.Choice.{Gateway};
+ghost use Rattle.zb_tokens.specs.Mappings.{mapped, outputs_of};
+ghost use Rattle.zb_tokens.specs.Mapped.{AreMapped, IsFirstFault, IsKeptBy};
+ghost use Rattle.zb_tokens.specs.Chosen.{IsAtGateway, IsChosen, IsUndecided};
+ghost use Rattle.zb_tokens.specs.MoveLeave.{flows_of, exit_of, completion_of, play_leave, with_end};
 ghost use Rattle.zb_tokens.specs.MoveTake.{play_take};
 ghost use Rattle.zb_tokens.specs.MoveHalt.{play_halt};
 ghost use Rattle.zb_tokens.specs.Doom.{is_doomed};
@@ -37,7 +51,50 @@ pub fn moves_of_movers_fit()
 
 /// A cell that is called off does nothing but end: it begins to terminate, or is gone, or waits for what runs in it.
 pub fn doomed_cells_end()
-    ensures { (board : Board) (cell : Cell) → IsTrue (is_doomed board cell) → IsEnd cell (move_at board cell) }
+    ensures { (board : Board) (key : ℕ) (cell : Cell) → IsTrue (is_doomed board cell)
+        → IsEnd cell (move_at board key cell) }
+{}
+
+/// A cell on which an incident stands is forced to nothing, unless it is doomed.
+pub fn stuck_cells_wait()
+    ensures { (board : Board) (incident : Incident) (cell : Cell)
+        → Contains board.incidents incident → incident.cell ≡ cell.key
+        → IsFalse (is_doomed board cell) → IsFalse (is_forced board cell) }
+{}
+
+/// At an exclusive gateway a cell owes one flow out of it: the first whose condition is true or that
+/// has none, where each in front of it but the default is false, or the default where each other one
+/// is false. It is hindered where the first flow that isn't false has a fault, or where there is
+/// neither such a flow nor a default. At any other node it owes all flows out of it.
+pub fn gateways_choose_one_flow()
+    ensures chosen { (board : Board) (cell : Cell) (gateway : Gateway) (owed : List (List ℕ))
+        → IsAtGateway board cell gateway → exit_of board cell ≡ Ok owed
+        → IsChosen board cell gateway owed }
+    ensures undecided { (board : Board) (cell : Cell) (gateway : Gateway) (hindrance : Hindrance)
+        → IsAtGateway board cell gateway → exit_of board cell ≡ Err hindrance
+        → IsUndecided (value_seen board cell.key) gateway hindrance }
+    ensures elsewhere { (board : Board) (cell : Cell) (model : Model)
+        → model_under board cell.definition ≡ Some model
+        → IsTrue (is_root cell || not (is_at model cell.node is_exclusive_gateway))
+        → exit_of board cell ≡ Ok (flows_of board cell) }
+{}
+
+/// Mappings give each of their targets the value of its source, in order, where names have the same values
+/// for all of them. Where they give none, the first source that has no value is why.
+pub fn mappings_are_evaluated_first()
+    ensures values { (names : List ℕ → Option Value) (mappings : List Mapping) (variables : List Variable)
+        → mapped names mappings ≡ Ok variables → AreMapped names mappings variables }
+    ensures fault { (names : List ℕ → Option Value) (mappings : List Mapping) (fault : ValueFault)
+        → mapped names mappings ≡ Err fault → IsFirstFault names mappings fault }
+{}
+
+/// A cell that completes has outputs with values, and is left by its flows; where it can't complete, its
+/// outputs have a fault, or they have none and it can't be left.
+pub fn outputs_come_before_exits()
+    ensures completed { (board : Board) (cell : Cell) (owed : List (List ℕ)) → completion_of board cell ≡ Ok owed
+        → IsTrue (is_ok (outputs_of board cell)) × (exit_of board cell ≡ Ok owed) }
+    ensures kept { (board : Board) (cell : Cell) (hindrance : Hindrance)
+        → completion_of board cell ≡ Err hindrance → IsKeptBy board cell hindrance }
 {}
 
 /// Where nobody is forced, no cell is, and no token can enter.
@@ -80,6 +137,15 @@ pub fn moves_leave_others_alone()
 pub fn models_stay()
     ensures { (board after : Board) (move : Move) → IsFalse (is_stand move)
         → played board move ≡ Some after → after.models ≡ board.models }
+{}
+
+/// Only the moves by which an incident stands there or is gone change the incidents, and they
+/// change nothing else.
+pub fn incidents_stay()
+    ensures others { (board after : Board) (move : Move) → IsFalse (is_of_incident move)
+        → played board move ≡ Some after → after.incidents ≡ board.incidents }
+    ensures alone { (board after : Board) (move : Move) → IsTrue (is_of_incident move)
+        → played board move ≡ Some after → after ≡ record board { incidents = after.incidents } }
 {}
 
 /// A cell that is halted is the same but terminating, and no token is left in it, and no cell that

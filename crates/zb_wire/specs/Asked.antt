@@ -1,5 +1,6 @@
 -- What a request asks for, and of which partition.
 use Rattle.std.specs.Prelude.{ℕ, ◌/◌, ◌^◌, nat_le, ◌&&◌, if◌then◌else◌, Option, Some, None}
+use Rattle.std.specs.Option.{option_map_or}
 use Rattle.zb_model.specs.declared.record.Command.{Command}
 use Rattle.zb_model.specs.declared.record.Command.TheVariants as commands
 use Rattle.zb_wire.specs.declared.request.Request.{Request}
@@ -12,6 +13,7 @@ command_of (requests.Create c) = Some (commands.ProcessInstanceCreationCreate c)
 command_of (requests.Cancel key) = Some (commands.ProcessInstanceCancel key)
 command_of (requests.Variables u) = Some (commands.VariableDocumentUpdate u)
 command_of (requests.Publish m) = Some (commands.MessagePublish m)
+command_of (requests.Resolve key) = Some (commands.IncidentResolve key)
 command_of requests.Tick = None
 command_of (requests.Advance ms) = None
 
@@ -19,8 +21,13 @@ command_of (requests.Advance ms) = None
 abbrev pub partition_named : ℕ → ℕ → ℕ
 partition_named n key = if nat_le 1 (key / 2 ^ 51) && nat_le (key / 2 ^ 51) n then key / 2 ^ 51 else 1
 
--- the partition, of n of them, that is asked for the command of a request
+-- the key that a request names, if it names one
+abbrev pub key_named : Request → Option ℕ
+key_named (requests.Cancel key) = Some key
+key_named (requests.Variables u) = Some u.scope
+key_named (requests.Resolve key) = Some key
+key_named _ = None
+
+-- the partition, of n of them, that is asked for the command of a request: the one of its key, or else the first
 abbrev pub partition_asked : ℕ → Request → ℕ
-partition_asked n (requests.Cancel key) = partition_named n key
-partition_asked n (requests.Variables u) = partition_named n u.scope
-partition_asked n _ = 1
+partition_asked n request = option_map_or (partition_named n) (key_named request) 1

@@ -52,7 +52,7 @@ unless_good good field = if good then None else Some (field_fault field)
 
 -- FIELD (own): the value isn't of this kind, a text (RFC 8259, section 7), a whole number from 0 (RFC 8259, section
 -- 6), a truth value (RFC 8259, section 3), an object whose members are of the kinds that variables may have (own), or
--- a model by its layout, of which then each node and each flow is built
+-- a model by its layout, of which then each node is built
 abbrev pub kind_fault : List ℕ → Kind → Data → Option LineFault
 kind_fault field (kinds.Text most) d = unless_good (is_some (as_str d)) field
 kind_fault field (kinds.Number least most) d = unless_good (is_some (unsigned_of d)) field

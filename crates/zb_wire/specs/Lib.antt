@@ -6,7 +6,6 @@ pub mod Op
 pub mod Ops
 pub mod Asked
 pub mod Request
-pub mod Table
 pub mod Limits
 pub mod Reading
 pub mod RequestLaws

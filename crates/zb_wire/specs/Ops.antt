@@ -14,6 +14,9 @@ use Rattle.zb_wire.specs.Op.{Op}
 use Rattle.zb_wire.specs.declared.given.Given.{Given}
 use Rattle.zb_wire.specs.declared.kind.Kind.{Kind}
 use Rattle.zb_wire.specs.declared.kind.Kind.TheVariants as kinds
+use Rattle.zb_wire.specs.declared.ops.OpName.{OpName}
+use Rattle.zb_wire.specs.declared.ops.OpName.TheVariants as names
+use Rattle.zb_wire.specs.declared.request.Request.{Request}
 use Rattle.zb_wire.specs.declared.request.Request.TheVariants as requests
 
 -- a name or an id: a text of at most 255 bytes (own)
@@ -59,14 +62,18 @@ create = record {
   request = λ d. requests.Create (creation_of d);
 }
 
--- a cancel of an instance
-abbrev pub cancel : Op
-cancel = record {
-  name = codes "cancel";
+-- an op of this name whose one field is a key, which the request names
+abbrev pub by_key : List ℕ → (ℕ → Request) → Op
+by_key name request_for = record {
+  name = name;
   by_hand = false;
   fields = must (codes "key") a_key ∷ [];
-  request = λ d. requests.Cancel (count_at (codes "key") d);
+  request = λ d. request_for (count_at (codes "key") d);
 }
+
+-- a cancel of an instance
+abbrev pub cancel : Op
+cancel = by_key (codes "cancel") requests.Cancel
 
 -- the values that the fields of a variables line ask to be set
 abbrev pub update_of : Data → VariableDocumentUpdate
@@ -104,6 +111,10 @@ publish = record {
   request = λ d. requests.Publish (message_of d);
 }
 
+-- a resolving of an incident
+abbrev pub resolve : Op
+resolve = by_key (codes "resolve") requests.Resolve
+
 -- a tick, which has no fields (own)
 abbrev pub tick : Op
 tick = record { name = codes "tick"; by_hand = false; fields = []; request = λ d. requests.Tick }
@@ -119,7 +130,18 @@ advance = record {
 
 -- all of them
 abbrev pub ops : List Op
-ops = deploy ∷ create ∷ cancel ∷ set_variables ∷ publish ∷ tick ∷ advance ∷ []
+ops = deploy ∷ create ∷ cancel ∷ set_variables ∷ publish ∷ resolve ∷ tick ∷ advance ∷ []
+
+-- the op of a name in the code
+abbrev pub op_of : OpName → Op
+op_of names.Deploy = deploy
+op_of names.Create = create
+op_of names.Cancel = cancel
+op_of names.Variables = set_variables
+op_of names.Publish = publish
+op_of names.Resolve = resolve
+op_of names.Tick = tick
+op_of names.Advance = advance
 
 -- an op has this name, and wants no clock that is moved by hand, or that is given
 abbrev pub is_called : Given → List ℕ → Op → Bool

@@ -1,4 +1,4 @@
--- What the private functions that read a line promise one another.
+-- What the private functions that read a line promise one another, and what the code's tables of fields say.
 use Rattle.std.specs.Prelude.{◌≡◌, ℕ, List, Option, option_map, Result, Ok, Err}
 use denote.Bor.{Bor}
 use Rattle.serde_json.specs.Data.{Data}
@@ -6,6 +6,9 @@ use Rattle.serde_json.specs.Errors.{IsMemory}
 use Rattle.serde_json.specs.View.{view}
 use Rattle.serde_json.specs.declared.error.Error.{Error}
 use Rattle.serde_json.specs.declared.value.Value.{Value}
+use Rattle.zb_wire.specs.Fields.{FieldRule, must, may}
+use Rattle.zb_wire.specs.declared.fields.Field.{Field}
+use Rattle.zb_wire.specs.declared.fields.Field.TheVariants as fields
 use Rattle.zb_wire.specs.declared.request.LineFault.{LineFault}
 use Rattle.zb_wire.specs.declared.request.LineFault.TheVariants as faults
 
@@ -20,6 +23,11 @@ abbrev pub Blames : LineFault → Error → Type 0
 Blames faults.NotJson e = ¬ (IsMemory e)
 Blames faults.Memory e = IsMemory e
 Blames fault e = ⊥
+
+-- the field that a row of a table is
+abbrev pub field_of : Field → FieldRule
+field_of (fields.Must name kind) = must name.now kind
+field_of (fields.May name kind) = may name.now kind
 
 -- the value of a field, where it was found
 abbrev pub data_of : Option (Bor Value) → Option Data

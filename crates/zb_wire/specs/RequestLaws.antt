@@ -1,5 +1,6 @@
 -- Laws of the request that a line is, and of the partition that it asks.
-use Rattle.std.specs.Prelude.{◌≡◌, ℕ, ◌<◌, ◌≤◌, ◌/◌, ◌^◌, List, length, take, Bool, true, false, ◌&&◌, nat_le, if◌then◌else◌, Result, Err, refl}
+use Rattle.std.specs.Prelude.{◌≡◌, ℕ, ◌<◌, ◌≤◌, ◌/◌, ◌^◌, List, length, take, Bool, true, false, ◌&&◌, nat_le, if◌then◌else◌, Option, Some, None, Result, Err, refl}
+use Rattle.std.specs.Option.{option_map_or}
 use Rattle.std.proofs.Common.{sym, ap, ◌∙◌, arith}
 use Rattle.std.proofs.lemmas.Bool.{leb-true, leb-false, lt-leb}
 use Rattle.std.proofs.lemmas.List.{take_all, length-take-le}
@@ -8,8 +9,7 @@ use Rattle.zb_wire.specs.declared.given.Given.{Given}
 use Rattle.zb_wire.specs.declared.request.LineFault.{LineFault}
 use Rattle.zb_wire.specs.declared.request.LineFault.TheVariants as faults
 use Rattle.zb_wire.specs.declared.request.Request.{Request}
-use Rattle.zb_wire.specs.declared.request.Request.TheVariants as requests
-use Rattle.zb_wire.specs.Asked.{partition_named, partition_asked}
+use Rattle.zb_wire.specs.Asked.{partition_named, key_named, partition_asked}
 
 -- a line that is too long has that fault
 pub request_of-long : (given : Given) (line : List ℕ) → nat_le (length line) longest_line ≡ false → request_of given line ≡ Err faults.TooLong
@@ -49,8 +49,10 @@ named_alone_by false to p from is = refl
 named_alone : (key : ℕ) → partition_named 1 key ≡ 1
 named_alone key = named_alone_by _ _ (key / 2 ^ 51) refl refl
 
+alone_by : (named : Option ℕ) → option_map_or (partition_named 1) named 1 ≡ 1
+alone_by None = refl
+alone_by (Some key) = named_alone key
+
 -- where there is one partition, that one is asked
 pub partition_asked-alone : (request : Request) → partition_asked 1 request ≡ 1
-partition_asked-alone (requests.Cancel key) = named_alone key
-partition_asked-alone (requests.Variables u) = named_alone u.scope
-partition_asked-alone _ = refl
+partition_asked-alone request = alone_by (key_named request)

@@ -3,8 +3,7 @@ ghost use Rattle.std.specs.Option.{option_or};
 ghost use Rattle.serde_json.specs.View.{view, members_view};
 ghost use Rattle.zb_wire.specs.Fields as spec;
 ghost use Rattle.zb_wire.specs.First.{first_told};
-ghost use Rattle.zb_wire.specs.Reading.{data_of, range_of};
-ghost use Rattle.zb_wire.specs.Table.{field_of};
+ghost use Rattle.zb_wire.specs.Reading.{field_of, data_of, range_of};
 
 use crate::faults::{field_fault, range_fault};
 use crate::kind::Kind;

@@ -2,10 +2,10 @@ ghost use Rattle.std.specs.Prelude.{◌≡◌, IfOk};
 ghost use Rattle.serde_json.specs.View.{view};
 ghost use Rattle.zb_wire.specs.Ops.{creation_of, update_of, message_of};
 
-use crate::values::{count_at, short_count_at, variables_at};
+use crate::values::{count_at, key_at, short_count_at, variables_at};
 use serde_json::Value as Json;
 use std::alloc::{AllocError, Global};
-use zb_model::{Key, MessagePublish, ProcessInstanceCreationCreate, Text, VariableDocumentUpdate};
+use zb_model::{MessagePublish, ProcessInstanceCreationCreate, Text, VariableDocumentUpdate};
 use zb_reader::{flag_in, text_in};
 
 /// The instance that the fields of a create ask for.
@@ -24,7 +24,7 @@ pub fn update_in(alloc: Global, value: &Json) -> Result<VariableDocumentUpdate, 
     ensures { IfOk result (λ update. update ≡ update_of (view value.now)) }
 {
     Ok(VariableDocumentUpdate {
-        scope: Key::new(count_at(value, "key")),
+        scope: key_at(value, "key"),
         local: flag_in(value, "local", false),
         variables: variables_at(alloc, value, "variables")?,
     })

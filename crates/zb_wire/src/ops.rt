@@ -1,17 +1,16 @@
 ghost use Rattle.std.specs.Prelude.{◌≡◌, IfOk, option_map, map};
 ghost use Rattle.serde_json.specs.View.{view};
-ghost use Rattle.zb_wire.specs.Ops.{op_named};
-ghost use Rattle.zb_wire.specs.Table.{field_of, op_of};
+ghost use Rattle.zb_wire.specs.Ops.{op_named, op_of};
+ghost use Rattle.zb_wire.specs.Reading.{field_of};
 
 use crate::fields::Field;
 use crate::kind::Kind;
 use crate::making::{creation_in, message_in, update_in};
-use crate::values::{count_at, model_at};
+use crate::values::{count_at, key_at, model_at};
 use crate::variables::LONGEST_NAME;
 use crate::{Given, Request};
 use serde_json::Value as Json;
 use std::alloc::{AllocError, Global};
-use zb_model::Key;
 
 // The longest time, in milliseconds.
 const LONGEST_DURATION: u64 = 4_000_000_000_000;
@@ -37,7 +36,7 @@ const CREATE: [Field; 4] = [
     Field::May("partition", Kind::Partition),
 ];
 
-const CANCEL: [Field; 1] = [Field::Must("key", KEY)];
+const BY_KEY: [Field; 1] = [Field::Must("key", KEY)];
 
 const VARIABLES: [Field; 3] = [
     Field::Must("key", KEY),
@@ -65,6 +64,7 @@ pub enum OpName {
     Cancel,
     Variables,
     Publish,
+    Resolve,
     Tick,
     Advance,
 }
@@ -81,6 +81,7 @@ impl OpName {
             "cancel" => Some(OpName::Cancel),
             "variables" => Some(OpName::Variables),
             "publish" => Some(OpName::Publish),
+            "resolve" => Some(OpName::Resolve),
             "tick" => Some(OpName::Tick),
             "advance" if given.manual => Some(OpName::Advance),
             _ => None,
@@ -94,7 +95,7 @@ impl OpName {
         match self {
             OpName::Deploy => &DEPLOY,
             OpName::Create => &CREATE,
-            OpName::Cancel => &CANCEL,
+            OpName::Cancel | OpName::Resolve => &BY_KEY,
             OpName::Variables => &VARIABLES,
             OpName::Publish => &PUBLISH,
             OpName::Tick => &TICK,
@@ -109,9 +110,10 @@ impl OpName {
         match self {
             OpName::Deploy => Ok(Request::Deploy(model_at(alloc, value, "model")?)),
             OpName::Create => Ok(Request::Create(creation_in(alloc, value)?)),
-            OpName::Cancel => Ok(Request::Cancel(Key::new(count_at(value, "key")))),
+            OpName::Cancel => Ok(Request::Cancel(key_at(value, "key"))),
             OpName::Variables => Ok(Request::Variables(update_in(alloc, value)?)),
             OpName::Publish => Ok(Request::Publish(message_in(alloc, value)?)),
+            OpName::Resolve => Ok(Request::Resolve(key_at(value, "key"))),
             OpName::Tick => Ok(Request::Tick),
             OpName::Advance => Ok(Request::Advance(count_at(value, "ms"))),
         }

@@ -3,7 +3,7 @@ ghost use Rattle.zb_wire.specs.Limits.{IsWithinLimits};
 ghost use Rattle.serde_json.specs.View.{view, members_view};
 ghost use Rattle.zb_wire.specs.declared.given.Given.{Given};
 ghost use Rattle.zb_wire.specs.Op.{request_with};
-ghost use Rattle.zb_wire.specs.Table.{op_of};
+ghost use Rattle.zb_wire.specs.Ops.{op_of};
 ghost use Rattle.zb_wire.specs.Reading.{ReadsValue, Blames};
 ghost use Rattle.zb_wire.specs.Request.{longest_line, value_in, request_in, request_of, GivesRequest};
 

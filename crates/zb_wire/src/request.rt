@@ -15,6 +15,8 @@ pub enum Request {
     /// To set variables.
     Variables(VariableDocumentUpdate),
     Publish(MessagePublish),
+    /// To let the cell of the incident of this key go on.
+    Resolve(Key),
     /// To go on with what is due.
     Tick,
     /// To move the manual clock on by so many milliseconds.
@@ -34,6 +36,7 @@ impl Request {
             Request::Cancel(key) => Some(Command::ProcessInstanceCancel(key)),
             Request::Variables(update) => Some(Command::VariableDocumentUpdate(update)),
             Request::Publish(message) => Some(Command::MessagePublish(message)),
+            Request::Resolve(key) => Some(Command::IncidentResolve(key)),
             Request::Tick | Request::Advance(_) => None,
         }
     }

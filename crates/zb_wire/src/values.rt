@@ -5,7 +5,7 @@ ghost use Rattle.zb_wire.specs.Fields as spec;
 use crate::variables::variables_of;
 use serde_json::Value as Json;
 use std::alloc::{AllocError, Global};
-use zb_model::{Model, Vars};
+use zb_model::{Key, Model, Vars};
 use zb_reader::read_model;
 
 /// The number of a field, and 0 where it isn't there.
@@ -20,6 +20,13 @@ pub fn short_count_at(value: &Json, field: &str) -> u32
     ensures { result ≡ spec.short_count_at field.now (view value.now) }
 {
     u32::try_from(count_at(value, field)).unwrap_or(u32::MAX)
+}
+
+/// The key of a field, and 0 where it isn't there.
+pub fn key_at(value: &Json, field: &str) -> Key
+    ensures { result ≡ spec.count_at field.now (view value.now) }
+{
+    Key::new(count_at(value, field))
 }
 
 /// The variables of a field, and none where it isn't there.

@@ -31,7 +31,7 @@ impl Game {
         Ok(())
     }
 
-    // Adds a cell. It may go on by itself.
+    // Adds a cell. It may go on by itself, and its scope may rest then.
     pub(super) fn add_cell(&mut self, cell: Cell) -> Result<(), AllocError>
         requires { calls_off cell ≡ false }
         ensures { OnOk result (self.new ≡ record self.old { cells = self.old.cells ++ cell ∷ [] }) }
@@ -44,6 +44,7 @@ impl Game {
         one_cell_more(&mut self.inside, scope)?;
         keep(&mut self.ready, key)?;
         self.ascends = ascends;
+        self.look_at(scope);
         Ok(())
     }
 

@@ -1,12 +1,13 @@
-// What is in a cell. Where the keys ascend, the numbers of it are kept.
+// What is in a cell. Where the keys ascend, the numbers of the cells in it are kept.
 ghost use Rattle.std.specs.Prelude.{◌≡◌};
 ghost use Rattle.zb_tokens.specs.Board.{has_child, is_empty};
 ghost use Rattle.zb_game.specs.Searches.{has_token};
 
 use crate::Game;
-use crate::inside::{cells_counted, tokens_counted};
-use crate::lookups::{has_cell_in, has_token_in};
+use crate::inside::cells_counted;
+use crate::lookups::has_cell_in;
 use zb_base::Key;
+use zb_places::has_token_in;
 
 impl Game {
     // Whether nothing runs in a cell, and no token is in it.
@@ -31,10 +32,6 @@ impl Game {
     pub(super) fn has_token(&self, key: Key) -> bool
         ensures { result ≡ has_token self.now key }
     {
-        if self.ascends {
-            tokens_counted(&self.inside, key) != 0
-        } else {
-            has_token_in(key, &self.tokens)
-        }
+        has_token_in(key, &self.tokens)
     }
 }

@@ -1,33 +1,38 @@
-ghost use Rattle.std.specs.Prelude.{◌≡◌, ◌<◌, length, position, slice_get, Some};
+ghost use Rattle.std.specs.Prelude.{◌≡◌, IfOk, is_none};
 ghost use Rattle.std.specs.Option.{option_copied};
-ghost use Rattle.zb_tokens.specs.declared.board.Token.{Token};
-ghost use Rattle.zb_tokens.specs.Forced.{can_enter, ends_in, entry_at, goes_on_in, is_forced, next_mover};
-ghost use Rattle.zb_game.specs.Searches.{enters_by, is_forced_at, is_newer, key_in, newest_key};
+ghost use Rattle.zb_tokens.specs.Forced.{ends_in, goes_on_in, is_forced, next_mover};
+ghost use Rattle.zb_game.specs.Searches.{is_forced_at, is_newer, key_in, newest_key};
 
 use crate::Game;
-use crate::flows::way_by;
-use zb_base::Key;
-use zb_graph::Graph;
+use std::alloc::{AllocError, Global};
+use zb_base::{Key, TryCopy};
 use zb_table::Query;
-use zb_tokens::{Cell, Mover, Phase, Spot};
+use zb_tokens::{Cell, Mover, Phase};
 
 impl Game {
-    /// Who is forced to move next; `None` where the game is quiet. Where the keys ascend and no cell is terminating or
-    /// ended, it goes through the cells that may go on by themselves, from the greatest key down to the first that is
-    /// forced, and through no others; else through all. Where no cell is forced it goes through the tokens up to the
-    /// first that can enter. To see whether a cell moves costs what `fits` does. So does a token, but that no other one
-    /// is searched for, except where it comes to a gateway at which flows join, and as many tokens are in its scope as
-    /// flows lead in. Nothing is copied.
-    pub fn next_mover(&self) -> Option<Mover>
-        ensures { result ≡ next_mover self.now }
+    /// Who is forced to move next; `None` where the game is quiet. It costs what `is_quiet` does, and a copy of the
+    /// texts of a token.
+    pub fn next_mover(&self, alloc: Global) -> Result<Option<Mover>, AllocError>
+        ensures { IfOk result (λ mover. mover ≡ next_mover self.now) }
     {
         match self.newest_key() {
-            Some(key) => Some(Mover::Cell(key)),
+            Some(key) => Ok(Some(Mover::Cell(key))),
             None => match self.first_entering() {
-                Some(place) => Some(Mover::Token(place)),
-                None => None,
+                Some(token) => Ok(Some(Mover::Token(token.copy(alloc)?))),
+                None => Ok(None),
             },
         }
+    }
+
+    /// Whether nobody is forced to move. Where the keys ascend and no cell is terminating or ended, it goes through the
+    /// cells that may go on by themselves, from the greatest key down to the first that is forced, and through no others;
+    /// else through all. Where no cell is forced it goes through the tokens that may enter by themselves, up to the first
+    /// that can; where the keys don't ascend, through all. To see whether a cell moves costs what `fits` does, and a walk
+    /// through the incidents up to one on it, and to see whether a token does costs what `fits` does.
+    pub fn is_quiet(&self) -> bool
+        ensures { result ≡ is_none (next_mover self.now) }
+    {
+        self.newest_key().is_none() && self.first_entering().is_none()
     }
 
     // The greatest key of the cells that are forced. Where the keys ascend and nobody is called off, it is among the
@@ -68,14 +73,14 @@ impl Game {
         best
     }
 
-    // Whether a cell is forced: it goes on by itself, or ends where it is doomed.
+    // Whether a cell is forced: it goes on by itself where it isn't stuck, or ends where it is doomed.
     fn is_forced(&self, cell: &Cell) -> bool
         ensures { result ≡ is_forced self.now cell.now }
     {
         if self.is_doomed(cell) {
             self.ends(cell)
         } else {
-            self.goes_on_by_itself(cell)
+            !self.is_stuck(cell) && self.goes_on_by_itself(cell)
         }
     }
 
@@ -101,53 +106,6 @@ impl Game {
             Phase::Completing => true,
             Phase::Leaving => !cell.owed.as_slice().is_empty(),
             Phase::Terminating => !self.has_child(cell.key),
-        }
-    }
-
-    // Where the first token is that can enter.
-    fn first_entering(&self) -> Option<usize>
-        ensures { result ≡ position (can_enter self.now) self.now.tokens }
-    {
-        for place in 0..self.tokens.len() {
-            if self.can_enter(place) {
-                return Some(place);
-            }
-        }
-        None
-    }
-
-    // Whether the token at a place can enter the node that it has come to.
-    fn can_enter(&self, place: usize) -> bool
-        requires { place < length self.now.tokens }
-        ensures { (token : Token) → slice_get self.now.tokens place ≡ Some token → result ≡ can_enter self.now token }
-    {
-        let scope = self.tokens[place].scope;
-        let Some(cell) = self.cell(scope) else {
-            return false;
-        };
-        let Some(model) = self.model(cell.definition) else {
-            return false;
-        };
-        self.can_enter_in(model, place)
-    }
-
-    // Whether the token at a place can enter the node that it has come to in a model. It stands there itself.
-    fn can_enter_in(&self, model: &Graph, place: usize) -> bool
-        requires { place < length self.now.tokens }
-        ensures { (token : Token) → slice_get self.now.tokens place ≡ Some token
-            → result ≡ enters_by model.now self.now token.scope (entry_at model.now token.spot) }
-    {
-        let token = &self.tokens[place];
-        match &token.spot {
-            Spot::BeforeNode(node) => self.lets_in(model, token.scope, node.as_str(), "", true),
-            Spot::OnFlow(id) => match model.flow_with(id.as_str()) {
-                Some(flow) => {
-                    let node = flow.to.as_str();
-                    let via = way_by(model, node, id.as_str());
-                    self.lets_in(model, token.scope, node, via, !via.is_empty())
-                }
-                None => false,
-            },
         }
     }
 }

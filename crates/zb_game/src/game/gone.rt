@@ -2,6 +2,7 @@ ghost use Rattle.std.specs.Prelude.{◌≡◌, Some, None, OnOk, IsErrOf};
 ghost use Rattle.zb_tokens.specs.MoveGone.{fits_gone, play_gone};
 
 use crate::{Game, GameFault};
+use std::alloc::Global;
 use zb_base::Key;
 use zb_tokens::Phase;
 
@@ -17,13 +18,13 @@ impl Game {
     }
 
     // Plays that a cell has terminated.
-    pub(super) fn gone(&mut self, key: Key) -> Result<(), GameFault>
+    pub(super) fn gone(&mut self, alloc: Global, key: Key) -> Result<(), GameFault>
         ensures played { OnOk result (play_gone self.old key ≡ Some self.new) }
         ensures illegal { IsErrOf result GameFault.Illegal → play_gone self.old key ≡ None }
         ensures kept { IsErrOf result GameFault.Illegal → self.new ≡ self.old }
     {
         self.take_away(key)?;
-        self.take_tokens(key)?;
+        self.take_tokens(alloc, key)?;
         Ok(())
     }
 }

@@ -24,7 +24,7 @@ impl Game {
         ensures kept { IsErrOf result GameFault.Illegal → self.new ≡ self.old }
     {
         self.put_in_phase(key, Phase::Terminating, List::empty(alloc))?;
-        self.empty_scope(key)?;
+        self.empty_scope(alloc, key)?;
         self.look_at(key);
         Ok(())
     }

@@ -1,8 +1,9 @@
-ghost use Rattle.std.specs.Prelude.{◌≡◌, Some, None, IfOk, OnOk, IsErrOf};
-ghost use Rattle.zb_tokens.specs.MoveLeave.{are_among, ends_scope, fits_leave, flows_of, leaving, owed_by, play_leave, scope_ended};
+ghost use Rattle.std.specs.Prelude.{◌≡◌, Some, None, OnOk, IsErrOf, is_some};
+ghost use Rattle.zb_tokens.specs.Choice.{gateway_of};
+ghost use Rattle.zb_tokens.specs.MoveLeave.{are_among, ends_scope, fits_leave, flows_of, is_single, leaving, may_owe, play_leave, scope_ended};
 
-use crate::flows::{are_among_flows, flows_out};
-use crate::kinds::terminates_at;
+use crate::flows::are_among_flows;
+use crate::kinds::{chooses, terminates_at};
 use crate::{Game, GameFault};
 use std::alloc::{AllocError, Global};
 use zb_base::{Key, List, Text};
@@ -19,9 +20,16 @@ impl Game {
         }
     }
 
+    // Whether a cell may owe these flows: they go out of its node, in order, and are one at an exclusive gateway.
+    fn may_owe(&self, cell: &Cell, ids: &[Text]) -> bool
+        ensures { result ≡ may_owe self.now cell.now ids.now }
+    {
+        self.are_among_its(cell, ids) && (!self.is_at_gateway(cell) || is_single(ids))
+    }
+
     // Whether these are flows out of the node of a cell, in order.
     #[tactic(auto, using(crate::proofs::FlowLemmas::compared))]
-    fn may_owe(&self, cell: &Cell, ids: &[Text]) -> bool
+    fn are_among_its(&self, cell: &Cell, ids: &[Text]) -> bool
         ensures { result ≡ are_among ids.now (flows_of self.now cell.now) }
     {
         if cell.scope == Key::new(0) {
@@ -33,21 +41,21 @@ impl Game {
         }
     }
 
-    // The flows that a cell owes.
-    pub(super) fn owed_by(&self, alloc: Global, cell: &Cell) -> Result<List<Text>, AllocError>
-        ensures { IfOk result (λ ids. ids ≡ owed_by self.now cell.now) }
+    // Whether a cell is at an exclusive gateway.
+    fn is_at_gateway(&self, cell: &Cell) -> bool
+        ensures { result ≡ is_some (gateway_of self.now cell.now) }
     {
         if cell.scope == Key::new(0) {
-            return Ok(List::empty(alloc));
+            return false;
         }
         match self.model(cell.definition) {
-            Some(model) => flows_out(alloc, model, cell.node.as_str()),
-            None => Ok(List::empty(alloc)),
+            Some(model) => chooses(model, cell.node.as_str()),
+            None => false,
         }
     }
 
     // Plays that a cell has completed. At a terminate end event it ends its scope.
-    pub(super) fn leave(&mut self, l: Leave) -> Result<(), GameFault>
+    pub(super) fn leave(&mut self, alloc: Global, l: Leave) -> Result<(), GameFault>
         ensures played { OnOk result (play_leave self.old l ≡ Some self.new) }
         ensures illegal { IsErrOf result GameFault.Illegal → play_leave self.old l ≡ None }
         ensures kept { IsErrOf result GameFault.Illegal → self.new ≡ self.old }
@@ -59,7 +67,7 @@ impl Game {
         let ends = self.ends_scope(cell);
         self.leaving(l.key, l.owed)?;
         if ends {
-            self.end(scope)?;
+            self.end(alloc, scope)?;
         }
         Ok(())
     }
@@ -78,11 +86,11 @@ impl Game {
     }
 
     // Ends a scope, and empties it.
-    fn end(&mut self, scope: Key) -> Result<(), AllocError>
+    fn end(&mut self, alloc: Global, scope: Key) -> Result<(), AllocError>
         ensures { OnOk result (self.new ≡ scope_ended scope self.old) }
     {
         self.put_ending(scope)?;
-        self.empty_scope(scope)
+        self.empty_scope(alloc, scope)
     }
 
     // A cell leaves and owes these flows; where there are none it is gone.
@@ -96,5 +104,15 @@ impl Game {
         } else {
             self.put_in_phase(key, Phase::Leaving, owed)
         }
+    }
+}
+
+// Whether there is one of these, and no other.
+fn is_single(ids: &[Text]) -> bool
+    ensures { result ≡ is_single ids.now }
+{
+    match ids {
+        [_] => true,
+        _ => false,
     }
 }

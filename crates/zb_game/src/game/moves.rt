@@ -3,55 +3,48 @@ ghost use Rattle.zb_tokens.specs.Forced.{end_in, entry_at, entry_of, move_at, mo
 ghost use Rattle.zb_game.specs.Searches.{entry_by};
 
 use crate::Game;
-use crate::flows::way_by;
 use std::alloc::{AllocError, Global};
 use zb_base::{Key, Text, TryCopy};
 use zb_graph::Graph;
-use zb_tokens::{Cell, Enter, Leave, Move, Mover, Phase, Spot, Take, Token};
+use zb_places::way_by;
+use zb_tokens::{Cell, Enter, Move, Mover, Phase, Spot, Take, Token};
 
 impl Game {
-    /// The move of a mover, where a cell that begins gets this key; `None` where the mover isn't there or does
-    /// nothing. A cell or a model is found as in `fits`; it goes up the scopes where a cell is terminating or ended,
-    /// and through the flows out of a node, and the texts of the move are copied.
+    /// The move of a mover, where a cell that begins, or an incident, gets this key; `None` where the mover isn't there
+    /// or does nothing. A cell or a model is found as in `fits`; it goes up the scopes where a cell is terminating or
+    /// ended, and through the flows out of a node, and the texts of the move are copied. The inputs of
+    /// a cell that becomes active are evaluated, and the outputs of one that has completed; at an exclusive gateway the
+    /// conditions of the flows are, up to the one that decides. For each name in them it goes up the scopes.
     pub fn move_of(&self, alloc: Global, key: Key, mover: Mover) -> Result<Option<Move>, AllocError>
         ensures { (moment : ℕ) → IfOk result (λ move. move ≡ move_of self.now moment key mover) }
     {
         match mover {
             Mover::Cell(cell) => match self.cell(cell) {
-                Some(cell) => self.move_at(alloc, cell),
+                Some(cell) => self.move_at(alloc, key, cell),
                 None => Ok(None),
             },
-            Mover::Token(place) => match self.tokens.get(place) {
-                Some(token) => self.entry_of(alloc, key, token),
-                None => Ok(None),
-            },
+            Mover::Token(token) => self.entry_of(alloc, key, &token),
         }
     }
 
     // What a cell does by itself, or how it ends where it is doomed.
-    fn move_at(&self, alloc: Global, cell: &Cell) -> Result<Option<Move>, AllocError>
-        ensures { IfOk result (λ move. move ≡ move_at self.now cell.now) }
+    fn move_at(&self, alloc: Global, key: Key, cell: &Cell) -> Result<Option<Move>, AllocError>
+        ensures { IfOk result (λ move. move ≡ move_at self.now key cell.now) }
     {
         if self.is_doomed(cell) {
             return Ok(end_of(cell));
         }
-        self.move_in(alloc, cell)
+        self.move_in(alloc, key, cell)
     }
 
     // What a cell does by itself in its phase.
-    fn move_in(&self, alloc: Global, cell: &Cell) -> Result<Option<Move>, AllocError>
-        ensures { IfOk result (λ move. move ≡ move_in self.now cell.now cell.now.phase) }
+    fn move_in(&self, alloc: Global, key: Key, cell: &Cell) -> Result<Option<Move>, AllocError>
+        ensures { IfOk result (λ move. move ≡ move_in self.now key cell.now cell.now.phase) }
     {
         match cell.phase {
-            Phase::Activating => Ok(Some(Move::Open(cell.key))),
+            Phase::Activating => Ok(Some(self.open_by(alloc, key, cell)?)),
             Phase::Active => Ok(Some(Move::Finish(cell.key))),
-            Phase::Completing => {
-                let owed = self.owed_by(alloc, cell)?;
-                Ok(Some(Move::Leave(Leave {
-                    key: cell.key,
-                    owed,
-                })))
-            }
+            Phase::Completing => Ok(Some(self.complete_by(alloc, key, cell)?)),
             Phase::Leaving => take_first(alloc, cell.key, cell.owed.as_slice()),
             Phase::Terminating => Ok(Some(Move::Gone(cell.key))),
         }

@@ -1,11 +1,11 @@
 ghost use Rattle.std.specs.Prelude.{◌≡◌, ◌||◌, false, option_map};
-ghost use Rattle.std.specs.Option.{option_map_or};
+ghost use Rattle.std.specs.Option.{option_copied, option_map_or};
 ghost use Rattle.zb_tokens.specs.Board.{cell_at, is_root};
 ghost use Rattle.zb_tokens.specs.MoveAssign.{has_name};
-ghost use Rattle.zb_tokens.specs.Names.{holder_of};
+ghost use Rattle.zb_tokens.specs.Names.{holder_of, value_seen};
 
 use crate::Game;
-use zb_base::Key;
+use zb_base::{Key, Value};
 use zb_tokens::{Cell, Phase};
 
 impl Game {
@@ -23,6 +23,24 @@ impl Game {
                 return Some(key);
             }
             key = cell.scope;
+        }
+        None
+    }
+
+    // What a cell sees under a name: its value in the cell, or in the nearest one around it that has it. It goes up
+    // the scopes, as `holder_of` does.
+    pub(super) fn value_seen(&self, scope: Key, name: &str) -> Option<&Value>
+        ensures { option_copied result ≡ value_seen self.now scope name.now }
+    {
+        let mut key = scope;
+        for _step in 0..self.cells.len() {
+            let Some(cell) = self.cell(key) else {
+                return None;
+            };
+            match cell.variables.get(name) {
+                Some(value) => return Some(value),
+                None => key = cell.scope,
+            }
         }
         None
     }

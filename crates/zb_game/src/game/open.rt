@@ -40,7 +40,7 @@ impl Game {
         self.put_in_phase(key, Phase::Active, List::empty(alloc))?;
         match token {
             Some(token) => {
-                self.add_token(token)?;
+                self.add_token(alloc, token)?;
                 Ok(())
             }
             None => {

@@ -10,7 +10,7 @@ use crate::inside::{Inside, cells_counted, one_cell_less};
 use crate::keys::{forget, keep};
 use crate::lookups::leaves_in;
 use crate::{Game, GameFault};
-use std::alloc::AllocError;
+use std::alloc::{AllocError, Global};
 use zb_base::Key;
 use zb_table::{Table, place_among};
 
@@ -28,12 +28,12 @@ impl Game {
         Ok(())
     }
 
-    // Empties a scope of its tokens, and of the cells that leave in it. Where tokens or cells are in it, it goes
-    // through all tokens or all cells; those behind one that goes move up.
-    pub(super) fn empty_scope(&mut self, scope: Key) -> Result<(), AllocError>
+    // Empties a scope of its tokens, and of the cells that leave in it. It goes through these tokens; where cells are in
+    // it, through all cells, and those behind one that goes move up.
+    pub(super) fn empty_scope(&mut self, alloc: Global, scope: Key) -> Result<(), AllocError>
         ensures { OnOk result (self.new ≡ emptied scope self.old) }
     {
-        self.take_tokens(scope)?;
+        self.take_tokens(alloc, scope)?;
         self.take_leaving(scope)
     }
 
@@ -52,7 +52,7 @@ impl Game {
         Ok(())
     }
 
-    // Takes away the cell at a place. Its scope may go on then.
+    // Takes away the cell at a place. Its scope may go on then. Where tokens are in it, what is kept counts no more.
     fn take_away_at(&mut self, place: usize) -> Result<(), AllocError>
         requires { place < length self.old.cells }
         ensures { OnOk result (self.new ≡ record self.old { cells = remove self.old.cells place }) }
@@ -60,7 +60,7 @@ impl Game {
         let cell = &self.cells[place];
         let key = cell.key;
         let around = cell.scope;
-        let ascends = self.ascends;
+        let ascends = self.ascends && !self.has_token(key);
         self.ascends = false;
         one_cell_less(&mut self.inside, around)?;
         wake(&mut self.ready, &self.inside, around)?;

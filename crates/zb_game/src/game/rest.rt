@@ -1,11 +1,13 @@
-// Cells that rest: nothing but a change of them, or of what is in them, lets them go on by themselves.
+// Cells and tokens that rest: nothing but a change of a cell, or of what is in it, or of the tokens in a scope, lets them
+// go on by themselves.
 ghost use Rattle.std.specs.Prelude.{◌≡◌};
-ghost use Rattle.zb_game.specs.Indexed.{is_awake, rests_in, stays_active};
+ghost use Rattle.zb_game.specs.Indexed.{is_awake, rests_in, stays_active, stays_out};
 
 use crate::Game;
 use crate::keys::forget;
 use zb_base::Key;
-use zb_tokens::{Cell, Phase};
+use zb_places::comes;
+use zb_tokens::{Cell, Phase, Token};
 
 impl Game {
     // Looks at a cell again: where it rests, it isn't among the ready ones any more.
@@ -14,6 +16,43 @@ impl Game {
     {
         if !self.is_awake(key) {
             forget(&mut self.ready, key);
+        }
+    }
+
+    // Looks at the tokens with these numbers again: where one rests or isn't there, it isn't among the coming ones any
+    // more.
+    pub(super) fn look_at_tokens(&mut self, numbers: &[Key])
+        ensures { self.new ≡ self.old }
+    {
+        for number in numbers {
+            self.look_at_token(*number);
+        }
+    }
+
+    // The same for one.
+    fn look_at_token(&mut self, number: Key)
+        ensures { self.new ≡ self.old }
+    {
+        match self.tokens.get(number) {
+            Some(token) => {
+                if self.stays_out(token) {
+                    forget(&mut self.coming, number);
+                }
+            }
+            None => forget(&mut self.coming, number),
+        }
+    }
+
+    // Whether a token rests, whatever models and cells come.
+    fn stays_out(&self, token: &Token) -> bool
+        ensures { result ≡ stays_out self.now token.now }
+    {
+        let Some(cell) = self.cell(token.scope) else {
+            return false;
+        };
+        match self.model(cell.definition) {
+            Some(model) => !comes(model, &self.tokens, token),
+            None => false,
         }
     }
 

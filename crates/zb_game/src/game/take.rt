@@ -31,10 +31,8 @@ impl Game {
         let scope = cell.scope;
         let owed = rest_of(alloc, cell.owed.as_slice())?;
         self.leaving(t.key, owed)?;
-        self.add_token(Token {
-            scope,
-            spot: Spot::OnFlow(t.flow),
-        })?;
+        let spot = Spot::OnFlow(t.flow);
+        self.add_token(alloc, Token { scope, spot })?;
         Ok(())
     }
 }

@@ -1,80 +1,93 @@
 // How tokens come and go on the board, and with them what is kept of them beside the board.
-ghost use Rattle.std.specs.Prelude.{◌≡◌, ◌==◌, ◌<◌, ◌++◌, ◌∷◌, [], OnOk, filter, length, map, not};
-ghost use Rattle.std.specs.List.{remove};
+ghost use Rattle.std.specs.Prelude.{◌≡◌, ◌==◌, ◌&&◌, ◌++◌, ◌∷◌, [], OnOk, filter, map, not};
 ghost use Rattle.zb_tokens.specs.declared.board.Spot.TheVariants as spots;
 ghost use Rattle.zb_tokens.specs.Edits.{without_first};
 ghost use Rattle.zb_tokens.specs.MoveEnter.{stands_at, without_each};
 
 use crate::Game;
+use crate::edits::copy_of;
 use crate::game::removals::wake;
-use crate::inside::{one_token_less, one_token_more};
-use crate::places::place_on_flow;
-use std::alloc::AllocError;
+use crate::keys::keep_all;
+use std::alloc::{AllocError, Global};
 use zb_base::{Key, Text};
+use zb_places::{On, take_first, take_scope};
+use zb_table::Query;
 use zb_tokens::Token;
 
 impl Game {
-    // Adds a token. Its scope may rest then.
-    pub(super) fn add_token(&mut self, token: Token) -> Result<(), AllocError>
+    // Adds a token. Its scope may rest then, and the tokens in it may go on.
+    pub(super) fn add_token(&mut self, alloc: Global, token: Token) -> Result<(), AllocError>
         ensures { OnOk result (self.new ≡ record self.old { tokens = self.old.tokens ++ token ∷ [] }) }
     {
         let scope = token.scope;
         let ascends = self.ascends;
         self.ascends = false;
-        self.tokens.push(token)?;
-        one_token_more(&mut self.inside, scope)?;
+        self.tokens.push(alloc, token)?;
+        let numbers = copy_of(alloc, self.tokens.numbers_in(scope))?;
+        keep_all(&mut self.coming, numbers.as_slice())?;
         self.ascends = ascends;
         self.look_at(scope);
+        self.look_at_tokens(numbers.as_slice());
         Ok(())
     }
 
-    // Takes the token at a place. Its scope may go on then. Those behind it move up.
-    pub(super) fn take_token(&mut self, place: usize) -> Result<(), AllocError>
-        requires { place < length self.old.tokens }
-        ensures { OnOk result (self.new ≡ record self.old { tokens = remove self.old.tokens place }) }
+    // Takes the first token in a scope that passes, if there is one. The scope may go on then, and the tokens in it may
+    // rest.
+    pub(super) fn take_first<Q: Query<Token>>(
+        &mut self,
+        alloc: Global,
+        scope: Key,
+        query: &Q,
+    ) -> Result<(), AllocError>
+        ensures { OnOk result (self.new ≡ record self.old { tokens = without_first (λ t. (t.scope == scope) && Q.passes query.now t) self.old.tokens }) }
     {
-        let scope = self.tokens[place].scope;
+        let numbers = copy_of(alloc, self.tokens.numbers_in(scope))?;
         let ascends = self.ascends;
         self.ascends = false;
-        one_token_less(&mut self.inside, scope)?;
+        take_first(alloc, &mut self.tokens, scope, query)?;
         wake(&mut self.ready, &self.inside, scope)?;
-        self.tokens.remove(place);
         self.ascends = ascends;
+        self.look_at(scope);
+        self.look_at_tokens(numbers.as_slice());
         Ok(())
     }
 
-    // Takes the first token on each of these flows in a scope. For each it goes through the tokens up to that one.
-    pub(super) fn take_each(&mut self, scope: Key, flows: &[Text]) -> Result<(), AllocError>
+    // Takes the first token on each of these flows in a scope. For each it goes through the tokens in the scope.
+    pub(super) fn take_each(
+        &mut self,
+        alloc: Global,
+        scope: Key,
+        flows: &[Text],
+    ) -> Result<(), AllocError>
         ensures { OnOk result (self.new ≡ record self.old { tokens = without_each scope (map spots.OnFlow flows.now) self.old.tokens }) }
     {
         for flow in flows {
-            self.take_first_on(scope, flow.as_str())?;
+            self.take_first_on(alloc, scope, flow.as_str())?;
         }
         Ok(())
     }
 
     // Takes the first token on a flow in a scope, if there is one.
-    fn take_first_on(&mut self, scope: Key, flow: &str) -> Result<(), AllocError>
+    fn take_first_on(&mut self, alloc: Global, scope: Key, flow: &str) -> Result<(), AllocError>
         ensures { OnOk result (self.new ≡ record self.old { tokens = without_first (stands_at scope (spots.OnFlow flow.now)) self.old.tokens }) }
     {
-        match place_on_flow(scope, flow, &self.tokens) {
-            Some(place) => self.take_token(place),
-            None => Ok(()),
-        }
+        self.take_first(alloc, scope, &On { flow })
     }
 
-    // Takes the tokens in a scope. Where there are any, it goes through all tokens.
-    pub(super) fn take_tokens(&mut self, scope: Key) -> Result<(), AllocError>
+    // Takes the tokens in a scope. The scope may go on then.
+    pub(super) fn take_tokens(&mut self, alloc: Global, scope: Key) -> Result<(), AllocError>
         ensures { OnOk result (self.new ≡ record self.old { tokens = filter (λ t. not (t.scope == scope)) self.old.tokens }) }
     {
         if !self.has_token(scope) {
             return Ok(());
         }
-        for place in (0..self.tokens.len()).rev() {
-            if self.tokens[place].scope == scope {
-                self.take_token(place)?;
-            }
-        }
+        let numbers = copy_of(alloc, self.tokens.numbers_in(scope))?;
+        let ascends = self.ascends;
+        self.ascends = false;
+        take_scope(alloc, &mut self.tokens, scope);
+        wake(&mut self.ready, &self.inside, scope)?;
+        self.ascends = ascends;
+        self.look_at_tokens(numbers.as_slice());
         Ok(())
     }
 }

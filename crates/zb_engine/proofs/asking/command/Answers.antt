@@ -5,7 +5,7 @@ use Rattle.zb_engine.specs.Ledger.{log_of, with_more}
 use Rattle.zb_engine.proofs.AnswerLemmas.{asked_run, step_answered}
 use Rattle.zb_engine.proofs.SerialLemmas.{command_done, command_told, cut_asking, command_cut}
 use Rattle.zb_engine.proofs.LogLemmas.{stopped_resting}
-use Rattle.zb_engine.proofs.ResultLemmas.{if_ok_as, if_err_as}
+use Rattle.std.proofs.lemmas.Result.{IfOk-weaker, IfErr-weaker}
 use Rattle.zb_engine.proofs.asking.command.Goals as goal
 
 pub commit-requires-clause-run : goal.commit-requires-clause-run
@@ -22,7 +22,7 @@ pub returns-in-Ok-clause-done : goal.returns-in-Ok-clause-done
 returns-in-Ok-clause-done g c = λ account holds.
     let done = c.in-Ok.ensures.committed account holds in
     let asks : command_of c.args.request ≡ Some c.in-Ok.batch.command = sym c.into_command.ensures ∙ c.in-Some.is ∙ ap Some (sym done.is) in
-    if_ok_as c.reply_of.result _ _ (λ reply answered. record {
+    IfOk-weaker c.reply_of.result _ _ (λ reply answered. record {
       more = c.in-Ok.batch ∷ [];
       done = command_done c.args.request c.args.reading account.opening.batches account.made c.in-Ok.batch asks done.moment done.begin;
       told = command_told c.args.request c.args.reading c.in-Ok.batch reply asks answered;
@@ -34,7 +34,7 @@ pub returns-in-Ok-clause-cut : goal.returns-in-Ok-clause-cut
 returns-in-Ok-clause-cut g c = λ account holds.
     let done = c.in-Ok.ensures.committed account holds in
     let asks : command_of c.args.request ≡ Some c.in-Ok.batch.command = sym c.into_command.ensures ∙ c.in-Some.is ∙ ap Some (sym done.is) in
-    if_err_as c.reply_of.result _ _ (λ stop memory. rw memory (cut_asking account c.args.request c.args.reading (c.in-Ok.batch ∷ []) None stops.Memory _
+    IfErr-weaker c.reply_of.result _ _ (λ stop memory. rw memory (cut_asking account c.args.request c.args.reading (c.in-Ok.batch ∷ []) None stops.Memory _
     (command_done c.args.request c.args.reading account.opening.batches account.made c.in-Ok.batch asks done.moment done.begin).made
     (λ batch e. absurd (cc))
     (stopped_resting (with_more account (c.in-Ok.batch ∷ [])) _ done.holds g.met.D.Disk.images_told))) c.reply_of.ensures.memory

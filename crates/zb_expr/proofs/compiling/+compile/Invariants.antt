@@ -18,4 +18,4 @@ decreases-put_members a = 4 * nesting_over (trees_of a.members.now)
 
 -- the members so far are written
 abbrev pub invariant-put_members-loop-member : goal.invariant-put_members-loop-member
-invariant-put_members-loop-member l = WritesMore l.fn.code.items (take l.member-index l.members) l.code.items
+invariant-put_members-loop-member l = WritesMore l.fn.code (take l.member-index l.members) l.code

@@ -6,14 +6,14 @@ use Rattle.zb_expr.proofs.compiling.compile.Goals as goal
 
 pub new-requires : goal.new-requires
 new-requires c =
-    let code = c.put_expr.new.code.items in
+    let code = c.put_expr.new.code in
     let expr = c.args.expr.now in
-    let written : trees_behind [] code ≡ Some (expr ∷ []) = writes-alone code expr (subst (λ (is : List Instruction). WritesMore is (expr ∷ []) code) c.new-code.ensures.items c.in_ok-put_expr.ensures) in
+    let written : trees_behind [] code ≡ Some (expr ∷ []) = writes-alone code expr (subst (λ (is : List Instruction). WritesMore is (expr ∷ []) code) c.empty-code.ensures c.in_ok-put_expr.ensures) in
     rw written refl
 
 pub returns : goal.returns
 returns c =
-    let code = c.put_expr.new.code.items in
+    let code = c.put_expr.new.code in
     let expr = c.args.expr.now in
-    let written : trees_behind [] code ≡ Some (expr ∷ []) = writes-alone code expr (subst (λ (is : List Instruction). WritesMore is (expr ∷ []) code) c.new-code.ensures.items c.in_ok-put_expr.ensures) in
+    let written : trees_behind [] code ≡ Some (expr ∷ []) = writes-alone code expr (subst (λ (is : List Instruction). WritesMore is (expr ∷ []) code) c.empty-code.ensures c.in_ok-put_expr.ensures) in
     rw (c.new.ensures, written) refl

@@ -1,6 +1,6 @@
 use Rattle.std.proofs.Common.{◌≡◌, ℕ, ◌++◌, List, [], length, Some, None, Result, Ok, Err, refl, sym, ap, ◌∙◌, subst, inr, rules}
 use Rattle.zb_reply.specs.Reply.{line_of}
-use Rattle.std.proofs.lemmas.Result.{on_ok_weaker}
+use Rattle.std.proofs.lemmas.Result.{on_ok_weaker, IfErr-weaker}
 use Rattle.zb_world.specs.Entries.{Entry}
 use Rattle.zb_wire.specs.RequestLaws.{Tells-fault}
 use Rattle.zb_wire.specs.declared.request.LineFault.TheVariants as faults
@@ -14,7 +14,6 @@ use Rattle.zb_session.proofs.AnswerLemmas.{fault_answered, found_more, told_spok
 use Rattle.zb_session.proofs.ClockLemmas.{found_at, at_fault}
 use Rattle.zb_session.proofs.EndLemmas.{unanswered_idle}
 use Rattle.zb_session.proofs.ListLemmas.{append_none}
-use Rattle.zb_session.proofs.ResultLemmas.{if_err_as}
 use Rattle.zb_session.proofs.answer.answer_line.Goals as goal
 
 pub ask-requires : goal.ask-requires
@@ -58,7 +57,7 @@ returns-in-Ok-ask-clause-unanswered g c = λ begun hours answers line next.
     let found = found_in answers in
     let is = found_at hours found _ _ _ c.args.number _ line _ (Ok c.in-Ok.request) next.clock (c.partitions.ensures begun (entries_made answers) next.holds) c.is_manual.ensures next.same c.in-Ok.ensures.found in
     let a = c.in-Ok-ask.ensures.asked begun (entries_made answers) next.holds in
-    if_err_as c.put.result _ _ (λ end memory. rw memory (record {
+    IfErr-weaker c.put.result _ _ (λ end memory. rw memory (record {
       rest = a.entries;
       unlogged = None;
       undone = inr (record { request = c.in-Ok.request; asks = is; reading = c.read_for-reading.result; read = c.read_for-reading.ensures.reading hours found next.clock; made = a.done.made; next = λ entry e. absurd (cc) });
@@ -104,4 +103,4 @@ returns-in-Err-clause-answered g c = λ begun hours answers line next.
 
 pub returns-in-Err-clause-unanswered : goal.returns-in-Err-clause-unanswered
 returns-in-Err-clause-unanswered g c = λ begun hours answers line next.
-    if_err_as c.put-in-Err.result _ _ (λ end memory. unanswered_idle _ line _ end memory next.holds) c.put-in-Err.ensures.memory
+    IfErr-weaker c.put-in-Err.result _ _ (λ end memory. unanswered_idle _ line _ end memory next.holds) c.put-in-Err.ensures.memory

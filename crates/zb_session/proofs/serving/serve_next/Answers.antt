@@ -1,10 +1,10 @@
-use Rattle.std.proofs.Common.{◌≢◌, ℕ, ◌++◌, List, Ok, ap, sym, subst, rules}
+use Rattle.std.proofs.Common.{◌≡◌, ◌≢◌, ℕ, ◌++◌, List, Ok, refl, ap, sym, subst, rules}
 use Rattle.zb_lines.specs.Line.{Comes, IsAtEnd}
 use Rattle.zb_lines.specs.declared.reader.Next.{Next}
 use Rattle.zb_lines.specs.declared.reader.Next.TheVariants as nexts
 use Rattle.zb_session.specs.Serving.{began_of, given_at}
 use Rattle.zb_session.proofs.TurnLemmas.{past_of}
-use Rattle.zb_session.proofs.ResultLemmas.{err_same}
+use Rattle.std.proofs.lemmas.Result.{IfErr-at_err}
 use Rattle.zb_session.proofs.EndLemmas.{stops_reading, stops_done, stops_full, line_in, comes_next, turn_served, turn_stopped}
 use Rattle.zb_session.proofs.serving.serve_next.Goals as goal
 
@@ -76,4 +76,4 @@ returns-in-Err-serve_line-clause-goes_on g c = λ begun hours source sink s.
     let next = comes_next _ (began_of hours (g.A.Desk.basis begun) source sink) _ s c.longest_shown.result read.0 c.next.new.self _ c.in-Ok.next not_end not_full came (c.longest_shown.ensures.decides (given_at (past_of _ (began_of hours (g.A.Desk.basis begun) source sink) _ s))) in
     let ended = c.in-Err-serve_line.ensures.over g.S.Source.tells g.S.Source.counts_failures begun hours s.answers _ next in
     turn_stopped _ (began_of hours (g.A.Desk.basis begun) source sink) _ s _ _ _ c.longest_shown.result read.0 c.next.new.self _ read.1 read.2 c.in-Ok.next not_end not_full came c.in-Ok.ensures.at_end _ ended c.in-Ok.ensures.steady
-    (λ other t. c.in-Err-serve_line.ensures.sink_steady t (λ is. other (err_same _ _ is)))
+    (λ other t. c.in-Err-serve_line.ensures.sink_steady t (λ is. other (IfErr-at_err (λ end. c.in-Err-serve_line.end ≡ end) is refl)))

@@ -1,8 +1,7 @@
-use Rattle.std.proofs.Common.{arith, refl, ◌+◌, ◌∙◌, sym, subst, IsTrue, []}
+use Rattle.std.proofs.Common.{arith, refl, ◌+◌, ◌∙◌, sym, subst, IsTrue}
 use Rattle.zb_lines.specs.TakenLaws.{takes_nothing}
-use Rattle.zb_session.specs.Hours.{Hours}
 use Rattle.zb_session.specs.Session.{most_taken, streams_of}
-use Rattle.zb_session.specs.Serving.{AreAt, began_of, clocks_of, facts_by, service_of, stand_of, first_stand, IsServing}
+use Rattle.zb_session.specs.Serving.{began_of, clocks_of, facts_by, service_of, stand_of}
 use Rattle.zb_session.proofs.TurnLemmas.{few, serving_first}
 use Rattle.zb_session.proofs.EndLemmas.{stops_memory, goes_over, goes_next}
 use Rattle.zb_session.proofs.serving.serve_session.Goals as goal

@@ -1,7 +1,7 @@
-use Rattle.std.proofs.Common.{◌∙◌, ℕ, ◌<◌, ◌≤◌, ◌++◌, ◌∷◌, [], length, List, ap, sym, subst, inl, inr, arith, append_assoc, refl}
+use Rattle.std.proofs.Common.{◌∙◌, ℕ, ◌<◌, ◌≤◌, ◌++◌, length, List, ap, sym, subst, inl, inr, arith, append_assoc, refl}
 use Rattle.std.proofs.Math.Logic.{∥∥₁_map}
 use Rattle.zb_model.specs.declared.record.Event.{Event}
-use Rattle.zb_rules.specs.Settling.{full, HasQuietGame}
+use Rattle.zb_rules.specs.Settling.{full, turn_with, HasQuietGame}
 use Rattle.zb_state.specs.State.{partition_of, IsStateOf}
 use Rattle.zb_step.specs.Settled.{IsTurn}
 use Rattle.zb_step.proofs.TurnLemmas.{goes_on_start, goes_on_more, goes_on_end, full_is, GoesOn}
@@ -15,40 +15,46 @@ loop-alloc-init c = record {
   comes_to = λ before was. was;
 }
 
-pub put-requires : goal.put-requires
-put-requires c = ∥∥₁_map c.loop-alloc.invariant.reached (λ r.
+pub put_turn-requires : goal.put_turn-requires
+put_turn-requires c = λ n moment. ∥∥₁_map c.loop-alloc.invariant.reached (λ r.
     let is = c.next_mover.ensures.state r.0 r.1 in
-    (r.0, is, (c.in_ok-event-in-Some.ensures 0 0 r.0 is).applied))
+    (r.0, is, (c.in_ok-turn-in-Some.ensures n moment r.0 is).applied))
 
 pub loop-alloc-preserved : goal.loop-alloc-preserved
 loop-alloc-preserved c =
     let at = c.loop-alloc in
     let made = at.out in
-    let e = c.in_ok-event-in-Some.event in
-    let put = c.in_ok-put-in-Some.ensures.put in
-    let state = c.in_ok-put-in-Some.ensures.state in
+    let t = c.in_ok-turn-in-Some.turn in
+    let put = c.in_ok-put_turn-in-Some.ensures.put in
+    let state = c.in_ok-put_turn-in-Some.ensures.state in
     let asked = c.next_mover.ensures.state in
     let place = c.next_mover.ensures.place ∙ at.invariant.place in
     let room : length made < full = rw full_is (omega (arith, c.loop-alloc-test.true, c.len.ensures)) in
-    let Is : List Event → Type 0 = λ l. IsStateOf l c.put.new.state in
+    let Is : List Event → Type 0 = λ l. IsStateOf l c.put_turn.new.state in
     record {
-      place = c.put.ensures.place ∙ place;
-      reached = ∥∥₁_map at.invariant.reached (λ r. (r.0 ++ e ∷ [], state r.0 (asked r.0 r.1)));
+      place = c.put_turn.ensures.place ∙ place;
+      reached = c.in_ok-put_turn-in-Some.ensures.reached;
       goes_on = λ n moment before was.
           let p = partition_of c.args.state.now in
+          let es = before ++ made in
+          let is = asked es (at.invariant.comes_to before was) in
           let GoesOnTo : List Event → Type 0 = λ l. GoesOn p n moment before c.args.out.now l in
-          let Turn : ℕ → Type 0 = λ q. IsTurn q n moment (before ++ made) e in
-          let next = subst Turn place (c.in_ok-event-in-Some.ensures n moment (before ++ made) (asked (before ++ made) (at.invariant.comes_to before was))) in
-          subst GoesOnTo (sym put) (goes_on_more p n moment before c.args.out.now made e (at.invariant.goes_on n moment before was) room next);
+          let Turn : ℕ → Type 0 = λ q. IsTurn q n moment es (turn_with q n moment t.assignments t.event es) in
+          let next = subst Turn place (c.in_ok-turn-in-Some.ensures n moment es is) in
+          let told = put n moment es is ∙ ap (λ (q : ℕ). made ++ turn_with q n moment t.assignments t.event es) place in
+          subst GoesOnTo (sym told) (goes_on_more p n moment before c.args.out.now made (turn_with p n moment t.assignments t.event es) (at.invariant.goes_on n moment before was) room next);
       comes_to = λ before was.
-          subst Is (append_assoc before made (e ∷ []) ∙ ap (λ (l : List Event). before ++ l) (sym put)) (state (before ++ made) (asked (before ++ made) (at.invariant.comes_to before was)));
+          let es = before ++ made in
+          let is = asked es (at.invariant.comes_to before was) in
+          let its = turn_with (partition_of c.next_mover.new.self) 0 0 t.assignments t.event es in
+          subst Is (append_assoc before made its ∙ ap (λ (l : List Event). before ++ l) (sym (put 0 0 es is))) (state 0 0 es is);
     }
 
 pub returns-in-None-clause-settled : goal.returns-in-None-clause-settled
 returns-in-None-clause-settled c = λ n moment before was.
     let at = c.loop-alloc in
     let is = c.next_mover.ensures.state (before ++ at.out) (at.invariant.comes_to before was) in
-    let told = c.next_mover.ensures.mover (before ++ at.out) c.next_mover.new.self.game is is.game in
+    let told = c.in_ok-next_mover.ensures.mover (before ++ at.out) c.next_mover.new.self.game is is.game in
     let quiet : HasQuietGame (before ++ at.out) = record { board = c.next_mover.new.self.game; is = is.game; quiet = sym told ∙ c.in-None.is } in
     goes_on_end (partition_of c.args.state.now) n moment before c.args.out.now at.out (at.invariant.goes_on n moment before was) (inl quiet)
 
@@ -58,8 +64,8 @@ returns-clause-settled c = λ n moment before was.
     let filled : full ≤ length at.out = rw full_is (omega (arith, c.loop-alloc-test.false, c.len.ensures)) in
     goes_on_end (partition_of c.args.state.now) n moment before c.args.out.now at.out (at.invariant.goes_on n moment before was) (inr filled)
 
-pub forced_event-requires-clause-reached : goal.forced_event-requires-clause-reached
-forced_event-requires-clause-reached c = ∥∥₁_map c.loop-alloc.invariant.reached (λ r. (r.0, c.next_mover.ensures.state r.0 r.1))
+pub next_turn-requires-clause-reached : goal.next_turn-requires-clause-reached
+next_turn-requires-clause-reached c = ∥∥₁_map c.loop-alloc.invariant.reached (λ r. (r.0, c.next_mover.ensures.state r.0 r.1))
 
 pub returns-in-None-clause-reached : goal.returns-in-None-clause-reached
 returns-in-None-clause-reached c = ∥∥₁_map c.loop-alloc.invariant.reached (λ r. (r.0, c.next_mover.ensures.state r.0 r.1))

@@ -2,7 +2,7 @@ use Rattle.std.proofs.Common.{◌≡◌}
 use Rattle.std.specs.Prelude.{map}
 use Rattle.serde_json.specs.View.{members_view}
 use Rattle.zb_wire.specs.Fields as spec
-use Rattle.zb_wire.specs.Table.{field_of}
+use Rattle.zb_wire.specs.Reading.{field_of}
 use Rattle.zb_wire.proofs.fields.first_unknown.Given as goal
 
 -- the members that are left decide

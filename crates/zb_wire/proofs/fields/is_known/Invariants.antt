@@ -2,7 +2,7 @@ use Rattle.std.proofs.Common.{◌≡◌, drop}
 use Rattle.std.specs.List.{list_any}
 use Rattle.std.specs.Prelude.{map}
 use Rattle.std.specs.Str.{bytes_eq}
-use Rattle.zb_wire.specs.Table.{field_of}
+use Rattle.zb_wire.specs.Reading.{field_of}
 use Rattle.zb_wire.proofs.fields.is_known.Given as goal
 
 -- the fields that are left decide

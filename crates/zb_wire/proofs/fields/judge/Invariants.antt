@@ -4,8 +4,7 @@ use Rattle.std.specs.Prelude.{map}
 use Rattle.serde_json.specs.View.{view}
 use Rattle.zb_wire.specs.Fields as spec
 use Rattle.zb_wire.specs.First.{first_told}
-use Rattle.zb_wire.specs.Reading.{range_of}
-use Rattle.zb_wire.specs.Table.{field_of}
+use Rattle.zb_wire.specs.Reading.{field_of, range_of}
 use Rattle.zb_wire.proofs.fields.judge.Given as goal
 
 -- no field so far is missing or of the wrong kind, and of those outside their limits the first was kept

@@ -1,4 +1,4 @@
-use Rattle.std.proofs.Common.{◌≤◌, ◌++◌, ◌∷◌, max, ℕ, List, [], Err, refl, sym, ap, ◌∙◌, subst, append_assoc, arith}
+use Rattle.std.proofs.Common.{◌≡◌, ◌≤◌, ◌++◌, ◌∷◌, max, ℕ, List, [], Err, refl, sym, ap, ◌∙◌, subst, append_assoc, arith}
 use Rattle.zb_model.specs.declared.record.Batch.{Batch}
 use Rattle.zb_views.specs.View.{moment_of_last}
 use Rattle.zb_rules.specs.Step.{IsStep}
@@ -7,8 +7,8 @@ use Rattle.zb_partition.specs.Log.{bodies_of}
 use Rattle.zb_partition.specs.Partition.{HasLog, partition_number_of, disk_of, in_writing}
 use Rattle.zb_partition.specs.Stopping.{IsStopped}
 use Rattle.zb_engine.specs.Ledger.{log_of}
-use Rattle.zb_engine.proofs.ResultLemmas.{unless_told, err_same}
-use Rattle.zb_model.specs.declared.stop.Stop.TheVariants as stops
+use Rattle.zb_engine.proofs.ResultLemmas.{unless_told}
+use Rattle.std.proofs.lemmas.Result.{IfErr-at_err}
 use Rattle.zb_engine.proofs.LogLemmas.{made_more, holds_more, holds_moved, stopped_by, refused_unasked}
 use Rattle.zb_engine.proofs.ledger.Ledger.commit.Goals as goal
 
@@ -54,4 +54,4 @@ returns-in-Err-submit-clause-stopped g c = λ account holds.
     (g.D.Disk.images (disk_of c.submit.new.self)) (g.D.Disk.since (disk_of c.args.self.now.partition)) (g.D.Disk.since (disk_of c.submit.new.self)) place limit log c.later_of-moment.result c.frames-begin.result c.args.command (in_writing c.submit.new.self) c.in-Err-submit.stop in
     stopped_by account c.args.self.now holds _ c.args.reading _ _ c.args.command c.in-Err-submit.stop c.reserve.ensures.items is_at (c.frames-begin.ensures ∙ stands.has.count)
     (subst (λ (place : ℕ). Stops place account.opening.limit) stands.place (subst (λ (l : ℕ). Stops (partition_number_of c.args.self.now.partition) l) stands.most stopped))
-    (λ t other. unless_told {T = Batch} (Err c.in-Err-submit.stop) _ (c.in-Err-submit.ensures.steady t) (λ e. other (err_same {T = Batch} c.in-Err-submit.stop stops.DiskFault e)))
+    (λ t other. unless_told {T = Batch} (Err c.in-Err-submit.stop) _ (c.in-Err-submit.ensures.steady t) (λ e. other (IfErr-at_err {T = Batch} (λ stop. c.in-Err-submit.stop ≡ stop) e refl)))

@@ -1,12 +1,18 @@
-use Rattle.std.proofs.Common.{◌≡◌, ℕ, ◌+◌, ◌^◌, ◌<◌, ◌==◌, ◌++◌, ◌∷◌, [], length, if◌then◌else◌, rules, arith}
-use Rattle.zb_game.specs.Inside.{cells_counted, tokens_counted}
-use Rattle.zb_game.proofs.IndexedLemmas.{kept_token, more_tokens}
+use Rattle.std.proofs.Common.{◌≡◌, ℕ, List, [], ◌∷◌, ◌++◌, true, refl, sym, ap, subst, ◌∙◌, rules}
+use Rattle.zb_groups.specs.Groups.{numbers_in}
+use Rattle.zb_groups.specs.declared.held.Held.{Held}
+use Rattle.zb_tokens.specs.declared.board.Token.{Token}
+use Rattle.zb_places.proofs.HeldLemmas.{scope_of}
+use Rattle.zb_game.specs.Indexed.{is_kept}
+use Rattle.zb_game.proofs.IndexedLemmas.{kept_token}
 use Rattle.zb_game.proofs.game.Game.add_token.Goals as goal
 
 pub invariant_of-self-2 : goal.invariant_of-self-2
 invariant_of-self-2 c = λ ascends.
-    let tokens : length c.self.inside.tokens.items < 2 ^ 63 = omega (arith, c.self.inside.tokens.ok.0, c.self.inside.tokens.ok.1, c.self.inside.tokens.small) in
-    let added : c.push.new.self.items ≡ c.self.inside.tokens.items ++ c.args.token ∷ [] = search rules in
-    let same : (k : ℕ) → cells_counted c.one_token_more.new.inside k ≡ cells_counted c.self.inside.inside k = c.in_ok-one_token_more.ensures.cells in
-    let more : (k : ℕ) → tokens_counted c.one_token_more.new.inside k ≡ tokens_counted c.self.inside.inside k + (if c.args.token.scope == k then 1 else 0) = c.in_ok-one_token_more.ensures.tokens (more_tokens _ _ _ _ (c.self.invariant ascends) c.args.token.scope tokens) in
-    rw added (kept_token _ _ _ _ (c.self.invariant ascends) c.args.token _ same more)
+    let rows = c.self.inside.tokens in
+    let new : Held Token = record { number = c.in_ok-push.field-0; row = c.args.token } in
+    let added : c.push.new.self ≡ rows ++ new ∷ [] = c.in_ok-push.ensures.row in
+    let numbers : c.as_slice.result.now ≡ numbers_in scope_of c.args.token.scope (rows ++ new ∷ []) = search rules in
+    let here : (k : ℕ) → is_kept (numbers_in scope_of c.args.token.scope (rows ++ new ∷ [])) k ≡ true → is_kept c.keep_all.new.keys k ≡ true =
+    λ k is. c.in_ok-keep_all.ensures.kept k (ap (λ (keys : List ℕ). is_kept keys k) numbers ∙ is) in
+    rw added (kept_token _ _ _ _ _ _ (c.self.invariant ascends) new _ (rw (← added) c.push.ensures.order) refl c.in_ok-keep_all.ensures.others here)

@@ -1,28 +1,33 @@
-use Rattle.std.proofs.Common.{◌≡◌, ℕ, ◌<◌, length, get_or, true, false, sym, below_more, arith, rules}
-use Rattle.std.proofs.lemmas.Option.{slice_get-get_or}
+use Rattle.std.proofs.Common.{◌≡◌, true, All, sym, ap, subst, ◌∙◌, rules}
+use Rattle.std.specs.Bool.{IsTrue}
+use Rattle.std.specs.List.{find}
+use Rattle.std.proofs.lemmas.Iterator.Adapters.{option_map_id}
+use Rattle.std.proofs.lemmas.List.Elements.{All-weaker}
+use Rattle.zb_groups.specs.declared.held.Held.{Held}
 use Rattle.zb_tokens.specs.declared.board.Token.{Token}
+use Rattle.zb_tokens.specs.Board.{Board}
 use Rattle.zb_tokens.specs.Forced.{can_enter}
-use Rattle.zb_game.proofs.EditLemmas.{position_is, position_nowhere}
+use Rattle.zb_game.specs.Indexed.{stays_out, is_kept}
+use Rattle.zb_game.proofs.ComingLemmas.{IsAwaited, enters_moves}
+use Rattle.zb_game.proofs.FirstLemmas.{IsWaiting, all_waiting, first_coming, read_first, read_none}
 use Rattle.zb_game.proofs.game.Game.first_entering.Goals as goal
 
-pub returns-then-can_enter : goal.returns-then-can_enter
-returns-then-can_enter c =
+pub returns-in-Some : goal.returns-in-Some
+returns-in-Some c =
     let b = c.args.self.now in
-    let within : c.loop-place.place < length b.tokens = search rules in
-    let here : (d : Token) → can_enter b (get_or b.tokens c.loop-place.place d) ≡ true =
-    λ d. sym (c.if-can_enter.ensures (get_or b.tokens c.loop-place.place d) (slice_get-get_or b.tokens c.loop-place.place d within)) in
-    sym (position_is (can_enter b) b.tokens c.loop-place.place within c.loop-place.invariant here)
+    let rows = c.self.inside.tokens in
+    let coming = c.self.inside.coming in
+    let ascends : IsTrue c.self.inside.ascends = search rules in
+    let awaited = subst (λ (x : Board). All (IsAwaited x coming) rows) c.self.view_is (c.self.invariant ascends).awaited in
+    let first = first_coming (can_enter b) rows coming (c.self.invariant ascends).tokens_ascend c.in-Some.ensures.order (all_waiting b coming rows awaited) in
+    c.get.ensures.row ∙ (read_first (can_enter b) rows c.in-Some.number (c.self.invariant ascends).tokens_ascend (c.in-Some.ensures.key ∙ (option_map_id _ ∙ first)) ∙ ap (λ (x : Board). find (can_enter b) x.tokens) c.self.view_is)
 
-pub loop-place-preserved : goal.loop-place-preserved
-loop-place-preserved c = λ k d lower.
+pub returns-in-None : goal.returns-in-None
+returns-in-None c =
     let b = c.args.self.now in
-    let within : c.loop-place.place < length b.tokens = search rules in
-    let here : can_enter b (get_or b.tokens c.loop-place.place d) ≡ false =
-    sym (c.if-can_enter.ensures (get_or b.tokens c.loop-place.place d) (slice_get-get_or b.tokens c.loop-place.place d within)) in
-    below_more (λ (n : ℕ). can_enter b (get_or b.tokens n d) ≡ false) c.loop-place.place (λ n before. c.loop-place.invariant n d before) here k lower
-
-pub returns : goal.returns
-returns c =
-    let b = c.args.self.now in
-    let past : length b.tokens ≡ c.loop-place.place = search rules in
-    sym (position_nowhere (can_enter b) b.tokens (λ k d within. c.loop-place.invariant k d (omega arith)))
+    let rows = c.self.inside.tokens in
+    let coming = c.self.inside.coming in
+    let ascends : IsTrue c.self.inside.ascends = search rules in
+    let awaited = subst (λ (x : Board). All (IsAwaited x coming) rows) c.self.view_is (c.self.invariant ascends).awaited in
+    let first = first_coming (can_enter b) rows coming (c.self.invariant ascends).tokens_ascend c.in-None.ensures.order (all_waiting b coming rows awaited) in
+    read_none (can_enter b) rows (c.in-None.ensures.key ∙ (option_map_id _ ∙ first)) ∙ ap (λ (x : Board). find (can_enter b) x.tokens) c.self.view_is

@@ -23,7 +23,7 @@ invariant_of-self-2 c = λ ascends.
     let at : cell ≡ get_or cells c.in-Some.place cell = c.index_mut.ensures.value in
     let has_key = found.1 in
     let own : cell.key ≡ c.args.key = grind (arith, nat_tests, at, has_key) in
-    kept_within _ _ _ _ (c.self.invariant ascends) c.in-Some.place cell cell.variables true _ found.0 at c.in_ok-keep.ensures.others (λ _. rw own c.in_ok-keep.ensures.kept)
+    kept_within _ _ _ _ _ _ (c.self.invariant ascends) c.in-Some.place cell cell.variables true _ found.0 at c.in_ok-keep.ensures.others (λ _. rw own c.in_ok-keep.ensures.kept)
 
 pub returns : goal.returns
 returns c =

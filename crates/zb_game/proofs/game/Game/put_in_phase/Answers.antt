@@ -26,9 +26,9 @@ invariant_of-self-2 c = λ ascends.
     let has_key = found.1 in
     let own : cell.key ≡ c.args.key = grind (arith, nat_tests, at, has_key) in
     let still : (k : ℕ) → is_kept c.self.inside.calling k ≡ true → is_kept c.note_phase.new.calling k ≡ true = c.in_ok-note_phase.ensures.still in
-    kept_changed _ _ _ _ kept c.in-Some.place cell (in_phase c.args.phase c.args.owed cell) _ _ found.0 at refl refl
+    kept_changed _ _ _ _ _ _ kept c.in-Some.place cell (in_phase c.args.phase c.args.owed cell) _ _ found.0 at refl refl refl
     c.in_ok-keep.ensures.others still (λ moves. rw own c.in_ok-keep.ensures.kept)
-    (calling_on _ _ cell c.args.phase c.args.owed still (rw own c.in_ok-note_phase.ensures.noted) (calls_as _ _ _ _ kept c.in-Some.place cell found.0 at))
+    (calling_on _ _ cell c.args.phase c.args.owed still (rw own c.in_ok-note_phase.ensures.noted) (calls_as _ _ _ _ _ _ kept c.in-Some.place cell found.0 at))
 
 pub returns-clause-put : goal.returns-clause-put
 returns-clause-put c =

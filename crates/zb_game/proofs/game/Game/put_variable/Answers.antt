@@ -16,7 +16,7 @@ invariant_of-self-2 c = λ ascends.
     let cell = c.index_mut.result.now in
     let within : c.in-Some.place < length c.self.inside.cells.items = search rules in
     let at : cell ≡ get_or c.self.inside.cells.items c.in-Some.place cell = c.index_mut.ensures.value in
-    kept_within _ _ _ _ (c.self.invariant ascends) c.in-Some.place cell c.put.new.self cell.ending _ within at (λ k is. is) (calls_as _ _ _ _ (c.self.invariant ascends) c.in-Some.place cell within at)
+    kept_within _ _ _ _ _ _ (c.self.invariant ascends) c.in-Some.place cell c.put.new.self cell.ending _ within at (λ k is. is) (calls_as _ _ _ _ _ _ (c.self.invariant ascends) c.in-Some.place cell within at)
 
 pub returns-clause-put : goal.returns-clause-put
 returns-clause-put c =

@@ -1,5 +1,5 @@
 use Rattle.std.proofs.Common.{refl, rules}
-use Rattle.zb_game.proofs.EntryLemmas.{entry_at-found}
+use Rattle.zb_places.proofs.EntryLemmas.{entry_at-found}
 use Rattle.zb_game.proofs.game.moves.entry_in.Goals as goal
 
 pub returns-in_ok-node-in-Some : goal.returns-in_ok-node-in-Some

@@ -1,0 +1,28 @@
+ghost use Rattle.std.specs.Prelude.{◌≡◌, Some, None, OnOk, IsErrOf};
+ghost use Rattle.zb_tokens.specs.MoveRepair.{fits_repair, play_repair};
+
+use crate::{Game, GameFault};
+use zb_base::Key;
+use zb_table::place_among;
+
+impl Game {
+    // Whether an incident may be resolved.
+    pub(super) fn fits_repair(&self, key: Key) -> bool
+        ensures { result ≡ fits_repair self.now key }
+    {
+        self.has_incident(key)
+    }
+
+    // Plays that an incident is gone. Those behind it move up.
+    pub(super) fn repair(&mut self, key: Key) -> Result<(), GameFault>
+        ensures played { OnOk result (play_repair self.old key ≡ Some self.new) }
+        ensures illegal { IsErrOf result GameFault.Illegal → play_repair self.old key ≡ None }
+        ensures kept { IsErrOf result GameFault.Illegal → self.new ≡ self.old }
+    {
+        let Some(place) = place_among(key, &self.incidents, false) else {
+            return Err(GameFault::Illegal);
+        };
+        self.incidents.remove(place);
+        Ok(())
+    }
+}

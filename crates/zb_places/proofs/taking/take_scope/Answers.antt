@@ -1,0 +1,18 @@
+use Rattle.std.proofs.Common.{◌≡◌, ◌==◌, not, refl, sym, ap, subst, ◌∙◌}
+use Rattle.zb_tokens.specs.declared.board.Token.{Token}
+use Rattle.zb_places.specs.Places.{held_tokens, count_in_scope, IsFewer}
+use Rattle.zb_places.proofs.HeldLemmas.{filter_row, scope_out}
+use Rattle.zb_places.proofs.taking.take_scope.Goals as goal
+
+pub returns-clause-left : goal.returns-clause-left
+returns-clause-left c = ap (λ rows. held_tokens rows) c.take_group.ensures ∙ filter_row (λ (t : Token). not (t.scope == c.args.scope)) c.args.tokens.now
+
+pub returns-clause-fewer : goal.returns-clause-fewer
+returns-clause-fewer c =
+    let rows = c.args.tokens.now in
+    record {
+      stays = λ h. not (h.row.scope == c.args.scope);
+      among = c.take_group.ensures;
+      elsewhere = λ other apart. ap (λ left. count_in_scope other (held_tokens left)) c.take_group.ensures
+          ∙ (ap (count_in_scope other) (filter_row (λ (t : Token). not (t.scope == c.args.scope)) rows) ∙ scope_out c.args.scope other apart (held_tokens rows));
+    }

@@ -1,0 +1,36 @@
+-- An incident stands on a cell that can't go on (Zeebe, incidents; BPMN 2.0.2, 13.4.2: an exception where no flow can be chosen).
+use Rattle.std.specs.Prelude.{[], ◌∷◌, ◌++◌, Bool, true, false, ◌&&◌, not, Option, Some, None}
+use Rattle.std.specs.Option.{option_map_or}
+use Rattle.std.specs.Result.{result_err}
+use Rattle.zb_tokens.specs.declared.board.Cell.{Cell}
+use Rattle.zb_tokens.specs.declared.board.Incident.{Incident}
+use Rattle.zb_tokens.specs.declared.board.Phase.{Phase}
+use Rattle.zb_tokens.specs.declared.board.Phase.TheVariants as phases
+use Rattle.zb_tokens.specs.Board.{Board, cell_at}
+use Rattle.zb_tokens.specs.Incidents.{Hindrance, is_stuck, tells_of}
+use Rattle.zb_tokens.specs.Mappings.{inputs_of}
+use Rattle.zb_tokens.specs.MoveLeave.{completion_of}
+
+-- in a phase a cell evaluates what it goes on with (BPMN 2.0.2, 13.3.2)
+abbrev pub evaluates : Phase → Bool
+evaluates phases.Activating = true
+evaluates phases.Completing = true
+evaluates phase = false
+
+-- what keeps a cell from going on in a phase: a fault of its inputs, or of its outputs or of what it is left by (BPMN 2.0.2, 13.3.2 and 13.4.2)
+abbrev pub hindrance_in : Board → Cell → Phase → Option Hindrance
+hindrance_in b c phases.Activating = result_err (inputs_of b c)
+hindrance_in b c phases.Completing = result_err (completion_of b c)
+hindrance_in b c phase = None
+
+-- when, but for what is evaluated: the cell is in such a phase, and isn't stuck (Zeebe, incidents)
+abbrev pub fits_incident : Board → Incident → Bool
+fits_incident b i = option_map_or (λ c. evaluates c.phase && not (is_stuck b c)) (cell_at b i.cell) false
+
+-- what is evaluated: it tells of what keeps the cell from going on (Zeebe, incidents)
+abbrev pub agrees_incident : Board → Incident → Bool
+agrees_incident b i = option_map_or (λ c. option_map_or (tells_of i) (hindrance_in b c c.phase) false) (cell_at b i.cell) false
+
+-- effect: it stands there (Zeebe, incidents)
+abbrev pub play_incident : Board → Incident → Option Board
+play_incident b i = Some (record b { incidents = b.incidents ++ i ∷ [] })
