@@ -39,7 +39,7 @@ pub ok_of : (text : List ℕ) (r : Result Tree ExprFault) → ComesAs (λ tree. 
 ok_of text (Ok tree) h = expr_read-is text tree h
 ok_of text (Err e) h = tt
 
-only_read : (text : List ℕ) (tree other : Tree) → expr_read text ≡ Some tree → expr_read text ≡ Some other → other ≡ tree
+pub only_read : (text : List ℕ) (tree other : Tree) → expr_read text ≡ Some tree → expr_read text ≡ Some other → other ≡ tree
 only_read text tree other h k = cc
 
 pub only_of : (text : List ℕ) (r : Result Tree ExprFault) → ComesAs (λ tree. tree) (expr_read text) r → IfOk r (λ tree. (other : Tree) → IsExpr text other → other ≡ tree)

@@ -5,8 +5,12 @@ pub mod FittingLemmas
 pub mod LevelLemmas
 pub mod LexicalLemmas
 pub mod ParsingLemmas
+pub mod PrintableLemmas
+pub mod PrintedUtf8Lemmas
+pub mod PrintingLemmas
 pub mod RunLemmas
 pub mod SoundLemmas
 pub mod SplittingLemmas
 pub mod Utf8Lemmas
 pub mod Worked
+pub mod WorkedPrinting

@@ -13,14 +13,14 @@ use Rattle.zb_expr.specs.Lexical.{are_in, backslashed, BeginsWith, number, word,
 use Rattle.zb_expr.proofs.LexicalLemmas.{both_true, quoted-gives, run-all, run-split, standing-read}
 
 -- what stands before a byte of ASCII
-utf8_before : (xs : List ℕ) (b : ℕ) (ys : List ℕ) → b < 128 → IsUtf8 (xs ++ b ∷ ys) → IsUtf8 xs
+pub utf8_before : (xs : List ℕ) (b : ℕ) (ys : List ℕ) → b < 128 → IsUtf8 (xs ++ b ∷ ys) → IsUtf8 xs
 utf8_before xs b ys small h =
     let at : get_or (xs ++ b ∷ ys) (length xs) 0 ≡ b = get_or_at xs b ys 0 (length xs) refl in
     let within : length xs < length (xs ++ b ∷ ys) = omega (arith, length-append xs (b ∷ ys)) in
     subst IsUtf8 (take_at xs (b ∷ ys) (length xs) refl) (IsUtf8-take (xs ++ b ∷ ys) (length xs) h (IsCharBoundary-before_ascii (xs ++ b ∷ ys) (length xs) within (omega (arith, at))))
 
 -- what stands behind it
-utf8_behind : (xs : List ℕ) (b : ℕ) (ys : List ℕ) → b < 128 → IsUtf8 (xs ++ b ∷ ys) → IsUtf8 ys
+pub utf8_behind : (xs : List ℕ) (b : ℕ) (ys : List ℕ) → b < 128 → IsUtf8 (xs ++ b ∷ ys) → IsUtf8 ys
 utf8_behind xs b ys small h =
     let at : get_or (xs ++ b ∷ ys) (length xs) 0 ≡ b = get_or_at xs b ys 0 (length xs) refl in
     let within : length xs < length (xs ++ b ∷ ys) = omega (arith, length-append xs (b ∷ ys)) in
@@ -29,7 +29,7 @@ utf8_behind xs b ys small h =
     subst IsUtf8 (drop_at (xs ++ b ∷ []) ys (length xs + 1) past) (subst (λ (zs : List ℕ). IsUtf8 (drop (length xs + 1) zs)) (sym (append_assoc xs (b ∷ []) ys)) rest)
 
 -- a byte of a class is ASCII
-class_byte : (class : Class) (b : ℕ) → is_in class b ≡ true → b < 128
+pub class_byte : (class : Class) (b : ℕ) → is_in class b ≡ true → b < 128
 class_byte classes.Digit b h = grind (arith, nat_tests)
 class_byte classes.Word b h = grind (arith, nat_tests)
 class_byte classes.Space b h = grind (arith, nat_tests)

@@ -4,5 +4,6 @@ pub mod Lexical
 pub mod Operand
 pub mod Outcome
 pub mod Postfix
+pub mod Printing
 pub mod Reading
 pub mod Spelling

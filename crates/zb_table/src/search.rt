@@ -1,5 +1,5 @@
 // Finding a place by its key.
-ghost use Rattle.std.specs.Prelude.{◌≡◌, IfOk, IfErr, false, [], option_map};
+ghost use Rattle.std.specs.Prelude.{◌≡◌, ◌≤◌, IfOk, IfErr, false, [], option_map};
 ghost use Rattle.std.specs.List.{list_any};
 ghost use Rattle.std.specs.Option.{option_map_or};
 ghost use Rattle.zb_table.specs.Rows.{first_passing, last_passing};
@@ -9,8 +9,8 @@ use crate::row::Place;
 use crate::{Query, Row};
 use zb_base::Key;
 
-/// How many places have lower keys. It takes one step where all have, and else the logarithm of how many
-/// places there are.
+/// How many places have lower keys. It takes one step where all have, and else the logarithm of how many places
+/// there are from the first that hasn't on.
 pub fn place_of<R: Row>(key: Key, places: &[Place<R>]) -> usize
     requires { AreOrdered R.key_in 0 places.now }
     ensures { result ≡ count_below key places.now }
@@ -26,7 +26,7 @@ fn search<R: Row>(key: Key, places: &[Place<R>]) -> usize
     requires { AreOrdered R.key_in 0 places.now }
     ensures { result ≡ count_below key places.now }
 {
-    let mut low = 0;
+    let mut low = lower_end(key, places);
     let mut high = places.len();
     while low < high {
         let middle = low + (high - low) / 2;
@@ -39,8 +39,24 @@ fn search<R: Row>(key: Key, places: &[Place<R>]) -> usize
     low
 }
 
-/// Where the place with this key is, or where it would be. It takes the logarithm of how many places there
-/// are.
+// How many places in front have lower keys at least; from there on there are at most eight times as many as from the
+// first that hasn't a lower one, or eight.
+fn lower_end<R: Row>(key: Key, places: &[Place<R>]) -> usize
+    requires { AreOrdered R.key_in 0 places.now }
+    ensures { result ≤ count_below key places.now }
+{
+    let mut width: usize = 8;
+    while width < places.len() {
+        let at = places.len() - width;
+        if places[at].key < key {
+            return at + 1;
+        }
+        width = width.saturating_mul(8);
+    }
+    0
+}
+
+/// Where the place with this key is, or where it would be. It costs what `place_of` does.
 pub fn find<R: Row>(key: Key, places: &[Place<R>]) -> Result<usize, usize>
     requires { AreOrdered R.key_in 0 places.now }
     ensures found { IfOk result (HasKey key places.now) }

@@ -4,7 +4,7 @@ use Rattle.zb_table.proofs.Finding.{count_within, none_behind, all_before, at_pl
 use Rattle.zb_table.proofs.search.search.Goals as goal
 
 pub loop-low-init : goal.loop-low-init
-loop-low-init g c = record { from = omega arith; to = count_within c.args.key c.args.places.now; within = omega arith }
+loop-low-init g c = record { from = c.lower_end-low.ensures; to = count_within c.args.key c.args.places.now; within = omega arith }
 
 pub loop-low-preserved-then-lt : goal.loop-low-preserved-then-lt
 loop-low-preserved-then-lt g c =
