@@ -7,6 +7,7 @@ pub mod BoardLemmas
 pub mod NewestLemmas
 pub mod InsideLemmas
 pub mod SweepLemmas
+pub mod UnseenLemmas
 pub mod KeyLemmas
 pub mod RestLemmas
 pub mod IndexedLemmas

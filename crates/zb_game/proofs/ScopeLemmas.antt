@@ -1,7 +1,7 @@
 -- Up the scopes from a cell, with the cells that are left as fuel.
 use Rattle.std.proofs.Common.{◌≡◌, ℕ, ◌+◌, ◌<◌, ◌==◌, List, [], ◌∷◌, All, length, drop, get_or, Bool, true, false, ◌||◌, cond, Option, Some, None, refl, sym, ◌∙◌, subst}
 use Rattle.std.specs.List.{find, list_any}
-use Rattle.std.specs.Option.{option_map_or}
+use Rattle.std.specs.Option.{option_map_or, option_or}
 use Rattle.std.proofs.lemmas.List.Elements.{All-head, All-tail}
 use Rattle.std.proofs.lemmas.List.{at_drop_more}
 use Rattle.zb_tokens.specs.declared.board.Cell.{Cell}
@@ -54,6 +54,11 @@ module _ (b : Board) (key : ℕ) (name : List ℕ) where
 
   pub value-none : (i : ℕ) → cell_at b key ≡ None → value_from (drop i b.cells) b key name ≡ None
   value-none i none = value_nowhere (drop i b.cells) none
+
+  -- what is seen is the value in the cell, or what is seen from the cell around it
+  pub value-step : (i : ℕ) (c : Cell) → i < length b.cells → cell_at b key ≡ Some c
+      → value_from (drop i b.cells) b key name ≡ option_or (value_named name c.variables) (value_from (drop (i + 1) b.cells) b c.scope name)
+  value-step i c within at = at_drop_more (λ cells. value_from cells b key name) b.cells i c within ∙ rw at refl
 
   pub value-at : (i : ℕ) (c : Cell) (value : Value) → i < length b.cells → cell_at b key ≡ Some c → value_named name c.variables ≡ Some value → value_from (drop i b.cells) b key name ≡ Some value
   value-at i c value within at is = at_drop_more (λ cells. value_from cells b key name) b.cells i c within ∙ rw (at, is) refl

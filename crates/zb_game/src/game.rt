@@ -32,6 +32,7 @@ mod stand;
 mod start;
 mod take;
 mod tokens;
+mod visible;
 
 use crate::edits::copy_of;
 use crate::inside::Inside;

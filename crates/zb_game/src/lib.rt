@@ -9,5 +9,6 @@ mod inside;
 mod keys;
 mod kinds;
 mod lookups;
+mod unseen;
 
 pub use game::{Game, GameFault};

@@ -13,7 +13,8 @@ ghost use Rattle.zb_rules.specs.Cancel.{has_root, is_terminating};
 ghost use Rattle.zb_rules.specs.Update.{is_named_in};
 ghost use Rattle.zb_rules.specs.Resolve.{has_incident};
 ghost use Rattle.zb_tokens.specs.Incidents.{incident_on};
-ghost use Rattle.zb_tokens.specs.Names.{holder_of};
+ghost use Rattle.zb_base.specs.Vars.{value_named};
+ghost use Rattle.zb_tokens.specs.Names.{holder_of, value_seen};
 ghost use Rattle.zb_views.specs.Definitions.{definitions, definition_for, greatest_version};
 ghost use Rattle.zb_faults.specs.Faults.{is_well_formed};
 ghost use Rattle.zb_rules.specs.Settling.{turn_of, turn_with, HasQuietGame};
@@ -38,7 +39,7 @@ use zb_game::Game;
 use zb_graph::Graph;
 use zb_model::{
     ElementActivating, Event, IncidentCreated, Key, MessagePublish, Model as ProcessModel, Moment,
-    PartitionId, ProcessCreated, Role, TableFault, TryCopy,
+    PartitionId, ProcessCreated, Role, TableFault, TryCopy, Vars,
 };
 use zb_table::Table;
 use zb_tokens::{Mover, Phase};
@@ -248,6 +249,15 @@ impl State {
             → result ≡ option_and_then (λ b. holder_of b scope name.now) (board_of es) }
     {
         self.game.holder_of(scope, name)
+    }
+
+    /// The variables that a cell sees: each name that it or a cell around it has, with the value in the nearest one. It
+    /// costs what `Game::visible` does.
+    pub fn visible(&self, alloc: Global, cell: Key) -> Result<Vars, AllocError>
+        ensures { (es : List Event) (b : Board) (name : List ℕ) → IsStateOf es self.now → board_of es ≡ Some b
+            → IfOk result (λ vars. value_named name vars ≡ value_seen b cell name) }
+    {
+        self.game.visible(alloc, cell)
     }
 
     /// The model of a definition, as a graph; `None` where the definition isn't there. It takes the logarithm of how

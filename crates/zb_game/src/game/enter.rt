@@ -7,9 +7,9 @@ ghost use Rattle.zb_tokens.specs.MoveEnter.{fits_enter, play_enter, stands_at};
 use crate::edits::new_cell;
 use crate::flows::flows_in;
 use crate::{Game, GameFault};
-use std::alloc::{AllocError, Global};
-use zb_base::{Key, Text};
-use zb_places::{Coming, are_on_each, has_come, joins, stands_coming};
+use std::alloc::Global;
+use zb_base::Key;
+use zb_places::{are_on_each, has_come, joins, stands_coming};
 use zb_tokens::Enter;
 
 impl Game {
@@ -72,19 +72,6 @@ impl Game {
         let cell = new_cell(alloc, e.key, e.scope, definition, e.node, before);
         self.add_cell(cell)?;
         Ok(())
-    }
-
-    // Takes the first token in a scope that comes to a node by a flow, or stands before it, if there is one.
-    fn take_coming(
-        &mut self,
-        alloc: Global,
-        scope: Key,
-        node: &str,
-        via: &str,
-    ) -> Result<(), AllocError>
-        ensures { OnOk result (self.new ≡ record self.old { tokens = without_first (stands_at scope (spot_of via.now node.now)) self.old.tokens }) }
-    {
-        self.take_first(alloc, scope, &Coming { node, via })
     }
 }
 

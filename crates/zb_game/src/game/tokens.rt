@@ -1,6 +1,7 @@
 // How tokens come and go on the board, and with them what is kept of them beside the board.
 ghost use Rattle.std.specs.Prelude.{◌≡◌, ◌==◌, ◌&&◌, ◌++◌, ◌∷◌, [], OnOk, filter, map, not};
 ghost use Rattle.zb_tokens.specs.declared.board.Spot.TheVariants as spots;
+ghost use Rattle.zb_tokens.specs.Board.{spot_of};
 ghost use Rattle.zb_tokens.specs.Edits.{without_first};
 ghost use Rattle.zb_tokens.specs.MoveEnter.{stands_at, without_each};
 
@@ -10,7 +11,7 @@ use crate::game::removals::wake;
 use crate::keys::keep_all;
 use std::alloc::{AllocError, Global};
 use zb_base::{Key, Text};
-use zb_places::{On, take_first, take_scope};
+use zb_places::{Coming, On, take_first, take_scope};
 use zb_table::Query;
 use zb_tokens::Token;
 
@@ -32,8 +33,8 @@ impl Game {
     }
 
     // Takes the first token in a scope that passes, if there is one. The scope may go on then, and the tokens in it may
-    // rest.
-    pub(super) fn take_first<Q: Query<Token>>(
+    // rest: they are to be looked at again.
+    fn take_first<Q: Query<Token>>(
         &mut self,
         alloc: Global,
         scope: Key,
@@ -41,13 +42,27 @@ impl Game {
     ) -> Result<(), AllocError>
         ensures { OnOk result (self.new ≡ record self.old { tokens = without_first (λ t. (t.scope == scope) && Q.passes query.now t) self.old.tokens }) }
     {
-        let numbers = copy_of(alloc, self.tokens.numbers_in(scope))?;
         let ascends = self.ascends;
         self.ascends = false;
         take_first(alloc, &mut self.tokens, scope, query)?;
         wake(&mut self.ready, &self.inside, scope)?;
         self.ascends = ascends;
         self.look_at(scope);
+        Ok(())
+    }
+
+    // Takes the first token in a scope that comes to a node by a flow, or stands before it, if there is one.
+    pub(super) fn take_coming(
+        &mut self,
+        alloc: Global,
+        scope: Key,
+        node: &str,
+        via: &str,
+    ) -> Result<(), AllocError>
+        ensures { OnOk result (self.new ≡ record self.old { tokens = without_first (stands_at scope (spot_of via.now node.now)) self.old.tokens }) }
+    {
+        let numbers = copy_of(alloc, self.tokens.numbers_in(scope))?;
+        self.take_first(alloc, scope, &Coming { node, via })?;
         self.look_at_tokens(numbers.as_slice());
         Ok(())
     }
@@ -61,9 +76,11 @@ impl Game {
     ) -> Result<(), AllocError>
         ensures { OnOk result (self.new ≡ record self.old { tokens = without_each scope (map spots.OnFlow flows.now) self.old.tokens }) }
     {
+        let numbers = copy_of(alloc, self.tokens.numbers_in(scope))?;
         for flow in flows {
             self.take_first_on(alloc, scope, flow.as_str())?;
         }
+        self.look_at_tokens(numbers.as_slice());
         Ok(())
     }
 
