@@ -26,14 +26,16 @@ pub trait Desk {
 
     /// How many partitions it has.
     fn partitions(&self) -> u32
-        ensures { (begun : Begun) (made : List Entry) → has begun made self.now → result ≡ length (basis begun).logs };
+        ensures { (begun : Begun) (made : List Entry) → has begun made self.now
+            → result ≡ length (basis begun).logs };
 
     /// Carries a request out at a reading of the clock, and does the units of work behind it: at `Ok` its entries are
     /// in the logs, and this is what it is answered. After an `Err` it has stopped, and is only closed.
     fn ask(&mut self, alloc: Global, reading: Moment, request: Request) -> Result<Answered, Stop>
         requires { (begun : Begun) × (made : List Entry) × has begun made self.old }
         ensures asked { (begun : Begun) (made : List Entry) → has begun made self.old
-            → IfOk result (IsAsked (basis begun) request reading made (λ entries. has begun entries self.new)) }
+            → IfOk result (IsAsked (basis begun) request reading made
+            (λ entries. has begun entries self.new)) }
         ensures cut { (begun : Begun) (made : List Entry) → has begun made self.old
             → IfErr result (λ stop. IsCut (basis begun) request reading made
             (λ entries unlogged. stopped begun entries unlogged stop self.new)) };

@@ -27,9 +27,11 @@ pub fn answer<D: Disk>(
     request: Request,
 ) -> Result<Answered, Stop>
     requires known { (account : Account D) × HasAccount account ledger.old }
-    ensures answered { (account : Account D) → HasAccount account ledger.old → account.opening.units ≡ units
+    ensures answered { (account : Account D) → HasAccount account ledger.old
+        → account.opening.units ≡ units
         → IfOk result (λ answered. IsAnsweredBy account request reading answered ledger.new) }
-    ensures cut { (account : Account D) → HasAccount account ledger.old → account.opening.units ≡ units
+    ensures cut { (account : Account D) → HasAccount account ledger.old
+        → account.opening.units ≡ units
         → IfErr result (λ stop. IsCutOff account request reading stop ledger.new) }
     ensures slots { slots_of ledger.new.partition ≡ slots_of ledger.old.partition }
 {

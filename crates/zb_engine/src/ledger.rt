@@ -80,7 +80,8 @@ impl<D: Disk> Ledger<D> {
 
     // The command that there is to do next by itself.
     fn next_by(&self, work: Work, reading: Moment) -> Option<Command>
-        ensures { (log : List Batch) → HasLog log self.now.partition → result ≡ command_by work reading log }
+        ensures { (log : List Batch) → HasLog log self.now.partition
+            → result ≡ command_by work reading log }
     {
         match work {
             Work::Due => self.partition.due(reading),

@@ -32,7 +32,8 @@ pub struct Solo<D: Disk> {
 impl<D: Disk> Solo<D> {
     /// The engine over a partition that was opened, which does at most so many units of work behind a request.
     pub fn new(alloc: Global, partition: Partition<D>, units: u64) -> Solo<D>
-        ensures { (opening : Opening D) → IsOpenedAs opening partition → opening.units ≡ units → HasMade opening [] result }
+        ensures { (opening : Opening D) → IsOpenedAs opening partition → opening.units ≡ units
+            → HasMade opening [] result }
     {
         Solo {
             ledger: Ledger {
@@ -48,8 +49,10 @@ impl<D: Disk> Solo<D> {
     /// `Err` it has stopped, and is only closed.
     pub fn deliver(&mut self, alloc: Global, reading: Moment) -> Result<u64, Stop>
         requires { (opening : Opening D) × (made : List Entry) × HasMade opening made self.old }
-        ensures delivered { (opening : Opening D) (made : List Entry) → HasMade opening made self.old
-            → IfOk result (IsDelivered (basis_in opening) reading made (λ entries. HasMade opening entries self.new)) }
+        ensures delivered { (opening : Opening D) (made : List Entry)
+            → HasMade opening made self.old
+            → IfOk result (IsDelivered (basis_in opening) reading made
+            (λ entries. HasMade opening entries self.new)) }
         ensures cut { (opening : Opening D) (made : List Entry) → HasMade opening made self.old
             → IfErr result (λ stop. IsDeliveryCut (basis_in opening) reading made
             (λ entries unlogged. HasEnded opening entries unlogged stop self.new)) }

@@ -25,15 +25,19 @@ pub fn answer_line<A: Desk, C: Clock>(
 ) -> Result<(), End>
     requires known { (begun : A.Begun) × (hours : Hours) × (answers : List Answer) × (line : List ℕ)
         × ComesNext (before_of hours (A.basis begun) number answers)
-        (clocks_of dial.old C.tells (C.moments clock.old)) (facts_by A.Desk begun desk.old) line shown.now }
+        (clocks_of dial.old C.tells (C.moments clock.old))
+        (facts_by A.Desk begun desk.old) line shown.now }
     ensures answered { (begun : A.Begun) (hours : Hours) (answers : List Answer) (line : List ℕ)
         → ComesNext (before_of hours (A.basis begun) number answers)
-        (clocks_of dial.old C.tells (C.moments clock.old)) (facts_by A.Desk begun desk.old) line shown.now
-        → OnOk result (IsAnswered (before_of hours (A.basis begun) number answers) line reply.new.items
+        (clocks_of dial.old C.tells (C.moments clock.old))
+        (facts_by A.Desk begun desk.old) line shown.now
+        → OnOk result (IsAnswered
+        (before_of hours (A.basis begun) number answers) line reply.new.items
         (clocks_of dial.new C.tells (C.moments clock.new)) (facts_by A.Desk begun desk.new)) }
     ensures unanswered { (begun : A.Begun) (hours : Hours) (answers : List Answer) (line : List ℕ)
         → ComesNext (before_of hours (A.basis begun) number answers)
-        (clocks_of dial.old C.tells (C.moments clock.old)) (facts_by A.Desk begun desk.old) line shown.now
+        (clocks_of dial.old C.tells (C.moments clock.old))
+        (facts_by A.Desk begun desk.old) line shown.now
         → IfErr result (IsUnanswered (before_of hours (A.basis begun) number answers) line
         (facts_by A.Desk begun desk.new)) }
     ensures kind { is_some dial.new ≡ is_some dial.old }

@@ -59,7 +59,8 @@ impl Dial {
 
     // Moves it on by so many milliseconds, at most to the last moment.
     fn advance(&mut self, ms: u64)
-        ensures moved { (now : ℕ) → self.old ≡ Some now → self.new ≡ Some (min (now + ms) last_moment) }
+        ensures moved { (now : ℕ) → self.old ≡ Some now
+            → self.new ≡ Some (min (now + ms) last_moment) }
         ensures none { self.old ≡ None → self.new ≡ None }
         ensures kind { is_some self.new ≡ is_some self.old }
     {
@@ -74,7 +75,8 @@ impl Dial {
         ensures read { (found : List (Result Request LineFault)) → self.now ≡ None
             → IsReadingOf (real C.tells (C.moments clock.old)) found result }
         ensures reading { (hours : Hours) (found : List (Result Request LineFault))
-            → AreAt hours found (clocks_of self.now C.tells (C.moments clock.old)) → IsReadingOf hours found result }
+            → AreAt hours found (clocks_of self.now C.tells (C.moments clock.old))
+            → IsReadingOf hours found result }
         ensures moments { C.moments clock.new ≡ C.moments clock.old }
         ensures untouched { IsTrue (is_some self.now) → clock.new ≡ clock.old }
     {
@@ -104,7 +106,8 @@ pub fn read_for<C: Clock>(request: &Request, dial: &mut Dial, clock: &mut C) -> 
         → IsReadingOf hours (found ++ Ok request.now ∷ []) result }
     ensures at { (hours : Hours) (found : List (Result Request LineFault))
         → AreAt hours found (clocks_of dial.old C.tells (C.moments clock.old))
-        → AreAt hours (found ++ Ok request.now ∷ []) (clocks_of dial.new C.tells (C.moments clock.new)) }
+        → AreAt hours (found ++ Ok request.now ∷ [])
+        (clocks_of dial.new C.tells (C.moments clock.new)) }
     ensures kind { is_some dial.new ≡ is_some dial.old }
     ensures moments { C.moments clock.new ≡ C.moments clock.old }
     ensures untouched { IsTrue (is_some dial.old) → clock.new ≡ clock.old }

@@ -25,19 +25,24 @@ pub fn serve_line<K: Sink, A: Desk, C: Clock>(
 ) -> Result<(), End>
     requires known { (begun : A.Begun) × (hours : Hours) × (answers : List Answer) × (line : List ℕ)
         × ComesNext (before_of hours (A.basis begun) number answers)
-        (clocks_of dial.old C.tells (C.moments clock.old)) (facts_by A.Desk begun desk.old) line shown.now }
+        (clocks_of dial.old C.tells (C.moments clock.old))
+        (facts_by A.Desk begun desk.old) line shown.now }
 
     // For every source, and all that may lie behind the line.
-    ensures replied { (tells counts : Bool) (begun : A.Begun) (hours : Hours) (answers : List Answer) (line : List ℕ)
+    ensures replied { (tells counts : Bool) (begun : A.Begun) (hours : Hours)
+        (answers : List Answer) (line : List ℕ)
         → ComesNext (before_of hours (A.basis begun) number answers)
-        (clocks_of dial.old C.tells (C.moments clock.old)) (facts_by A.Desk begun desk.old) line shown.now
+        (clocks_of dial.old C.tells (C.moments clock.old))
+        (facts_by A.Desk begun desk.old) line shown.now
         → OnOk result (IsReplied (streams_of tells counts K.Sink)
         (before_of hours (A.basis begun) number answers) line (K.view sink.old)
         (service_of (K.view sink.new) (clocks_of dial.new C.tells (C.moments clock.new))
         (facts_by A.Desk begun desk.new))) }
-    ensures over { (tells counts : Bool) (begun : A.Begun) (hours : Hours) (answers : List Answer) (line : List ℕ)
+    ensures over { (tells counts : Bool) (begun : A.Begun) (hours : Hours)
+        (answers : List Answer) (line : List ℕ)
         → ComesNext (before_of hours (A.basis begun) number answers)
-        (clocks_of dial.old C.tells (C.moments clock.old)) (facts_by A.Desk begun desk.old) line shown.now
+        (clocks_of dial.old C.tells (C.moments clock.old))
+        (facts_by A.Desk begun desk.old) line shown.now
         → IfErr result (IsLineEnd (streams_of tells counts K.Sink)
         (before_of hours (A.basis begun) number answers) line (K.view sink.old)
         (service_of (K.view sink.new) (clocks_of dial.new C.tells (C.moments clock.new))

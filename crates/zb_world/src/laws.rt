@@ -11,22 +11,28 @@ ghost use Rattle.zb_world.specs.Once.{HappensOnce};
 pub fn parts_are_logs_of_steps()
     ensures steps { (n p : ℕ) (h : List Entry) → IsHistory n h → AreStepsOn p n [] (part_of p h) }
     ensures joined { (p : ℕ) (a b : List Entry) → part_of p (a ++ b) ≡ part_of p a ++ part_of p b }
-    ensures places { (p first : ℕ) (a b : List Entry) → places_of p first (a ++ b) ≡ places_of p first a ++ places_of p (first + length a) b }
-    ensures count { (p first : ℕ) (h : List Entry) → length (places_of p first h) ≡ length (part_of p h) }
+    ensures places { (p first : ℕ) (a b : List Entry) → places_of p first (a ++ b)
+        ≡ places_of p first a ++ places_of p (first + length a) b }
+    ensures count { (p first : ℕ) (h : List Entry) → length (places_of p first h)
+        ≡ length (part_of p h) }
 {}
 
 /// No entries are a history; an entry that may be the next one goes on with one, and so do several, each behind those
 /// before it. The first few entries of a history are one.
 pub fn histories_go_on()
     ensures none { (n : ℕ) → IsHistory n [] }
-    ensures more { (n : ℕ) (h : List Entry) (entry : Entry) → IsHistory n h → IsEntryOf n h entry → IsHistory n (h ++ entry ∷ []) }
-    ensures joined { (n : ℕ) (h more : List Entry) → IsHistory n h → EachOn (IsEntryOf n) h more → IsHistory n (h ++ more) }
-    ensures front { (n : ℕ) (h : List Entry) (count : ℕ) → IsHistory n h → IsHistory n (take count h) }
+    ensures more { (n : ℕ) (h : List Entry) (entry : Entry) → IsHistory n h
+        → IsEntryOf n h entry → IsHistory n (h ++ entry ∷ []) }
+    ensures joined { (n : ℕ) (h more : List Entry) → IsHistory n h
+        → EachOn (IsEntryOf n) h more → IsHistory n (h ++ more) }
+    ensures front { (n : ℕ) (h : List Entry) (count : ℕ) → IsHistory n h
+        → IsHistory n (take count h) }
 {}
 
 /// A cut of a history is a history. The first few entries of a history are a cut of it, and so is the whole.
 pub fn cuts_are_histories()
-    ensures history { (n at : ℕ) (h cut : List Entry) → IsHistory n h → IsCutAt n at h cut → IsHistory n cut }
+    ensures history { (n at : ℕ) (h cut : List Entry) → IsHistory n h → IsCutAt n at h cut
+        → IsHistory n cut }
     ensures front { (n at : ℕ) (h : List Entry) → at ≤ length h → IsCutAt n at h (take at h) }
     ensures whole { (n : ℕ) (h : List Entry) → IsCutAt n (length h) h h }
 {}
@@ -40,19 +46,26 @@ pub fn once_in_a_history()
 /// them behind a log go on with its entries. The partition has all of these entries, and every place. A history of one
 /// partition is that of its log.
 pub fn logs_are_histories()
-    ensures history { (p n : ℕ) (log : List Batch) → IsPartitionOf n p → AreStepsOn p n [] log → EachOn RestsOn [] log → IsHistory n (entries_of p log) }
-    ensures more { (p n : ℕ) (log more : List Batch) → IsPartitionOf n p → AreStepsOn p n log more → EachOn RestsOn log more
+    ensures history { (p n : ℕ) (log : List Batch) → IsPartitionOf n p → AreStepsOn p n [] log
+        → EachOn RestsOn [] log → IsHistory n (entries_of p log) }
+    ensures more { (p n : ℕ) (log more : List Batch) → IsPartitionOf n p
+        → AreStepsOn p n log more → EachOn RestsOn log more
         → EachOn (IsEntryOf n) (entries_of p log) (entries_of p more) }
     ensures alone { (h : List Entry) → IsHistory 1 h → h ≡ entries_of 1 (part_of 1 h) }
     ensures part { (p : ℕ) (log : List Batch) → part_of p (entries_of p log) ≡ log }
-    ensures places { (p first : ℕ) (log : List Batch) → places_of p first (entries_of p log) ≡ range_with_len first (length log) }
+    ensures places { (p first : ℕ) (log : List Batch) → places_of p first (entries_of p log)
+        ≡ range_with_len first (length log) }
 {}
 
 /// Entries of n partitions are the same where each partition has the same batches at the same places; so are histories,
 /// whose entries are all of their partitions.
 pub fn entries_are_pinned()
-    ensures entries { (n first : ℕ) (a b : List Entry) → All (λ entry. IsPartitionOf n entry.partition) a → All (λ entry. IsPartitionOf n entry.partition) b
-        → ((p : ℕ) → IsPartitionOf n p → (part_of p a ≡ part_of p b) × (places_of p first a ≡ places_of p first b)) → a ≡ b }
+    ensures entries { (n first : ℕ) (a b : List Entry)
+        → All (λ entry. IsPartitionOf n entry.partition) a
+        → All (λ entry. IsPartitionOf n entry.partition) b
+        → ((p : ℕ) → IsPartitionOf n p
+        → (part_of p a ≡ part_of p b) × (places_of p first a ≡ places_of p first b)) → a ≡ b }
     ensures histories { (n first : ℕ) (a b : List Entry) → IsHistory n a → IsHistory n b
-        → ((p : ℕ) → IsPartitionOf n p → (part_of p a ≡ part_of p b) × (places_of p first a ≡ places_of p first b)) → a ≡ b }
+        → ((p : ℕ) → IsPartitionOf n p
+        → (part_of p a ≡ part_of p b) × (places_of p first a ≡ places_of p first b)) → a ≡ b }
 {}
