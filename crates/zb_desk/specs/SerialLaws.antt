@@ -7,10 +7,10 @@ use Rattle.std.proofs.lemmas.List.Folds.{list_any-append}
 use Rattle.zb_model.specs.declared.record.Batch.{Batch}
 use Rattle.zb_model.specs.declared.record.Command.{Command}
 use Rattle.zb_model.specs.declared.record.Command.TheVariants as commands
-use Rattle.zb_exchange_records.specs.declared.message.MessagePublished.{MessagePublished}
 use Rattle.zb_views.specs.View.{events_of}
 use Rattle.zb_rules.specs.Continue.{is_quiet}
-use Rattle.zb_rules.specs.Due.{due_message}
+use Rattle.zb_rules.specs.Due.{due_command}
+use Rattle.zb_rules.specs.DueLaws.{due_command_has}
 use Rattle.zb_rules.specs.Step.{EachOn}
 use Rattle.zb_rules.specs.StepLaws.{each_on_front, each_on_all, each_on_joined}
 use Rattle.zb_world.specs.Entries.{Entry}
@@ -38,15 +38,19 @@ once_no_unit : (p : ℕ) (a : Command) (done : List Entry) (q : ℕ) (command : 
 once_no_unit p a [] q command nounit is = some_pair IsNoUnit p q a command nounit is
 once_no_unit p a (entry ∷ done) q command nounit is = absurd (cc)
 
-due_pair : (p q : ℕ) (found : Option MessagePublished) (later : Option (ℕ × Command)) (command : Command) → (later ≡ Some (q, command) → IsNoUnit command)
-    → option_or (option_map (λ (c : Command). (p, c)) (option_map (λ (m : MessagePublished). commands.MessageExpire m.key) found)) later ≡ Some (q, command) → IsNoUnit command
-due_pair p q None later command behind is = behind is
-due_pair p q (Some m) later command behind is = some_pair IsNoUnit p q (commands.MessageExpire m.key) command refl is
+-- what is due in one log, or else in the later ones, is no unit of work
+due_pair : (p q : ℕ) (found : Option Command) (later : Option (ℕ × Command)) (command : Command) → ((c : Command) → found ≡ Some c → IsNoUnit c) → (later ≡ Some (q, command) → IsNoUnit command)
+    → option_or (option_map (λ (c : Command). (p, c)) found) later ≡ Some (q, command) → IsNoUnit command
+due_pair p q None later command here behind is = behind is
+due_pair p q (Some c) later command here behind is = some_pair IsNoUnit p q c command (here c refl) is
 
+-- time makes no unit of work due
 due_no_unit : (reading p : ℕ) (logs : List (List Batch)) (entries : List Entry) (q : ℕ) (command : Command) → due_in_logs reading p logs entries ≡ Some (q, command) → IsNoUnit command
 due_no_unit reading p [] entries q command is = absurd (cc)
 due_no_unit reading p (log ∷ logs) entries q command is =
-    due_pair p q (due_message reading (events_of (log_behind p log entries))) (due_in_logs reading (suc p) logs entries) command (due_no_unit reading (suc p) logs entries q command) is
+    let events = events_of (log_behind p log entries) in
+    due_pair p q (due_command reading events) (due_in_logs reading (suc p) logs entries) command
+    (due_command_has reading events IsNoUnit (λ key. refl) (λ key. refl)) (due_no_unit reading (suc p) logs entries q command) is
 
 tick_no_unit : (few : Bool) (due : Option (ℕ × Command)) (q : ℕ) (command : Command) → (due ≡ Some (q, command) → IsNoUnit command) → (if few then due else None) ≡ Some (q, command) → IsNoUnit command
 tick_no_unit true due q command nounit is = nounit is

@@ -1,28 +1,28 @@
 -- Tokens that rest go on resting, and those that don't go on being kept.
-use Rattle.std.proofs.Common.{◌≡◌, ℕ, zero, suc, ◌+◌, ◌==◌, List, [], ◌∷◌, ◌++◌, map, filter, length, All, get_or, slice_set, remove, Bool, true, false, not, ◌&&◌, ◌||◌, cond, if◌then◌else◌, is_some, Option, Some, None, option_map, refl, sym, ap, ◌∙◌, subst, arith}
+use Rattle.std.proofs.Common.{◌≡◌, ℕ, zero, suc, ◌==◌, List, [], ◌∷◌, ◌++◌, map, filter, All, get_or, slice_set, remove, Bool, true, false, not, ◌&&◌, ◌||◌, cond, is_some, Option, Some, None, option_map, option_and_then, refl, sym, ap, ◌∙◌, subst, arith}
 use Rattle.std.specs.List.{find, list_any, list_all}
 use Rattle.std.specs.Option.{option_map_or}
 use Rattle.std.proofs.lemmas.Bool.{and_parts}
 use Rattle.std.proofs.lemmas.Bool.Decides.{nat_tests}
-use Rattle.std.proofs.lemmas.List.Elements.{All-nil, All-cons, All-push, All-weaker, All-filter, All-head, All-tail}
+use Rattle.std.proofs.lemmas.List.Elements.{All-nil, All-cons, All-push, All-weaker, All-filter}
 use Rattle.zb_process.specs.declared.model.Model.{Model}
 use Rattle.zb_table.specs.Rows.{Ascend, row_at}
 use Rattle.zb_table.proofs.Ascending.{finds_more}
 use Rattle.zb_groups.specs.declared.held.Held.{Held}
 use Rattle.zb_groups.specs.Groups.{numbers_in}
-use Rattle.zb_groups.proofs.RowLemmas.{each_found, numbers_more}
+use Rattle.zb_groups.proofs.RowLemmas.{each_found}
 use Rattle.zb_tokens.specs.declared.board.Cell.{Cell}
 use Rattle.zb_tokens.specs.declared.board.Token.{Token}
 use Rattle.zb_tokens.specs.declared.board.Spot.{Spot}
-use Rattle.zb_tokens.specs.declared.board.Deployed.{Deployed}
 use Rattle.zb_tokens.specs.Edits.{is_none_of}
-use Rattle.zb_tokens.specs.Board.{Board, cell_at, model_under, is_spot, node_with}
-use Rattle.zb_tokens.specs.MoveEnter.{stands_at, stand_at_each, has_come, arrives, spots_of}
+use Rattle.zb_tokens.specs.Board.{Board, cell_at, is_spot, model_under, node_with}
+use Rattle.zb_tokens.specs.MoveEnter.{stands_at, has_come, arrives, spots_of}
 use Rattle.zb_tokens.specs.Doom.{is_called_off}
 use Rattle.zb_tokens.specs.Forced.{entry_at, can_enter}
-use Rattle.zb_places.specs.Places.{held_tokens, comes_in, IsFewer}
+use Rattle.zb_places.specs.Places.{held_tokens, comes_in, counts_for, IsFewer}
 use Rattle.zb_places.proofs.HeldLemmas.{number_in, scope_of, any_row, tokens_more}
 use Rattle.zb_game.specs.Indexed.{stays_out, is_kept}
+use Rattle.zb_game.specs.Searches.{scope_model, needs}
 use Rattle.zb_game.proofs.RestLemmas.{back}
 
 -- tokens come to a node where they stood before
@@ -207,7 +207,7 @@ module _ (scope : ℕ) where
   in_numbers (x ∷ rows) = All-cons (IsAmong (x ∷ rows)) x rows (among_first x rows)
       (All-weaker (IsAmong rows) (IsAmong (x ∷ rows)) (λ h later its. among_more (x.row.scope == scope) x h rows (later its)) rows (in_numbers rows))
 
-kept_left : (keys : List ℕ) (last n : ℕ) → is_kept keys n ≡ true → is_kept (keys ++ last ∷ []) n ≡ true
+pub kept_left : (keys : List ℕ) (last n : ℕ) → is_kept keys n ≡ true → is_kept (keys ++ last ∷ []) n ≡ true
 kept_left [] last n is = absurd (cc)
 kept_left (k ∷ keys) last n is = by_here (k == n) is (kept_left keys last n)
   where
@@ -215,7 +215,7 @@ kept_left (k ∷ keys) last n is = by_here (k == n) is (kept_left keys last n)
     by_here true is later = refl
     by_here false is later = later is
 
-kept_last : (keys : List ℕ) (n : ℕ) → is_kept (keys ++ n ∷ []) n ≡ true
+pub kept_last : (keys : List ℕ) (n : ℕ) → is_kept (keys ++ n ∷ []) n ≡ true
 kept_last [] n = let same : (n == n) ≡ true = grind (arith, nat_tests) in rw same refl
 kept_last (k ∷ keys) n = by_here (k == n) (kept_last keys n)
   where
@@ -223,19 +223,65 @@ kept_last (k ∷ keys) n = by_here (k == n) (kept_last keys n)
     by_here true is = refl
     by_here false is = is
 
+-- one of some keys with one behind them is among them, or is that one
+pub kept_or : {G : Type 0} (keys : List ℕ) (last n : ℕ) → is_kept (keys ++ last ∷ []) n ≡ true → (is_kept keys n ≡ true → G) → (last ≡ n → G) → G
+kept_or [] last n is before at = at (grind (arith, nat_tests))
+kept_or (k ∷ keys) last n is before at = by_here (k == n) is before (λ later before. kept_or keys last n later before at)
+  where
+    by_here : {G : Type 0} (u : Bool) → (u || is_kept (keys ++ last ∷ []) n) ≡ true → ((u || is_kept keys n) ≡ true → G) → (is_kept (keys ++ last ∷ []) n ≡ true → (is_kept keys n ≡ true → G) → G) → G
+    by_here true is before later = before refl
+    by_here false is before later = later is before
+
+-- as many tokens are at a spot with one more that isn't there
+any_same : (p : Token → Bool) (t : Token) (ts : List Token) → p t ≡ false → list_any p (ts ++ t ∷ []) ≡ list_any p ts
+any_same p t [] out = rw out refl
+any_same p t (x ∷ ts) out = ap (λ (u : Bool). p x || u) (any_same p t ts out)
+
+nowhere_at : (s : Bool) → (s && false) ≡ false
+nowhere_at true = refl
+nowhere_at false = refl
+
+module _ (new : Token) (ts : List Token) where
+  each_same : (scope : ℕ) (spots : List Spot) → list_any (is_spot new.spot) spots ≡ false
+      → list_all (λ spot. list_any (stands_at scope spot) (ts ++ new ∷ [])) spots ≡ list_all (λ spot. list_any (stands_at scope spot) ts) spots
+  each_same scope [] out = refl
+  each_same scope (spot ∷ spots) out = by_first (is_spot new.spot spot) refl out (each_same scope spots)
+    where
+      by_first : (t : Bool) → is_spot new.spot spot ≡ t → (t || list_any (is_spot new.spot) spots) ≡ false
+          → (list_any (is_spot new.spot) spots ≡ false → list_all (λ s. list_any (stands_at scope s) (ts ++ new ∷ [])) spots ≡ list_all (λ s. list_any (stands_at scope s) ts) spots)
+          → (list_any (stands_at scope spot) (ts ++ new ∷ []) && list_all (λ s. list_any (stands_at scope s) (ts ++ new ∷ [])) spots) ≡ (list_any (stands_at scope spot) ts && list_all (λ s. list_any (stands_at scope s) ts) spots)
+      by_first true is out later = absurd (cc)
+      by_first false is out later =
+          let apart : stands_at scope spot new ≡ false = ap (λ (u : Bool). (new.scope == scope) && u) is ∙ nowhere_at (new.scope == scope) in
+          let here = any_same (stands_at scope spot) new ts apart in
+          ap (λ (u : Bool). u && list_all (λ s. list_any (stands_at scope s) (ts ++ new ∷ [])) spots) here ∙ ap (λ (u : Bool). list_any (stands_at scope spot) ts && u) (later out)
+
+  -- a token that doesn't need the new one comes where it came
+  comes_same : (m : Model) (x : Token) → counts_for m new.spot x ≡ false → comes_in m (ts ++ new ∷ []) x ≡ comes_in m ts x
+  comes_same m x out = by_way (entry_at m x.spot) out
+    where
+      by_way : (way : Option (List ℕ × List ℕ)) → option_map_or (λ w. list_any (is_spot new.spot) (spots_of m w.0 w.1)) way false ≡ false
+          → option_map_or (λ w. has_come m (ts ++ new ∷ []) x.scope w.0 w.1) way false ≡ option_map_or (λ w. has_come m ts x.scope w.0 w.1) way false
+      by_way None out = refl
+      by_way (Some w) out = ap (λ (u : Bool). is_some (node_with m w.0) && arrives m w.0 w.1 && (not (is_none_of (spots_of m w.0 w.1)) && u)) (each_same x.scope (spots_of m w.0 w.1) out)
+
+-- a token rests by the model of its scope
+out_by_model : (b : Board) (t : Token) → stays_out b t ≡ option_map_or (λ m. not (comes_in m b.tokens t)) (scope_model b t.scope) false
+out_by_model b t = by_cell_there (cell_at b t.scope)
+  where
+    by_cell_there : (found : Option Cell) → option_map_or (λ c. option_map_or (λ m. not (comes_in m b.tokens t)) (model_under b c.definition) false) found false
+        ≡ option_map_or (λ m. not (comes_in m b.tokens t)) (option_and_then (λ (c : Cell). model_under b c.definition) found) false
+    by_cell_there None = refl
+    by_cell_there (Some c) = refl
+
 module _ (b : Board) (new : Held Token) (coming coming' : List ℕ) (rows : List (Held Token)) (their : b.tokens ≡ held_tokens rows)
-    (still : (k : ℕ) → is_kept coming k ≡ true → is_kept coming' k ≡ true) (here : (k : ℕ) → is_kept (numbers_in scope_of new.row.scope (rows ++ new ∷ [])) k ≡ true → is_kept coming' k ≡ true) where
+    (still : (k : ℕ) → is_kept coming k ≡ true → is_kept coming' k ≡ true) (own : is_kept coming' new.number ≡ true) where
   abbrev after : Board
   after = record b { tokens = held_tokens (rows ++ new ∷ []) }
 
-  own : (new.row.scope == new.row.scope) ≡ true
-  own = grind (arith, nat_tests)
-
-  numbers : numbers_in scope_of new.row.scope (rows ++ new ∷ []) ≡ numbers_in scope_of new.row.scope rows ++ new.number ∷ []
-  numbers = numbers_more scope_of new.row.scope rows new ∙ rw own refl
-
-  kept_here : (k : ℕ) → is_kept (numbers_in scope_of new.row.scope rows ++ new.number ∷ []) k ≡ true → is_kept coming' k ≡ true
-  kept_here k is = here k (ap (λ (l : List ℕ). is_kept l k) numbers ∙ is)
+  -- a token is among the coming ones where it needs the new one
+  abbrev pub IsMet : Held Token → Type 0
+  IsMet x = (x.row.scope == new.row.scope) ≡ true → option_map_or (λ m. counts_for m new.row.spot x.row) (scope_model b new.row.scope) false ≡ true → is_kept coming' x.number ≡ true
 
   elsewhere : (x : Held Token) (spot : Spot) → (x.row.scope == new.row.scope) ≡ false → list_any (stands_at x.row.scope spot) (held_tokens (rows ++ new ∷ [])) ≡ true → list_any (stands_at x.row.scope spot) b.tokens ≡ true
   elsewhere x spot apart is =
@@ -243,15 +289,46 @@ module _ (b : Board) (new : Held Token) (coming coming' : List ℕ) (rows : List
       let out : stands_at x.row.scope spot new.row ≡ false = rw other refl in
       ap (list_any (stands_at x.row.scope spot)) their ∙ some_before (stands_at x.row.scope spot) new.row (held_tokens rows) out (ap (list_any (stands_at x.row.scope spot)) (sym (tokens_more rows new)) ∙ is)
 
-  one_awaited : (t : Bool) (x : Held Token) → (x.row.scope == new.row.scope) ≡ t → IsAmong new.row.scope rows x → IsAwaited b coming x → IsAwaited after coming' x
-  one_awaited true x its among awaited = λ moves. kept_here x.number (kept_left (numbers_in scope_of new.row.scope rows) new.number x.number (among its))
-  one_awaited false x apart among awaited =
+  -- in its scope
+  by_scope_model : (x : Held Token) (found : Option Model) → (option_map_or (λ m. counts_for m new.row.spot x.row) found false ≡ true → is_kept coming' x.number ≡ true)
+      → (option_map_or (λ m. not (comes_in m b.tokens x.row)) found false ≡ false → is_kept coming x.number ≡ true)
+      → option_map_or (λ m. not (comes_in m after.tokens x.row)) found false ≡ false → is_kept coming' x.number ≡ true
+  by_scope_model x None met awaited moves = still x.number (awaited refl)
+  by_scope_model x (Some m) met awaited moves = by_count (counts_for m new.row.spot x.row) refl met
+    where
+      by_count : (t : Bool) → counts_for m new.row.spot x.row ≡ t → (t ≡ true → is_kept coming' x.number ≡ true) → is_kept coming' x.number ≡ true
+      by_count true is met = met refl
+      by_count false is met =
+          let same : comes_in m (held_tokens (rows ++ new ∷ [])) x.row ≡ comes_in m b.tokens x.row =
+          ap (λ (ts : List Token). comes_in m ts x.row) (tokens_more rows new) ∙ (comes_same new.row (held_tokens rows) m x.row is ∙ ap (λ (ts : List Token). comes_in m ts x.row) (sym their)) in
+          still x.number (awaited (sym (ap not same) ∙ moves))
+
+  one_awaited : (t : Bool) (x : Held Token) → (x.row.scope == new.row.scope) ≡ t → IsMet x → IsAwaited b coming x → IsAwaited after coming' x
+  one_awaited true x its met awaited = λ moves.
+      let scope : x.row.scope ≡ new.row.scope = grind (arith, nat_tests) in
+      by_scope_model x (scope_model b x.row.scope)
+      (λ counts. met its (ap (λ (s : ℕ). option_map_or (λ m. counts_for m new.row.spot x.row) (scope_model b s) false) (sym scope) ∙ counts))
+      (λ before. awaited (out_by_model b x.row ∙ before))
+      (sym (out_by_model after x.row) ∙ moves)
+  one_awaited false x apart met awaited =
       awaited_on b after coming coming' x (out_on b after x.row (λ c is. same_cell c (cell_at b x.row.scope) is) (λ key m is. is) (λ m is. came m x.row b.tokens (held_tokens (rows ++ new ∷ [])) (λ spot there. elsewhere x spot apart there) is)) (still x.number) awaited
 
-  pub awaited_more : All (IsAwaited b coming) rows → All (IsAwaited after coming') (rows ++ new ∷ [])
-  awaited_more all = All-push (IsAwaited after coming') rows new
-      (λ k d within. one_awaited ((get_or rows k d).row.scope == new.row.scope) (get_or rows k d) refl (in_numbers new.row.scope rows k d within) (all k d within))
-      (λ moves. kept_here new.number (kept_last (numbers_in scope_of new.row.scope rows) new.number))
+  pub awaited_more : All IsMet rows → All (IsAwaited b coming) rows → All (IsAwaited after coming') (rows ++ new ∷ [])
+  awaited_more met all = All-push (IsAwaited after coming') rows new
+      (λ k d within. one_awaited ((get_or rows k d).row.scope == new.row.scope) (get_or rows k d) refl (met k d within) (all k d within))
+      (λ moves. own)
+
+-- a token that needs another one is met where those with the numbers in its scope are
+module _ (b : Board) (new : Token) (coming' : List ℕ) (rows : List (Held Token)) (up : Ascend number_in 0 rows)
+    (met : (k : ℕ) → is_kept (numbers_in scope_of new.scope rows) k ≡ true → needs (scope_model b new.scope) new rows k ≡ true → is_kept coming' k ≡ true) where
+  needs_own : (found : Option Model) (h : Held Token) → row_at number_in h.number rows ≡ Some h → option_map_or (λ m. counts_for m new.spot h.row) found false ≡ true → needs found new rows h.number ≡ true
+  needs_own None h there counts = absurd (cc)
+  needs_own (Some m) h there counts = rw there counts
+
+  pub all_met : All (λ (x : Held Token). (x.row.scope == new.scope) ≡ true → option_map_or (λ m. counts_for m new.spot x.row) (scope_model b new.scope) false ≡ true → is_kept coming' x.number ≡ true) rows
+  all_met = λ k d within its counts.
+      let h = get_or rows k d in
+      met h.number (in_numbers new.scope rows k d within its) (needs_own (scope_model b new.scope) h (each_found number_in 0 rows up k d within) counts)
 
 -- a token that was looked at
 module _ (b : Board) (coming coming' : List ℕ) (number : ℕ) (rows : List (Held Token)) (rests : option_map_or (λ h. stays_out b h.row) (row_at number_in number rows) true ≡ true)

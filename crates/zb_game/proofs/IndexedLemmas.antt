@@ -21,11 +21,12 @@ use Rattle.zb_tokens.specs.Doom.{calls_off}
 use Rattle.zb_game.specs.declared.inside.Inside.{Inside}
 use Rattle.zb_places.specs.Places.{held_tokens, count_in_scope, IsFewer}
 use Rattle.zb_game.specs.Inside.{cells_counted, cells_in, tokens_in}
+use Rattle.zb_game.specs.Searches.{scope_model, needs}
 use Rattle.zb_game.specs.Indexed.{IsIndexed, rests_in, stays_out, is_awake, is_kept}
 use Rattle.zb_game.proofs.EditLemmas.{mapped_from}
 use Rattle.zb_places.proofs.CountLemmas.{passing_more, passing_fewer, passing_same, passing_within}
 use Rattle.zb_game.proofs.RestLemmas.{fuller, fuller_by_child, IsSeen, IsCalling, seen_on}
-use Rattle.zb_game.proofs.ComingLemmas.{IsAwaited, awaited_on, awaited_model, awaited_cell, awaited_set, awaited_away, awaited_more, awaited_fewer, awaited_looked}
+use Rattle.zb_game.proofs.ComingLemmas.{all_met, awaited_model, awaited_cell, awaited_set, awaited_away, awaited_more, awaited_fewer, awaited_looked}
 
 -- without some the others go on ascending
 ascend_filter : {A : Type 0} (key : A → ℕ) (stays : A → Bool) (low : ℕ) (rows : List A) → Ascend key low rows → Ascend key low (filter stays rows)
@@ -175,9 +176,9 @@ module _ (b : Board) (rows : List (Held Token)) (inside : List Inside) (ready ca
 
   -- a token more
   pub kept_token : (h : Held Token) (coming' : List ℕ) → Ascend number_in 0 (rows ++ h ∷ []) → b.tokens ≡ held_tokens rows → ((k : ℕ) → is_kept coming k ≡ true → is_kept coming' k ≡ true)
-      → ((k : ℕ) → is_kept (numbers_in scope_of h.row.scope (rows ++ h ∷ [])) k ≡ true → is_kept coming' k ≡ true)
+      → is_kept coming' h.number ≡ true → ((k : ℕ) → is_kept (numbers_in scope_of h.row.scope rows) k ≡ true → needs (scope_model b h.row.scope) h.row rows k ≡ true → is_kept coming' k ≡ true)
       → IsIndexed (record b { tokens = held_tokens (rows ++ h ∷ []) }) (rows ++ h ∷ []) inside ready calling coming'
-  kept_token h coming' up their still here =
+  kept_token h coming' up their still own met =
       let after : Board = record b { tokens = held_tokens (rows ++ h ∷ []) } in
       let numbers : (k : ℕ) → tokens_in after k ≡ tokens_in b k + (if h.row.scope == k then 1 else 0) = λ k. ap (count_in_scope k) (tokens_more rows h ∙ ap (λ (ts : List Token). ts ++ h.row ∷ []) (sym their)) ∙ passing_more (λ (x : Token). x.scope == k) b.tokens h.row in
       record {
@@ -187,7 +188,7 @@ module _ (b : Board) (rows : List (Held Token)) (inside : List Inside) (ready ca
         cells_right = kept.cells_right;
         awake = All-weaker (IsSeen b ready) (IsSeen after ready) (λ x. seen_on b after ready ready x (λ m is. is) (fuller b after x.key (omega arith) (omega (arith, numbers x.key))) (λ is. is)) b.cells kept.awake;
         called = kept.called;
-        awaited = awaited_more b h coming coming' rows their still here kept.awaited;
+        awaited = awaited_more b h coming coming' rows their still own (all_met b h.row coming' rows kept.tokens_ascend met) kept.awaited;
       }
 
   -- tokens fewer in a scope, and that seen

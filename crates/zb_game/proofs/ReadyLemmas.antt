@@ -1,5 +1,5 @@
 -- The greatest key of the forced cells is the last one of the ready keys that is one of a forced cell.
-use Rattle.std.proofs.Common.{◌≡◌, ℕ, ◌+◌, ◌≤◌, ◌==◌, max, List, [], ◌∷◌, map, filter, get_or, All, Bool, true, false, not, ◌&&◌, ◌||◌, cond, if◌then◌else◌, Option, Some, None, refl, sym, ap, ◌∙◌, subst, arith}
+use Rattle.std.proofs.Common.{◌≡◌, ℕ, ◌+◌, ◌≤◌, ◌==◌, max, List, [], ◌∷◌, map, filter, get_or, All, Bool, true, false, not, ◌&&◌, ◌||◌, cond, if◌then◌else◌, Option, Some, None, is_some, refl, sym, ap, ◌∙◌, subst, arith}
 use Rattle.std.specs.Option.{option_map_or, option_or}
 use Rattle.std.specs.List.{find}
 use Rattle.std.proofs.lemmas.Bool.Decides.{nat_tests}
@@ -14,6 +14,8 @@ use Rattle.zb_tokens.specs.Edits.{is_none_of}
 use Rattle.zb_tokens.specs.Board.{Board, cell_at, model_under, has_child}
 use Rattle.zb_tokens.specs.Doom.{is_doomed}
 use Rattle.zb_tokens.specs.Incidents.{is_stuck}
+use Rattle.zb_tokens.specs.Marks.{error_of}
+use Rattle.zb_tokens.specs.MoveFinish.{is_done}
 use Rattle.zb_tokens.specs.Forced.{ends_in, goes_on_in, is_forced, greatest}
 use Rattle.zb_process.specs.declared.model.Model.{Model}
 use Rattle.zb_game.specs.declared.inside.Inside.{Inside}
@@ -32,11 +34,15 @@ both false t is = absurd (cc)
 -- a cell that goes on by itself doesn't rest
 goes_not_rests : (b : Board) (c : Cell) (phase : Phase) → goes_on_in b c phase ≡ true → rests_in b c phase ≡ false
 goes_not_rests b c phases.Activating goes = refl
-goes_not_rests b c phases.Active goes = by_model (model_under b c.definition) goes
+goes_not_rests b c phases.Active goes = by_error (is_some (error_of c.mark)) goes
   where
     by_model : (found : Option Model) → option_map_or (λ m. is_done_in m b c) found false ≡ true → option_map_or (λ m. not (is_done_in m b c)) found false ≡ false
     by_model None goes = refl
     by_model (Some m) goes = ap not goes
+
+    by_error : (t : Bool) → (t || is_done b c) ≡ true → (not t && option_map_or (λ m. not (is_done_in m b c)) (model_under b c.definition) false) ≡ false
+    by_error true goes = refl
+    by_error false goes = by_model (model_under b c.definition) goes
 goes_not_rests b c phases.Completing goes = refl
 goes_not_rests b c phases.Leaving goes = is_not (is_none_of c.owed) goes
 goes_not_rests b c phases.Terminating goes = is_not (has_child b c.key) goes

@@ -1,5 +1,5 @@
 -- What rests goes on resting, and what is seen or calls off goes on being kept.
-use Rattle.std.proofs.Common.{◌≡◌, ℕ, ◌≤◌, ◌==◌, List, Bool, true, false, not, ◌&&◌, ◌||◌, if◌then◌else◌, Option, Some, None, refl, sym, ap, ◌∙◌, arith}
+use Rattle.std.proofs.Common.{◌≡◌, ℕ, ◌≤◌, ◌==◌, List, Bool, true, false, not, ◌&&◌, ◌||◌, if◌then◌else◌, Option, Some, None, is_some, refl, sym, ap, ◌∙◌, arith}
 use Rattle.std.specs.Option.{option_map_or}
 use Rattle.std.proofs.lemmas.Bool.Decides.{nat_tests}
 use Rattle.zb_process.specs.declared.model.Model.{Model}
@@ -8,6 +8,7 @@ use Rattle.zb_tokens.specs.declared.board.Phase.{Phase}
 use Rattle.zb_tokens.specs.declared.board.Phase.TheVariants as phases
 use Rattle.zb_tokens.specs.Board.{Board, model_under, is_phase, is_scope_in, is_at, is_empty, has_child, in_phase}
 use Rattle.zb_tokens.specs.Doom.{calls_off}
+use Rattle.zb_tokens.specs.Marks.{error_of, has_come_about}
 use Rattle.zb_tokens.specs.MoveFinish.{waits_for_nothing}
 use Rattle.zb_game.specs.Inside.{cells_in, tokens_in}
 use Rattle.zb_game.specs.Indexed.{is_done_in, rests_in, is_kept}
@@ -52,19 +53,24 @@ fuller_by_child b b' scope some = (
 -- a cell that rests goes on resting where its model stays and something stays in it
 rests_on : (b b' : Board) (c : Cell) (phase : Phase) → ((m : Model) → model_under b c.definition ≡ Some m → model_under b' c.definition ≡ Some m) → IsFuller b b' c.key → rests_in b c phase ≡ true → rests_in b' c phase ≡ true
 rests_on b b' c phases.Activating models full is = is
-rests_on b b' c phases.Active models full is = by_model (model_under b c.definition) (model_under b' c.definition) models is
+rests_on b b' c phases.Active models full is = by_error (is_some (error_of c.mark)) is
   where
     by_full : (s t : Bool) → (s ≡ false → t ≡ false) → not s ≡ true → not t ≡ true
     by_full true t f is = absurd (cc)
     by_full false t f is = ap not (f refl)
 
-    by_scope : (m : Model) (t : Bool) → not (if t then is_empty b c.key else is_at m c.node waits_for_nothing) ≡ true → not (if t then is_empty b' c.key else is_at m c.node waits_for_nothing) ≡ true
+    by_scope : (m : Model) (t : Bool) → not (if t then is_empty b c.key else has_come_about c.mark || is_at m c.node waits_for_nothing) ≡ true → not (if t then is_empty b' c.key else has_come_about c.mark || is_at m c.node waits_for_nothing) ≡ true
     by_scope m true is = by_full (is_empty b c.key) (is_empty b' c.key) full.0 is
     by_scope m false is = is
 
     by_model : (found found' : Option Model) → ((m : Model) → found ≡ Some m → found' ≡ Some m) → option_map_or (λ m. not (is_done_in m b c)) found false ≡ true → option_map_or (λ m. not (is_done_in m b' c)) found' false ≡ true
     by_model None found' stays is = absurd (cc)
     by_model (Some m) found' stays is = let there : found' ≡ Some m = stays m refl in rw there (by_scope m (is_scope_in m c) is)
+
+    by_error : (t : Bool) → (not t && option_map_or (λ m. not (is_done_in m b c)) (model_under b c.definition) false) ≡ true
+        → (not t && option_map_or (λ m. not (is_done_in m b' c)) (model_under b' c.definition) false) ≡ true
+    by_error true is = absurd (cc)
+    by_error false is = by_model (model_under b c.definition) (model_under b' c.definition) models is
 rests_on b b' c phases.Completing models full is = is
 rests_on b b' c phases.Leaving models full is = is
 rests_on b b' c phases.Terminating models full is = full.1 is

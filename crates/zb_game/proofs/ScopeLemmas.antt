@@ -1,14 +1,14 @@
 -- Up the scopes from a cell, with the cells that are left as fuel.
-use Rattle.std.proofs.Common.{◌≡◌, ℕ, ◌+◌, ◌<◌, ◌==◌, List, [], ◌∷◌, All, length, drop, get_or, Bool, true, false, ◌||◌, cond, Option, Some, None, refl, sym, ◌∙◌, subst}
+use Rattle.std.proofs.Common.{◌≡◌, ℕ, ◌+◌, ◌<◌, ◌≤◌, ◌==◌, List, [], ◌∷◌, All, length, drop, get_or, Bool, true, false, ◌||◌, cond, Option, Some, None, refl, sym, ◌∙◌, subst}
 use Rattle.std.specs.List.{find, list_any}
 use Rattle.std.specs.Option.{option_map_or, option_or}
 use Rattle.std.proofs.lemmas.List.Elements.{All-head, All-tail}
-use Rattle.std.proofs.lemmas.List.{at_drop_more}
+use Rattle.std.proofs.lemmas.List.{at_drop_all, at_drop_more}
 use Rattle.zb_tokens.specs.declared.board.Cell.{Cell}
 use Rattle.zb_tokens.specs.Board.{Board, cell_at, is_root}
 use Rattle.zb_tokens.specs.Doom.{calls_off, is_called_off}
 use Rattle.zb_tokens.specs.MoveAssign.{has_name}
-use Rattle.zb_tokens.specs.Names.{holder_from, value_from}
+use Rattle.zb_tokens.specs.Names.{holder_from, root_from, value_from}
 use Rattle.zb_base.specs.Vars.{value_named}
 use Rattle.zb_base.specs.declared.value.Value.{Value}
 use Rattle.zb_game.proofs.RestLemmas.{IsCalling}
@@ -46,6 +46,22 @@ module _ (b : Board) (key : ℕ) (name : List ℕ) where
       → holder_from (drop i b.cells) b key name ≡ holder_from (drop (i + 1) b.cells) b c.scope name
   holder-above i c within at is = at_drop_more (λ cells. holder_from cells b key name) b.cells i c within ∙ rw (at, is) refl
 
+-- the same for the root
+module _ (b : Board) (key : ℕ) where
+  root_nowhere : (cells : List Cell) → cell_at b key ≡ None → root_from cells b key ≡ None
+  root_nowhere [] none = refl
+  root_nowhere (more ∷ cells) none = rw none refl
+
+  pub root-none : (i : ℕ) → cell_at b key ≡ None → root_from (drop i b.cells) b key ≡ None
+  root-none i none = root_nowhere (drop i b.cells) none
+
+  pub root-at : (i : ℕ) (c : Cell) → i < length b.cells → cell_at b key ≡ Some c → is_root c ≡ true → root_from (drop i b.cells) b key ≡ Some key
+  root-at i c within at is = at_drop_more (λ cells. root_from cells b key) b.cells i c within ∙ rw (at, is) refl
+
+  pub root-above : (i : ℕ) (c : Cell) → i < length b.cells → cell_at b key ≡ Some c → is_root c ≡ false
+      → root_from (drop i b.cells) b key ≡ root_from (drop (i + 1) b.cells) b c.scope
+  root-above i c within at is = at_drop_more (λ cells. root_from cells b key) b.cells i c within ∙ rw (at, is) refl
+
 -- the same for the value of a name
 module _ (b : Board) (key : ℕ) (name : List ℕ) where
   value_nowhere : (cells : List Cell) → cell_at b key ≡ None → value_from cells b key name ≡ None
@@ -54,6 +70,10 @@ module _ (b : Board) (key : ℕ) (name : List ℕ) where
 
   pub value-none : (i : ℕ) → cell_at b key ≡ None → value_from (drop i b.cells) b key name ≡ None
   value-none i none = value_nowhere (drop i b.cells) none
+
+  -- and where no cell is left
+  pub value-past : (i : ℕ) → length b.cells ≤ i → value_from (drop i b.cells) b key name ≡ None
+  value-past i past = at_drop_all (λ cells. value_from cells b key name) b.cells i past
 
   -- what is seen is the value in the cell, or what is seen from the cell around it
   pub value-step : (i : ℕ) (c : Cell) → i < length b.cells → cell_at b key ≡ Some c

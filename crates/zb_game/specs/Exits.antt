@@ -41,4 +41,4 @@ decided_by names n f key c = if decides names n f then Some (leave_by key c (owe
 -- the incident with a key on a cell, which tells of the fault of an expression, if it has one
 abbrev pub fault_told : ℕ → ℕ → Result Bool ValueFault → Option Move
 fault_told key cell (Ok truth) = None
-fault_told key cell (Err fault) = Some (moves.Incident (record { key = key; kind = kinds.ExtractValueError; cell = cell; text = text_of fault }))
+fault_told key cell (Err fault) = Some (moves.Incident (record { key = key; kind = kinds.ExtractValueError; cell = cell; job = 0; text = text_of fault }))

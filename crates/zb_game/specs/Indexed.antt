@@ -1,5 +1,5 @@
 -- What a game keeps beside its board, so that a move needs no walk.
-use Rattle.std.specs.Prelude.{◌≡◌, ℕ, ◌==◌, List, All, Bool, true, false, not, if◌then◌else◌}
+use Rattle.std.specs.Prelude.{◌≡◌, ℕ, ◌==◌, List, All, Bool, true, false, ◌&&◌, ◌||◌, not, is_some, if◌then◌else◌}
 use Rattle.std.specs.List.{list_any}
 use Rattle.std.specs.Option.{option_map_or}
 use Rattle.zb_process.specs.declared.model.Model.{Model}
@@ -12,18 +12,19 @@ use Rattle.zb_tokens.specs.declared.board.Phase.TheVariants as phases
 use Rattle.zb_tokens.specs.Edits.{is_none_of}
 use Rattle.zb_tokens.specs.Board.{Board, cell_at, model_under, is_at, is_scope_in, is_empty, has_child}
 use Rattle.zb_tokens.specs.Doom.{calls_off}
+use Rattle.zb_tokens.specs.Marks.{error_of, has_come_about}
 use Rattle.zb_tokens.specs.MoveFinish.{waits_for_nothing}
 use Rattle.zb_places.specs.Places.{comes_in}
 use Rattle.zb_game.specs.Inside.{cells_counted, cells_in}
 use Rattle.zb_game.specs.declared.inside.Inside.{Inside}
 
--- in a model nothing is left that an active cell waits for (BPMN 2.0.2, 13.2 and 13.3.4)
+-- in a model nothing is left that an active cell waits for (BPMN 2.0.2, 13.2, 13.3.3 and 13.3.4)
 abbrev pub is_done_in : Model → Board → Cell → Bool
-is_done_in m b c = if is_scope_in m c then is_empty b c.key else is_at m c.node waits_for_nothing
+is_done_in m b c = if is_scope_in m c then is_empty b c.key else has_come_about c.mark || is_at m c.node waits_for_nothing
 
--- an active cell rests, whatever models come: its model is there, and it waits for something (own)
+-- an active cell rests, whatever models come: no error was thrown in it, its model is there, and it waits for something (own)
 abbrev pub stays_active : Board → Cell → Bool
-stays_active b c = option_map_or (λ m. not (is_done_in m b c)) (model_under b c.definition) false
+stays_active b c = not (is_some (error_of c.mark)) && option_map_or (λ m. not (is_done_in m b c)) (model_under b c.definition) false
 
 -- in a phase a cell rests, whatever models come, where nobody is called off or stuck (own)
 abbrev pub rests_in : Board → Cell → Phase → Bool

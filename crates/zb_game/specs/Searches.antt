@@ -1,13 +1,18 @@
 -- Words of the player's own functions.
-use Rattle.std.specs.Prelude.{ℕ, ◌+◌, ◌==◌, nat_lt, List, [], ◌∷◌, map, filter, Bool, true, false, ◌&&◌, not, if◌then◌else◌, Option, Some, None, option_map}
+use Rattle.std.specs.Prelude.{ℕ, ◌==◌, nat_lt, List, [], ◌∷◌, map, filter, Bool, true, false, if◌then◌else◌, Option, Some, None, option_map, option_and_then}
 use Rattle.std.specs.Option.{option_map_or}
 use Rattle.std.specs.List.{list_any}
 use Rattle.std.specs.Str.{bytes_eq}
+use Rattle.zb_process.specs.declared.model.Model.{Model}
+use Rattle.zb_groups.specs.declared.held.Held.{Held}
+use Rattle.zb_groups.specs.Groups.{passes_at}
 use Rattle.zb_tokens.specs.declared.board.Cell.{Cell}
+use Rattle.zb_tokens.specs.declared.board.Token.{Token}
 use Rattle.zb_tokens.specs.declared.board.Move.{Move}
 use Rattle.zb_tokens.specs.declared.board.Move.TheVariants as moves
-use Rattle.zb_tokens.specs.Board.{Board, cell_at}
+use Rattle.zb_tokens.specs.Board.{Board, cell_at, model_under}
 use Rattle.zb_tokens.specs.Forced.{greatest, is_forced}
+use Rattle.zb_places.specs.Places.{counts_for}
 
 -- the key of a cell that may be there
 abbrev pub key_in : Option Cell → Option ℕ
@@ -34,6 +39,14 @@ left_after (first ∷ rest) id = if bytes_eq first id then rest else first ∷ r
 -- a token is in a scope
 abbrev pub has_token : Board → ℕ → Bool
 has_token b scope = list_any (λ t. t.scope == scope) b.tokens
+
+-- the model by which tokens move in a scope
+abbrev pub scope_model : Board → ℕ → Option Model
+scope_model b scope = option_and_then (λ c. model_under b c.definition) (cell_at b scope)
+
+-- in a model, if there is one, the token with a number needs a token like this to enter its node (own)
+abbrev pub needs : Option Model → Token → List (Held Token) → ℕ → Bool
+needs found t rows number = option_map_or (λ m. passes_at (counts_for m t.spot) rows number) found false
 
 -- how a token in a scope enters by the way that it has, where the new cell gets this key
 abbrev pub entry_by : ℕ → ℕ → Option (List ℕ × List ℕ) → Option Move

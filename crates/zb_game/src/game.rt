@@ -9,6 +9,7 @@ mod assign;
 mod changes;
 mod conditions;
 mod contents;
+mod done;
 mod doom;
 mod enter;
 mod entering;
@@ -23,6 +24,7 @@ mod leave;
 mod mappings;
 mod moves;
 mod names;
+mod needing;
 mod open;
 mod removals;
 mod repair;
@@ -31,8 +33,10 @@ mod seen;
 mod stand;
 mod start;
 mod take;
+mod throw;
 mod tokens;
 mod visible;
+mod work;
 
 use crate::edits::copy_of;
 use crate::inside::Inside;
@@ -175,6 +179,8 @@ impl Game {
             Move::Gone(key) => self.fits_gone(*key),
             Move::Assign(a) => self.fits_assign(a),
             Move::Update(a) => self.fits_update(a),
+            Move::Done(key) => self.fits_done(*key),
+            Move::Throw(t) => self.fits_throw(t),
             Move::Incident(i) => self.fits_incident(i),
             Move::Repair(key) => self.fits_repair(*key),
         }
@@ -183,8 +189,9 @@ impl Game {
     /// Plays a move, whether it fits or not; its texts go onto the board. `Illegal` says that its effect names a cell,
     /// a token, a model or an incident that isn't there, and nothing has changed; where all are there, only `Memory`
     /// is answered for a fault. After `Memory` the game is only dropped. What a move names is found as `fits` does. A
-    /// new cell, model or incident takes constant time; those behind one that goes move up. Where a token comes or goes,
-    /// the tokens in its scope are looked at again; each costs what an entry does in `fits`. A halt and a terminate end
+    /// new cell, model or incident takes constant time; those behind one that goes move up. Where a token comes, it
+    /// goes through those in its scope, and looks again at those that need one like it; where one goes, at those that
+    /// may enter by themselves. Each look costs what an entry does in `fits`. A halt and a terminate end
     /// go through all cells, where the scope that they empty has any, and through its tokens.
     pub fn play(&mut self, alloc: Global, m: Move) -> Result<(), GameFault>
         ensures played { OnOk result (played self.old m ≡ Some self.new) }
@@ -203,6 +210,8 @@ impl Game {
             Move::Gone(key) => self.gone(alloc, key),
             Move::Assign(a) => self.assign(a),
             Move::Update(a) => self.assign(a),
+            Move::Done(key) => self.done(key),
+            Move::Throw(t) => self.throw(t),
             Move::Incident(i) => self.raise(i),
             Move::Repair(key) => self.repair(key),
         }

@@ -1,12 +1,12 @@
 // What kinds of nodes stand in a model.
 ghost use Rattle.std.specs.Prelude.{◌≡◌, is_some};
-ghost use Rattle.zb_faults.specs.Elements.{is_at, is_terminate_end};
+ghost use Rattle.zb_faults.specs.Elements.{is_at, is_service_task, is_terminate_end};
 ghost use Rattle.zb_tokens.specs.Board.{is_scope_in};
 ghost use Rattle.zb_tokens.specs.Choice.{gateway_in};
 ghost use Rattle.zb_tokens.specs.MoveFinish.{waits_for_nothing};
 
 use zb_base::Key;
-use zb_faults::{is_exclusive_gateway, is_subprocess, is_terminate_end};
+use zb_faults::{is_exclusive_gateway, is_service_task, is_subprocess, is_terminate_end};
 use zb_graph::Graph;
 use zb_process::NodeKind;
 use zb_tokens::Cell;
@@ -40,6 +40,16 @@ pub fn terminates_at(model: &Graph, id: &str) -> bool
 {
     match model.node_with(id) {
         Some(node) => is_terminate_end(node.kind),
+        None => false,
+    }
+}
+
+/// Whether the node with an id is a service task.
+pub fn is_service_at(model: &Graph, id: &str) -> bool
+    ensures { result ≡ is_at model.now id.now is_service_task }
+{
+    match model.node_with(id) {
+        Some(node) => is_service_task(node.kind),
         None => false,
     }
 }

@@ -9,6 +9,7 @@ mod inside;
 mod keys;
 mod kinds;
 mod lookups;
+mod marks;
 mod unseen;
 
 pub use game::{Game, GameFault};

@@ -131,12 +131,98 @@ fn reads_values_for_a_scope(rt: HostRuntime) {
     assert!(rt; !update_of(&rt, alloc, above).local);
 }
 
+// The request that a line is.
+fn request_of(rt: &impl Abort, alloc: Global, line: &[u8]) -> Request {
+    match read_line(alloc, line, given(false)) {
+        Ok(request) => request,
+        Err(_) => panic!(rt; "no request"),
+    }
+}
+
+#[test]
+fn reads_an_activate(rt: HostRuntime) {
+    let line =
+        br#"{"op":"activate","type":"pay","worker":"","timeout":4000000000000,"max":1000,"partition":2}"#;
+    match &request_of(&rt, rt.alloc(), line) {
+        Request::Activate(asked) => {
+            assert!(rt; asked.kind.as_str() == "pay");
+            assert!(rt; asked.worker.as_str() == "");
+            assert!(rt; asked.timeout == 4_000_000_000_000);
+            assert!(rt; asked.most == 1_000);
+        }
+        _ => panic!(&rt; "no activate"),
+    }
+}
+
+// Whether it asks for what the lines below ask for.
+fn speaks_of_a_job(request: &Request) -> bool {
+    match request {
+        Request::Complete(done) => done.key.number() == 7 && is_int(&done.variables, "n", 1),
+        Request::Fail(failed) => {
+            failed.key.number() == 8 && failed.retries == 1_000_000 && failed.text.as_str() == "no"
+        }
+        Request::Throw(thrown) => thrown.key.number() == 9 && thrown.code.as_str() == "c",
+        Request::Retries(update) => update.key.number() == 10 && update.retries == 0,
+        _ => false,
+    }
+}
+
+#[test]
+fn reads_what_becomes_of_a_job(rt: HostRuntime) {
+    let lines = [
+        br#"{"op":"complete","key":7,"variables":{"n":1}}"#.as_slice(),
+        br#"{"op":"fail","key":8,"retries":1000000,"message":"no"}"#.as_slice(),
+        br#"{"op":"throw","key":9,"code":"c"}"#.as_slice(),
+        br#"{"op":"retries","key":10,"retries":0}"#.as_slice(),
+    ];
+    for line in lines {
+        assert!(rt; speaks_of_a_job(&request_of(&rt, rt.alloc(), line)));
+    }
+}
+
+// Whether this field of the line is outside its limits.
+fn is_outside(alloc: Global, line: &[u8], name: &str) -> bool {
+    match &read_line(alloc, line, given(false)) {
+        Err(LineFault::Range { field }) => field.as_str() == name,
+        _ => false,
+    }
+}
+
+#[test]
+fn keeps_the_limits_of_jobs(rt: HostRuntime) {
+    let lines = [
+        (
+            br#"{"op":"activate","type":"t","worker":"w","timeout":0,"max":1}"#.as_slice(),
+            "timeout",
+        ),
+        (
+            br#"{"op":"activate","type":"t","worker":"w","timeout":1,"max":0}"#.as_slice(),
+            "max",
+        ),
+        (
+            br#"{"op":"activate","type":"t","worker":"w","timeout":1,"max":1001}"#.as_slice(),
+            "max",
+        ),
+        (
+            br#"{"op":"fail","key":1,"retries":1000001}"#.as_slice(),
+            "retries",
+        ),
+        (
+            br#"{"op":"retries","key":1,"retries":1000001}"#.as_slice(),
+            "retries",
+        ),
+    ];
+    for (line, field) in lines {
+        assert!(rt; is_outside(rt.alloc(), line, field));
+    }
+}
+
 // A deploy with a node of each kind that is built, and a flow with a condition.
 const BUILT: &[u8] =
     br#"{"op":"deploy","model":{"process":"p","nodes":[{"id":"s","kind":"startEvent"},
     {"id":"u","kind":"subProcess","inputs":[{"source":"=a","target":"b"}],"outputs":[]},{"id":"g","kind":"parallelGateway","parent":"u"},{"id":"t","kind":"intermediateThrowEvent"},
     {"id":"x","kind":"exclusiveGateway","default":"f"},{"id":"e","kind":"endEvent"},
-    {"id":"k","kind":"endEvent","terminateEventDefinition":{}}],
+    {"id":"k","kind":"endEvent","terminateEventDefinition":{}},{"id":"j","kind":"serviceTask","type":"pay","isForCompensation":false}],
     "flows":[{"id":"f","sourceRef":"s","targetRef":"e","conditionExpression":"=a"}]}}"#;
 
 #[test]

@@ -188,11 +188,11 @@ impl<D: Disk> Partition<D> {
         }
     }
 
-    /// The command that is due first at this moment, if one is. It goes once through the buffered messages.
+    /// The command that is due first at this moment, if one is. It costs what `State::due` does.
     pub fn due(&self, now: Moment) -> Option<Command>
         ensures { (log : List Batch) → HasLog log self.now → result ≡ due_command now (events_of log) }
     {
-        self.state.due(now).map(Command::MessageExpire)
+        self.state.due(now)
     }
 
     /// Whether nobody is forced to move in its game. It costs what `State::quiet` does.

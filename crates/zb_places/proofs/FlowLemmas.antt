@@ -1,10 +1,11 @@
 -- The flows out of a node, and those into it.
-use Rattle.std.proofs.Common.{◌≡◌, ℕ, zero, suc, ◌+◌, ◌-◌, ◌≤◌, length-drop, ◌<◌, ◌==◌, Bool, true, false, not, ◌&&◌, if◌then◌else◌, List, [], ◌∷◌, ◌++◌, length, take, drop, get_or, slice_get, map, filter, Option, Some, refl, sym, ap, subst, ◌∙◌, arith}
+use Rattle.std.proofs.Common.{◌≡◌, ℕ, zero, suc, ◌+◌, ◌-◌, ◌≤◌, length-drop, ◌<◌, ◌==◌, Bool, true, false, not, ◌&&◌, ◌||◌, List, [], ◌∷◌, ◌++◌, length, take, drop, get_or, slice_get, map, filter, Option, Some, refl, sym, ap, subst, ◌∙◌, arith}
 use Rattle.std.proofs.lemmas.List.{take_all, take_more, drop_more, length-map, map-append, drop-map}
 use Rattle.std.proofs.lemmas.Option.{slice_get_within}
 use Rattle.std.proofs.lemmas.Bool.Decides.{nat_tests}
 use Rattle.std.specs.Str.{bytes_eq}
 use Rattle.std.specs.List.{list_any, list_all}
+use Rattle.zb_tokens.specs.Board.{is_spot}
 use Rattle.zb_tokens.specs.Edits.{is_none_of}
 use Rattle.zb_tokens.specs.MoveLeave.{are_among}
 use Rattle.zb_process.specs.declared.model.Flow.{Flow}
@@ -95,6 +96,16 @@ module _ (scope : ℕ) (tokens : List Token) (id : List ℕ) (ids rest : List (L
   -- one is, and the others are asked
   pub on_each-more : list_any (stands_at scope (spots.OnFlow id)) tokens ≡ true → on_each scope ids tokens ≡ on_each scope rest tokens
   on_each-more some = rw (left, some) refl
+
+-- a spot on a flow is on one of those with these ids where one of them is its id
+pub spot_among : (id : List ℕ) (ids : List (List ℕ)) → list_any (is_spot (spots.OnFlow id)) (map spots.OnFlow ids) ≡ list_any (bytes_eq id) ids
+spot_among id [] = refl
+spot_among id (x ∷ ids) = ap (λ (t : Bool). bytes_eq id x || t) (spot_among id ids)
+
+-- and one before a node is on none
+pub spot_apart : (node : List ℕ) (ids : List (List ℕ)) → list_any (is_spot (spots.BeforeNode node)) (map spots.OnFlow ids) ≡ false
+spot_apart node [] = refl
+spot_apart node (x ∷ ids) = spot_apart node ids
 
 -- where tokens aren't on each flow of some
 pub not_at_each : (scope : ℕ) (ids : List (List ℕ)) (tokens : List Token) → on_each scope ids tokens ≡ false → stand_at_each scope (map spots.OnFlow ids) tokens ≡ false

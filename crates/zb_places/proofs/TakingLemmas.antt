@@ -2,7 +2,7 @@
 use Rattle.std.proofs.Common.{◌≡◌, ℕ, ◌==◌, List, Bool, true, false, ◌&&◌, is_some, Option, Some, None, option_map, refl, sym, ap, subst, ◌∙◌}
 use Rattle.std.specs.List.{find, list_any}
 use Rattle.std.proofs.lemmas.Bool.{and_parts}
-use Rattle.zb_table.specs.Rows.{Ascend, row_at, without}
+use Rattle.zb_table.specs.Rows.{Ascend, without}
 use Rattle.zb_groups.specs.declared.held.Held.{Held}
 use Rattle.zb_tokens.specs.declared.board.Token.{Token}
 use Rattle.zb_places.specs.Places.{held_tokens, IsTokenTaken}

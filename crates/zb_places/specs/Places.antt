@@ -1,14 +1,16 @@
 -- Tokens under their numbers, in their scopes.
-use Rattle.std.specs.Prelude.{◌≡◌, ℕ, ◌+◌, ◌==◌, List, [], ◌∷◌, map, filter, length, Bool, true, false, if◌then◌else◌}
+use Rattle.std.specs.Prelude.{◌≡◌, ℕ, ◌+◌, ◌==◌, List, [], ◌∷◌, map, filter, length, Bool, false, if◌then◌else◌}
 use Rattle.std.specs.List.{list_any}
 use Rattle.std.specs.Option.{option_map_or}
 use Rattle.std.specs.Str.{bytes_eq}
 use Rattle.zb_process.specs.declared.model.Model.{Model}
 use Rattle.zb_groups.specs.declared.held.Held.{Held}
 use Rattle.zb_tokens.specs.declared.board.Token.{Token}
+use Rattle.zb_tokens.specs.declared.board.Spot.{Spot}
+use Rattle.zb_tokens.specs.Board.{is_spot}
 use Rattle.zb_tokens.specs.Edits.{without_first}
 use Rattle.zb_tokens.specs.Forced.{entry_at}
-use Rattle.zb_tokens.specs.MoveEnter.{has_come}
+use Rattle.zb_tokens.specs.MoveEnter.{has_come, spots_of}
 
 -- the tokens without their numbers
 abbrev pub held_tokens : List (Held Token) → List Token
@@ -22,6 +24,10 @@ count_apart (id ∷ ids) = count_apart ids + (if list_any (bytes_eq id) ids then
 -- in a model the tokens have come that a token needs to enter its node (BPMN 2.0.2, 13.3.2)
 abbrev pub comes_in : Model → List Token → Token → Bool
 comes_in m tokens t = option_map_or (λ way. has_come m tokens t.scope way.0 way.1) (entry_at m t.spot) false
+
+-- in a model a token at this spot is one of those that another token needs to enter its node (BPMN 2.0.2, 13.3.2 and 13.4.1)
+abbrev pub counts_for : Model → Spot → Token → Bool
+counts_for m spot t = option_map_or (λ way. list_any (is_spot spot) (spots_of m way.0 way.1)) (entry_at m t.spot) false
 
 -- how many of some tokens are in a scope (own)
 abbrev pub count_in_scope : ℕ → List Token → ℕ

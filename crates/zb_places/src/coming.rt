@@ -1,13 +1,14 @@
 // Which tokens have come to a node.
 ghost use Rattle.std.specs.Prelude.{◌≡◌, map};
+ghost use Rattle.std.specs.List.{list_any};
 ghost use Rattle.zb_tokens.specs.declared.board.Spot.TheVariants as spots;
-ghost use Rattle.zb_tokens.specs.Board.{flows_in, leads_to};
+ghost use Rattle.zb_tokens.specs.Board.{flows_in, is_spot, leads_to};
 ghost use Rattle.zb_tokens.specs.Forced.{way_by};
-ghost use Rattle.zb_tokens.specs.MoveEnter.{arrives, has_come, joins, stand_at_each};
-ghost use Rattle.zb_places.specs.Places.{comes_in, held_tokens};
+ghost use Rattle.zb_tokens.specs.MoveEnter.{arrives, has_come, joins, spots_of, stand_at_each};
+ghost use Rattle.zb_places.specs.Places.{comes_in, counts_for, held_tokens};
 
-use crate::flows::{are_on_each, count_into};
-use crate::standing::stands_coming;
+use crate::flows::{are_on_each, count_into, has_id};
+use crate::standing::{is_at, stands_coming};
 use zb_base::Key;
 use zb_faults::is_parallel_gateway;
 use zb_graph::Graph;
@@ -28,6 +29,44 @@ pub fn comes(model: &Graph, tokens: &Groups<Token>, token: &Token) -> bool
             }
             None => false,
         },
+    }
+}
+
+/// Whether in a model a token at a spot is one of those that another token needs to enter its node. At a gateway where
+/// flows join it goes through these.
+pub fn counts_for(model: &Graph, spot: &Spot, token: &Token) -> bool
+    ensures { result ≡ counts_for model.now spot.now token.now }
+{
+    match &token.spot {
+        Spot::BeforeNode(node) => counts_at(model, spot, node.as_str(), ""),
+        Spot::OnFlow(id) => match model.flow_with(id.as_str()) {
+            Some(flow) => {
+                let node = flow.to.as_str();
+                let via = way_by(model, node, id.as_str());
+                counts_at(model, spot, node, via)
+            }
+            None => false,
+        },
+    }
+}
+
+// Whether a spot is one of those from which tokens go as a node is entered by a flow.
+fn counts_at(model: &Graph, spot: &Spot, node: &str, via: &str) -> bool
+    ensures { result ≡ list_any (is_spot spot.now) (spots_of model.now node.now via.now) }
+{
+    if joins(model, node) {
+        return leads_there(model, spot, node);
+    }
+    is_at(spot, via, node)
+}
+
+// Whether a spot is on a flow into a node.
+fn leads_there(model: &Graph, spot: &Spot, node: &str) -> bool
+    ensures { result ≡ list_any (is_spot spot.now) (map spots.OnFlow (flows_in model.now node.now)) }
+{
+    match spot {
+        Spot::OnFlow(id) => has_id(id.as_str(), model, model.ins_of(node)),
+        Spot::BeforeNode(_) => false,
     }
 }
 

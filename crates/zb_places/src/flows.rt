@@ -42,8 +42,8 @@ pub fn count_into(model: &Graph, node: &str) -> usize
     count
 }
 
-// Whether one of the flows with these numbers has this id.
-fn has_id(id: &str, model: &Graph, numbers: &[u32]) -> bool
+/// Whether one of the flows with these numbers has this id.
+pub fn has_id(id: &str, model: &Graph, numbers: &[u32]) -> bool
     requires { (flows : List Flow) × (map (slice_get model.now.flows) numbers.now ≡ map Some flows) }
     ensures { (flows : List Flow) → map (slice_get model.now.flows) numbers.now ≡ map Some flows
         → result ≡ list_any (bytes_eq id.now) (map (λ f. f.id) flows) }

@@ -62,8 +62,8 @@ pub fn stands_on(scope: Key, flow: &str, tokens: &Groups<Token>) -> bool
     tokens.first_in(scope, &On { flow }).is_some()
 }
 
-// Whether a token there comes by the flow, or stands before the node where there is none.
-fn is_at(spot: &Spot, via: &str, node: &str) -> bool
+/// Whether a token there comes by the flow, or stands before the node where there is none.
+pub fn is_at(spot: &Spot, via: &str, node: &str) -> bool
     ensures { result ≡ is_spot spot.now (spot_of via.now node.now) }
 {
     match spot {

@@ -1,12 +1,13 @@
 ghost use Rattle.std.specs.Prelude.{◌≡◌, IsSome, Option, Some, None, IfOk};
+ghost use Rattle.std.specs.List.{filter_map};
 ghost use Rattle.zb_model.specs.declared.record.Event.{Event};
 ghost use Rattle.zb_wire.specs.First.{first_told};
 ghost use Rattle.zb_reply.specs.declared.reply.Reply.{Reply};
-ghost use Rattle.zb_reply.specs.Reply.{deploy_answer, create_answer, publish_answer, deployed_of, accepted_answer, answer_of};
+ghost use Rattle.zb_reply.specs.Reply.{deploy_answer, create_answer, publish_answer, deployed_of, activated_of, activated_job, accepted_answer, answer_of};
 
-use crate::{Created, DeployedReply, Reply};
+use crate::{ActivatedJob, Created, DeployedReply, Reply};
 use std::alloc::{AllocError, Global};
-use zb_model::{Batch, Command, Event, Outcome, ProcessCreated, TryCopy};
+use zb_model::{Batch, Command, Event, JobActivated, List, Outcome, ProcessCreated, TryCopy};
 
 /// The reply to the request whose command became this batch.
 #[tactic(auto, unfolding(crate::specs::Reply::answer_of))]
@@ -30,6 +31,11 @@ fn accepted_answer(alloc: Global, command: &Command, events: &[Event]) -> Result
         Command::ProcessInstanceCreationCreate(_) => first_told::<Creating>(alloc, events),
         Command::ProcessInstanceCancel(key) => Ok(Reply::Cancel(*key)),
         Command::VariableDocumentUpdate(update) => Ok(Reply::Variables(update.scope)),
+        Command::JobBatchActivate(_) => Ok(Reply::Activate(activated_jobs(alloc, events)?)),
+        Command::JobComplete(completion) => Ok(Reply::Complete(completion.key)),
+        Command::JobFail(failure) => Ok(Reply::Fail(failure.key)),
+        Command::JobThrowError(thrown) => Ok(Reply::Throw(thrown.key)),
+        Command::JobUpdateRetries(update) => Ok(Reply::Retries(update.key)),
         Command::MessagePublish(_) => first_told::<Publishing>(alloc, events),
         Command::IncidentResolve(key) => Ok(Reply::Resolve(*key)),
         _ => unreachable!(),
@@ -113,5 +119,33 @@ fn deployed_of(alloc: Global, created: &ProcessCreated) -> Result<DeployedReply,
         definition: created.key,
         process: created.model.process.copy(alloc)?,
         version: created.version,
+    })
+}
+
+// The jobs that a worker was given by these events.
+fn activated_jobs(alloc: Global, events: &[Event]) -> Result<List<ActivatedJob>, AllocError>
+    ensures { IfOk result (λ jobs. jobs ≡ filter_map activated_job events.now) }
+{
+    let mut jobs = List::empty(alloc);
+    for event in events {
+        if let Event::JobActivated(activated) = event {
+            jobs.push(activated_of(alloc, activated)?)?;
+        }
+    }
+    Ok(jobs)
+}
+
+// What is told of a job that a worker was given.
+fn activated_of(alloc: Global, activated: &JobActivated) -> Result<ActivatedJob, AllocError>
+    ensures { IfOk result (λ job. job ≡ activated_of activated.now) }
+{
+    Ok(ActivatedJob {
+        deadline: activated.deadline,
+        element: activated.node.copy(alloc)?,
+        instance: activated.instance,
+        job: activated.key,
+        retries: activated.retries,
+        kind: activated.kind.copy(alloc)?,
+        variables: activated.variables.copy(alloc)?,
     })
 }

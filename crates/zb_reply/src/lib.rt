@@ -7,4 +7,4 @@ mod reply;
 
 pub use answer::reply_of;
 pub use line::reply_text;
-pub use reply::{Created, DeployedReply, Reply};
+pub use reply::{ActivatedJob, Created, DeployedReply, Reply};

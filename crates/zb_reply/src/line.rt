@@ -1,11 +1,12 @@
-ghost use Rattle.std.specs.Prelude.{◌≡◌, ◌++◌, false, map, string_bytes, IfOk, OnOk, OnErr};
+ghost use Rattle.std.specs.Prelude.{◌≡◌, ◌∷◌, [], ◌++◌, ℕ, List, false, string_bytes, IfOk, OnOk, OnErr};
+ghost use Rattle.std.specs.Fmt.{signed_decimal};
 ghost use Rattle.zb_reply.specs.Member.{member_of};
-ghost use Rattle.zb_reply.specs.Reply.{line_of, ok_line, rejected_line, fault_line, name_text, comma_behind, member_text, members_text, quoted, kind_name, fault_name, fault_field, fault_path, units_of, IsSpoken};
+ghost use Rattle.zb_reply.specs.Reply.{a_number, line_of, ok_line, rejected_line, fault_line, name_text, comma_behind, listed, member_text, job_members, job_text, jobs_text, variable_text, value_text, truth_text, quoted, kind_name, fault_name, fault_field, fault_path, units_of, IsSpoken};
 
-use crate::Reply;
+use crate::{ActivatedJob, Reply};
 use serde_json::Value as Json;
 use std::alloc::{AllocError, Global};
-use zb_model::{Rejection, RejectionKind};
+use zb_model::{Key, Rejection, RejectionKind, Value, Variable};
 use zb_wire::LineFault;
 
 // So many bytes are room for the line of most replies.
@@ -32,7 +33,12 @@ pub fn reply_text(
 enum Member<'t> {
     Number(&'static str, u64),
     Text(&'static str, &'t str),
+    Variables(&'static str, &'t [Variable]),
 }
+
+// The jobs that a line tells.
+#[derive(Clone, Copy)]
+struct Jobs<'t>(&'t [ActivatedJob]);
 
 // The line of a reply.
 #[tactic(auto, unfolding(crate::specs::Reply::line_of))]
@@ -57,10 +63,14 @@ fn line(alloc: Global, reply: &Reply, units: Option<u64>) -> Result<String, Allo
             ],
             units,
         ),
-        Reply::Cancel(key) => ok_line(alloc, &[Member::Number("instance", key.number())], units),
-        Reply::Variables(key) => ok_line(alloc, &[Member::Number("scope", key.number())], units),
-        Reply::Publish(key) => ok_line(alloc, &[Member::Number("message", key.number())], units),
-        Reply::Resolve(key) => ok_line(alloc, &[Member::Number("incident", key.number())], units),
+        Reply::Cancel(key) => key_line(alloc, "instance", *key, units),
+        Reply::Variables(key) => key_line(alloc, "scope", *key, units),
+        Reply::Activate(jobs) => ok_line(alloc, &[Jobs(jobs.as_slice())], units),
+        Reply::Complete(key) | Reply::Fail(key) | Reply::Throw(key) | Reply::Retries(key) => {
+            key_line(alloc, "job", *key, units)
+        }
+        Reply::Publish(key) => key_line(alloc, "message", *key, units),
+        Reply::Resolve(key) => key_line(alloc, "incident", *key, units),
         Reply::Tick(due) => ok_line(alloc, &[Member::Number("due", *due)], units),
         Reply::Advance(now) => ok_line(alloc, &[Member::Number("now", now.ms())], units),
         Reply::Rejected(rejection) => rejected_line(alloc, rejection, units),
@@ -68,29 +78,52 @@ fn line(alloc: Global, reply: &Reply, units: Option<u64>) -> Result<String, Allo
     }
 }
 
-// The line of a request that was done, which tells these.
-fn ok_line(alloc: Global, told: &[Member], units: Option<u64>) -> Result<String, AllocError>
+// The line of a request that was done, which tells this key under this name.
+fn key_line(
+    alloc: Global,
+    name: &'static str,
+    key: Key,
+    units: Option<u64>,
+) -> Result<String, AllocError>
     ensures { IfOk result (λ line. string_bytes line
-        ≡ ok_line (members_text false (map member_of told.now)) units) }
+        ≡ ok_line (listed member_text false (a_number name.now key ∷ [])) units) }
+{
+    ok_line(alloc, &[Member::Number(name, key.number())], units)
+}
+
+// The line of a request that was done, which tells these.
+fn ok_line<T: Listed>(alloc: Global, told: &[T], units: Option<u64>) -> Result<String, AllocError>
+    ensures { IfOk result (λ line. string_bytes line
+        ≡ ok_line (listed T.text false told.now) units) }
 {
     let mut line = String::with_capacity(alloc, LINE_ROOM)?;
     line.push_str("{\"ok\":{")?;
-    push_members(alloc, &mut line, told)?;
+    push_listed(alloc, &mut line, told)?;
     line.push_str("}")?;
     push_units(&mut line, units)?;
     line.push_str("}\n")?;
     Ok(line)
 }
 
-// Appends what a line tells, with commas between.
-fn push_members(alloc: Global, line: &mut String, told: &[Member]) -> Result<(), AllocError>
+// What stands in a line beside others, with commas between.
+trait Listed {
+    // Its text.
+    ghost text: { Self → List ℕ };
+
+    // Appends it.
+    fn push(&self, alloc: Global, line: &mut String) -> Result<(), AllocError>
+        ensures { OnOk result (string_bytes line.new ≡ string_bytes line.old ++ text self.now) };
+}
+
+// Appends these, with commas between.
+fn push_listed<T: Listed>(alloc: Global, line: &mut String, items: &[T]) -> Result<(), AllocError>
     ensures { OnOk result (string_bytes line.new
-        ≡ string_bytes line.old ++ members_text false (map member_of told.now)) }
+        ≡ string_bytes line.old ++ listed T.text false items.now) }
 {
     let mut behind = false;
-    for member in told {
+    for item in items {
         push_comma(line, behind)?;
-        push_member(alloc, line, member)?;
+        item.push(alloc, line)?;
         behind = true;
     }
     Ok(())
@@ -106,20 +139,114 @@ fn push_comma(line: &mut String, behind: bool) -> Result<(), AllocError>
     Ok(())
 }
 
-// Appends a name and what is told under it.
-fn push_member(alloc: Global, line: &mut String, member: &Member) -> Result<(), AllocError>
-    ensures { OnOk result (string_bytes line.new
-        ≡ string_bytes line.old ++ member_text (member_of member.now)) }
+// A name and what is told under it.
+impl Listed for Member<'_> {
+    ghost text = { λ member. member_text (member_of member) };
+
+    fn push(&self, alloc: Global, line: &mut String) -> Result<(), AllocError> {
+        match self {
+            Member::Number(name, number) => {
+                push_name(line, name)?;
+                line.write(*number)
+            }
+            Member::Text(name, text) => {
+                push_name(line, name)?;
+                push_quoted(alloc, line, text)
+            }
+            Member::Variables(name, variables) => {
+                push_name(line, name)?;
+                line.push_str("{")?;
+                push_listed(alloc, line, variables)?;
+                line.push_str("}")
+            }
+        }
+    }
+}
+
+// A variable as a member of an object.
+impl Listed for Variable {
+    ghost text = { variable_text };
+
+    fn push(&self, alloc: Global, line: &mut String) -> Result<(), AllocError> {
+        push_quoted(alloc, line, self.name.as_str())?;
+        line.push_str(":")?;
+        push_value(alloc, line, &self.value)
+    }
+}
+
+// Appends the value of a variable.
+fn push_value(alloc: Global, line: &mut String, value: &Value) -> Result<(), AllocError>
+    ensures { OnOk result (string_bytes line.new ≡ string_bytes line.old ++ value_text value.now) }
 {
-    match member {
-        Member::Number(name, number) => {
-            push_name(line, name)?;
-            line.write(*number)
+    match value {
+        Value::Int(number) => line.write(*number),
+        Value::Bool(flag) => line.push_str(truth_text(*flag)),
+        Value::Text(text) => push_quoted(alloc, line, text.as_str()),
+        Value::List(numbers) => {
+            line.push_str("[")?;
+            push_listed(alloc, line, numbers.as_slice())?;
+            line.push_str("]")
         }
-        Member::Text(name, text) => {
-            push_name(line, name)?;
-            push_quoted(alloc, line, text)
-        }
+    }
+}
+
+// A truth value in a reply.
+fn truth_text(flag: bool) -> &'static str
+    ensures { result.now ≡ truth_text flag }
+{
+    if flag { "true" } else { "false" }
+}
+
+// A number of a list.
+impl Listed for i64 {
+    ghost text = { signed_decimal };
+
+    fn push(&self, _alloc: Global, line: &mut String) -> Result<(), AllocError> {
+        line.write(*self)
+    }
+}
+
+// A job as an object.
+impl Listed for ActivatedJob {
+    ghost text = { job_text };
+
+    fn push(&self, alloc: Global, line: &mut String) -> Result<(), AllocError> {
+        line.push_str("{")?;
+        push_job(alloc, line, self)?;
+        line.push_str("}")
+    }
+}
+
+// Appends what is told of a job.
+#[tactic(auto, unfolding(crate::specs::Reply::job_members))]
+fn push_job(alloc: Global, line: &mut String, job: &ActivatedJob) -> Result<(), AllocError>
+    ensures { OnOk result (string_bytes line.new
+        ≡ string_bytes line.old ++ listed member_text false (job_members job.now)) }
+{
+    push_listed(
+        alloc,
+        line,
+        &[
+            Member::Number("deadline", job.deadline.ms()),
+            Member::Text("element", job.element.as_str()),
+            Member::Number("instance", job.instance.number()),
+            Member::Number("job", job.job.number()),
+            Member::Number("retries", u64::from(job.retries)),
+            Member::Text("type", job.kind.as_str()),
+            Member::Variables("variables", job.variables.as_slice()),
+        ],
+    )
+}
+
+// Jobs under their name.
+impl Listed for Jobs<'_> {
+    ghost text = { λ jobs. jobs_text jobs.0.now };
+
+    fn push(&self, alloc: Global, line: &mut String) -> Result<(), AllocError> {
+        push_name(line, "jobs")?;
+        line.push_str("[")?;
+        push_listed(alloc, line, self.0)?;
+        line.push_str("]")
     }
 }
 

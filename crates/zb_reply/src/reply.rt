@@ -1,4 +1,4 @@
-use zb_model::{Key, Moment, Rejection, Text};
+use zb_model::{Key, List, Moment, Rejection, Text, Vars};
 use zb_wire::LineFault;
 
 /// What a line is answered.
@@ -12,6 +12,16 @@ pub enum Reply {
     Cancel(Key),
     /// The values were set, from the cell of this key on.
     Variables(Key),
+    /// A worker was given these jobs.
+    Activate(List<ActivatedJob>),
+    /// The job of this key is done.
+    Complete(Key),
+    /// The job of this key failed.
+    Fail(Key),
+    /// The job of this key ended by an error.
+    Throw(Key),
+    /// The job of this key has so many tries left as was asked for.
+    Retries(Key),
     /// The message was published under this key.
     Publish(Key),
     /// The incident of this key is resolved.
@@ -39,4 +49,17 @@ pub struct DeployedReply {
 pub struct Created {
     pub definition: Key,
     pub instance: Key,
+}
+
+/// A job that a worker was given: what it has to do, and until when.
+#[derive(Drop)]
+pub struct ActivatedJob {
+    pub deadline: Moment,
+    pub element: Text,
+    pub instance: Key,
+    pub job: Key,
+    pub retries: u32,
+    pub kind: Text,
+    /// What the element sees.
+    pub variables: Vars,
 }

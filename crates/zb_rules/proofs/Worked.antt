@@ -1,8 +1,9 @@
 -- Plays worked out by hand: of one start event, one flow and one end event; with two end events; of a fork and a join; of a subprocess that a terminate
--- end event ends; of one that is cancelled while a task waits in it; the variables that an update sets; of choices at an exclusive gateway, with their incidents; and of
--- what a subprocess takes in and gives out, with its incidents.
+-- end event ends; of one that is cancelled while a task waits in it; the variables that an update sets; of choices at an exclusive gateway, with their incidents; of
+-- what a subprocess takes in and gives out, with its incidents; and of a job that is given out, taken back and completed, that fails, or in which an error is thrown.
 use Rattle.std.proofs.Common.{◌≡◌, ℕ, List, [], ◌∷◌, ◌++◌, Bool, true, false, ◌+◌, Some, None, refl}
 use Rattle.std.specs.Prelude.{codes, pos}
+use Rattle.std.specs.Fmt.{digits}
 use Rattle.zb_process.specs.declared.model.Model.{Model}
 use Rattle.zb_process.specs.declared.model.Node.{Node}
 use Rattle.zb_process.specs.declared.model.Flow.{Flow}
@@ -14,6 +15,7 @@ use Rattle.zb_process.specs.declared.model.NodeKind.TheVariants as kinds
 use Rattle.zb_instance_records.specs.declared.instance.Role.TheVariants as roles
 use Rattle.zb_instance_records.specs.declared.happening.IncidentKind.{IncidentKind}
 use Rattle.zb_instance_records.specs.declared.happening.IncidentKind.TheVariants as incidents
+use Rattle.zb_model.specs.declared.record.Command.{Command}
 use Rattle.zb_model.specs.declared.record.Command.TheVariants as commands
 use Rattle.zb_model.specs.declared.record.Event.{Event}
 use Rattle.zb_model.specs.declared.record.Event.TheVariants as events
@@ -34,6 +36,8 @@ use Rattle.zb_base.specs.declared.value.Value.TheVariants as values
 use Rattle.zb_base.specs.declared.vars.Variable.{Variable}
 use Rattle.zb_rules.specs.Expire.{no_message, not_due, reason_to_expire}
 use Rattle.zb_rules.specs.Due.{due_command}
+use Rattle.zb_rules.specs.Own.{own_events}
+use Rattle.zb_rules.specs.Reason.{reason_for}
 use Rattle.zb_faults.specs.Faults.{first_fault, fault_text}
 use Rattle.zb_faults.specs.declared.fault.Fault.TheVariants as faults
 
@@ -332,13 +336,17 @@ ended_early_applies : all_apply 1 [] (begun_of ended_early ++ ended_early_plays)
 unfolding first_fault
 ended_early_applies = refl
 
--- a subprocess in which a service task waits
+-- the job of a cell is made
+abbrev job_made : ℕ → ℕ → Event
+job_made job cell = events.JobCreated (record { key = job; cell = cell; kind = codes "pay"; retries = 3 })
+
+-- a subprocess in which a service task waits for its job
 abbrev waiting : Model
 waiting = record {
   process = codes "p";
   tag = [];
   nodes = node (codes "s") kinds.StartEvent ∷ node (codes "u") kinds.SubProcess ∷ node (codes "e") kinds.EndEvent
-      ∷ inside (codes "u") (codes "t") kinds.StartEvent ∷ inside (codes "u") (codes "w") kinds.ServiceTask ∷ inside (codes "u") (codes "d") kinds.EndEvent ∷ [];
+      ∷ inside (codes "u") (codes "t") kinds.StartEvent ∷ record (inside (codes "u") (codes "w") kinds.ServiceTask) { name = codes "pay"; retries = 3 } ∷ inside (codes "u") (codes "d") kinds.EndEvent ∷ [];
   flows = flow (codes "f") (codes "s") (codes "u") ∷ flow (codes "h") (codes "u") (codes "e")
       ∷ flow (codes "a") (codes "t") (codes "w") ∷ flow (codes "b") (codes "w") (codes "d") ∷ [];
 }
@@ -349,7 +357,7 @@ waiting_plays =
     ++ (taken (key 4) (codes "f") ∷ activating (key 5) (key 3) (codes "u") (codes "f") ∷ activated (key 5)
     ∷ passes (key 6) (key 5) (codes "t") [] (codes "a" ∷ [])
     ++ (taken (key 6) (codes "a")
-    ∷ activating (key 7) (key 5) (codes "w") (codes "a") ∷ activated (key 7) ∷ []))
+    ∷ activating (key 7) (key 5) (codes "w") (codes "a") ∷ activated (key 7) ∷ job_made (key 8) (key 7) ∷ []))
 
 waiting_play : turns many (begun_of waiting) ≡ waiting_plays
 unfolding turn
@@ -362,9 +370,9 @@ waiting_events = begun_of waiting ++ waiting_plays
 abbrev terminated : ℕ → List Event
 terminated cell = events.ElementTerminating cell ∷ events.ElementTerminated cell ∷ []
 
--- worked out by hand: the newest cell is called off first, and is gone before the one around it; the root is gone last
+-- worked out by hand: the newest cell is called off first, and its job is canceled right behind; it is gone before the one around it; the root is gone last
 abbrev ends_all : List Event
-ends_all = events.ElementTerminating (key 3) ∷ terminated (key 7) ++ (terminated (key 5) ++ events.ElementTerminated (key 3) ∷ [])
+ends_all = events.ElementTerminating (key 3) ∷ events.ElementTerminating (key 7) ∷ events.JobCanceled (key 8) ∷ events.ElementTerminated (key 7) ∷ terminated (key 5) ++ events.ElementTerminated (key 3) ∷ []
 
 cancel_play : cancelled 1 1 0 (key 3) waiting_events ++ turns many (waiting_events ++ cancelled 1 1 0 (key 3) waiting_events) ≡ ends_all
 unfolding turn
@@ -505,21 +513,21 @@ resolve_none = refl
 resolve_cell : reason_to_resolve stopped (key 5) ≡ Some (record { kind = kinds_of.NotFound; reason = no_incident (key 5) })
 resolve_cell = refl
 
-resolve_twice : reason_to_resolve (stopped ++ resolved (key 6)) (key 6) ≡ Some (record { kind = kinds_of.NotFound; reason = no_incident (key 6) })
+resolve_twice : reason_to_resolve (stopped ++ resolved (key 6) stopped) (key 6) ≡ Some (record { kind = kinds_of.NotFound; reason = no_incident (key 6) })
 resolve_twice = refl
 
-again : turns many (stopped ++ resolved (key 6)) ≡ stops (key 7) incidents.ConditionError (codes "x") ∷ []
+again : turns many (stopped ++ resolved (key 6) stopped) ≡ stops (key 7) incidents.ConditionError (codes "x") ∷ []
 unfolding turn
 again = refl
 
 abbrev set_n : List Event
 set_n = updated (record { scope = key 3; local = false; variables = record { name = codes "n"; value = values.Int (pos 1) } ∷ [] }) stopped
 
-goes_on : turns many (stopped ++ (set_n ++ resolved (key 6))) ≡ goes_by (key 7) (codes "b") (codes "d")
+goes_on : turns many (stopped ++ (set_n ++ resolved (key 6) (stopped ++ set_n))) ≡ goes_by (key 7) (codes "b") (codes "d")
 unfolding turn
 goes_on = refl
 
-goes_on_applies : all_apply 1 stopped (set_n ++ (resolved (key 6) ++ goes_by (key 7) (codes "b") (codes "d"))) ≡ true
+goes_on_applies : all_apply 1 stopped (set_n ++ (resolved (key 6) (stopped ++ set_n) ++ goes_by (key 7) (codes "b") (codes "d"))) ≡ true
 goes_on_applies = refl
 
 -- a cancel calls the gateway off, and its incident is resolved right behind
@@ -641,8 +649,11 @@ begun_of_more first = begun_of (mapping_model more []) ++ first
 abbrev kept_at_input : List Event → List ℕ → List Event
 kept_at_input first text = begun_of_more first ++ (to_mapping ++ stops (key 6) incidents.ExtractValueError text ∷ [])
 
+abbrev y_set : List Event → List ℕ → List Event
+y_set first text = updated (record { scope = key 3; local = false; variables = record { name = codes "y"; value = values.Int (pos 1) } ∷ [] }) (kept_at_input first text)
+
 abbrev mended_input : List Event → List ℕ → List Event
-mended_input first text = updated (record { scope = key 3; local = false; variables = record { name = codes "y"; value = values.Int (pos 1) } ∷ [] }) (kept_at_input first text) ++ resolved (key 6)
+mended_input first text = y_set first text ++ resolved (key 6) (kept_at_input first text ++ y_set first text)
 
 abbrev input_goes_on : List Event
 input_goes_on = made (key 5) (codes "x") (values.Int (pos 2)) ∷ runs_inside 7 ++ goes_out 9
@@ -696,8 +707,11 @@ unfolding turn
 unknown_output = refl
 
 -- z is set in the subprocess alone, where the outputs see it
+abbrev z_set : List Event
+z_set = updated (record { scope = key 5; local = true; variables = record { name = codes "z"; value = values.Int (pos 3) } ∷ [] }) kept_at_output
+
 abbrev mended_output : List Event
-mended_output = updated (record { scope = key 5; local = true; variables = record { name = codes "z"; value = values.Int (pos 3) } ∷ [] }) kept_at_output ++ resolved (key 8)
+mended_output = z_set ++ resolved (key 8) (kept_at_output ++ z_set)
 
 abbrev output_goes_on : List Event
 output_goes_on = made (key 3) (codes "x") (values.Int (pos 1)) ∷ made (key 3) (codes "y") (values.Int (pos 3)) ∷ goes_out 9
@@ -709,3 +723,191 @@ unknown_output_mended = refl
 unknown_output_applies : all_apply 1 [] (kept_at_output ++ (mended_output ++ output_goes_on)) ≡ true
 unfolding first_fault
 unknown_output_applies = refl
+
+-- a service task between a start event and an end event
+abbrev paying : Model
+paying = record {
+  process = codes "p";
+  tag = [];
+  nodes = node (codes "s") kinds.StartEvent ∷ record (node (codes "t") kinds.ServiceTask) { name = codes "pay"; retries = 3 } ∷ node (codes "e") kinds.EndEvent ∷ [];
+  flows = flow (codes "f") (codes "s") (codes "t") ∷ flow (codes "g") (codes "t") (codes "e") ∷ [];
+}
+
+paying_is_good : first_fault paying ≡ None
+unfolding first_fault
+paying_is_good = refl
+
+-- worked out by hand: the job is made right behind the event by which its cell becomes active, and then nobody is forced
+abbrev to_job : List Event
+to_job = activated (key 3) ∷ passes (key 4) (key 3) (codes "s") [] (codes "f" ∷ []) ++ (taken (key 4) (codes "f") ∷ activating (key 5) (key 3) (codes "t") (codes "f") ∷ activated (key 5) ∷ job_made (key 6) (key 5) ∷ [])
+
+job_play : turns many (begun_of paying) ≡ to_job
+unfolding turn
+job_play = refl
+
+abbrev offered : List Event
+offered = begun_of paying ++ to_job
+
+-- a worker asks for a job for a second
+abbrev asks : List ℕ → Command
+asks worker = commands.JobBatchActivate (record { kind = codes "pay"; worker = worker; timeout = 1000; most = 1 })
+
+-- it is given the job, with so many tries, until a deadline, and then is told which
+abbrev gives : (worker : List ℕ) → (deadline retries batch : ℕ) → List Event
+gives worker deadline retries batch =
+    events.JobActivated (record { key = key 6; worker = worker; deadline = deadline; instance = key 3; node = codes "t"; kind = codes "pay"; retries = retries; variables = [] })
+    ∷ events.JobBatchActivated (record { key = batch; jobs = key 6 ∷ [] }) ∷ []
+
+no_type : reason_for offered 0 (commands.JobBatchActivate (record { kind = []; worker = codes "a"; timeout = 1000; most = 1 })) ≡ Some (record { kind = kinds_of.InvalidArgument; reason = codes "empty job type" })
+no_type = refl
+
+job_is_given : own_events 1 1 offered 0 (asks (codes "a")) ≡ Some (gives (codes "a") 1000 3 (key 7))
+job_is_given = refl
+
+abbrev given : List Event
+given = offered ++ gives (codes "a") 1000 3 (key 7)
+
+-- another worker gets none as long as the first one has it; once its deadline has come it is taken back, and the other one gets it
+none_is_given : own_events 1 1 given 999 (asks (codes "b")) ≡ Some (events.JobBatchActivated (record { key = key 8; jobs = [] }) ∷ [])
+none_is_given = refl
+
+not_due_so_far : due_command 999 given ≡ None
+not_due_so_far = refl
+
+due_by_then : due_command 1000 given ≡ Some (commands.JobTimeOut (key 6))
+due_by_then = refl
+
+abbrev taken_back : List Event
+taken_back = events.JobTimedOut (key 6) ∷ gives (codes "b") 2000 3 (key 8)
+
+given_again : own_events 1 1 (given ++ events.JobTimedOut (key 6) ∷ []) 1000 (asks (codes "b")) ≡ Some (gives (codes "b") 2000 3 (key 8))
+given_again = refl
+
+-- the first worker completes it still, and the instance ends
+abbrev job_completes : Command
+job_completes = commands.JobComplete (record { key = key 6; variables = [] })
+
+not_activated : reason_for offered 0 job_completes ≡ Some (record { kind = kinds_of.InvalidState; reason = codes "job 2251799813685254 isn't activated" })
+unfolding digits
+not_activated = refl
+
+job_is_completed : own_events 1 1 (given ++ taken_back) 1000 job_completes ≡ Some (events.JobCompleted (key 6) ∷ [])
+job_is_completed = refl
+
+abbrev paid : List Event
+paid =
+    events.ElementCompleting (key 5) ∷ completed (key 5) (codes "g" ∷ []) ∷ taken (key 5) (codes "g")
+    ∷ passes (key 9) (key 3) (codes "e") (codes "g") [] ++ ends (key 3)
+
+paid_play : turns many ((given ++ taken_back) ++ events.JobCompleted (key 6) ∷ []) ≡ paid
+unfolding turn
+paid_play = refl
+
+abbrev whole : List Event
+whole = given ++ (taken_back ++ events.JobCompleted (key 6) ∷ paid)
+
+paid_applies : all_apply 1 [] whole ≡ true
+unfolding first_fault
+paid_applies = refl
+
+completed_twice : reason_for whole 1000 job_completes ≡ Some (record { kind = kinds_of.NotFound; reason = codes "no job 2251799813685254" })
+unfolding digits
+completed_twice = refl
+
+-- what the worker says that came of it is handed up to the root
+abbrev says_x : Command
+says_x = commands.JobComplete (record { key = key 6; variables = record { name = codes "x"; value = values.Int (pos 1) } ∷ [] })
+
+results_go_up : own_events 1 1 given 0 says_x ≡ Some (events.JobCompleted (key 6) ∷ made (key 3) (codes "x") (values.Int (pos 1)) ∷ [])
+results_go_up = refl
+
+-- where the task has outputs it stays in the task, until they hand it up
+abbrev paying_out : Model
+paying_out = record paying { nodes = node (codes "s") kinds.StartEvent ∷ record (node (codes "t") kinds.ServiceTask) { name = codes "pay"; retries = 3; outputs = mapping (Name (codes "x")) (codes "y") ∷ [] } ∷ node (codes "e") kinds.EndEvent ∷ [] }
+
+abbrev given_out : List Event
+given_out = begun_of paying_out ++ (to_job ++ gives (codes "a") 1000 3 (key 7))
+
+abbrev x_stays : List Event
+x_stays = events.JobCompleted (key 6) ∷ made (key 5) (codes "x") (values.Int (pos 1)) ∷ []
+
+results_stay : own_events 1 1 given_out 0 says_x ≡ Some x_stays
+results_stay = refl
+
+abbrev paid_out : List Event
+paid_out =
+    events.ElementCompleting (key 5) ∷ made (key 3) (codes "y") (values.Int (pos 1)) ∷ completed (key 5) (codes "g" ∷ []) ∷ taken (key 5) (codes "g")
+    ∷ passes (key 8) (key 3) (codes "e") (codes "g") [] ++ ends (key 3)
+
+outputs_go_up : turns many (given_out ++ x_stays) ≡ paid_out
+unfolding turn
+outputs_go_up = refl
+
+results_apply : all_apply 1 [] (given_out ++ (x_stays ++ paid_out)) ≡ true
+unfolding first_fault
+results_apply = refl
+
+-- the job fails without a try left: an incident stands on its cell, and is resolved only where there are tries again
+abbrev job_fails : List Event
+job_fails =
+    events.JobFailed (record { key = key 6; retries = 0; text = codes "no" })
+    ∷ events.IncidentCreated (record { key = key 8; kind = incidents.JobNoRetries; cell = key 5; job = key 6; text = codes "no" }) ∷ []
+
+job_has_failed : own_events 1 1 given 0 (commands.JobFail (record { key = key 6; retries = 0; text = codes "no" })) ≡ Some job_fails
+job_has_failed = refl
+
+no_tries : reason_for (given ++ job_fails) 0 (commands.IncidentResolve (key 8)) ≡ Some (record { kind = kinds_of.InvalidState; reason = codes "job 2251799813685254 has no retries" })
+unfolding digits
+no_tries = refl
+
+abbrev tries_again : List Event
+tries_again = job_fails ++ events.JobRetriesUpdated (record { key = key 6; retries = 2 }) ∷ []
+
+tries_are_given : own_events 1 1 (given ++ job_fails) 0 (commands.JobUpdateRetries (record { key = key 6; retries = 2 })) ≡ Some (events.JobRetriesUpdated (record { key = key 6; retries = 2 }) ∷ [])
+tries_are_given = refl
+
+-- it isn't offered before the incident is resolved
+not_offered : own_events 1 1 (given ++ tries_again) 0 (asks (codes "b")) ≡ Some (events.JobBatchActivated (record { key = key 9; jobs = [] }) ∷ [])
+not_offered = refl
+
+tries_resolve : reason_for (given ++ tries_again) 0 (commands.IncidentResolve (key 8)) ≡ None
+tries_resolve = refl
+
+abbrev tried_again : List Event
+tried_again = tries_again ++ events.IncidentResolved (record { key = key 8; job = key 6 }) ∷ gives (codes "b") 1000 2 (key 9)
+
+try_is_resolved : own_events 1 1 (given ++ tries_again) 0 (commands.IncidentResolve (key 8)) ≡ Some (events.IncidentResolved (record { key = key 8; job = key 6 }) ∷ [])
+try_is_resolved = refl
+
+is_offered_again : own_events 1 1 (given ++ (tries_again ++ events.IncidentResolved (record { key = key 8; job = key 6 }) ∷ [])) 0 (asks (codes "b")) ≡ Some (gives (codes "b") 1000 2 (key 9))
+is_offered_again = refl
+
+tried_again_applies : all_apply 1 given tried_again ≡ true
+tried_again_applies = refl
+
+-- an error is thrown in the job: nothing catches it, so an incident stands on its cell, and stands again where it is resolved
+abbrev error_stops : ℕ → Event
+error_stops incident = stops incident incidents.UnhandledErrorEvent (codes "E")
+
+abbrev error_thrown : List Event
+error_thrown = events.JobErrorThrown (record { key = key 6; code = codes "E" }) ∷ []
+
+error_is_thrown : own_events 1 1 given 0 (commands.JobThrowError (record { key = key 6; code = codes "E" })) ≡ Some error_thrown
+error_is_thrown = refl
+
+error_play : turns many (given ++ error_thrown) ≡ error_stops (key 8) ∷ []
+unfolding turn
+error_play = refl
+
+abbrev error_resolved : List Event
+error_resolved = error_thrown ++ error_stops (key 8) ∷ events.IncidentResolved (record { key = key 8; job = 0 }) ∷ []
+
+error_is_resolved : own_events 1 1 (given ++ (error_thrown ++ error_stops (key 8) ∷ [])) 0 (commands.IncidentResolve (key 8)) ≡ Some (events.IncidentResolved (record { key = key 8; job = 0 }) ∷ [])
+error_is_resolved = refl
+
+error_again : turns many (given ++ error_resolved) ≡ error_stops (key 9) ∷ []
+unfolding turn
+error_again = refl
+
+error_applies : all_apply 1 given (error_resolved ++ error_stops (key 9) ∷ []) ≡ true
+error_applies = refl

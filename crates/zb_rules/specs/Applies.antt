@@ -14,7 +14,11 @@ use Rattle.zb_tokens.specs.declared.board.Move.{Move}
 use Rattle.zb_tokens.specs.Board.{Board, cell_at, model_under}
 use Rattle.zb_tokens.specs.Edits.{is_none_of}
 use Rattle.zb_tokens.specs.Game.{fits}
-use Rattle.zb_rules.specs.Shown.{shown, board_of}
+pub use Rattle.zb_rules.specs.Shown.{holds_of_game}
+use Rattle.zb_rules.specs.Shown.{shown}
+use Rattle.zb_views.specs.Jobs.{is_activated, is_given_out}
+use Rattle.zb_rules.specs.JobEvents.{has_job, is_job_in, begins_job, hands_out, is_called_off_next, are_jobs, has_cause}
+use Rattle.zb_tokens.specs.Work.{is_cause_of}
 use Rattle.zb_views.specs.Begin.{begun}
 use Rattle.zb_views.specs.Definitions.{definitions}
 use Rattle.zb_faults.specs.Faults.{is_well_formed}
@@ -43,10 +47,6 @@ is_definition_of cell definition b = option_map_or (λ c. c.definition == defini
 -- on a board a cell has this key
 abbrev pub has_cell : ℕ → Board → Bool
 has_cell key b = is_some (cell_at b key)
-
--- this holds of the game of the events
-abbrev pub holds_of_game : (Board → Bool) → List Event → Bool
-holds_of_game holds es = option_map_or holds (board_of es) false
 
 -- a root comes right behind its instance, with the process id as its node, and by no flow
 abbrev pub begins_instance : List Event → ElementActivating → Bool
@@ -78,8 +78,17 @@ holds_own p before (events.VariableUpdated e) = true
 holds_own p before (events.VariableDocumentUpdated key) = holds_of_game (has_cell key) before
 holds_own p before (events.MessagePublished m) = is_fresh p before m.key
 holds_own p before (events.MessageExpired key) = is_buffered key before
-holds_own p before (events.IncidentCreated e) = is_fresh p before e.key && (e.job == 0)
-holds_own p before (events.IncidentResolved e) = e.job == 0
+holds_own p before (events.JobCreated e) = is_fresh p before e.key && begins_job e.cell before
+holds_own p before (events.JobActivated e) = hands_out e before
+holds_own p before (events.JobTimedOut key) = is_job_in is_activated key before
+holds_own p before (events.JobCompleted key) = is_job_in is_given_out key before
+holds_own p before (events.JobCanceled key) = is_called_off_next key before
+holds_own p before (events.JobFailed e) = is_job_in is_given_out e.key before
+holds_own p before (events.JobErrorThrown e) = is_job_in is_given_out e.key before
+holds_own p before (events.JobRetriesUpdated e) = has_job e.key before
+holds_own p before (events.JobBatchActivated e) = is_fresh p before e.key && are_jobs e.jobs before
+holds_own p before (events.IncidentCreated e) = is_fresh p before e.key && has_cause e before
+holds_own p before (events.IncidentResolved e) = holds_of_game (is_cause_of e.job e.key) before
 holds_own p before _ = false
 
 -- a move fits the board, if there is one

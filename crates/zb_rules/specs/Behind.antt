@@ -1,23 +1,46 @@
--- The events behind one that begins to end a cell: what waits for the cell ends with it (Zeebe, the records).
+-- The events behind one by which a cell becomes active or begins to end: what it waits for begins, and ends with it (Zeebe, the records).
 use Rattle.std.specs.Prelude.{ℕ, [], ◌∷◌, option_and_then}
 use Rattle.std.specs.Option.{option_map_or}
+use Rattle.zb_process.specs.declared.model.Node.{Node}
 use Rattle.zb_model.specs.declared.record.Event.{Event}
 use Rattle.zb_model.specs.declared.record.Event.TheVariants as events
+use Rattle.zb_views.specs.View.{next_key}
+use Rattle.zb_views.specs.Jobs.{called_off}
+use Rattle.zb_tokens.specs.declared.board.Incident.{Incident}
 use Rattle.zb_tokens.specs.Incidents.{incident_on}
+use Rattle.zb_tokens.specs.Work.{work_at}
 use Rattle.zb_rules.specs.Making.{Making, just, and_then}
 use Rattle.zb_rules.specs.Shown.{board_of}
 
--- the event by which an incident is resolved that no job is the cause of
-abbrev pub repair_event : ℕ → Event
-repair_event key = events.IncidentResolved (record { key = key; job = 0 })
+-- the event by which an incident is resolved, with the job that is its cause; 0 where none is
+abbrev pub repair_event : Incident → Event
+repair_event i = events.IncidentResolved (record { key = i.key; job = i.job })
 
 -- the incident on the cell with a key is resolved, if one stands there (Zeebe, incidents)
 abbrev pub resolved_on : ℕ → Making
-resolved_on cell before = option_map_or (λ i. repair_event i.key ∷ []) (option_and_then (λ b. incident_on b cell) (board_of before)) []
+resolved_on cell before = option_map_or (λ i. repair_event i ∷ []) (option_and_then (λ b. incident_on b cell) (board_of before)) []
 
--- the events behind an event: the incident on a cell that begins to terminate is resolved; so far there are no others (Zeebe, the records)
+-- a job of the cell with a key by its node: with the type of that, and as many tries as it gives (Zeebe, jobs)
+abbrev pub job_of : (p cell : ℕ) → Node → Making
+job_of p cell n before = events.JobCreated (record { key = next_key p before; cell = cell; kind = n.name; retries = n.retries }) ∷ []
+
+-- the job of the cell with a key is made, if it is to have one (BPMN 2.0.2, 13.3.3; Zeebe, jobs)
+abbrev pub job_made_on : (p cell : ℕ) → Making
+job_made_on p cell before = option_map_or (λ n. job_of p cell n before) (option_and_then (λ b. work_at b cell) (board_of before)) []
+
+-- the job that the last event calls off is canceled, if it calls one off (Zeebe, jobs)
+abbrev pub canceled : Making
+canceled before = option_map_or (λ job. events.JobCanceled job ∷ []) (called_off before) []
+
+-- what waits for a cell that begins to terminate ends: its job is canceled, and then the incident on it is resolved (Zeebe, the records)
+abbrev pub ended_on : ℕ → Making
+ended_on cell = and_then canceled (resolved_on cell)
+
+-- the events behind an event: a cell that becomes active has its job made, and one that begins to terminate has what waits for it ended; so far
+-- there are no others (Zeebe, the records)
 abbrev pub events_behind : (p n moment : ℕ) → Event → Making
-events_behind p n moment (events.ElementTerminating key) before = resolved_on key before
+events_behind p n moment (events.ElementActivated e) before = job_made_on p e.key before
+events_behind p n moment (events.ElementTerminating key) before = ended_on key before
 events_behind p n moment e before = []
 
 -- an event, and those behind it (Zeebe, the records)

@@ -18,7 +18,7 @@ use Rattle.zb_rules.specs.AppliedLaws.{some_of, game_holds, applied_from, applie
 use Rattle.zb_rules.specs.MadeLaws.{is_keyed}
 use Rattle.zb_rules.specs.ScopesLaws.{at_cell}
 use Rattle.zb_rules.specs.OwesLaws.{Owes}
-use Rattle.zb_rules.specs.SoundLaws.{BoardKeeps}
+use Rattle.zb_rules.specs.SoundLaws.{BoardKeeps, keeps_on}
 use Rattle.zb_rules.specs.BehindLaws.{behind_apply}
 
 -- where there is no reason, a root is there, and isn't terminating
@@ -51,5 +51,5 @@ module _ (p : ℕ) (es : List Event) (b : Board) (is : board_of es ≡ Some b) (
       let runs : is_terminating key b ≡ false = subst (λ (o : Option Board). option_map_or (is_terminating key) o false ≡ false) is r.1 in
       let first : IsTrue (applies p es (events.ElementTerminating key)) = applied_from p es b (events.ElementTerminating key) (moves.Halt key) is refl refl (halts key root runs) in
       let after = applied_board p es b (events.ElementTerminating key) is first in
-      let behind = behind_apply p (es ++ events.ElementTerminating key ∷ []) after.0 (board_behind p es b (events.ElementTerminating key) after.0 after.1) n moment (events.ElementTerminating key) in
+      let behind = behind_apply p (es ++ events.ElementTerminating key ∷ []) after.0 (board_behind p es b (events.ElementTerminating key) after.0 after.1) n moment (events.ElementTerminating key) (keeps_on p es b (events.ElementTerminating key) after.0 after.1 k).incidents.apart in
       rw (first, behind) refl

@@ -2,6 +2,8 @@
 use Rattle.std.proofs.Common.{◌≡◌, ℕ, ◌+◌, ◌<◌, ◌≤◌, List, [], ◌∷◌, ◌++◌, filter, Bool, true, false, not, cond, if◌then◌else◌, Option, Some, None, option_map, refl, subst, arith}
 use Rattle.std.specs.Option.{IfSome}
 use Rattle.zb_tokens.specs.declared.board.Cell.{Cell}
+use Rattle.zb_tokens.specs.declared.board.Mark.TheVariants as marks
+use Rattle.zb_tokens.specs.Marks.{with_mark}
 use Rattle.zb_tokens.specs.declared.board.Move.{Move}
 use Rattle.zb_tokens.specs.declared.board.Move.TheVariants as moves
 use Rattle.zb_tokens.specs.declared.board.Phase.TheVariants as phases
@@ -127,6 +129,8 @@ module _ (low high : ℕ) (b : Board) (is : Between low high b.cells) where
     between_made (moves.Gone key) new = without key
     between_made (moves.Assign a) new = with_edit a.scope (with_variable a.name a.value) (λ c. refl)
     between_made (moves.Update a) new = with_edit a.scope (with_variable a.name a.value) (λ c. refl)
+    between_made (moves.Done key) new = with_edit key (with_mark marks.Done) (λ c. refl)
+    between_made (moves.Throw t) new = with_edit t.cell (with_mark (marks.Thrown t.code)) (λ c. refl)
     between_made (moves.Incident i) new = between_higher low high top b.cells more is
     between_made (moves.Repair key) new = λ incidents gone. between_higher low high top b.cells more is
 

@@ -50,7 +50,8 @@ each_never local scope (v ∷ vs) es =
     let made = set_by local scope v es in
     joined_never made (set_each local scope vs (es ++ made)) (place_never (place_of local scope v.name es) v es) (each_never local scope vs (es ++ made))
 
-all_never : (assignments : Option Assignments) (es : List Event) → NeverEvaluate (option_map_or (λ s. set_all s es) assignments [])
+-- nor do those of assignments
+pub all_never : (assignments : Option Assignments) (es : List Event) → NeverEvaluate (option_map_or (λ s. set_all s es) assignments [])
 all_never None es = tt
 all_never (Some s) es = each_never s.local s.scope s.variables es
 

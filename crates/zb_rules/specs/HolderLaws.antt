@@ -1,5 +1,5 @@
 -- Each cell of a board of a log has a holder of each name: its scopes go up to a root, each with a lesser key.
-use Rattle.std.proofs.Common.{◌≡◌, ℕ, ◌+◌, ◌<◌, ◌≤◌, ◌==◌, nat_le, length, count_by, List, [], ◌∷◌, Bool, true, false, ◌||◌, cond, if◌then◌else◌, Some, All, refl, arith}
+use Rattle.std.proofs.Common.{◌≡◌, ℕ, ◌+◌, ◌<◌, ◌≤◌, ◌==◌, nat_le, length, count_by, List, [], ◌∷◌, Bool, true, false, ◌||◌, cond, if◌then◌else◌, IsTrue, is_some, Option, Some, All, refl, arith}
 use Rattle.std.specs.List.{find}
 use Rattle.std.proofs.lemmas.Bool.{or_parts}
 use Rattle.std.proofs.lemmas.Bool.Decides.{nat_tests}
@@ -7,7 +7,7 @@ use Rattle.std.proofs.lemmas.List.Sums.{sum_by-cons, count_by-le-length}
 use Rattle.zb_tokens.specs.declared.board.Cell.{Cell}
 use Rattle.zb_tokens.specs.Board.{Board, CellsAscend, cell_at, is_root}
 use Rattle.zb_tokens.specs.MoveAssign.{has_name}
-use Rattle.zb_tokens.specs.Names.{holder_from, holder_of}
+use Rattle.zb_tokens.specs.Names.{holder_from, holder_of, root_from, root_of}
 use Rattle.zb_tokens.specs.GameLaws.{holds_some, found_holds}
 use Rattle.zb_rules.specs.Sound.{IsHolder, holds_others}
 use Rattle.zb_rules.specs.MadeLaws.{is_keyed}
@@ -59,3 +59,31 @@ module _ (b : Board) (up : CellsAscend 1 b.cells) (scopes : All (InScope b) b.ce
   -- a cell that is there has a holder of the name
   pub holder_there : (key : ℕ) (c : Cell) → cell_at b key ≡ Some c → IsHolder b name (holder_of b key name)
   holder_there key c found = holder_found b.cells key c found (count_by-le-length (λ (x : Cell). nat_le x.key key) b.cells)
+
+-- the root around a cell is there, and is a cell (BPMN 2.0.2, 13.2)
+pub record HasRoot (b : Board) (found : Option ℕ) : Type 0 where
+  pub key : ℕ
+  pub is : found ≡ Some key
+  pub there : IsTrue (is_some (cell_at b key))
+
+module _ (b : Board) (up : CellsAscend 1 b.cells) (scopes : All (InScope b) b.cells) where
+  root_by : (fuel : List Cell) (key : ℕ) (c : Cell) (t : Bool) → cell_at b key ≡ Some c → upto key b.cells ≤ length fuel + 1 → is_root c ≡ t
+      → ((x : Cell) → cell_at b c.scope ≡ Some x → upto c.scope b.cells ≤ length fuel → HasRoot b (root_from fuel b c.scope)) → HasRoot b (if t then Some key else root_from fuel b c.scope)
+  root_by fuel key c true found enough top later = record { key = key; is = refl; there = rw found refl }
+  root_by fuel key c false found enough inner later =
+      let scope = inner_scope b c (found_holds (is_keyed key) (InScope b) b.cells c scopes found).0 inner in
+      let around = some_of (cell_at b c.scope) (holds_some (holds_others b) (cell_at b c.scope) scope.0) in
+      let less = scope.1 in
+      let same = key_found b key c found in
+      let fewer = upto_one c.scope key (omega arith) b.cells c found in
+      later around.0 around.1 (omega arith)
+
+  root_found : (fuel : List Cell) (key : ℕ) (c : Cell) → cell_at b key ≡ Some c → upto key b.cells ≤ length fuel → HasRoot b (root_from fuel b key)
+  root_found [] key c found enough =
+      let above = found_key 1 key b.cells c up found in
+      absurd (let more = upto_one 0 key (omega arith) b.cells c found in omega arith)
+  root_found (more ∷ fuel) key c found enough = rw found (root_by fuel key c (is_root c) found (omega arith) refl (root_found fuel c.scope))
+
+  -- a cell that is there has one
+  pub root_there : (key : ℕ) (c : Cell) → cell_at b key ≡ Some c → HasRoot b (root_of b key)
+  root_there key c found = root_found b.cells key c found (count_by-le-length (λ (x : Cell). nat_le x.key key) b.cells)

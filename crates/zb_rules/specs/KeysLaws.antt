@@ -16,6 +16,8 @@ use Rattle.zb_tokens.specs.declared.board.Move.TheVariants as moves
 use Rattle.zb_tokens.specs.Board.{Board}
 use Rattle.zb_tokens.specs.Game.{empty_board}
 use Rattle.zb_tokens.specs.GameLaws.{both_left, both_right}
+use Rattle.zb_views.specs.Jobs.{job_at}
+use Rattle.zb_rules.specs.GrowthLaws.{job_shows}
 use Rattle.zb_rules.specs.Shown.{shown, after_shown, board_of}
 use Rattle.zb_rules.specs.Applies.{is_fresh, is_plain, begins_instance, begins_cell, begins_well, all_apply}
 use Rattle.zb_rules.specs.CellsLaws.{Between, between_higher, key_made, between_played}
@@ -78,6 +80,12 @@ begins_by p before a h = both_right (is_plain a.role && bytes_eq a.started []) _
 
 keys_between : (p : ℕ) (before : List Event) (b : Board) (e : Event) (after : Board) → Advances p before b e after → HasOrderedCells p before b → Between 1 (next_key p (before ++ e ∷ [])) after.cells
 keys_between p before b (events.ElementActivating a) after h s = activating_by p before b after a s (a.scope == 0) (begins_by p before a h.own) h.leads
+keys_between p before b (events.JobCompleted key) after h s =
+    let e = events.JobCompleted key in
+    between_shown 1 (next_key p before) b after (shown before e) (next_key p (before ++ e ∷ [])) s.between (next_key_more p before e) (job_shows (λ (m : Option Move). IfSome (option_and_then key_made m) (λ key. (next_key p before ≤ key) × (key < next_key p (before ++ e ∷ [])))) (λ j. moves.Done j.cell) (job_at key before) tt (λ j. tt)) h.leads
+keys_between p before b (events.JobErrorThrown t) after h s =
+    let e = events.JobErrorThrown t in
+    between_shown 1 (next_key p before) b after (shown before e) (next_key p (before ++ e ∷ [])) s.between (next_key_more p before e) (job_shows (λ (m : Option Move). IfSome (option_and_then key_made m) (λ key. (next_key p before ≤ key) × (key < next_key p (before ++ e ∷ [])))) (λ j. moves.Throw (record { cell = j.cell; code = t.code })) (job_at t.key before) tt (λ j. tt)) h.leads
 keys_between p before b e after h s = between_shown 1 (next_key p before) b after (shown before e) (next_key p (before ++ e ∷ [])) s.between (next_key_more p before e) tt h.leads
 
 keys_begin : (p : ℕ) (before : List Event) (b : Board) (e : Event) (after : Board) → Advances p before b e after → HasOrderedCells p before b → (i : Begun) → begun_told e ≡ Some i → Between 1 i.key after.cells × (i.key < next_key p (before ++ e ∷ []))

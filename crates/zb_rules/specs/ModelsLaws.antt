@@ -11,6 +11,7 @@ use Rattle.zb_process.specs.declared.model.Model.{Model}
 use Rattle.zb_model.specs.declared.record.Event.{Event}
 use Rattle.zb_model.specs.declared.record.Event.TheVariants as events
 use Rattle.zb_views.specs.declared.definition.Definition.{Definition}
+use Rattle.zb_views.specs.Jobs.{job_at}
 use Rattle.zb_views.specs.View.{counter_at, greatest_counter}
 use Rattle.zb_views.specs.ViewLaws.{greatest_counter_more, definitions_more}
 use Rattle.zb_views.specs.Definitions.{definition_told, definitions}
@@ -25,11 +26,12 @@ use Rattle.zb_tokens.specs.LeaveLaws.{same_bytes}
 use Rattle.zb_rules.specs.Shown.{shown, after_shown, board_of}
 use Rattle.zb_rules.specs.Applies.{all_apply, has_definition, is_process_of}
 use Rattle.zb_rules.specs.MadeLaws.{HoldsMade, left_holds, made_holds}
+use Rattle.zb_rules.specs.GrowthLaws.{job_shows}
 use Rattle.zb_rules.specs.AppliedLaws.{Advances, holds_of_all}
 use Rattle.zb_rules.specs.KeysLaws.{first_named}
 
 -- the model that a move puts on the board
-abbrev models_made : Move → List Deployed
+abbrev pub models_made : Move → List Deployed
 models_made (moves.Stand d) = d ∷ []
 models_made _ = []
 
@@ -57,6 +59,8 @@ module _ (b : Board) where
   by_move (moves.Gone key) = λ cells made. none_more
   by_move (moves.Assign a) = λ cells made. none_more
   by_move (moves.Update a) = λ cells made. none_more
+  by_move (moves.Done key) = λ cells made. none_more
+  by_move (moves.Throw t) = λ cells made. none_more
   by_move (moves.Incident i) = none_more
   by_move (moves.Repair key) = λ incidents gone. none_more
 
@@ -76,6 +80,8 @@ either_none false a b none other = other
 
 told_made : (before : List Event) (e : Event) → option_map_or models_made (shown before e) [] ≡ models_told e
 told_made before (events.ElementActivating a) = either_none (a.scope == 0) (moves.Start (record { key = a.key; definition = a.definition })) (moves.Enter (record { key = a.key; scope = a.scope; node = a.node; via = a.via })) refl refl
+told_made before (events.JobCompleted key) = job_shows (λ (m : Option Move). option_map_or models_made m [] ≡ []) (λ j. moves.Done j.cell) (job_at key before) refl (λ j. refl)
+told_made before (events.JobErrorThrown t) = job_shows (λ (m : Option Move). option_map_or models_made m [] ≡ []) (λ j. moves.Throw (record { cell = j.cell; code = t.code })) (job_at t.key before) refl (λ j. refl)
 told_made before e = refl
 
 models_more : (p : ℕ) (before : List Event) (b : Board) (e : Event) (after : Board) → Advances p before b e after → after.models ≡ b.models ++ models_told e

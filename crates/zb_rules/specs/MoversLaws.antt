@@ -1,8 +1,15 @@
 -- Which moves a mover makes, and that each has an event.
-use Rattle.std.proofs.Common.{◌≡◌, ℕ, ◌+◌, ◌≤◌, ◌==◌, List, [], ◌∷◌, Bool, true, false, if◌then◌else◌, IsTrue, is_some, Option, Some, None, option_map, option_and_then, Result, Ok, Err, slice_get, refl, subst, arith}
+use Rattle.std.proofs.Common.{◌≡◌, ℕ, ◌+◌, ◌≤◌, ◌==◌, List, [], ◌∷◌, Bool, true, false, if◌then◌else◌, IsTrue, is_some, Option, Some, None, option_map, option_and_then, Result, Ok, Err, refl, subst, arith}
 use Rattle.std.specs.List.{find}
+use Rattle.std.specs.Option.{option_map_or, ok_or}
+use Rattle.std.specs.Result.{result_map_both}
 use Rattle.std.proofs.lemmas.Bool.Decides.{nat_tests}
+use Rattle.zb_base.specs.Results.{◌>>=◌}
+use Rattle.zb_base.specs.declared.value.Value.{Value}
 use Rattle.zb_base.specs.declared.vars.Variable.{Variable}
+use Rattle.zb_process.specs.declared.model.Flow.{Flow}
+use Rattle.zb_process.specs.Expr.{ValueFault}
+use Rattle.zb_instance_records.specs.declared.happening.IncidentKind.TheVariants as kinds
 use Rattle.zb_tokens.specs.declared.board.Cell.{Cell}
 use Rattle.zb_tokens.specs.declared.board.Token.{Token}
 use Rattle.zb_tokens.specs.declared.board.Move.{Move}
@@ -15,11 +22,15 @@ use Rattle.zb_tokens.specs.Board.{Board, CellsAscend, cell_at}
 use Rattle.zb_tokens.specs.Doom.{is_doomed}
 use Rattle.zb_tokens.specs.Game.{fits}
 use Rattle.zb_tokens.specs.GameLaws.{holds_some, mapped_some}
-use Rattle.zb_tokens.specs.Incidents.{Hindrance}
-use Rattle.zb_tokens.specs.Mappings.{inputs_of}
-use Rattle.zb_tokens.specs.MoveLeave.{completion_of}
-use Rattle.zb_tokens.specs.Forced.{open_by, leave_by, move_in, end_in, move_at, take_first, move_of, way_of}
+use Rattle.zb_tokens.specs.Incidents.{Hindrance, hindrance_of}
+use Rattle.zb_tokens.specs.Marks.{error_of}
+use Rattle.zb_tokens.specs.Names.{value_seen}
+use Rattle.zb_tokens.specs.Choice.{Gateway, gateway_of, truth_at, is_default, decides, decided, by_default, choice_at}
+use Rattle.zb_tokens.specs.Mappings.{inputs_of, outputs_of}
+use Rattle.zb_tokens.specs.MoveLeave.{flows_of, exit_of, completion_of}
+use Rattle.zb_tokens.specs.Forced.{open_by, leave_by, finish_by, move_in, end_in, move_at, take_first, move_of, way_of}
 use Rattle.zb_rules.specs.Shown.{event_of}
+use Rattle.zb_rules.specs.JobEvents.{tells_of_job}
 
 -- the moves that a mover makes, where a new cell or an incident gets this key
 abbrev pub IsMade : ℕ → Move → Type 0
@@ -27,9 +38,11 @@ IsMade key (moves.Stand d) = ⊥
 IsMade key (moves.Start s) = ⊥
 IsMade key (moves.Assign a) = ⊥
 IsMade key (moves.Update a) = ⊥
+IsMade key (moves.Done cell) = ⊥
+IsMade key (moves.Throw t) = ⊥
 IsMade key (moves.Repair other) = ⊥
 IsMade key (moves.Enter e) = e.key ≡ key
-IsMade key (moves.Incident i) = i.key ≡ key
+IsMade key (moves.Incident i) = (i.key ≡ key) × (i.job ≡ 0) × (tells_of_job i.kind ≡ false)
 IsMade key _ = Unit {0}
 
 some_made : (key : ℕ) (a b : Move) → IsMade key a → Some a ≡ Some b → IsMade key b
@@ -39,18 +52,54 @@ first_made : (key cell : ℕ) (owed : List (List ℕ)) (move : Move) → take_fi
 first_made key cell [] move is = absurd (cc)
 first_made key cell (flow ∷ owed) move is = some_made key (moves.Take (record { key = cell; flow = flow })) move tt is
 
-open_made : (key : ℕ) (c : Cell) (inputs : Result (List Variable) Hindrance) → IsMade key (open_by key c inputs)
-open_made key c (Ok vs) = tt
-open_made key c (Err hindrance) = refl
+-- what keeps a cell from going on doesn't tell of a job
+abbrev TellsOfNone : {A : Type 0} → Result A Hindrance → Type 0
+TellsOfNone (Ok a) = Unit {0}
+TellsOfNone (Err hindrance) = tells_of_job hindrance.kind ≡ false
 
-leave_made : (key : ℕ) (c : Cell) (exit : Result (List (List ℕ)) Hindrance) → IsMade key (leave_by key c exit)
-leave_made key c (Ok owed) = tt
-leave_made key c (Err hindrance) = refl
+fault_tells_none : {A : Type 0} (r : Result A ValueFault) → TellsOfNone (result_map_both (λ a. a) hindrance_of r)
+fault_tells_none (Ok a) = tt
+fault_tells_none (Err fault) = refl
+
+then_tells_none : {A B : Type 0} (r : Result A Hindrance) (next : A → Result B Hindrance) → TellsOfNone r → ((a : A) → TellsOfNone (next a)) → TellsOfNone (r >>= next)
+then_tells_none (Ok a) next none behind = behind a
+then_tells_none (Err hindrance) next none behind = none
+
+decided_tells_none : (f : Flow) (truth : Result Bool ValueFault) → TellsOfNone (decided f truth)
+decided_tells_none f (Ok truth) = tt
+decided_tells_none f (Err fault) = refl
+
+default_tells_none : (id : List ℕ) (found : Option Flow) → TellsOfNone (ok_or found (record { kind = kinds.ConditionError; text = id }))
+default_tells_none id None = refl
+default_tells_none id (Some f) = tt
+
+choice_by : (names : List ℕ → Option Value) (g : Gateway) (found : Option Flow) → TellsOfNone (option_map_or (λ f. decided f (truth_at names f)) found (by_default g))
+choice_by names g None = default_tells_none g.node.id (find (is_default g.node) g.outs)
+choice_by names g (Some f) = decided_tells_none f (truth_at names f)
+
+exit_by : (b : Board) (c : Cell) (found : Option Gateway) → TellsOfNone (option_map_or (λ g. choice_at (value_seen b c.key) g >>= (λ f. Ok (f.id ∷ []))) found (Ok (flows_of b c)))
+exit_by b c None = tt
+exit_by b c (Some g) = then_tells_none (choice_at (value_seen b c.key) g) (λ f. Ok (f.id ∷ [])) (choice_by (value_seen b c.key) g (find (decides (value_seen b c.key) g.node) g.outs)) (λ f. tt)
+
+completion_tells_none : (b : Board) (c : Cell) → TellsOfNone (completion_of b c)
+completion_tells_none b c = then_tells_none (outputs_of b c) (λ vs. exit_of b c) (fault_tells_none _) (λ vs. exit_by b c (gateway_of b c))
+
+open_made : (key : ℕ) (c : Cell) (inputs : Result (List Variable) Hindrance) → TellsOfNone inputs → IsMade key (open_by key c inputs)
+open_made key c (Ok vs) none = tt
+open_made key c (Err hindrance) none = (refl, refl, none)
+
+finish_made : (key : ℕ) (c : Cell) (error : Option (List ℕ)) → IsMade key (finish_by key c error)
+finish_made key c None = tt
+finish_made key c (Some code) = (refl, refl, refl)
+
+leave_made : (key : ℕ) (c : Cell) (exit : Result (List (List ℕ)) Hindrance) → TellsOfNone exit → IsMade key (leave_by key c exit)
+leave_made key c (Ok owed) none = tt
+leave_made key c (Err hindrance) none = (refl, refl, none)
 
 phase_made : (b : Board) (key : ℕ) (c : Cell) (phase : Phase) (move : Move) → move_in b key c phase ≡ Some move → IsMade key move
-phase_made b key c phases.Activating move is = some_made key (open_by key c (inputs_of b c)) move (open_made key c (inputs_of b c)) is
-phase_made b key c phases.Active move is = some_made key (moves.Finish c.key) move tt is
-phase_made b key c phases.Completing move is = some_made key (leave_by key c (completion_of b c)) move (leave_made key c (completion_of b c)) is
+phase_made b key c phases.Activating move is = some_made key (open_by key c (inputs_of b c)) move (open_made key c (inputs_of b c) (fault_tells_none _)) is
+phase_made b key c phases.Active move is = some_made key (finish_by key c (error_of c.mark)) move (finish_made key c (error_of c.mark)) is
+phase_made b key c phases.Completing move is = some_made key (leave_by key c (completion_of b c)) move (leave_made key c (completion_of b c) (completion_tells_none b c)) is
 phase_made b key c phases.Leaving move is = first_made key c.key c.owed move is
 phase_made b key c phases.Terminating move is = some_made key (moves.Gone c.key) move tt is
 
@@ -108,5 +157,7 @@ event_there b key (moves.Halt cell) made fit = refl
 event_there b key (moves.Gone cell) made fit = refl
 event_there b key (moves.Assign a) made fit = absurd made
 event_there b key (moves.Update a) made fit = absurd made
+event_there b key (moves.Done cell) made fit = absurd made
+event_there b key (moves.Throw t) made fit = absurd made
 event_there b key (moves.Incident i) made fit = refl
 event_there b key (moves.Repair other) made fit = absurd made

@@ -47,6 +47,8 @@ model_kept b after (moves.Halt key) still all = λ c found has. has
 model_kept b after (moves.Gone key) still all = tt
 model_kept b after (moves.Assign a) still all = λ c found has. has
 model_kept b after (moves.Update a) still all = λ c found has. has
+model_kept b after (moves.Done key) still all = λ c found has. has
+model_kept b after (moves.Throw t) still all = λ c found has. has
 model_kept b after (moves.Incident i) still all = tt
 model_kept b after (moves.Repair key) still all = tt
 
@@ -90,6 +92,8 @@ owes_kept b (moves.Halt key) fit = λ c found has phase. absurd (cc)
 owes_kept b (moves.Gone key) fit = tt
 owes_kept b (moves.Assign a) fit = λ c found has. has
 owes_kept b (moves.Update a) fit = λ c found has. has
+owes_kept b (moves.Done key) fit = λ c found has. has
+owes_kept b (moves.Throw t) fit = λ c found has. has
 owes_kept b (moves.Incident i) fit = tt
 owes_kept b (moves.Repair key) fit = tt
 

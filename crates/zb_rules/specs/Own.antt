@@ -5,6 +5,12 @@ use Rattle.zb_model.specs.declared.record.Command.TheVariants as commands
 use Rattle.zb_model.specs.declared.record.Event.{Event}
 use Rattle.zb_views.specs.View.{next_key}
 use Rattle.zb_rules.specs.Publish.{published_under}
+use Rattle.zb_rules.specs.Activate.{activated}
+use Rattle.zb_rules.specs.Complete.{completed}
+use Rattle.zb_rules.specs.Fail.{failed}
+use Rattle.zb_rules.specs.Throw.{thrown}
+use Rattle.zb_rules.specs.Retries.{retried}
+use Rattle.zb_rules.specs.TimeOut.{timed_out}
 use Rattle.zb_rules.specs.Deploy.{deployed}
 use Rattle.zb_rules.specs.Create.{created}
 use Rattle.zb_rules.specs.Cancel.{cancelled}
@@ -18,6 +24,12 @@ IsSupported (commands.DeploymentCreate m) = Unit {0}
 IsSupported (commands.ProcessInstanceCreationCreate c) = Unit {0}
 IsSupported (commands.ProcessInstanceCancel key) = Unit {0}
 IsSupported (commands.VariableDocumentUpdate c) = Unit {0}
+IsSupported (commands.JobBatchActivate c) = Unit {0}
+IsSupported (commands.JobComplete c) = Unit {0}
+IsSupported (commands.JobFail c) = Unit {0}
+IsSupported (commands.JobThrowError c) = Unit {0}
+IsSupported (commands.JobUpdateRetries c) = Unit {0}
+IsSupported (commands.JobTimeOut key) = Unit {0}
 IsSupported (commands.IncidentResolve key) = Unit {0}
 IsSupported (commands.MessagePublish c) = Unit {0}
 IsSupported (commands.MessageExpire key) = Unit {0}
@@ -30,7 +42,13 @@ own_events p n before moment (commands.DeploymentCreate m) = Some (deployed p m 
 own_events p n before moment (commands.ProcessInstanceCreationCreate c) = created p before c
 own_events p n before moment (commands.ProcessInstanceCancel key) = Some (cancelled p n moment key before)
 own_events p n before moment (commands.VariableDocumentUpdate c) = Some (updated c before)
-own_events p n before moment (commands.IncidentResolve key) = Some (resolved key)
+own_events p n before moment (commands.JobBatchActivate c) = Some (activated p moment c before)
+own_events p n before moment (commands.JobComplete c) = Some (completed c before)
+own_events p n before moment (commands.JobFail c) = Some (failed p c before)
+own_events p n before moment (commands.JobThrowError c) = Some (thrown c)
+own_events p n before moment (commands.JobUpdateRetries c) = Some (retried c)
+own_events p n before moment (commands.JobTimeOut key) = Some (timed_out key)
+own_events p n before moment (commands.IncidentResolve key) = Some (resolved key before)
 own_events p n before moment (commands.MessagePublish c) = Some (published_under (next_key p before) moment c)
 own_events p n before moment (commands.MessageExpire key) = Some (expired key)
 own_events p n before moment commands.ProcessInstanceBatchContinue = Some []

@@ -14,6 +14,8 @@ use Rattle.zb_tokens.specs.declared.board.Spot.TheVariants as spots
 use Rattle.zb_tokens.specs.declared.board.Enter.{Enter}
 use Rattle.zb_tokens.specs.declared.board.Take.{Take}
 use Rattle.zb_tokens.specs.declared.board.Leave.{Leave}
+use Rattle.zb_tokens.specs.declared.board.Mark.TheVariants as marks
+use Rattle.zb_tokens.specs.Marks.{has_come_about, with_mark}
 use Rattle.zb_tokens.specs.declared.board.Move.{Move}
 use Rattle.zb_tokens.specs.declared.board.Move.TheVariants as moves
 use Rattle.zb_tokens.specs.declared.board.Phase.TheVariants as phases
@@ -161,7 +163,7 @@ finish_placed b key fit placed =
     let done : IsTrue (is_done b c) = both_right (is_phase c.phase phases.Active) _ (at_cell (λ (x : Cell). is_phase x.phase phases.Active && is_done b x) (cell_at b key) c found.1 fit) in
     let model = some_of (model_under b c.definition) (holds_some _ (model_under b c.definition) done) in
     let m = model.0 in
-    let rests : IsTrue (if is_scope_in m c then is_empty b c.key else is_at m c.node waits_for_nothing) = rw model.1 at done in
+    let rests : IsTrue (if is_scope_in m c then is_empty b c.key else has_come_about c.mark || is_at m c.node waits_for_nothing) = rw model.1 at done in
     finish_by b key c m (is_scope_in m c) _ found.1 model.1 refl rests placed
 
 -- a cell in which nothing runs is gone, with the tokens in it
@@ -291,6 +293,8 @@ made_placed b (moves.Halt key) fit new owes placed = λ cells made. emptied_plac
 made_placed b (moves.Gone key) fit new owes placed = gone_placed b key fit placed
 made_placed b (moves.Assign a) fit new owes placed = scope_edited b a.scope (with_variable a.name a.value) (λ c. refl) (λ x c is. is) (λ c found is. is) placed
 made_placed b (moves.Update a) fit new owes placed = scope_edited b a.scope (with_variable a.name a.value) (λ c. refl) (λ x c is. is) (λ c found is. is) placed
+made_placed b (moves.Done key) fit new owes placed = scope_edited b key (with_mark marks.Done) (λ c. refl) (λ x c is. is) (λ c found is. is) placed
+made_placed b (moves.Throw t) fit new owes placed = scope_edited b t.cell (with_mark (marks.Thrown t.code)) (λ c. refl) (λ x c is. is) (λ c found is. is) placed
 made_placed b (moves.Incident i) fit new owes placed = record { scopes = placed.scopes; tokens = placed.tokens }
 made_placed b (moves.Repair key) fit new owes placed = λ incidents gone. record { scopes = placed.scopes; tokens = placed.tokens }
 

@@ -5,6 +5,8 @@ use Rattle.std.proofs.lemmas.List.Elements.{All-cons, All-head, All-tail, All-pu
 use Rattle.std.proofs.lemmas.List.Kept.{AllPairs-cons}
 use Rattle.zb_process.specs.declared.model.Model.{Model}
 use Rattle.zb_tokens.specs.declared.board.Cell.{Cell}
+use Rattle.zb_tokens.specs.declared.board.Mark.TheVariants as marks
+use Rattle.zb_tokens.specs.Marks.{with_mark}
 use Rattle.zb_tokens.specs.declared.board.Move.{Move}
 use Rattle.zb_tokens.specs.declared.board.Move.TheVariants as moves
 use Rattle.zb_tokens.specs.declared.board.Phase.TheVariants as phases
@@ -79,6 +81,8 @@ CellKept b P (moves.Halt key) = EditKept b P key (in_phase phases.Terminating []
 CellKept b P (moves.Gone key) = Unit {0}
 CellKept b P (moves.Assign a) = EditKept b P a.scope (with_variable a.name a.value)
 CellKept b P (moves.Update a) = EditKept b P a.scope (with_variable a.name a.value)
+CellKept b P (moves.Done key) = EditKept b P key (with_mark marks.Done)
+CellKept b P (moves.Throw t) = EditKept b P t.cell (with_mark (marks.Thrown t.code))
 CellKept b P (moves.Incident i) = Unit {0}
 CellKept b P (moves.Repair key) = Unit {0}
 
@@ -106,6 +110,8 @@ module _ (b : Board) (P : Cell → Type 0) (all : All P b.cells) where
   made_all (moves.Gone key) kept = λ cells made. removed_all (is_keyed key) P b.cells cells all made
   made_all (moves.Assign a) kept = edit_all a.scope (with_variable a.name a.value) kept
   made_all (moves.Update a) kept = edit_all a.scope (with_variable a.name a.value) kept
+  made_all (moves.Done key) kept = edit_all key (with_mark marks.Done) kept
+  made_all (moves.Throw t) kept = edit_all t.cell (with_mark (marks.Thrown t.code)) kept
   made_all (moves.Incident i) kept = all
   made_all (moves.Repair key) kept = λ incidents gone. all
 

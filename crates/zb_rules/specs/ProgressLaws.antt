@@ -1,11 +1,13 @@
 -- Who is forced has an event that applies; where nobody is, the game is quiet.
 use Rattle.std.proofs.Common.{◌≡◌, ℕ, ◌==◌, List, [], ◌∷◌, ◌++◌, map, Bool, true, false, if◌then◌else◌, IsTrue, is_some, Option, Some, None, ◌↔◌, refl, sym, ap, ◌∙◌, subst, append-nil, append_assoc, arith}
+use Rattle.std.specs.List.{find}
 use Rattle.std.proofs.lemmas.Bool.Decides.{nat_tests}
 use Rattle.zb_instance_records.specs.declared.instance.Role.TheVariants as roles
 use Rattle.zb_base.specs.declared.vars.Variable.{Variable}
 use Rattle.zb_process.specs.declared.model.Model.{Model}
 use Rattle.zb_instance_records.specs.declared.instance.ProcessInstanceCreationCreate.{ProcessInstanceCreationCreate}
 use Rattle.zb_instance_records.specs.declared.happening.VariableDocumentUpdate.{VariableDocumentUpdate}
+use Rattle.zb_exchange_records.specs.declared.job.JobFail.{JobFail}
 use Rattle.zb_exchange_records.specs.declared.message.MessagePublish.{MessagePublish}
 use Rattle.zb_model.specs.declared.record.Command.{Command}
 use Rattle.zb_model.specs.declared.record.Command.TheVariants as commands
@@ -28,7 +30,7 @@ use Rattle.zb_tokens.specs.ForcedLaws.{movers_move, movers_fit, movers_agree}
 use Rattle.zb_rules.specs.Shown.{shown, board_of, event_of}
 use Rattle.zb_rules.specs.Applies.{is_fresh, holds_own, holds_of_game, applies, all_apply, is_definition_of}
 use Rattle.zb_rules.specs.InFront.{events_in_front}
-use Rattle.zb_rules.specs.Behind.{resolved_on, events_behind, with_events_behind}
+use Rattle.zb_rules.specs.Behind.{canceled, resolved_on, events_behind, with_events_behind}
 use Rattle.zb_rules.specs.Settling.{turn_of, turn, HasQuietGame}
 use Rattle.zb_rules.specs.Legal.{AllLegal, EachLegal}
 use Rattle.zb_rules.specs.Reason.{reason_for}
@@ -40,11 +42,21 @@ use Rattle.zb_rules.specs.Update.{set_each, updated}
 use Rattle.zb_rules.specs.Publish.{published_under}
 use Rattle.zb_rules.specs.Expire.{expired}
 use Rattle.zb_rules.specs.Resolve.{resolved}
+use Rattle.zb_rules.specs.Activate.{activated}
+use Rattle.zb_rules.specs.Complete.{completed}
+use Rattle.zb_rules.specs.Fail.{failed}
+use Rattle.zb_rules.specs.Throw.{thrown}
+use Rattle.zb_rules.specs.Retries.{retried}
+use Rattle.zb_rules.specs.TimeOut.{timed_out}
+use Rattle.zb_rules.specs.ActivateLaws.{activate_applies, activated_never}
+use Rattle.zb_rules.specs.WorkerLaws.{complete_applies, throw_applies, fail_applies, retry_applies, time_out_applies, completed_never, thrown_never, failed_never}
 use Rattle.zb_rules.specs.MadeLaws.{mapped_holds}
-use Rattle.zb_rules.specs.LegalLaws.{applied_on, made_legally, NeverEvaluate, shows_none, shows_some, joined_never, legal_by, each_legal_by}
+use Rattle.zb_rules.specs.LegalLaws.{made_legally, NeverEvaluate, shows_none, shows_some, joined_never, legal_by, each_legal_by}
 use Rattle.zb_rules.specs.StepLaws.{all_apply_on, all_legal_on}
 use Rattle.zb_rules.specs.FrontLaws.{each_never, front_never, begins_end, front_begins_no_end, in_front}
-use Rattle.zb_rules.specs.BehindLaws.{resolve_applies, behind_apply, resolved_never, behind_never}
+use Rattle.zb_rules.specs.BehindLaws.{MayHaveWork, MayFollow, resolve_applies, canceled_apply, behind_apply, resolved_never, behind_never}
+use Rattle.zb_rules.specs.CellsLaws.{ascend_between}
+use Rattle.zb_rules.specs.OpenedLaws.{IsSetBehind, set_behind, front_are, opens_free, opened_may_work, follows_by}
 use Rattle.zb_rules.specs.ModelsLaws.{Knows, board_knows}
 use Rattle.zb_rules.specs.OwnLaws.{deploy_applies, publish_applies, expire_applies}
 use Rattle.zb_rules.specs.CreateLaws.{create_applies}
@@ -52,7 +64,7 @@ use Rattle.zb_rules.specs.CancelLaws.{cancel_applies}
 use Rattle.zb_rules.specs.UpdateLaws.{update_applies}
 use Rattle.zb_rules.specs.Sound.{HasKeys, HasOrderedNames, IsForcedEvent}
 use Rattle.zb_rules.specs.MoversLaws.{IsMade, mover_made, found_key, from_none, event_there}
-use Rattle.zb_rules.specs.AppliedLaws.{applied_from, some_of, game_holds_from, applied_board, board_behind}
+use Rattle.zb_rules.specs.AppliedLaws.{Advances, applied_from, some_of, game_holds_from, applied_board, board_behind}
 use Rattle.zb_rules.specs.SoundLaws.{BoardKeeps, board_is_there, cells_ascend, keeps_on, board_keeps}
 use Rattle.zb_rules.specs.IncidentsLaws.{none_behind}
 
@@ -99,9 +111,11 @@ module _ (p moment : ℕ) (es : List Event) (b : Board) (mover : Mover) (is : bo
   forced_by (moves.Gone key) up keys from made fit agreed = event_by (moves.Gone key) (events.ElementTerminated key) made fit agreed refl refl refl
   forced_by (moves.Assign a) up keys from made fit agreed = absurd from
   forced_by (moves.Update a) up keys from made fit agreed = absurd from
+  forced_by (moves.Done key) up keys from made fit agreed = absurd from
+  forced_by (moves.Throw t) up keys from made fit agreed = absurd from
   forced_by (moves.Incident i) up keys from made fit agreed =
-      let fresh : IsTrue (is_fresh p es i.key) = grind (arith, nat_tests) in
-      event_by (moves.Incident i) (events.IncidentCreated (record { key = i.key; kind = i.kind; cell = i.cell; job = 0; text = i.text })) made fit agreed refl (rw (append-nil es, fresh) refl) refl
+      let fresh : IsTrue (is_fresh p es i.key) = (let key = from.0 in grind (arith, nat_tests)) in
+      event_by (moves.Incident i) (events.IncidentCreated (record { key = i.key; kind = i.kind; cell = i.cell; job = i.job; text = i.text })) made fit agreed refl (rw (append-nil es, fresh, from.2, from.1) refl) refl
   forced_by (moves.Repair key) up keys from made fit agreed = absurd from
 
 -- who is forced has an event, which applies and shows a move that agrees with what it evaluates
@@ -112,6 +126,9 @@ forced_event p moment es b mover apply keys is next =
     let found = some_of (move_of b moment (next_key p es) mover) (movers_move b moment (next_key p es) mover up next) in
     forced_by p moment es b mover is (board_keeps p es b apply is) found.0 up1 keys (mover_made b moment (next_key p es) mover found.0 found.1) found.1
     (movers_fit b moment (next_key p es) mover found.0 up next found.1) (movers_agree b moment (next_key p es) mover found.0 up next found.1)
+
+some_move : (a m : Move) → Some a ≡ Some m → a ≡ m
+some_move a m is = cc
 
 -- the turn of a mover is its event, with the events in front of that and those behind it
 turn_made : (p n moment : ℕ) (es : List Event) (b : Board) (mover : Mover) (move : Move) (e : Event) → move_of b moment (next_key p es) mover ≡ Some move → event_of b move ≡ Some e
@@ -144,7 +161,7 @@ no_turn_is_quiet p n moment es apply =
     (quiet_by p n moment es found.0 (next_mover found.0) found.1 refl (from_none found.0.cells (cells_ascend p es found.0 apply found.1)), no_turn p n moment es)
 
 -- a forced event, those in front of it and those behind it apply, and each of their moves is legal
-module _ (p n moment : ℕ) (es : List Event) (b : Board) (mover : Mover) (is : board_of es ≡ Some b) (f : IsForcedEvent p moment es b mover) where
+module _ (p n moment : ℕ) (es : List Event) (b : Board) (mover : Mover) (is : board_of es ≡ Some b) (k : BoardKeeps p es b) (keys : HasKeys p es 1) (next : next_mover b ≡ Some mover) (f : IsForcedEvent p moment es b mover) where
   abbrev front : List Event
   front = events_in_front b f.move es
 
@@ -152,15 +169,35 @@ module _ (p n moment : ℕ) (es : List Event) (b : Board) (mover : Mover) (is : 
   behind = events_behind p n moment f.event ((es ++ front) ++ f.event ∷ [])
 
   agrees_there : (m : Move) → shown (es ++ front) f.event ≡ Some m → IsTrue (agrees b moment m)
-  agrees_there m shows = subst (λ (x : Move). IsTrue (agrees b moment x)) (let e : Some f.move ≡ Some m = sym f.shows ∙ shows in cc) f.agreed
+  agrees_there m shows = let e : Some f.move ≡ Some m = sym f.shows ∙ shows in subst (λ (x : Move). IsTrue (agrees b moment x)) (some_move f.move m e) f.agreed
+
+  set_in_front : IsSetBehind p es b front
+  set_in_front = set_behind p front es b (front_are b f.move es) is k keys f.in_front
+
+  open_follows : (key : ℕ) → f.move ≡ moves.Open key → (event : Event) (after : Board) → events.ElementActivated (record { key = key; items = [] }) ≡ event
+      → Advances p (es ++ front) set_in_front.after event after → MayHaveWork p ((es ++ front) ++ events.ElementActivated (record { key = key; items = [] }) ∷ []) after key
+  open_follows key its event after told h =
+      let s = set_in_front in
+      let up = from_none b.cells (ascend_between 1 (next_key p es) b.cells k.stands.between) in
+      let made : move_of b moment (next_key p es) mover ≡ Some (moves.Open key) = f.is_move ∙ ap Some its in
+      let free = opens_free b moment (next_key p es) key mover up next made in
+      let still : incident_on s.after key ≡ None = ap (find (λ i. i.cell == key)) s.incidents ∙ free in
+      opened_may_work p (es ++ front) s.after s.is s.keeps s.keys key still after (subst (λ (x : Event). Advances p (es ++ front) s.after x after) (sym told) h)
 
   forced_apply : IsTrue (all_apply p es (front ++ f.event ∷ behind)) × AllLegal moment es es (front ++ f.event ∷ behind)
   forced_apply =
       let first = f.applied in
       let ahead = f.in_front in
-      let at = applied_on p (es ++ front) f.event first in
-      let r = applied_board p (es ++ front) at.0 f.event at.1 first in
-      let second = behind_apply p ((es ++ front) ++ f.event ∷ []) r.0 (board_behind p (es ++ front) at.0 f.event r.0 r.1) n moment f.event in (
+      let s = set_in_front in
+      let r = applied_board p (es ++ front) s.after f.event s.is first in
+      let after_is = board_behind p (es ++ front) s.after f.event r.0 r.1 in
+      let keeps = keeps_on p (es ++ front) s.after f.event r.0 r.1 s.keeps in
+      let may : MayFollow p ((es ++ front) ++ f.event ∷ []) r.0 f.event = follows_by p ((es ++ front) ++ f.event ∷ []) r.0 b f.move f.event f.is_event
+      (λ key its.
+      let told : events.ElementActivated (record { key = key; items = [] }) ≡ f.event = (let e : event_of b (moves.Open key) ≡ Some f.event = subst (λ (m : Move). event_of b m ≡ Some f.event) its f.is_event in cc) in
+      subst (λ (x : Event). MayHaveWork p ((es ++ front) ++ x ∷ []) r.0 key) told (open_follows key its f.event r.0 told r.1))
+      (λ key. keeps.incidents.apart) in
+      let second = behind_apply p ((es ++ front) ++ f.event ∷ []) r.0 after_is n moment f.event may in (
         rw (all_apply_on p es front (f.event ∷ behind), ahead, first) second,
         all_legal_on moment es es front (f.event ∷ behind) (legal_by p moment es b is es front (front_never b f.move es) ahead)
             (made_legally p moment es b is (es ++ front) f.event first agrees_there, legal_by p moment es b is ((es ++ front) ++ f.event ∷ []) behind (behind_never p n moment f.event ((es ++ front) ++ f.event ∷ [])) second),
@@ -173,8 +210,9 @@ turn_by p n moment es b None made apply keys is nobody told = let none : None �
 turn_by p n moment es b (Some mover) made apply keys is next told =
     let f = forced_event p moment es b mover apply keys is next in
     let its : turn_of p n moment es b mover ≡ Some made = rw (is, next) at told in
-    let same : front p n moment es b mover is f ++ f.event ∷ behind p n moment es b mover is f ≡ made = (let e = sym (turn_made p n moment es b mover f.move f.event f.is_move f.is_event) ∙ its in cc) in
-    subst (λ (x : List Event). IsTrue (all_apply p es x) × AllLegal moment es es x) same (forced_apply p n moment es b mover is f)
+    let k = board_keeps p es b apply is in
+    let same : front p n moment es b mover is k keys next f ++ f.event ∷ behind p n moment es b mover is k keys next f ≡ made = (let e = sym (turn_made p n moment es b mover f.move f.event f.is_move f.is_event) ∙ its in cc) in
+    subst (λ (x : List Event). IsTrue (all_apply p es x) × AllLegal moment es es x) same (forced_apply p n moment es b mover is k keys next f)
 
 -- each event of a turn applies, where a key is left
 pub turn_applies : (p n moment : ℕ) (es made : List Event) → IsTrue (all_apply p [] es) → HasKeys p es 1 → turn p n moment es ≡ Some made → IsTrue (all_apply p es made)
@@ -197,8 +235,11 @@ module _ (p n moment : ℕ) (es : List Event) (key : ℕ) (apply : IsTrue (all_a
   ended_by b after is first led =
       let r = applied_board p es b begins is first in
       let k = keeps_on p es b begins r.0 r.1 (board_keeps p es b apply is) in
-      none_behind (es ++ begins ∷ []) r.0 key (board_behind p es b begins r.0 r.1) k.incidents.apart after
-      (ap board_of (append_assoc es (begins ∷ []) (resolved_on key (es ++ begins ∷ []))) ∙ led)
+      let over = es ++ begins ∷ [] in
+      let called = canceled_apply p over r.0 (board_behind p es b begins r.0 r.1) in
+      let line : (over ++ canceled over) ++ resolved_on key (over ++ canceled over) ≡ es ++ begins ∷ events_behind p n moment begins over =
+      append_assoc over (canceled over) (resolved_on key (over ++ canceled over)) ∙ append_assoc es (begins ∷ []) (canceled over ++ resolved_on key (over ++ canceled over)) in
+      none_behind (over ++ canceled over) r.0 key called.1 k.incidents.apart after (ap board_of line ∙ led)
 
   -- no event stands in front of it, so it is the one that is forced
   its_own : (front rest : List Event) (e : Event) → begins_end front ≡ false → IsTrue (applies p (es ++ front) e) → front ++ with_events_behind p n moment e (es ++ front) ≡ begins ∷ rest
@@ -254,6 +295,12 @@ own_there p n es moment (commands.ProcessInstanceCreationCreate c) supported non
     mapped_some _ (definition_for c.process c.version es) (asked_there (definition_for c.process 0 es) (definition_for c.process c.version es) c none)
 own_there p n es moment (commands.ProcessInstanceCancel key) supported none = refl
 own_there p n es moment (commands.VariableDocumentUpdate c) supported none = refl
+own_there p n es moment (commands.JobBatchActivate c) supported none = refl
+own_there p n es moment (commands.JobComplete c) supported none = refl
+own_there p n es moment (commands.JobFail c) supported none = refl
+own_there p n es moment (commands.JobThrowError c) supported none = refl
+own_there p n es moment (commands.JobUpdateRetries c) supported none = refl
+own_there p n es moment (commands.JobTimeOut key) supported none = refl
 own_there p n es moment (commands.IncidentResolve key) supported none = refl
 own_there p n es moment (commands.MessagePublish c) supported none = refl
 own_there p n es moment (commands.MessageExpire key) supported none = refl
@@ -289,22 +336,31 @@ updated_never c es = joined_never (set_each c.local c.scope c.variables es) (eve
 some_never : (made own : List Event) → NeverEvaluate made → Some made ≡ Some own → NeverEvaluate own
 some_never made own never is = subst NeverEvaluate (let same : made ≡ own = cc in same) never
 
-own_never : (p n : ℕ) (es : List Event) (moment : ℕ) (command : Command) (own : List Event) → own_events p n es moment command ≡ Some own → NeverEvaluate own
-own_never p n es moment (commands.DeploymentCreate m) own is = some_never (deployed p m es) own (deployed_never p m es) is
-own_never p n es moment (commands.ProcessInstanceCreationCreate c) own is =
+failure_never : (p : ℕ) (c : JobFail) (es own : List Event) → IsTrue (all_apply p es own) → failed p c es ≡ own → NeverEvaluate own
+failure_never p c es own apply is = subst NeverEvaluate is (failed_never p c es (subst (λ (x : List Event). IsTrue (all_apply p es x)) (sym is) apply))
+
+own_never : (p n : ℕ) (es : List Event) (moment : ℕ) (command : Command) (own : List Event) → IsTrue (all_apply p es own) → own_events p n es moment command ≡ Some own → NeverEvaluate own
+own_never p n es moment (commands.DeploymentCreate m) own apply is = some_never (deployed p m es) own (deployed_never p m es) is
+own_never p n es moment (commands.ProcessInstanceCreationCreate c) own apply is =
     mapped_holds NeverEvaluate (λ d. instance_under (next_key p es) d.key c) (definition_for c.process c.version es) own (λ d found. instance_never (next_key p es) d.key c) is
-own_never p n es moment (commands.ProcessInstanceCancel key) own is =
+own_never p n es moment (commands.ProcessInstanceCancel key) own apply is =
     some_never (cancelled p n moment key es) own (λ before b moment move is. shows_some b moment (moves.Halt key) move refl is, behind_never p n moment (events.ElementTerminating key) (es ++ events.ElementTerminating key ∷ [])) is
-own_never p n es moment (commands.VariableDocumentUpdate c) own is = some_never (updated c es) own (updated_never c es) is
-own_never p n es moment (commands.IncidentResolve key) own is = some_never (resolved key) own (resolved_never key) is
-own_never p n es moment (commands.MessagePublish c) own is = some_never (published_under (next_key p es) moment c) own (published_never (next_key p es) moment c) is
-own_never p n es moment (commands.MessageExpire key) own is = some_never (expired key) own (λ before b moment move is. shows_none b moment move is, tt) is
-own_never p n es moment commands.ProcessInstanceBatchContinue own is = some_never [] own tt is
-own_never p n es moment _ own is = absurd (cc)
+own_never p n es moment (commands.VariableDocumentUpdate c) own apply is = some_never (updated c es) own (updated_never c es) is
+own_never p n es moment (commands.JobBatchActivate c) own apply is = some_never (activated p moment c es) own (activated_never p moment c es) is
+own_never p n es moment (commands.JobComplete c) own apply is = some_never (completed c es) own (completed_never c es) is
+own_never p n es moment (commands.JobFail c) own apply is = failure_never p c es own apply (let same : failed p c es ≡ own = cc in same)
+own_never p n es moment (commands.JobThrowError c) own apply is = some_never (thrown c) own (thrown_never c) is
+own_never p n es moment (commands.JobUpdateRetries c) own apply is = some_never (retried c) own (λ before b moment move is. shows_none b moment move is, tt) is
+own_never p n es moment (commands.JobTimeOut key) own apply is = some_never (timed_out key) own (λ before b moment move is. shows_none b moment move is, tt) is
+own_never p n es moment (commands.IncidentResolve key) own apply is = some_never (resolved key es) own (resolved_never key es) is
+own_never p n es moment (commands.MessagePublish c) own apply is = some_never (published_under (next_key p es) moment c) own (published_never (next_key p es) moment c) is
+own_never p n es moment (commands.MessageExpire key) own apply is = some_never (expired key) own (λ before b moment move is. shows_none b moment move is, tt) is
+own_never p n es moment commands.ProcessInstanceBatchContinue own apply is = some_never [] own tt is
+own_never p n es moment _ own apply is = absurd (cc)
 
 -- each of the moves that own events show is legal
 pub own_legal : (p n : ℕ) (es : List Event) (moment : ℕ) (command : Command) (own : List Event) → IsTrue (all_apply p es own) → own_events p n es moment command ≡ Some own → EachLegal moment es own
-own_legal p n es moment command own apply is = each_legal_by p moment es own (own_never p n es moment command own is) apply
+own_legal p n es moment command own apply is = each_legal_by p moment es own (own_never p n es moment command own apply is) apply
 
 -- the own events of a command without a reason apply
 own_apply_by : (p n : ℕ) (es : List Event) (b : Board) (moment : ℕ) (command : Command) (own : List Event) → board_of es ≡ Some b → BoardKeeps p es b → Knows p es b → HasKeys p es 2 → HasOrderedNames command
@@ -316,8 +372,20 @@ own_apply_by p n es b moment (commands.ProcessInstanceCancel key) own is k knows
     subst (λ (x : List Event). IsTrue (all_apply p es x)) (let same : cancelled p n moment key es ≡ own = cc in same) (cancel_applies p es b is k n moment key none)
 own_apply_by p n es b moment (commands.VariableDocumentUpdate c) own is k knows keys ordered supported none made =
     subst (λ (x : List Event). IsTrue (all_apply p es x)) (let same : updated c es ≡ own = cc in same) (update_applies p es b is k c none)
+own_apply_by p n es b moment (commands.JobBatchActivate c) own is k knows keys ordered supported none made =
+    subst (λ (x : List Event). IsTrue (all_apply p es x)) (let same : activated p moment c es ≡ own = cc in same) (activate_applies p moment c es b is k (omega (arith, keys)))
+own_apply_by p n es b moment (commands.JobComplete c) own is k knows keys ordered supported none made =
+    subst (λ (x : List Event). IsTrue (all_apply p es x)) (let same : completed c es ≡ own = cc in same) (complete_applies p es b is k c none)
+own_apply_by p n es b moment (commands.JobFail c) own is k knows keys ordered supported none made =
+    subst (λ (x : List Event). IsTrue (all_apply p es x)) (let same : failed p c es ≡ own = cc in same) (fail_applies p es b is k c (omega (arith, keys)) none)
+own_apply_by p n es b moment (commands.JobThrowError c) own is k knows keys ordered supported none made =
+    subst (λ (x : List Event). IsTrue (all_apply p es x)) (let same : thrown c ≡ own = cc in same) (throw_applies p es b is k c none)
+own_apply_by p n es b moment (commands.JobUpdateRetries c) own is k knows keys ordered supported none made =
+    subst (λ (x : List Event). IsTrue (all_apply p es x)) (let same : retried c ≡ own = cc in same) (retry_applies p es b is k c none)
+own_apply_by p n es b moment (commands.JobTimeOut key) own is k knows keys ordered supported none made =
+    subst (λ (x : List Event). IsTrue (all_apply p es x)) (let same : timed_out key ≡ own = cc in same) (time_out_applies p es b is k moment key none)
 own_apply_by p n es b moment (commands.IncidentResolve key) own is k knows keys ordered supported none made =
-    subst (λ (x : List Event). IsTrue (all_apply p es x)) (let same : resolved key ≡ own = cc in same) (resolve_applies p es b is key none)
+    subst (λ (x : List Event). IsTrue (all_apply p es x)) (let same : resolved key es ≡ own = cc in same) (resolve_applies p es b is key none)
 own_apply_by p n es b moment (commands.MessagePublish c) own is k knows keys ordered supported none made =
     subst (λ (x : List Event). IsTrue (all_apply p es x)) (let same : published_under (next_key p es) moment c ≡ own = cc in same) (publish_applies p es b is knows moment c keys)
 own_apply_by p n es b moment (commands.MessageExpire key) own is k knows keys ordered supported none made =

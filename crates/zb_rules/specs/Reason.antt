@@ -5,6 +5,10 @@ use Rattle.zb_model.specs.declared.record.Command.TheVariants as commands
 use Rattle.zb_model.specs.declared.record.Event.{Event}
 use Rattle.zb_model.specs.declared.record.Rejection.{Rejection}
 use Rattle.zb_rules.specs.Publish.{reason_to_publish}
+use Rattle.zb_rules.specs.JobReasons.{reason_to_end}
+use Rattle.zb_rules.specs.Activate.{reason_to_activate}
+use Rattle.zb_rules.specs.Retries.{reason_to_retry}
+use Rattle.zb_rules.specs.TimeOut.{reason_to_time_out}
 use Rattle.zb_rules.specs.Deploy.{reason_to_deploy}
 use Rattle.zb_rules.specs.Create.{reason_to_create}
 use Rattle.zb_rules.specs.Cancel.{reason_to_cancel}
@@ -19,6 +23,12 @@ reason_for before moment (commands.DeploymentCreate m) = reason_to_deploy m
 reason_for before moment (commands.ProcessInstanceCreationCreate c) = reason_to_create before c
 reason_for before moment (commands.ProcessInstanceCancel key) = reason_to_cancel before key
 reason_for before moment (commands.VariableDocumentUpdate c) = reason_to_update before c.scope
+reason_for before moment (commands.JobBatchActivate c) = reason_to_activate c
+reason_for before moment (commands.JobComplete c) = reason_to_end before c.key
+reason_for before moment (commands.JobFail c) = reason_to_end before c.key
+reason_for before moment (commands.JobThrowError c) = reason_to_end before c.key
+reason_for before moment (commands.JobUpdateRetries c) = reason_to_retry before c
+reason_for before moment (commands.JobTimeOut key) = reason_to_time_out before moment key
 reason_for before moment (commands.IncidentResolve key) = reason_to_resolve before key
 reason_for before moment (commands.MessagePublish c) = reason_to_publish before c
 reason_for before moment (commands.MessageExpire key) = reason_to_expire before moment key

@@ -1,14 +1,16 @@
 -- Which moves events show, and the game of a log.
-use Rattle.std.specs.Prelude.{◌==◌, List, [], ◌∷◌, ◌++◌, if◌then◌else◌, Option, Some, None, option_map, option_and_then}
+use Rattle.std.specs.Prelude.{◌==◌, List, [], ◌∷◌, ◌++◌, Bool, false, if◌then◌else◌, Option, Some, None, option_map, option_and_then}
+use Rattle.std.specs.Option.{option_map_or}
 use Rattle.zb_instance_records.specs.declared.instance.Role.TheVariants as roles
 use Rattle.zb_model.specs.declared.record.Event.{Event}
 use Rattle.zb_model.specs.declared.record.Event.TheVariants as events
 use Rattle.zb_tokens.specs.declared.board.Move.{Move}
 use Rattle.zb_tokens.specs.declared.board.Move.TheVariants as moves
+use Rattle.zb_views.specs.Jobs.{job_at}
 use Rattle.zb_tokens.specs.Board.{Board, cell_at}
 use Rattle.zb_tokens.specs.Game.{empty_board, played}
 
--- the move that an event shows behind those before it; others show none
+-- the move that an event shows behind those before it, which say whose job it names; others show none
 abbrev pub shown : List Event → Event → Option Move
 shown before (events.ProcessCreated e) = Some (moves.Stand (record { key = e.key; model = e.model }))
 shown before (events.ElementActivating e) = if e.scope == 0 then Some (moves.Start (record { key = e.key; definition = e.definition }))
@@ -21,7 +23,9 @@ shown before (events.ElementTerminated key) = Some (moves.Gone key)
 shown before (events.SequenceFlowTaken e) = Some (moves.Take (record { key = e.key; flow = e.flow }))
 shown before (events.VariableCreated e) = Some (moves.Assign (record { scope = e.scope; name = e.name; value = e.value }))
 shown before (events.VariableUpdated e) = Some (moves.Update (record { scope = e.scope; name = e.name; value = e.value }))
-shown before (events.IncidentCreated e) = Some (moves.Incident (record { key = e.key; kind = e.kind; cell = e.cell; text = e.text }))
+shown before (events.JobCompleted key) = option_map (λ j. moves.Done j.cell) (job_at key before)
+shown before (events.JobErrorThrown e) = option_map (λ j. moves.Throw (record { cell = j.cell; code = e.code })) (job_at e.key before)
+shown before (events.IncidentCreated e) = Some (moves.Incident (record { key = e.key; kind = e.kind; cell = e.cell; job = e.job; text = e.text }))
 shown before (events.IncidentResolved e) = Some (moves.Repair e.key)
 shown before _ = None
 
@@ -39,6 +43,10 @@ board_from before b (e ∷ es) = option_and_then (λ after. board_from (before +
 abbrev pub board_of : List Event → Option Board
 board_of es = board_from [] empty_board es
 
+-- this holds of the game of the events
+abbrev pub holds_of_game : (Board → Bool) → List Event → Bool
+holds_of_game holds es = option_map_or holds (board_of es) false
+
 -- the event that shows a forced move
 abbrev pub event_of : Board → Move → Option Event
 event_of b (moves.Stand d) = None
@@ -52,5 +60,7 @@ event_of b (moves.Halt key) = Some (events.ElementTerminating key)
 event_of b (moves.Gone key) = Some (events.ElementTerminated key)
 event_of b (moves.Assign a) = None
 event_of b (moves.Update a) = None
-event_of b (moves.Incident i) = Some (events.IncidentCreated (record { key = i.key; kind = i.kind; cell = i.cell; job = 0; text = i.text }))
+event_of b (moves.Done key) = None
+event_of b (moves.Throw t) = None
+event_of b (moves.Incident i) = Some (events.IncidentCreated (record { key = i.key; kind = i.kind; cell = i.cell; job = i.job; text = i.text }))
 event_of b (moves.Repair key) = None

@@ -1,11 +1,14 @@
 -- What holds of the board of every log whose events apply.
-use Rattle.std.specs.Prelude.{◌≡◌, ◌⊎◌, ◌<◌, ◌+◌, ◌^◌, ◌==◌, ℕ, List, ◌++◌, Bool, false, ◌&&◌, ◌||◌, Option, Some, IsTrue, IsFalse, is_some, All}
+use Rattle.std.specs.Prelude.{◌≡◌, ◌⊎◌, ◌<◌, ◌+◌, ◌^◌, ◌==◌, ℕ, List, ◌++◌, Bool, false, ◌&&◌, ◌||◌, Option, Some, None, IsTrue, IsFalse, is_some, All}
 use Rattle.std.specs.Option.{option_map_or}
 use Rattle.std.specs.List.{AllPairs}
 use Rattle.zb_base.specs.Vars.{is_ascending}
 use Rattle.zb_model.specs.declared.record.Event.{Event}
 use Rattle.zb_model.specs.declared.record.Command.{Command}
 use Rattle.zb_model.specs.declared.record.Command.TheVariants as commands
+use Rattle.zb_table.specs.Rows.{Ascend}
+use Rattle.zb_views.specs.declared.job.Job.{Job}
+use Rattle.zb_views.specs.Jobs.{jobs, job_at, is_failed}
 use Rattle.zb_views.specs.View.{greatest_counter, next_key}
 use Rattle.zb_tokens.specs.declared.board.Cell.{Cell}
 use Rattle.zb_tokens.specs.declared.board.Token.{Token}
@@ -16,6 +19,8 @@ use Rattle.zb_tokens.specs.declared.board.Phase.{Phase}
 use Rattle.zb_tokens.specs.declared.board.Phase.TheVariants as phases
 use Rattle.zb_tokens.specs.Edits.{is_none_of}
 use Rattle.zb_tokens.specs.Board.{Board, CellsAscend, cell_at, model_under, is_phase, is_root, is_scope_in}
+use Rattle.zb_tokens.specs.Incidents.{incident_on}
+use Rattle.zb_tokens.specs.Marks.{awaits_work}
 use Rattle.zb_tokens.specs.MoveAssign.{has_name}
 use Rattle.zb_tokens.specs.Game.{agrees}
 use Rattle.zb_tokens.specs.Forced.{move_of}
@@ -53,6 +58,37 @@ pub record IsSound (b : Board) : Type 0 where
   pub leaving : All (λ (c : Cell). IsTrue (is_phase c.phase phases.Leaving) → IsFalse (is_none_of c.owed) × IsFalse (is_root c)) b.cells
   -- at most one incident stands on each cell, and no two have one key
   pub incidents : AllPairs StandApart b.incidents
+
+-- two jobs are of different cells (own)
+abbrev pub AreApartJobs : Job → Job → Type 0
+AreApartJobs j other = IsFalse (j.cell == other.cell)
+
+-- on a board the cell of a job waits for its work (BPMN 2.0.2, 13.3.3)
+abbrev pub IsAwaited : Board → Job → Type 0
+IsAwaited b j = IsTrue (option_map_or (awaits_work b) (cell_at b j.cell) false)
+
+-- no incident stands on the cell of a job, unless that has no try left (Zeebe, incidents)
+abbrev pub HasNoIncident : Board → Job → Type 0
+HasNoIncident b j = is_failed j.phase ≡ false → incident_on b j.cell ≡ None
+
+-- the job that is the cause of an incident is that of its cell, as long as it is there (Zeebe, incidents)
+abbrev pub HasJobOfCell : List Event → Incident → Type 0
+HasJobOfCell es i = (j : Job) → job_at i.job es ≡ Some j → j.cell ≡ i.cell
+
+-- the jobs of a log of partition p whose board is this: they ascend, each stands on a cell of its own that waits for it (Zeebe, jobs)
+pub record HasSoundJobs (p : ℕ) (es : List Event) (b : Board) : Type 0 where
+  -- their keys ascend, and none is 0
+  pub ascend : Ascend (λ (j : Job). j.key) 1 (jobs es)
+  -- the partition draws none of them again
+  pub below : All (λ (j : Job). j.key < next_key p es) (jobs es)
+  -- no two are of one cell
+  pub apart : AllPairs AreApartJobs (jobs es)
+  -- the cell of each waits for its work
+  pub awaited : All (IsAwaited b) (jobs es)
+  -- no incident stands there, unless the job has no try left
+  pub free : All (HasNoIncident b) (jobs es)
+  -- an incident that a job is the cause of stands on the job's cell
+  pub causes : All (HasJobOfCell es) b.incidents
 
 -- a cell is found that has the name, or else a root: in it a value is set that is handed up (BPMN 2.0.2, 10.4.1)
 pub record IsHolder (b : Board) (name : List ℕ) (found : Option ℕ) : Type 0 where

@@ -1,24 +1,29 @@
 -- What holds of the board of every log whose events apply.
-use Rattle.std.proofs.Common.{◌≡◌, ℕ, ◌==◌, List, [], ◌∷◌, ◌++◌, Bool, true, false, if◌then◌else◌, IsTrue, is_some, Some, All, refl, sym, subst}
+use Rattle.std.proofs.Common.{◌≡◌, ℕ, ◌==◌, List, [], ◌∷◌, ◌++◌, Bool, true, false, if◌then◌else◌, IsTrue, is_some, Option, Some, All, refl, sym, subst}
 use Rattle.std.specs.Option.{IfSome}
 use Rattle.std.proofs.lemmas.List.Elements.{All-nil}
 use Rattle.zb_instance_records.specs.declared.instance.ElementActivating.{ElementActivating}
 use Rattle.zb_model.specs.declared.record.Event.{Event}
 use Rattle.zb_model.specs.declared.record.Event.TheVariants as events
+use Rattle.zb_views.specs.Jobs.{job_at}
 use Rattle.zb_views.specs.View.{next_key}
+use Rattle.zb_tokens.specs.declared.board.Move.{Move}
 use Rattle.zb_tokens.specs.declared.board.Move.TheVariants as moves
 use Rattle.zb_tokens.specs.Board.{Board, CellsAscend}
 use Rattle.zb_tokens.specs.Game.{empty_board}
 use Rattle.zb_tokens.specs.GameLaws.{both_left}
 use Rattle.zb_rules.specs.Shown.{shown, board_of}
 use Rattle.zb_rules.specs.Applies.{is_fresh, begins_instance, begins_cell, all_apply}
-use Rattle.zb_rules.specs.Sound.{IsSound}
+use Rattle.zb_rules.specs.Sound.{IsSound, HasSoundJobs}
 use Rattle.zb_rules.specs.CellsLaws.{Between, ascend_between}
+use Rattle.zb_rules.specs.GrowthLaws.{job_shows}
 use Rattle.zb_rules.specs.AppliedLaws.{Advances, holds_on, holds_of_all}
 use Rattle.zb_rules.specs.KeysLaws.{HasOrderedCells, board_stands, stands_on, stands_first, begins_by, fresh_is}
 use Rattle.zb_rules.specs.OwesLaws.{HasModel, Owes, models_on, owes_on}
 use Rattle.zb_rules.specs.PlacedLaws.{InScope, IsIn, Placed, IsNewIn, placed_on}
 use Rattle.zb_rules.specs.IncidentsLaws.{HasApartIncidents, apart_on, apart_first}
+use Rattle.zb_rules.specs.JobCellsLaws.{IsUntold, untold_on}
+use Rattle.zb_rules.specs.JobSoundLaws.{IsDrawn, jobs_on, jobs_first, drawn_on}
 
 -- the board of a log whose events apply is there
 pub board_is_there : (p : ℕ) (es : List Event) → IsTrue (all_apply p [] es) → IsTrue (is_some (board_of es))
@@ -40,6 +45,8 @@ new_by p before b a false stands begins =
 
 shown_new : (p : ℕ) (before : List Event) (b : Board) (e : Event) (after : Board) → Advances p before b e after → HasOrderedCells p before b → IfSome (shown before e) (IsNewIn b)
 shown_new p before b (events.ElementActivating a) after h stands = new_by p before b a (a.scope == 0) stands (begins_by p before a h.own)
+shown_new p before b (events.JobCompleted key) after h stands = job_shows (λ (m : Option Move). IfSome m (IsNewIn b)) (λ j. moves.Done j.cell) (job_at key before) tt (λ j. tt)
+shown_new p before b (events.JobErrorThrown t) after h stands = job_shows (λ (m : Option Move). IfSome m (IsNewIn b)) (λ j. moves.Throw (record { cell = j.cell; code = t.code })) (job_at t.key before) tt (λ j. tt)
 shown_new p before b e after h stands = tt
 
 -- what each event keeps of the board
@@ -49,6 +56,9 @@ pub record BoardKeeps (p : ℕ) (es : List Event) (b : Board) : Type 0 where
   pub owes : All Owes b.cells
   pub placed : Placed b
   pub incidents : HasApartIncidents p es b
+  pub jobs : HasSoundJobs p es b
+  pub drawn : All (IsDrawn p es) b.incidents
+  pub unset : All IsUntold b.cells
 
 -- an event that applies keeps it
 pub keeps_on : (p : ℕ) (before : List Event) (b : Board) (e : Event) (after : Board) → Advances p before b e after → BoardKeeps p before b → BoardKeeps p (before ++ e ∷ []) after
@@ -58,15 +68,22 @@ keeps_on p before b e after h k = record {
   owes = owes_on b after (shown before e) h.fit h.leads k.owes;
   placed = placed_on b after (shown before e) h.fit (shown_new p before b e after h k.stands) h.leads k.owes k.placed;
   incidents = apart_on p before b e after h k.incidents;
+  jobs = jobs_on p before b e after h k.incidents.apart k.drawn k.jobs;
+  drawn = drawn_on p before b e after h k.jobs k.drawn;
+  unset = untold_on b after (shown before e) h.fit h.leads k.unset;
 }
 
-keeps_first : (p : ℕ) → BoardKeeps p [] empty_board
+-- the empty board keeps what a board keeps behind no event
+pub keeps_first : (p : ℕ) → BoardKeeps p [] empty_board
 keeps_first p = record {
   stands = stands_first p;
   models = All-nil (HasModel empty_board);
   owes = All-nil Owes;
   placed = record { scopes = All-nil (InScope empty_board); tokens = All-nil (IsIn empty_board) };
   incidents = apart_first p;
+  jobs = jobs_first p;
+  drawn = All-nil (IsDrawn p []);
+  unset = All-nil IsUntold;
 }
 
 -- the board of a log whose events apply has it
@@ -86,3 +103,7 @@ sound_from p es b k = record {
 -- and is sound
 pub board_is_sound : (p : ℕ) (es : List Event) (b : Board) → IsTrue (all_apply p [] es) → board_of es ≡ Some b → IsSound b
 board_is_sound p es b apply is = sound_from p es b (board_keeps p es b apply is)
+
+-- its jobs are sound
+pub jobs_are_sound : (p : ℕ) (es : List Event) (b : Board) → IsTrue (all_apply p [] es) → board_of es ≡ Some b → HasSoundJobs p es b
+jobs_are_sound p es b apply is = (board_keeps p es b apply is).jobs

@@ -1,5 +1,5 @@
 -- Laws of a list whose members each stand on those before it, and of a log as it grows by a batch.
-use Rattle.std.proofs.Common.{◌≡◌, ℕ, List, [], ◌∷◌, ◌++◌, length, slice_get, Some, take, drop, ◌<◌, refl, inl, inr, ap, sym, ◌∙◌, arith, get_or, subst, append-nil, append_assoc, ◌&&◌}
+use Rattle.std.proofs.Common.{Bool, true, false, ◌≡◌, ℕ, List, [], ◌∷◌, ◌++◌, length, slice_get, Some, take, drop, ◌<◌, refl, inl, inr, ap, sym, ◌∙◌, arith, get_or, subst, append-nil, append_assoc, ◌&&◌}
 use Rattle.std.proofs.lemmas.List.{take-append-le, take-append-drop, get_or-take, get_or_append_left, length-append, length-take}
 use Rattle.std.proofs.lemmas.Option.{slice_get_within, get_or_from_slice_get, slice_get-get_or}
 use Rattle.std.proofs.lemmas.Bool.{cases_lt}
@@ -84,15 +84,19 @@ are_steps_none p n log = each_on_none (IsStep p n) log
 pub are_steps_more : (p n : ℕ) (log more : List Batch) (batch : Batch) → AreStepsOn p n log more → IsStep p n (log ++ more) batch → AreStepsOn p n log (more ++ batch ∷ [])
 are_steps_more p n log more batch = each_on_more (IsStep p n) log more batch
 
+joined_tests : (a b c : Bool) → (a && (b && c)) ≡ ((a && b) && c)
+joined_tests true b c = refl
+joined_tests false b c = refl
+
 -- each of some events applies, and one behind them
 pub all_apply_more : (p : ℕ) (before es : List Event) (e : Event) → all_apply p before (es ++ e ∷ []) ≡ (all_apply p before es && applies p (before ++ es) e)
 all_apply_more p before [] e = rw (append-nil before) (grind arith)
-all_apply_more p before (x ∷ es) e = rw (all_apply_more p (before ++ x ∷ []) es e, append_assoc before (x ∷ []) es) (grind arith)
+all_apply_more p before (x ∷ es) e = rw (all_apply_more p (before ++ x ∷ []) es e, append_assoc before (x ∷ []) es) (joined_tests (applies p before x) (all_apply p (before ++ x ∷ []) es) (applies p (before ++ x ∷ es) e))
 
 -- each of some events applies, and each of those behind them
 pub all_apply_on : (p : ℕ) (before es more : List Event) → all_apply p before (es ++ more) ≡ (all_apply p before es && all_apply p (before ++ es) more)
 all_apply_on p before [] more = rw (append-nil before) refl
-all_apply_on p before (x ∷ es) more = rw (all_apply_on p (before ++ x ∷ []) es more, append_assoc before (x ∷ []) es) (grind arith)
+all_apply_on p before (x ∷ es) more = rw (all_apply_on p (before ++ x ∷ []) es more, append_assoc before (x ∷ []) es) (joined_tests (applies p before x) (all_apply p (before ++ x ∷ []) es) (all_apply p (before ++ x ∷ es) more))
 
 -- legal moves, and those behind them
 pub all_legal_on : (moment : ℕ) (seen before es more : List Event) → AllLegal moment seen before es → AllLegal moment seen (before ++ es) more → AllLegal moment seen before (es ++ more)

@@ -13,7 +13,7 @@ use Rattle.zb_tokens.specs.MoveAssign.{has_name}
 use Rattle.zb_tokens.specs.Names.{holder_of}
 use Rattle.zb_rules.specs.Shown.{board_of}
 use Rattle.zb_rules.specs.Applies.{has_cell, holds_of_game}
-use Rattle.zb_rules.specs.Making.{Making, just, and_then}
+use Rattle.zb_rules.specs.Making.{Making, just, and_then, each_made}
 use Rattle.zb_rules.specs.Create.{variable_event}
 
 -- what is told where no cell has this key
@@ -42,8 +42,7 @@ set_by local scope v before = option_map_or (λ cell. set_in cell v before) (pla
 
 -- each of these variables is set, in order
 abbrev pub set_each : Bool → ℕ → List Variable → Making
-set_each local scope [] before = []
-set_each local scope (v ∷ vs) before = and_then (set_by local scope v) (set_each local scope vs) before
+set_each local scope vs = each_made (set_by local scope) vs
 
 -- each variable is set, and then the document is (Zeebe, the records)
 abbrev pub updated : VariableDocumentUpdate → Making

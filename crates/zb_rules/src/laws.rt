@@ -1,12 +1,9 @@
-ghost use Rattle.std.specs.Prelude.{◌≡◌, ◌≤◌, ◌<◌, ◌+◌, ◌++◌, ◌↔◌, ℕ, length, List, [], ◌∷◌, Option, Some, None, All, IsTrue, is_some};
+ghost use Rattle.std.specs.Prelude.{◌≡◌, ◌≤◌, ◌<◌, ◌+◌, ◌/◌, ◌^◌, ◌++◌, ◌↔◌, ℕ, length, List, [], ◌∷◌, Option, Some, None, All, IsTrue, is_some};
 ghost use Rattle.std.specs.Option.{IfSome};
 ghost use Rattle.zb_instance_records.specs.declared.happening.VariableDocumentUpdate.{VariableDocumentUpdate};
-ghost use Rattle.zb_exchange_records.specs.declared.message.MessagePublished.{MessagePublished};
 ghost use Rattle.zb_model.specs.declared.record.Command.{Command};
-ghost use Rattle.zb_model.specs.declared.record.Command.TheVariants as commands;
 ghost use Rattle.zb_model.specs.declared.record.Event.{Event};
 ghost use Rattle.zb_model.specs.declared.record.Event.TheVariants as events;
-ghost use Rattle.zb_views.specs.Messages.{buffered};
 ghost use Rattle.zb_tokens.specs.declared.board.Move.{Move};
 ghost use Rattle.zb_tokens.specs.declared.board.Mover.{Mover};
 ghost use Rattle.zb_tokens.specs.Board.{Board, cell_at};
@@ -19,22 +16,25 @@ ghost use Rattle.zb_rules.specs.Applies.{applies, all_apply};
 ghost use Rattle.zb_rules.specs.Legal.{IsMadeLegally, AllLegal, EachLegal};
 ghost use Rattle.zb_rules.specs.InFront.{count_in_front, events_in_front};
 ghost use Rattle.zb_rules.specs.Settling.{turn, HasQuietGame};
-ghost use Rattle.zb_rules.specs.Sound.{IsSound, HasKeys, HasOrderedNames, IsForcedEvent, IsHolder};
+ghost use Rattle.zb_rules.specs.JobEnds.{times_ended};
+ghost use Rattle.zb_rules.specs.Sound.{IsSound, HasSoundJobs, HasKeys, HasOrderedNames, IsForcedEvent, IsHolder};
 ghost use Rattle.zb_rules.specs.Cancel.{reason_to_cancel, cancelled};
 ghost use Rattle.zb_rules.specs.Update.{reason_to_update, updated};
 ghost use Rattle.zb_rules.specs.Reason.{reason_for};
 ghost use Rattle.zb_rules.specs.Own.{IsSupported, own_events};
-ghost use Rattle.zb_rules.specs.Due.{due_command, IsFirstDue};
+ghost use Rattle.zb_rules.specs.Due.{Alarm, alarms, due_command, IsFirstDue};
 
-/// The command that is due first expires a message that is buffered and due, and no other one that is comes
-/// before it by its deadline, then by its key. Where no command is due, each deadline lies ahead.
+/// The command that is due first is that of an alarm, a message's or a job's, whose moment has come, and no other
+/// one whose moment has come is before it by that moment, then by its key. Where no command is due, each moment
+/// lies ahead.
 pub fn due_commands_come_first()
     ensures first { (now : ℕ) (es : List Event) (command : Command) → due_command now es ≡ Some command
-        → (m : MessagePublished) × (command ≡ commands.MessageExpire m.key) × IsFirstDue now es m }
-    ensures none { (now : ℕ) (es : List Event) → due_command now es ≡ None → All (λ m. now < m.deadline) (buffered es) }
+        → (alarm : Alarm) × (command ≡ alarm.command) × IsFirstDue now es alarm }
+    ensures none { (now : ℕ) (es : List Event) → due_command now es ≡ None → All (λ alarm. now < alarm.moment) (alarms es) }
 {}
 
-/// From the moment at which a command is due there is no reason against it, and it is one that is run.
+/// From the moment at which a command is due there is no reason against it, and it is one that is run: a message
+/// whose deadline has come expires, and a job whose deadline has come is taken back from the worker that has it.
 pub fn due_commands_have_no_reason()
     ensures no_reason { (now moment : ℕ) (es : List Event) (command : Command) → now ≤ moment → due_command now es ≡ Some command → reason_for es moment command ≡ None }
     ensures run { (now : ℕ) (es : List Event) (command : Command) → due_command now es ≡ Some command → IsSupported command }
@@ -47,6 +47,20 @@ pub fn due_commands_have_no_reason()
 pub fn boards_of_logs_are_sound()
     ensures there { (p : ℕ) (es : List Event) → IsTrue (all_apply p [] es) → IsTrue (is_some (board_of es)) }
     ensures sound { (p : ℕ) (es : List Event) (board : Board) → IsTrue (all_apply p [] es) → board_of es ≡ Some board → IsSound board }
+{}
+
+/// The jobs of a log whose events apply: their keys ascend, and the partition draws none of them again. Each is of a
+/// cell of its own that waits for its work, and no incident stands there as long as the job has a try left. An
+/// incident that a job is the cause of stands on the job's cell.
+pub fn jobs_of_logs_are_sound()
+    ensures { (p : ℕ) (es : List Event) (board : Board) → IsTrue (all_apply p [] es) → board_of es ≡ Some board → HasSoundJobs p es board }
+{}
+
+/// In a log whose events apply each job is over at most once: completed, canceled, or ended by an error that is
+/// thrown in it. One that is over has a key of the log's partition.
+pub fn jobs_end_once()
+    ensures once { (p : ℕ) (es : List Event) (job : ℕ) → IsTrue (all_apply p [] es) → times_ended job es ≤ 1 }
+    ensures home { (p : ℕ) (es : List Event) (job : ℕ) → IsTrue (all_apply p [] es) → 1 ≤ times_ended job es → job / 2 ^ 51 ≡ p }
 {}
 
 /// Who is forced behind a log whose events apply has an event, where a key is left: those in front of it apply,

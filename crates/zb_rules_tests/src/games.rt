@@ -1,4 +1,4 @@
-use crate::models::straight;
+use crate::models::{assigned, is_payment, is_text, is_the_amount, straight};
 use std::alloc::Global;
 use std::process::Abort;
 use zb_game::{Game, GameFault};
@@ -65,4 +65,26 @@ fn refuses_a_cell_that_is_not_there(rt: HostRuntime) {
     let copy = game.copy(alloc).expect(&rt, "memory");
     assert!(rt; copy.definition_of(Key::new(2)) == Some(Key::new(1)));
     assert!(rt; copy.is_process_of(Key::new(1), "p"));
+}
+
+#[test]
+fn knows_the_work_of_a_cell(rt: HostRuntime) {
+    let alloc = rt.alloc();
+    let mut game = started(&rt, alloc, NodeKind::ServiceTask);
+    let root = Key::new(2);
+    assert!(rt; game.make(alloc, assigned(&rt, alloc, root)) == Ok(()));
+    for at in 0..8 {
+        assert!(rt; goes_on(&rt, alloc, &mut game, Key::new(at + 3)));
+    }
+    // The seventh of the moves makes the cell at `e`.
+    let cell = Key::new(9);
+    assert!(rt; game.may_have_job(cell));
+    assert!(rt; is_payment(game.work_at(cell)));
+    assert!(rt; game.root_of(cell) == Some(root));
+    assert!(rt; game.is_work_in(cell, root, "e"));
+    assert!(rt; is_text(game.node_id(cell), "e"));
+    assert!(rt; game.gives_outputs(cell) == Some(false));
+    assert!(rt; game.incident(cell).is_none());
+    let variables = game.visible(alloc, cell).expect(&rt, "memory");
+    assert!(rt; is_the_amount(&variables));
 }

@@ -1,5 +1,5 @@
-//! Tests of what no clause says of the game, the faults of models, the state and a step: each public call with
-//! ample memory.
+//! Tests of what no clause says of the game, the faults of models, the jobs, the state and a step: each public call
+//! with ample memory.
 #![tactic(auto)]
 
 #[cfg(test)]
@@ -7,8 +7,12 @@ mod checks;
 #[cfg(test)]
 mod games;
 #[cfg(test)]
+mod jobs;
+#[cfg(test)]
 mod models;
 #[cfg(test)]
 mod states;
 #[cfg(test)]
 mod steps;
+#[cfg(test)]
+mod workers;

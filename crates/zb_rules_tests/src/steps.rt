@@ -40,10 +40,10 @@ fn an_instance_goes_on_by_itself(rt: HostRuntime) {
     let deploy = Command::DeploymentCreate(model);
     let first = outcome_of(alloc, &mut state, Moment::new(0), &deploy).expect(&rt, "memory");
     assert!(rt; has_events(&first, 2));
-    // Two events of its own, and twelve that are forced.
+    // Three events of its own, one of them for its variable, and twelve that are forced.
     let create = Command::ProcessInstanceCreationCreate(begun(&rt, alloc));
     let second = outcome_of(alloc, &mut state, Moment::new(0), &create).expect(&rt, "memory");
-    assert!(rt; has_events(&second, 14));
+    assert!(rt; has_events(&second, 15));
     assert!(rt; state.quiet());
     assert!(rt; state.greatest_version("p") == 1);
     assert!(rt; state.definition_for("p", 0).is_some());

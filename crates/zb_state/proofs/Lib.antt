@@ -1,2 +1,4 @@
 pub mod StateLemmas
+pub mod DueLemmas
+pub mod JobLemmas
 pub mod SmallLemmas

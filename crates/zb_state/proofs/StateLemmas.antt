@@ -1,5 +1,5 @@
 -- A state with an event more.
-use Rattle.std.proofs.Common.{◌≡◌, ℕ, ◌+◌, ◌<◌, ◌≤◌, ◌==◌, nat_le, max, Option, Some, None, is_some, is_none, option_map, Bool, true, false, ◌&&◌, if◌then◌else◌, Result, Ok, Err, OnOk, OnErr, List, [], ◌∷◌, ◌++◌, IsTrue, not, refl, sym, ap, subst, ◌∙◌, arith, append-nil}
+use Rattle.std.proofs.Common.{◌≡◌, ℕ, ◌+◌, ◌<◌, ◌≤◌, ◌==◌, nat_le, max, Option, Some, None, is_some, is_none, option_map, option_and_then, Bool, true, false, ◌&&◌, if◌then◌else◌, Result, Ok, Err, OnOk, OnErr, List, [], ◌∷◌, ◌++◌, IsTrue, not, refl, sym, ap, subst, ◌∙◌, arith, append-nil}
 use Rattle.std.specs.Prelude.{⊤}
 use Rattle.std.specs.Cmp.Derive.{both_true}
 use Rattle.std.specs.List.{find, list_any}
@@ -22,7 +22,6 @@ use Rattle.zb_tokens.specs.Board.{Board}
 use Rattle.zb_rules.specs.Shown.{shown, after_shown, board_of, event_of}
 use Rattle.zb_rules.specs.Applies.{applies, holds_own, may_fit}
 use Rattle.zb_rules.specs.StepLaws.{all_apply_more}
-use Rattle.zb_rules.specs.Making.{just, and_then}
 use Rattle.zb_rules.specs.Settling.{in_events, turn_of, turn_with}
 use Rattle.zb_tokens.specs.Mappings.{assignments_of}
 use Rattle.zb_state.specs.declared.turn.Turn.{Turn}
@@ -32,8 +31,11 @@ use Rattle.zb_tokens.specs.declared.board.Mover.{Mover}
 use Rattle.zb_views.specs.CounterLaws.{counter_at-key_of}
 use Rattle.zb_state.specs.declared.change.Change.{Change}
 use Rattle.zb_state.specs.declared.change.Change.TheVariants as changes
-use Rattle.zb_state.specs.Change.{change_told, definition_of_change, instance_of_change, with_change, HasNextKey, Draws}
-use Rattle.zb_state.specs.State.{IsStateOf, IsSameBeside}
+use Rattle.zb_views.specs.declared.job.Job.{Job}
+use Rattle.zb_views.specs.Jobs.{jobs, job_on, ending_told, calls_off_job, called_off}
+use Rattle.zb_views.specs.JobLaws.{jobs_by, jobs_more, jobs_kept, called_off_more}
+use Rattle.zb_state.specs.Change.{change_told, definition_of_change, instance_of_change, with_change, jobs_with, called_off_by, HasNextKey, IsFirstOfCell, Draws, OpensJob}
+use Rattle.zb_state.specs.State.{IsStateOf, IsSameBeside, GoesBy, IsNoted, HasTaken}
 use Rattle.zb_state.specs.declared.state.State.{State}
 
 -- the greatest counter
@@ -120,26 +122,54 @@ draws p n e next = tt
 pub draws_of : {counter : ℕ} {change : Change} → (old mid : State) (e : Event) → IsSameBeside old mid → counter ≡ greatest_among mid.place (keys_in e) → change ≡ change_told e → HasNextKey old.place old.counter e → Draws mid.place mid.counter counter change
 draws_of old mid e same counter change next = rw (counter, change, same.place, same.counter) (draws old.place old.counter e next)
 
--- a state that took in a counter and a change
-pub record IsNoted (n : ℕ) (change : Change) (old new : State) : Type 0 where
-  pub place : new.place ≡ old.place
-  pub counter : new.counter ≡ max old.counter n
-  pub messages : new.messages ≡ with_change change old.messages
-  pub definitions : new.definitions.items ≡ old.definitions.items ++ definition_of_change change
-  pub begun : new.begun ≡ instance_of_change change
-  pub game : new.game ≡ old.game
+-- the jobs
+jobs_noted : (es : List Event) (e : Event) (found : Option Event) → GoesBy e found → jobs (es ++ e ∷ []) ≡ jobs_with found (jobs es)
+jobs_noted es e None by = jobs_kept es e by.0
+jobs_noted es e (Some x) by = jobs_more es e ∙ ap (λ (y : Event). jobs_by y (jobs es)) (sym by)
+
+-- the one that is called off
+calls_none : (before : List Event) (found : Option ℕ) → found ≡ None → option_and_then (λ (cell : ℕ). option_map (λ (j : Job). j.key) (job_on cell before)) found ≡ None
+calls_none before found none = rw none refl
+
+called_off_noted : (es : List Event) (e : Event) (found : Option Event) → GoesBy e found → called_off (es ++ e ∷ []) ≡ called_off_by found (jobs es)
+called_off_noted es e None by = called_off_more es e ∙ calls_none es (ending_told e) by.1
+called_off_noted es e (Some x) by = called_off_more es e ∙ ap (λ (y : Event). calls_off_job es y) (sym by)
+
+-- a job that an event makes is the first of its cell, and has the next key
+opens_by : (p n : ℕ) (js : List Job) (e : Event) → HasNextKey p n e → IsFirstOfCell js e → OpensJob p n (greatest_among p (keys_in e)) js (Some e)
+opens_by p n js (events.JobCreated e) next first =
+    let drawn : counter_at p e.key ≡ n + 1 = ap (counter_at p) next.1 ∙ counter_at-key_of p (n + 1) next.0 in
+    (omega (arith, drawn), next.1, first)
+opens_by p n js e next first = tt
+
+pub opens_of : {counter : ℕ} → (old mid : State) (e : Event) → IsSameBeside old mid → counter ≡ greatest_among mid.place (keys_in e) → HasNextKey old.place old.counter e → IsFirstOfCell old.jobs e
+    → OpensJob mid.place mid.counter counter mid.jobs (Some e)
+opens_of {counter = counter} old mid e same told next first =
+    let start : OpensJob old.place old.counter (greatest_among old.place (keys_in e)) old.jobs (Some e) = opens_by old.place old.counter old.jobs e next first in
+    let drawn : greatest_among old.place (keys_in e) ≡ counter = ap (λ (p : ℕ). greatest_among p (keys_in e)) (sym same.place) ∙ sym told in
+    let counted = subst (λ (k : ℕ). OpensJob old.place old.counter k old.jobs (Some e)) drawn start in
+    let placed = subst (λ (p : ℕ). OpensJob p old.counter counter old.jobs (Some e)) (sym same.place) counted in
+    let behind = subst (λ (n : ℕ). OpensJob mid.place n counter old.jobs (Some e)) (sym same.counter) placed in
+    subst (λ (js : List Job). OpensJob mid.place mid.counter counter js (Some e)) (sym same.jobs) behind
 
 -- the state where each part grows
-pub state_more : {counter : ℕ} {change : Change} → (es : List Event) (e : Event) (old mid new : State) → IsStateOf es old → IsSameBeside old mid → IsTrue (applies old.place es e) → after_shown old.game (shown es e) ≡ Some mid.game
-    → change ≡ change_told e → counter ≡ greatest_among mid.place (keys_in e) → IsNoted counter change mid new → IsStateOf (es ++ e ∷ []) new
-state_more es e old mid new is same applied played change counter noted = record {
+pub state_more : {counter : ℕ} {change : Change} → (es : List Event) (e : Event) (found : Option Event) (old mid new : State) → GoesBy e found → IsStateOf es old → IsSameBeside old mid → IsTrue (applies old.place es e) → after_shown old.game (shown es e) ≡ Some mid.game
+    → change ≡ change_told e → counter ≡ greatest_among mid.place (keys_in e) → IsNoted counter change found mid new → IsStateOf (es ++ e ∷ []) new
+state_more es e found old mid new by is same applied played change counter noted = record {
   applied = rw (noted.place, same.place, all_apply_more old.place [] es e) (both_true is.applied applied);
   counter = rw (noted.place, same.place, counter_more old.place es e, is.counter) (sym (rw (counter, same.counter, same.place) at noted.counter));
   messages = rw (messages_more es e, is.messages) (sym (rw (change, same.messages) at noted.messages));
   definitions = rw (definitions_more es e, is.definitions, definition_made e) (sym (rw (change, same.definitions) at noted.definitions));
   begun = begun_more es e ∙ (instance_made e ∙ sym (rw change at noted.begun));
+  jobs = rw (jobs_noted es e found by, is.jobs) (sym (rw same.jobs at noted.jobs));
+  called_off = rw (called_off_noted es e found by, is.jobs) (sym (rw same.jobs at noted.called_off));
   game = rw (board_of_more es e, is.game) (played ∙ ap (λ (b : Board). Some b) (sym noted.game));
 }
+
+-- so it does where it took the event in
+pub state_taken : {counter : ℕ} → (es : List Event) (e : Event) (old mid new : State) → IsStateOf es old → IsSameBeside old mid → IsTrue (applies old.place es e) → after_shown old.game (shown es e) ≡ Some mid.game → counter ≡ greatest_among mid.place (keys_in e)
+    → HasTaken counter e mid new → IsStateOf (es ++ e ∷ []) new
+state_taken es e old mid new is same applied played counter took = state_more es e took.found old mid new took.by is same applied played refl counter took.noted
 
 -- the board of some events is one alone
 pub same_board : (o : Option Board) (a b : Board) → o ≡ Some a → o ≡ Some b → a ≡ b
@@ -169,10 +199,7 @@ no_turn_told p n moment es b game mover key same drawn is_move =
     let told : move_of game moment (next_key p es) mover ≡ None = subst (λ (k : ℕ). move_of game moment k mover ≡ None) drawn (sym is_move) in
     rw (same, told) refl
 
--- where nobody was forced, and an event shows no move, nobody is forced
-pub still_rests : (old new : Board) (move : Option Move) (shows : Bool) → IsTrue (is_none (next_mover old)) → shows ≡ is_some move → after_shown old move ≡ Some new → IsTrue (not shows)
-    → IsTrue (is_none (next_mover new))
-still_rests old new None shows rests told after silent =
-    let same : old ≡ new = cc in
-    subst (λ (b : Board). IsTrue (is_none (next_mover b))) same rests
-still_rests old new (Some move) shows rests told after silent = absurd (let no_more = rw told at silent in cc)
+-- where nobody was forced, and the game is as it was, nobody is forced
+pub still_rests : (old new : Board) (shows : Bool) → IsTrue (is_none (next_mover old)) → (shows ≡ false → new ≡ old) → IsTrue (not shows) → IsTrue (is_none (next_mover new))
+still_rests old new true rests same silent = absurd (cc)
+still_rests old new false rests same silent = subst (λ (b : Board). IsTrue (is_none (next_mover b))) (sym (same refl)) rests

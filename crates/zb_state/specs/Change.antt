@@ -1,11 +1,15 @@
 -- What an event changes beside the game and the counter.
-use Rattle.std.specs.Prelude.{◌≡◌, ℕ, ◌+◌, ◌<◌, ◌^◌, List, [], ◌∷◌, ◌++◌, Option, Some, None}
+use Rattle.std.specs.Prelude.{◌≡◌, ℕ, ◌+◌, ◌<◌, ◌≤◌, ◌^◌, ◌==◌, List, [], ◌∷◌, ◌++◌, Bool, true, false, IsTrue, is_none, Option, Some, None, option_map, option_and_then}
+use Rattle.std.specs.List.{find}
 use Rattle.zb_base.specs.Key.{key_of}
 use Rattle.zb_exchange_records.specs.declared.message.MessagePublished.{MessagePublished}
 use Rattle.zb_model.specs.declared.record.Event.{Event}
 use Rattle.zb_model.specs.declared.record.Event.TheVariants as events
 use Rattle.zb_views.specs.declared.begun.Begun.{Begun}
 use Rattle.zb_views.specs.declared.definition.Definition.{Definition}
+use Rattle.zb_views.specs.declared.job.Job.{Job}
+use Rattle.zb_views.specs.Jobs.{ending_told}
+use Rattle.zb_views.specs.JobLaws.{jobs_by}
 use Rattle.zb_views.specs.Messages.{without_message}
 use Rattle.zb_state.specs.declared.change.Change.{Change}
 use Rattle.zb_state.specs.declared.change.Change.TheVariants as changes
@@ -34,14 +38,52 @@ with_change (changes.Published m) messages = messages ++ m ∷ []
 with_change (changes.Expired key) messages = without_message key messages
 with_change _ messages = messages
 
+-- an event may show a move of the game
+abbrev pub may_show : Event → Bool
+may_show (events.ProcessCreated e) = true
+may_show (events.ElementActivating e) = true
+may_show (events.ElementActivated e) = true
+may_show (events.ElementCompleting key) = true
+may_show (events.ElementCompleted e) = true
+may_show (events.ElementTerminating key) = true
+may_show (events.ElementTerminated key) = true
+may_show (events.SequenceFlowTaken e) = true
+may_show (events.JobCompleted key) = true
+may_show (events.JobErrorThrown e) = true
+may_show (events.VariableCreated e) = true
+may_show (events.VariableUpdated e) = true
+may_show (events.IncidentCreated e) = true
+may_show (events.IncidentResolved e) = true
+may_show _ = false
+
+-- what an event makes of the jobs, if there is one to go by
+abbrev pub jobs_with : Option Event → List Job → List Job
+jobs_with None js = js
+jobs_with (Some e) js = jobs_by e js
+
+-- which of these jobs an event calls off: that of the cell which it begins to terminate
+abbrev pub called_off_by : Option Event → List Job → Option ℕ
+called_off_by found js = option_and_then (λ e. option_and_then (λ cell. option_map (λ j. j.key) (find (λ j. j.cell == cell) js)) (ending_told e)) found
+
+-- a job that an event makes has the next key, and is the first of its cell
+abbrev pub OpensJob : (p counter next : ℕ) → List Job → Option Event → Type 0
+OpensJob p counter next js (Some (events.JobCreated e)) = (counter + 1 ≤ next) × (e.key ≡ key_of p (counter + 1)) × IsTrue (is_none (find (λ j. j.cell == e.cell) js))
+OpensJob p counter next js found = Unit {0}
+
 -- the key is the next one behind a counter of partition p, and there is one
 abbrev pub IsNext : ℕ → ℕ → ℕ → Type 0
 IsNext p counter key = (counter + 1 < 2 ^ 51) × (key ≡ key_of p (counter + 1))
 
--- a message that the event publishes has the next key
+-- a message that the event publishes has the next key, and so has a job that it makes
 abbrev pub HasNextKey : ℕ → ℕ → Event → Type 0
 HasNextKey p counter (events.MessagePublished m) = IsNext p counter m.key
+HasNextKey p counter (events.JobCreated e) = IsNext p counter e.key
 HasNextKey p counter _ = Unit {0}
+
+-- a job that the event makes is the first of its cell
+abbrev pub IsFirstOfCell : List Job → Event → Type 0
+IsFirstOfCell js (events.JobCreated e) = IsTrue (is_none (find (λ j. j.cell == e.cell) js))
+IsFirstOfCell js _ = Unit {0}
 
 -- a message that is published draws the counter behind this one, and its key
 abbrev pub Draws : (p counter next : ℕ) → Change → Type 0

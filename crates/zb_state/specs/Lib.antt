@@ -1,3 +1,4 @@
+pub mod Alarms
 pub mod Change
 pub mod State
 pub mod Small

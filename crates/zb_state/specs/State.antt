@@ -1,8 +1,12 @@
 -- What contracts see of a state.
-use Rattle.std.specs.Prelude.{◌≡◌, ℕ, List, [], Some, IsTrue}
+use Rattle.std.specs.Prelude.{◌≡◌, ℕ, max, List, [], ◌++◌, true, Option, Some, None, IsTrue}
 use Rattle.zb_model.specs.declared.record.Event.{Event}
 use Rattle.zb_state.specs.declared.state.State.{State}
+use Rattle.zb_state.specs.declared.change.Change.{Change}
+use Rattle.zb_state.specs.Change.{change_told, with_change, definition_of_change, instance_of_change, jobs_with, called_off_by}
 use Rattle.zb_views.specs.View.{greatest_counter}
+use Rattle.zb_views.specs.Jobs.{jobs, called_off, ending_told}
+use Rattle.zb_views.specs.JobLaws.{says_nothing_of_jobs}
 use Rattle.zb_views.specs.Messages.{buffered}
 use Rattle.zb_views.specs.Definitions.{definitions}
 use Rattle.zb_views.specs.Begin.{begun}
@@ -21,6 +25,8 @@ pub record IsStateOf (es : List Event) (state : State) : Type 0 where
   pub messages : buffered es ≡ state.messages
   pub definitions : definitions es ≡ state.definitions.items
   pub begun : begun es ≡ state.begun
+  pub jobs : jobs es ≡ state.jobs
+  pub called_off : called_off es ≡ state.called_off
   pub game : board_of es ≡ Some state.game
 
 -- some events come to this state
@@ -42,3 +48,27 @@ pub record IsSameBeside (old new : State) : Type 0 where
   pub messages : new.messages ≡ old.messages
   pub definitions : new.definitions.items ≡ old.definitions.items
   pub begun : new.begun ≡ old.begun
+  pub jobs : new.jobs ≡ old.jobs
+  pub called_off : new.called_off ≡ old.called_off
+
+-- a state that took in the greatest counter of an event, what that changes, and what it makes of the jobs
+pub record IsNoted (n : ℕ) (change : Change) (found : Option Event) (old new : State) : Type 0 where
+  pub place : new.place ≡ old.place
+  pub counter : new.counter ≡ max old.counter n
+  pub messages : new.messages ≡ with_change change old.messages
+  pub definitions : new.definitions.items ≡ old.definitions.items ++ definition_of_change change
+  pub begun : new.begun ≡ instance_of_change change
+  pub jobs : new.jobs ≡ jobs_with found old.jobs
+  pub called_off : new.called_off ≡ called_off_by found old.jobs
+  pub game : new.game ≡ old.game
+
+-- an event by which the jobs go on, or one that says nothing of them
+abbrev pub GoesBy : Event → Option Event → Type 0
+GoesBy e None = (says_nothing_of_jobs e ≡ true) × (ending_told e ≡ None)
+GoesBy e (Some found) = found ≡ e
+
+-- a state that took in the greatest counter of an event and what it says, but for its move
+pub record HasTaken (n : ℕ) (e : Event) (old new : State) : Type 0 where
+  pub found : Option Event
+  pub by : GoesBy e found
+  pub noted : IsNoted n (change_told e) found old new

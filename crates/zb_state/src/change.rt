@@ -39,16 +39,6 @@ pub fn copied_change(alloc: Global, event: &Event) -> Result<Change, AllocError>
     }
 }
 
-/// What the event changes, with its message moved. It costs a copy of the id of its process.
-pub fn moved_change(alloc: Global, event: Event) -> Result<Change, AllocError>
-    ensures { IfOk result (λ change. change ≡ change_told event) }
-{
-    match event {
-        Event::MessagePublished(message) => Ok(Change::Published(message)),
-        other => copied_change(alloc, &other),
-    }
-}
-
 // The definition that the process makes.
 fn defined(alloc: Global, process: &ProcessCreated) -> Result<Change, AllocError>
     ensures { IfOk result (λ change. change ≡ change_told (events.ProcessCreated process.now)) }

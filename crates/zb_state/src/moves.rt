@@ -1,42 +1,48 @@
 // The moves that events show.
-ghost use Rattle.std.specs.Prelude.{◌≡◌, List, [], IsTrue, IsFalse, IsErrOf, IfOk, OnOk, Some, is_some};
+ghost use Rattle.std.specs.Prelude.{◌≡◌, ◌==◌, List, [], IsTrue, IsFalse, IsErrOf, IfOk, OnOk, Some, None, false, option_map};
+ghost use Rattle.std.specs.List.{find};
+ghost use Rattle.zb_views.specs.Jobs as views;
 ghost use Rattle.zb_model.specs.declared.record.Event.{Event};
 ghost use Rattle.zb_model.specs.declared.record.Event.TheVariants as events;
 ghost use Rattle.zb_rules.specs.Applies.{may_fit};
 ghost use Rattle.zb_tokens.specs.Game.{fits, played};
 ghost use Rattle.zb_rules.specs.Shown.{shown, after_shown, event_of};
 ghost use Rattle.zb_tokens.specs.declared.board.Move.TheVariants as moves;
+ghost use Rattle.zb_state.specs.Change.{may_show};
 ghost use Rattle.zb_state.specs.Small.{IsSmall, HasSmallModel};
 
 use std::alloc::{AllocError, Global};
 use zb_game::{Game, GameFault};
 use zb_graph::{BoxedGraph, compile};
+use zb_jobs::Jobs;
 use zb_model::{
-    ElementActivated, ElementActivating, ElementCompleted, Event, IncidentCreated, Key, List,
-    ProcessCreated, Role, SequenceFlowTaken, TableFault, Text, TryCopy, VariableCreated,
+    ElementActivated, ElementActivating, ElementCompleted, Event, IncidentCreated, JobErrorThrown,
+    Key, List, ProcessCreated, Role, SequenceFlowTaken, TableFault, Text, TryCopy, VariableCreated,
     VariableUpdated,
 };
-use zb_tokens::{Assigned, Deployed, Enter, Incident, Leave, Move, Start, Take};
+use zb_tokens::{Assigned, Deployed, Enter, Incident, Leave, Move, Start, Take, Thrown};
 
 /// Makes the move that the event shows, if it shows one. At `NotApplicable`, exactly where it doesn't fit,
 /// nothing has changed; after `Memory` the game is only dropped. It costs a copy of the event's texts, its
 /// model, which becomes a graph, and its value, and what `Game::make` does.
-pub fn play(alloc: Global, event: &Event, game: &mut Game) -> Result<(), TableFault>
+pub fn play(alloc: Global, event: &Event, jobs: &Jobs, game: &mut Game) -> Result<(), TableFault>
     requires { HasSmallModel event.now }
-    ensures fit { (before : List Event) → OnOk result (IsTrue (may_fit (shown before event.now) game.old)) }
-    ensures played { (before : List Event) → OnOk result (after_shown game.old (shown before event.now) ≡ Some game.new) }
-    ensures illegal { (before : List Event) → IsErrOf result TableFault.NotApplicable → IsFalse (may_fit (shown before event.now) game.old) }
+    ensures fit { (before : List Event) → views.jobs before ≡ jobs.now → OnOk result (IsTrue (may_fit (shown before event.now) game.old)) }
+    ensures played { (before : List Event) → views.jobs before ≡ jobs.now → OnOk result (after_shown game.old (shown before event.now) ≡ Some game.new) }
+    ensures illegal { (before : List Event) → views.jobs before ≡ jobs.now
+        → IsErrOf result TableFault.NotApplicable → IsFalse (may_fit (shown before event.now) game.old) }
+    ensures silent { may_show event.now ≡ false → OnOk result (game.new ≡ game.old) }
     ensures kept { IsErrOf result TableFault.NotApplicable → game.new ≡ game.old }
 {
-    match shown(alloc, event)? {
+    match shown(alloc, event, jobs)? {
         Some(step) => make(alloc, step, game),
         None => Ok(()),
     }
 }
 
-/// Whether the event shows a move.
-pub fn shows_move(event: &Event) -> bool
-    ensures { (before : List Event) → result ≡ is_some (shown before event.now) }
+/// Whether the event may show a move.
+pub fn may_show(event: &Event) -> bool
+    ensures { result ≡ may_show event.now }
 {
     matches!(
         event,
@@ -50,6 +56,8 @@ pub fn shows_move(event: &Event) -> bool
             | Event::SequenceFlowTaken(_)
             | Event::VariableCreated(_)
             | Event::VariableUpdated(_)
+            | Event::JobCompleted(_)
+            | Event::JobErrorThrown(_)
             | Event::IncidentCreated(_)
             | Event::IncidentResolved(_)
     )
@@ -70,9 +78,10 @@ fn make(alloc: Global, shown: Move, game: &mut Game) -> Result<(), TableFault>
 }
 
 // The move that the event shows, if it shows one.
-fn shown(alloc: Global, event: &Event) -> Result<Option<Move>, AllocError>
+fn shown(alloc: Global, event: &Event, jobs: &Jobs) -> Result<Option<Move>, AllocError>
     requires { HasSmallModel event.now }
-    ensures { (before : List Event) → IfOk result (λ move. move ≡ shown before event.now) }
+    ensures shown { (before : List Event) → views.jobs before ≡ jobs.now → IfOk result (λ move. move ≡ shown before event.now) }
+    ensures silent { may_show event.now ≡ false → IfOk result (λ move. move ≡ None) }
 {
     match event {
         Event::ProcessCreated(process) => Ok(Some(stand_of(alloc, process)?)),
@@ -85,6 +94,8 @@ fn shown(alloc: Global, event: &Event) -> Result<Option<Move>, AllocError>
         Event::SequenceFlowTaken(flow) => Ok(Some(take_of(alloc, flow)?)),
         Event::VariableCreated(variable) => Ok(Some(assign_of(alloc, variable)?)),
         Event::VariableUpdated(variable) => Ok(Some(update_of(alloc, variable)?)),
+        Event::JobCompleted(key) => Ok(done_of(*key, jobs)),
+        Event::JobErrorThrown(thrown) => throw_of(alloc, thrown, jobs),
         Event::IncidentCreated(incident) => Ok(Some(incident_of(alloc, incident)?)),
         Event::IncidentResolved(incident) => Ok(Some(Move::Repair(incident.key))),
         _ => Ok(None),
@@ -159,6 +170,30 @@ fn update_of(alloc: Global, variable: &VariableUpdated) -> Result<Move, AllocErr
     }))
 }
 
+// The work of a job's cell is done.
+fn done_of(key: Key, jobs: &Jobs) -> Option<Move>
+    ensures { result ≡ option_map (λ j. moves.Done j.cell) (find (λ j. j.key == key) jobs.now) }
+{
+    match jobs.get(key) {
+        Some(job) => Some(Move::Done(job.cell)),
+        None => None,
+    }
+}
+
+// An error is thrown in it.
+fn throw_of(alloc: Global, thrown: &JobErrorThrown, jobs: &Jobs) -> Result<Option<Move>, AllocError>
+    ensures { IfOk result (λ move. move
+        ≡ option_map (λ j. moves.Throw (record { cell = j.cell; code = thrown.now.code })) (find (λ j. j.key == thrown.now.key) jobs.now)) }
+{
+    match jobs.get(thrown.key) {
+        Some(job) => Ok(Some(Move::Throw(Thrown {
+            cell: job.cell,
+            code: thrown.code.copy(alloc)?,
+        }))),
+        None => Ok(None),
+    }
+}
+
 fn incident_of(alloc: Global, made: &IncidentCreated) -> Result<Move, AllocError>
     ensures { IfOk result (λ move. Some move ≡ shown [] (events.IncidentCreated made.now)) }
 {
@@ -166,6 +201,7 @@ fn incident_of(alloc: Global, made: &IncidentCreated) -> Result<Move, AllocError
         key: made.key,
         kind: made.kind,
         cell: made.cell,
+        job: made.job,
         text: made.text.copy(alloc)?,
     }))
 }
@@ -196,7 +232,7 @@ pub fn event_of(alloc: Global, shown: Move, game: &Game) -> Option<Event>
             key: incident.key,
             kind: incident.kind,
             cell: incident.cell,
-            job: Key::new(0),
+            job: incident.job,
             text: incident.text,
         })),
         _ => None,

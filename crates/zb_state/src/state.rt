@@ -1,17 +1,20 @@
-ghost use Rattle.std.specs.Prelude.{◌≡◌, ◌↔◌, ◌==◌, nat_le, ◌&&◌, ◌<◌, ◌+◌, ◌^◌, max, false, ℕ, List, [], ◌∷◌, ◌++◌, IsTrue, IsFalse, IsErrOf, IfOk, OnOk, Some, is_none, is_some, option_map, option_and_then};
+ghost use Rattle.std.specs.Prelude.{◌≡◌, ◌↔◌, ◌==◌, nat_le, ◌&&◌, ◌<◌, ◌+◌, ◌^◌, max, false, ℕ, List, [], ◌∷◌, ◌++◌, IsTrue, IsFalse, IsErrOf, IfOk, IfErr, OnOk, Some, is_none, is_some, option_map, option_and_then};
 ghost use Rattle.std.specs.List.{list_any};
 ghost use Rattle.std.specs.Option.{option_copied, option_map_or};
 ghost use Rattle.zb_base.specs.Key.{key_of};
 ghost use Rattle.zb_model.specs.declared.record.Event.{Event};
+ghost use Rattle.zb_model.specs.declared.record.Event.TheVariants as events;
 ghost use Rattle.zb_views.specs.View.{greatest_counter, next_key};
 ghost use Rattle.zb_views.specs.Messages.{buffered, is_buffered, message_at};
 ghost use Rattle.zb_rules.specs.Publish.{is_same};
 ghost use Rattle.zb_rules.specs.Expire.{is_due_at};
-ghost use Rattle.zb_rules.specs.Due.{due_message};
 ghost use Rattle.zb_rules.specs.Applies.{applies, holds_own, holds_of_game, has_cell, is_fresh, has_definition, begins_well, begins_instance, begins_cell, is_definition_of};
 ghost use Rattle.zb_rules.specs.Cancel.{has_root, is_terminating};
 ghost use Rattle.zb_rules.specs.Update.{is_named_in};
-ghost use Rattle.zb_rules.specs.Resolve.{has_incident};
+ghost use Rattle.zb_rules.specs.Resolve.{incident_in};
+ghost use Rattle.zb_rules.specs.JobEvents.{has_cause};
+ghost use Rattle.zb_jobs.specs.Table.{has_place_for};
+ghost use Rattle.zb_views.specs.JobLaws.{jobs_by};
 ghost use Rattle.zb_tokens.specs.Incidents.{incident_on};
 ghost use Rattle.zb_base.specs.Vars.{value_named};
 ghost use Rattle.zb_tokens.specs.Names.{holder_of, value_seen};
@@ -25,24 +28,29 @@ ghost use Rattle.zb_tokens.specs.Forced.{next_mover};
 ghost use Rattle.zb_rules.specs.Shown.{shown, after_shown, board_of};
 ghost use Rattle.zb_table.specs.Rows.{are_below};
 ghost use Rattle.zb_state.specs.Small.{HasSmallModel};
-ghost use Rattle.zb_state.specs.Change.{with_change, definition_of_change, instance_of_change, IsNext, HasNextKey, Draws};
+ghost use Rattle.zb_state.specs.Change.{change_told, jobs_with, called_off_by, IsNext, HasNextKey, IsFirstOfCell, Draws, OpensJob};
+
+mod due;
+mod jobs;
 
 use crate::buffered::{self, Buffered};
-use crate::change::{Change, copied_change, moved_change};
+use crate::change::{Change, copied_change};
 use crate::definitions;
 use crate::keys::greatest_counter_of;
-use crate::moves::{play, shows_move};
+use crate::moves::{may_show, play};
 use crate::turn::{Turn, turn_by};
 use std::alloc::{AllocError, Global};
+use std::mem;
 use zb_check::{ModelFault, check};
 use zb_game::Game;
 use zb_graph::Graph;
+use zb_jobs::Jobs;
 use zb_model::{
-    ElementActivating, Event, IncidentCreated, Key, MessagePublish, Model as ProcessModel, Moment,
-    PartitionId, ProcessCreated, Role, TableFault, TryCopy, Vars,
+    ElementActivating, Event, IncidentCreated, Key, MessagePublish, MessagePublished,
+    Model as ProcessModel, Moment, PartitionId, ProcessCreated, Role, TableFault, TryCopy, Vars,
 };
 use zb_table::Table;
-use zb_tokens::{Mover, Phase};
+use zb_tokens::{Incident, Mover, Phase};
 use zb_views::{Begun, Definition};
 
 /// What the events of a partition's log come to. Its clauses hold for all lists of events of which it is
@@ -58,17 +66,21 @@ pub struct State {
     definitions: Vec<Definition>,
     // The instance that the last event began, if it began one.
     begun: Option<Begun>,
+    // The jobs that are there.
+    jobs: Jobs,
+    // The job that the last event called off, if it called one off.
+    called_off: Option<Key>,
     game: Game,
     // Whether it is known that nobody is forced to move.
     rests: bool,
     ghost drawn: { counter < 2 ^ 51 },
     ghost in_order: { IsTrue (are_below (λ m. m.key) (key_of place (counter + 1)) messages) },
+    ghost jobs_in_order: { IsTrue (are_below (λ j. j.key) (key_of place (counter + 1)) jobs) },
     ghost resting: { IsTrue rests → IsTrue (is_none (next_mover game)) },
 }
 
 impl State {
-    ghost use Rattle.zb_state.specs.State.{partition_of, IsStateOf, IsReached, Admits, IsSameBeside};
-    ghost use Rattle.zb_model.specs.declared.record.Event.TheVariants as events;
+    ghost use Rattle.zb_state.specs.State.{partition_of, IsStateOf, IsReached, Admits, IsSameBeside, IsNoted, HasTaken};
 
     /// The state of a log without events.
     pub fn empty(alloc: Global, place: PartitionId) -> State
@@ -82,6 +94,8 @@ impl State {
             messages: Table::empty(alloc),
             definitions: Vec::new(alloc),
             begun: None,
+            jobs: Jobs::empty(alloc),
+            called_off: None,
             game: Game::empty(alloc),
             rests: false,
         }
@@ -119,8 +133,7 @@ impl State {
     {
         self.admit(alloc, event, known)?;
         let counter = greatest_counter_of(self.place, event);
-        let change = copied_change(alloc, event)?;
-        self.note(counter, change)?;
+        self.follow(alloc, counter, event)?;
         Ok(())
     }
 
@@ -135,8 +148,7 @@ impl State {
     {
         self.admit(alloc, &event, false)?;
         let counter = greatest_counter_of(self.place, &event);
-        let change = moved_change(alloc, event)?;
-        self.note(counter, change)?;
+        self.take(alloc, counter, event)?;
         Ok(())
     }
 
@@ -178,14 +190,6 @@ impl State {
         ensures due { (es : List Event) (moment : ℕ) → IsStateOf es self.now → option_map_or (λ deadline. nat_le deadline moment) result false ≡ is_due_at moment key es }
     {
         buffered::deadline_of(key, &self.messages)
-    }
-
-    /// The key of the buffered message that is due first, if one is due now: the one with the earliest deadline,
-    /// and of those with the same one the one with the least key. It goes once through the buffered messages.
-    pub fn due(&self, now: Moment) -> Option<Key>
-        ensures { (es : List Event) → IsStateOf es self.now → result ≡ option_map (λ m. m.key) (due_message now es) }
-    {
-        self.messages.first_due(now)
     }
 
     /// The key of the definition that is asked for: version 0 is the latest one. It goes through all
@@ -251,15 +255,6 @@ impl State {
         self.game.holder_of(scope, name)
     }
 
-    /// The variables that a cell sees: each name that it or a cell around it has, with the value in the nearest one. It
-    /// costs what `Game::visible` does.
-    pub fn visible(&self, alloc: Global, cell: Key) -> Result<Vars, AllocError>
-        ensures { (es : List Event) (b : Board) (name : List ℕ) → IsStateOf es self.now → board_of es ≡ Some b
-            → IfOk result (λ vars. value_named name vars ≡ value_seen b cell name) }
-    {
-        self.game.visible(alloc, cell)
-    }
-
     /// The model of a definition, as a graph; `None` where the definition isn't there. It takes the logarithm of how
     /// many definitions there are, where their keys ascend.
     pub fn graph(&self, definition: Key) -> Option<&Graph>
@@ -292,22 +287,19 @@ impl State {
         self.rests || self.game.is_quiet()
     }
 
-    /// Whether an incident with this key stands. It goes through the incidents.
-    pub fn has_incident(&self, key: Key) -> bool
-        ensures { (es : List Event) → IsStateOf es self.now → result ≡ holds_of_game (has_incident key) es }
+    /// The incident with this key. It goes through the incidents.
+    pub fn incident(&self, key: Key) -> Option<&Incident>
+        ensures { (es : List Event) → IsStateOf es self.now → option_copied result ≡ incident_in key es }
     {
-        self.game.has_incident(key)
+        self.game.incident(key)
     }
 
-    /// The key of the incident on a cell. It goes through the incidents.
-    pub fn incident_on(&self, cell: Key) -> Option<Key>
+    /// The incident on a cell. It goes through the incidents.
+    pub fn incident_on(&self, cell: Key) -> Option<&Incident>
         ensures { (es : List Event) → IsStateOf es self.now
-            → result ≡ option_map (λ i. i.key) (option_and_then (λ b. incident_on b cell) (board_of es)) }
+            → option_copied result ≡ option_and_then (λ b. incident_on b cell) (board_of es) }
     {
-        match self.game.incident_on(cell) {
-            Some(incident) => Some(incident.key),
-            None => None,
-        }
+        self.game.incident_on(cell)
     }
 
     /// What a mover does, if it does anything: the event of its move, and the variables that are set in front of that;
@@ -345,6 +337,7 @@ impl State {
         requires { IsTrue known → Admits self.now event.now }
         ensures own { (es : List Event) → IsStateOf es self.now → IfOk result (λ meets. meets ≡ holds_own (partition_of self.now) es event.now) }
         ensures next { IfOk result (λ meets. IsTrue meets → HasNextKey (partition_of self.now) self.now.counter event.now) }
+        ensures first { IfOk result (λ meets. IsTrue meets → IsFirstOfCell self.now.jobs event.now) }
         ensures small { IfOk result (λ meets. IsTrue meets → HasSmallModel event.now) }
     {
         match event {
@@ -364,10 +357,40 @@ impl State {
             | Event::VariableUpdated(_) => Ok(true),
             Event::VariableDocumentUpdated(scope) => Ok(self.has_cell(*scope)),
             Event::IncidentCreated(incident) => Ok(self.begins_incident(incident)),
-            Event::IncidentResolved(incident) => Ok(incident.job == Key::new(0)),
+            Event::IncidentResolved(incident) => Ok(self.is_cause_of(incident.job, incident.key)),
+            Event::JobCreated(job) => Ok(self.is_fresh(job.key) && self.begins_job(job.cell)),
+            Event::JobActivated(given) => Ok(self.hands_out(given)),
+            Event::JobTimedOut(key) => Ok(self.has_activated(*key)),
+            Event::JobCompleted(key) => Ok(self.has_given_out(*key)),
+            Event::JobCanceled(key) => Ok(self.called_off == Some(*key)),
+            Event::JobFailed(failed) => Ok(self.has_given_out(failed.key)),
+            Event::JobErrorThrown(thrown) => Ok(self.has_given_out(thrown.key)),
+            Event::JobRetriesUpdated(updated) => Ok(self.job(updated.key).is_some()),
+            Event::JobBatchActivated(batch) => {
+                Ok(self.is_fresh(batch.key) && self.are_jobs(batch.jobs.as_slice()))
+            }
             Event::MessagePublished(message) => Ok(self.is_fresh(message.key)),
             Event::MessageExpired(key) => Ok(self.messages.contains(*key)),
-            _ => Ok(false),
+            Event::CommandDistributionDistributing(_)
+            | Event::CommandDistributionAcknowledged(_)
+            | Event::CommandDistributionFinished(_)
+            | Event::ElementMigrated(_)
+            | Event::ProcessInstanceMigrationMigrated(_)
+            | Event::TimerCreated(_)
+            | Event::TimerTriggered(_)
+            | Event::TimerCanceled(_)
+            | Event::ProcessEventTriggered(_)
+            | Event::MessageStartEventSubscriptionCorrelated(_)
+            | Event::MessageSubscriptionCreated(_)
+            | Event::MessageSubscriptionCorrelating(_)
+            | Event::MessageSubscriptionCorrelated(_)
+            | Event::MessageSubscriptionRejected(_)
+            | Event::MessageSubscriptionDeleted(_)
+            | Event::ProcessMessageSubscriptionCreating(_)
+            | Event::ProcessMessageSubscriptionCreated(_)
+            | Event::ProcessMessageSubscriptionCorrelated(_)
+            | Event::ProcessMessageSubscriptionDeleted(_)
+            | Event::ProcessMessageSubscriptionDeleting(_) => Ok(false),
         }
     }
 
@@ -409,12 +432,12 @@ impl State {
         }
     }
 
-    // Whether the key of an incident is fresh, and no job its cause.
+    // Whether the key of an incident is fresh, and a job its cause where it tells of one.
     fn begins_incident(&self, incident: &IncidentCreated) -> bool
         ensures { (es : List Event) → IsStateOf es self.now
-            → result ≡ (is_fresh (partition_of self.now) es incident.now.key && (incident.now.job == 0)) }
+            → result ≡ (is_fresh (partition_of self.now) es incident.now.key && has_cause incident.now es) }
     {
-        self.is_fresh(incident.key) && incident.job == Key::new(0)
+        self.is_fresh(incident.key) && self.has_cause(incident)
     }
 
     // Whether the root is that of the instance that the last event made.
@@ -461,8 +484,9 @@ impl State {
         requires { IsTrue known → Admits self.old event.now }
         ensures beside { IsSameBeside self.old self.new }
         ensures applied { (es : List Event) → IsStateOf es self.old → OnOk result (IsTrue (applies (partition_of self.old) es event.now)) }
-        ensures played { (es : List Event) → OnOk result (after_shown self.old.game (shown es event.now) ≡ Some self.new.game) }
+        ensures played { (es : List Event) → IsStateOf es self.old → OnOk result (after_shown self.old.game (shown es event.now) ≡ Some self.new.game) }
         ensures next { OnOk result (HasNextKey (partition_of self.old) self.old.counter event.now) }
+        ensures first { OnOk result (IsFirstOfCell self.old.jobs event.now) }
         ensures refused { (es : List Event) → IsStateOf es self.old
             → IsErrOf result TableFault.NotApplicable → IsFalse (applies (partition_of self.old) es event.now) }
         ensures kept { IsErrOf result TableFault.NotApplicable → self.new ≡ self.old }
@@ -472,9 +496,9 @@ impl State {
         }
         let rests = self.rests;
         self.rests = false;
-        match play(alloc, event, &mut self.game) {
+        match play(alloc, event, &self.jobs, &mut self.game) {
             Ok(()) => {
-                self.rests = rests && !shows_move(event);
+                self.rests = rests && !may_show(event);
                 Ok(())
             }
             Err(TableFault::NotApplicable) => {
@@ -485,20 +509,78 @@ impl State {
         }
     }
 
-    // Takes in the greatest counter of an event, and what it changes beside the game. After a refusal the
-    // state is only dropped.
-    #[inline(always)]
-    fn note(&mut self, counter: u64, change: Change) -> Result<(), AllocError>
+    // Takes in the greatest counter of an event, and what it says, but for the move that it shows; a message is moved.
+    // After a refusal the state is only dropped.
+    fn take(&mut self, alloc: Global, counter: u64, event: Event) -> Result<(), AllocError>
         requires small { counter < 2 ^ 51 }
-        requires draws { Draws (partition_of self.old) self.old.counter counter change }
+        requires draws { Draws (partition_of self.old) self.old.counter counter (change_told event) }
+        requires opens { OpensJob (partition_of self.old) self.old.counter counter self.old.jobs (Some event) }
+        ensures place { partition_of self.new ≡ partition_of self.old }
+        ensures noted { OnOk result (HasTaken counter event self.old self.new) }
+    {
+        match message_in(event) {
+            Ok(message) => self.note(alloc, counter, Change::Published(message), None),
+            Err(event) => self.follow(alloc, counter, &event),
+        }
+    }
+
+    // The same without a move.
+    fn follow(&mut self, alloc: Global, counter: u64, event: &Event) -> Result<(), AllocError>
+        requires small { counter < 2 ^ 51 }
+        requires draws { Draws (partition_of self.old) self.old.counter counter (change_told event.now) }
+        requires opens { OpensJob (partition_of self.old) self.old.counter counter self.old.jobs (Some event.now) }
+        ensures place { partition_of self.new ≡ partition_of self.old }
+        ensures noted { OnOk result (IsNoted counter (change_told event.now) (Some event.now) self.old self.new) }
+    {
+        let change = copied_change(alloc, event)?;
+        self.note(alloc, counter, change, Some(event))
+    }
+
+    // Takes in the greatest counter of an event, and what it makes of the jobs. After a refusal the state is only
+    // dropped.
+    fn note_jobs(
+        &mut self,
+        alloc: Global,
+        counter: u64,
+        event: Option<&Event>,
+    ) -> Result<(), AllocError>
+        requires small { counter < 2 ^ 51 }
+        requires opens { OpensJob (partition_of self.old) self.old.counter counter self.old.jobs (option_copied event) }
         ensures place { partition_of self.new ≡ partition_of self.old }
         ensures counter { OnOk result (self.new.counter ≡ max self.old.counter counter) }
-        ensures messages { OnOk result (self.new.messages ≡ with_change change self.old.messages) }
-        ensures definitions { OnOk result (self.new.definitions.items ≡ self.old.definitions.items ++ definition_of_change change) }
-        ensures begun { OnOk result (self.new.begun ≡ instance_of_change change) }
+        ensures messages { self.new.messages ≡ self.old.messages }
+        ensures definitions { self.new.definitions ≡ self.old.definitions }
+        ensures jobs { OnOk result (self.new.jobs ≡ jobs_with (option_copied event.entry) self.old.jobs) }
+        ensures called_off { OnOk result (self.new.called_off ≡ called_off_by (option_copied event.entry) self.old.jobs) }
         ensures game { self.new.game ≡ self.old.game }
     {
         self.counter = self.counter.max(counter);
+        self.called_off = called_off_by(&self.jobs, event);
+        let Some(event) = event else {
+            return Ok(());
+        };
+        let jobs = mem::replace(&mut self.jobs, Jobs::empty(alloc));
+        self.jobs = followed(alloc, jobs, event)?;
+        Ok(())
+    }
+
+    // Takes in the greatest counter of an event, and what it changes beside the game. After a refusal the
+    // state is only dropped.
+    #[inline(always)]
+    fn note(
+        &mut self,
+        alloc: Global,
+        counter: u64,
+        change: Change,
+        event: Option<&Event>,
+    ) -> Result<(), AllocError>
+        requires small { counter < 2 ^ 51 }
+        requires draws { Draws (partition_of self.old) self.old.counter counter change }
+        requires opens { OpensJob (partition_of self.old) self.old.counter counter self.old.jobs (option_copied event) }
+        ensures place { partition_of self.new ≡ partition_of self.old }
+        ensures noted { OnOk result (IsNoted counter change (option_copied event.entry) self.old self.new) }
+    {
+        self.note_jobs(alloc, counter, event)?;
         self.begun = None;
         match change {
             Change::Defined(definition) => {
@@ -520,6 +602,36 @@ impl State {
             Change::Nothing => Ok(()),
         }
     }
+}
+
+// The message that an event publishes, or else the event.
+fn message_in(event: Event) -> Result<MessagePublished, Event>
+    ensures message { IfOk result (λ message. event ≡ events.MessagePublished message) }
+    ensures other { IfErr result (λ other. other ≡ event) }
+{
+    match event {
+        Event::MessagePublished(message) => Ok(message),
+        other => Err(other),
+    }
+}
+
+// Which of these jobs an event calls off.
+fn called_off_by(jobs: &Jobs, event: Option<&Event>) -> Option<Key>
+    ensures { result ≡ called_off_by (option_copied event.entry) jobs.now }
+{
+    match event? {
+        Event::ElementTerminating(cell) => jobs.on(*cell),
+        _ => None,
+    }
+}
+
+// These jobs as an event leaves them.
+fn followed(alloc: Global, mut jobs: Jobs, event: &Event) -> Result<Jobs, AllocError>
+    requires { IsTrue (has_place_for jobs event.now) }
+    ensures { IfOk result (λ after. after ≡ jobs_by event.now jobs) }
+{
+    jobs.apply(alloc, event)?;
+    Ok(jobs)
 }
 
 // Whether the model has no fault.

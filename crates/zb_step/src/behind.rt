@@ -1,13 +1,23 @@
 // An event, and those behind it.
-ghost use Rattle.std.specs.Prelude.{◌≡◌, ◌++◌, ◌<◌, ◌≤◌, ℕ, List, [], length, OnOk};
-ghost use Rattle.std.specs.Option.{option_map_or};
+ghost use Rattle.std.specs.Prelude.{◌≡◌, ◌++◌, ◌<◌, ◌≤◌, ℕ, List, length, IfOk, OnOk};
 ghost use Rattle.zb_model.specs.declared.record.Event.{Event};
-ghost use Rattle.zb_rules.specs.Behind.{resolved_on, events_behind, with_events_behind};
+ghost use Rattle.zb_rules.specs.Behind.{job_made_on, canceled, resolved_on, ended_on, events_behind, with_events_behind};
 ghost use Rattle.zb_state.specs.State.{partition_of, IsStateOf, IsReached, AdmitsMade};
+ghost use Rattle.zb_step.specs.Behind.{made_behind, any_event};
 
 use std::alloc::{AllocError, Global};
-use zb_model::{Event, IncidentResolved, Key};
+use zb_model::{Event, IncidentResolved, JobCreated, Key, TryCopy};
 use zb_state::{Out, State};
+
+/// What comes behind an event.
+#[derive(Clone, Copy)]
+pub enum Behind {
+    Nothing,
+    /// The cell that becomes active may have a job.
+    Work(Key),
+    /// The cell begins to terminate, and what waits for it ends.
+    End(Key),
+}
 
 /// Puts an event and those behind it. It costs what `Out::put` does for each, and, where a cell begins to
 /// terminate, what `State::incident_on` does. After a refusal the state and the events are only dropped.
@@ -26,49 +36,127 @@ pub fn put_with_behind(
     ensures place { partition_of state.new ≡ partition_of state.old }
     ensures reached { OnOk result (IsReached state.new) }
 {
-    let ended = ended_cell(&event);
+    let behind = behind_of(&event);
     out.put(alloc, state, event)?;
-    match ended {
-        Some(cell) => {
-            put_resolved(alloc, state, cell, out)?;
-            Ok(())
-        }
-        None => Ok(()),
-    }
+    put_behind(alloc, state, behind, out)
 }
 
-// The cell that begins to terminate by this event, if one does.
-fn ended_cell(event: &Event) -> Option<Key>
-    ensures { (p n moment : ℕ) (es : List Event) → events_behind p n moment event.now es ≡ option_map_or (λ cell. resolved_on cell es) result [] }
+// What comes behind this event.
+fn behind_of(event: &Event) -> Behind
+    ensures { (p n moment : ℕ) (es : List Event) → events_behind p n moment event.now es ≡ made_behind p result es }
 {
     match event {
-        Event::ElementTerminating(cell) => Some(*cell),
-        _ => None,
+        Event::ElementActivated(element) => Behind::Work(element.key),
+        Event::ElementTerminating(cell) => Behind::End(*cell),
+        _ => Behind::Nothing,
     }
 }
 
-// Puts the event that resolves the incident on a cell, if one stands there.
-fn put_resolved(
+// Puts what comes behind.
+fn put_behind(
     alloc: Global,
     state: &mut State,
-    cell: Key,
+    behind: Behind,
     out: &mut Out,
 ) -> Result<(), AllocError>
-    requires { AdmitsMade state.old (resolved_on cell) }
-    ensures put { (es : List Event) → IsStateOf es state.old → OnOk result (out.new ≡ out.old ++ resolved_on cell es) }
-    ensures state { (es : List Event) → IsStateOf es state.old → OnOk result (IsStateOf (es ++ resolved_on cell es) state.new) }
+    requires { AdmitsMade state.old (made_behind (partition_of state.old) behind) }
+    ensures put { (es : List Event) → IsStateOf es state.old → OnOk result (out.new ≡ out.old ++ made_behind (partition_of state.old) behind es) }
+    ensures state { (es : List Event) → IsStateOf es state.old
+        → OnOk result (IsStateOf (es ++ made_behind (partition_of state.old) behind es) state.new) }
     ensures more { OnOk result (length out.old ≤ length out.new) }
     ensures place { partition_of state.new ≡ partition_of state.old }
     ensures reached { OnOk result (IsReached state.new) }
 {
+    match behind {
+        Behind::Nothing => Ok(()),
+        Behind::Work(cell) => put_job(alloc, state, cell, out),
+        Behind::End(cell) => put_ended(alloc, state, cell, out),
+    }
+}
+
+// Puts the event by which the job of a cell is made, if the cell is to have one.
+fn put_job(alloc: Global, state: &mut State, cell: Key, out: &mut Out) -> Result<(), AllocError>
+    requires { AdmitsMade state.old (job_made_on (partition_of state.old) cell) }
+    ensures put { (es : List Event) → IsStateOf es state.old → OnOk result (out.new ≡ out.old ++ job_made_on (partition_of state.old) cell es) }
+    ensures state { (es : List Event) → IsStateOf es state.old → OnOk result (IsStateOf (es ++ job_made_on (partition_of state.old) cell es) state.new) }
+    ensures more { OnOk result (length out.old ≤ length out.new) }
+    ensures place { partition_of state.new ≡ partition_of state.old }
+    ensures reached { OnOk result (IsReached state.new) }
+{
+    let event = job_of(alloc, state, cell)?;
+    put_any(alloc, state, event, out)
+}
+
+// The event by which the job of a cell is made, if the cell is to have one: by the type and the tries of its node.
+fn job_of(alloc: Global, state: &State, cell: Key) -> Result<Option<Event>, AllocError>
+    ensures { (es : List Event) → IsStateOf es state.now → IfOk result (λ event. job_made_on (partition_of state.now) cell es ≡ any_event event) }
+{
+    let Some(node) = state.work_at(cell) else {
+        return Ok(None);
+    };
+    Ok(Some(Event::JobCreated(JobCreated {
+        key: state.next_key(),
+        cell,
+        kind: node.name.copy(alloc)?,
+        retries: node.retries,
+    })))
+}
+
+// Puts the events by which what waits for a cell ends: its job is canceled, and the incident on it resolved.
+fn put_ended(alloc: Global, state: &mut State, cell: Key, out: &mut Out) -> Result<(), AllocError>
+    requires { AdmitsMade state.old (ended_on cell) }
+    ensures put { (es : List Event) → IsStateOf es state.old → OnOk result (out.new ≡ out.old ++ ended_on cell es) }
+    ensures state { (es : List Event) → IsStateOf es state.old → OnOk result (IsStateOf (es ++ ended_on cell es) state.new) }
+    ensures more { OnOk result (length out.old ≤ length out.new) }
+    ensures place { partition_of state.new ≡ partition_of state.old }
+    ensures reached { OnOk result (IsReached state.new) }
+{
+    let event = canceled(state);
+    put_any(alloc, state, event, out)?;
+    let event = resolved(state, cell);
+    put_any(alloc, state, event, out)
+}
+
+// The event by which the job that was called off is canceled, if one was.
+fn canceled(state: &State) -> Option<Event>
+    ensures { (es : List Event) → IsStateOf es state.now → canceled es ≡ any_event result }
+{
+    match state.called_off() {
+        Some(job) => Some(Event::JobCanceled(job)),
+        None => None,
+    }
+}
+
+// The event that resolves the incident on a cell, if one stands there.
+fn resolved(state: &State, cell: Key) -> Option<Event>
+    ensures { (es : List Event) → IsStateOf es state.now → resolved_on cell es ≡ any_event result }
+{
     match state.incident_on(cell) {
-        Some(key) => {
-            let job = Key::new(0);
-            out.put(
-                alloc,
-                state,
-                Event::IncidentResolved(IncidentResolved { key, job }),
-            )?;
+        Some(incident) => Some(Event::IncidentResolved(IncidentResolved {
+            key: incident.key,
+            job: incident.job,
+        })),
+        None => None,
+    }
+}
+
+/// Puts an event, if there is one. After a refusal the state and the events are only dropped.
+pub fn put_any(
+    alloc: Global,
+    state: &mut State,
+    event: Option<Event>,
+    out: &mut Out,
+) -> Result<(), AllocError>
+    requires { AdmitsMade state.old (λ es. any_event event) }
+    ensures put { OnOk result (out.new ≡ out.old ++ any_event event) }
+    ensures state { (es : List Event) → IsStateOf es state.old → OnOk result (IsStateOf (es ++ any_event event) state.new) }
+    ensures more { OnOk result (length out.old ≤ length out.new) }
+    ensures place { partition_of state.new ≡ partition_of state.old }
+    ensures reached { OnOk result (IsReached state.new) }
+{
+    match event {
+        Some(event) => {
+            out.put(alloc, state, event)?;
             Ok(())
         }
         None => Ok(()),

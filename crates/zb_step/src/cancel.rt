@@ -2,7 +2,7 @@
 ghost use Rattle.std.specs.Prelude.{◌≡◌, ◌++◌, ℕ, List, IfOk, OnOk};
 ghost use Rattle.zb_model.specs.declared.record.Event.{Event};
 ghost use Rattle.zb_rules.specs.Cancel.{reason_to_cancel, cancelled};
-ghost use Rattle.zb_state.specs.State.{partition_of, IsStateOf, IsReached, AdmitsMade};
+ghost use Rattle.zb_state.specs.State.{partition_of, IsStateOf, AdmitsMade};
 
 use crate::behind::put_with_behind;
 use crate::rejection::{no_such, wrong_state};
@@ -32,7 +32,6 @@ pub fn put_own(alloc: Global, state: &mut State, key: Key, out: &mut Out) -> Res
     ensures state { (n moment : ℕ) (es : List Event) → IsStateOf es state.old
         → OnOk result (IsStateOf (es ++ cancelled (partition_of state.old) n moment key es) state.new) }
     ensures place { partition_of state.new ≡ partition_of state.old }
-    ensures reached { OnOk result (IsReached state.new) }
 {
     put_with_behind(alloc, state, Event::ElementTerminating(key), out)
 }

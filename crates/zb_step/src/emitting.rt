@@ -1,13 +1,14 @@
-ghost use Rattle.std.specs.Prelude.{◌≡◌, ◌++◌, ℕ, List, [], Some, None, IsTrue, OnOk};
+ghost use Rattle.std.specs.Prelude.{◌≡◌, ◌++◌, ℕ, List, [], Some, None, IsTrue, IsFalse, OnOk};
 ghost use Rattle.zb_model.specs.declared.record.Event.{Event};
 ghost use Rattle.zb_rules.specs.Reason.{reason_for};
 ghost use Rattle.zb_rules.specs.Own.{IsSupported, own_events};
 ghost use Rattle.zb_rules.specs.Applies.{all_apply};
 ghost use Rattle.zb_rules.specs.Sound.{HasOrderedNames};
-ghost use Rattle.zb_state.specs.State.{partition_of, IsStateOf, IsReached};
+ghost use Rattle.zb_state.specs.State.{partition_of, IsStateOf, IsReached, AdmitsMade};
+ghost use Rattle.zb_step.specs.AtOnce.{IsMadeAtOnce, made_one_by_one};
 
 use crate::own::own_events;
-use crate::{cancel, update};
+use crate::{activate, cancel, complete, fail, update};
 use std::alloc::{AllocError, Global};
 use zb_model::{Command, Event, List, Moment};
 use zb_state::{Out, State};
@@ -35,14 +36,52 @@ pub fn emit(
     if !state.has_keys(2) {
         return Err(AllocError);
     }
+    see_names(command);
+    if is_made_one_by_one(command) {
+        return put_one_by_one(alloc, state, moment, command, out);
+    }
+    let events = own_events(alloc, state, moment, command)?;
+    put_all(alloc, state, events, out)
+}
+
+// Whether a command's own events are each made of all that is there by then.
+fn is_made_one_by_one(command: &Command) -> bool
+    ensures at_once { IsFalse result → IsMadeAtOnce command.now }
+    ensures stepwise { IsTrue result → (p n m : ℕ) (es : List Event)
+        → own_events p n es m command.now ≡ Some (made_one_by_one p n m command.now es) }
+{
+    matches!(
+        command,
+        Command::ProcessInstanceCancel(_)
+            | Command::VariableDocumentUpdate(_)
+            | Command::JobBatchActivate(_)
+            | Command::JobComplete(_)
+            | Command::JobFail(_)
+    )
+}
+
+// Makes and puts such events, one after the other.
+fn put_one_by_one(
+    alloc: Global,
+    state: &mut State,
+    moment: Moment,
+    command: &Command,
+    out: &mut Out,
+) -> Result<(), AllocError>
+    requires { (n : ℕ) → AdmitsMade state.old (made_one_by_one (partition_of state.old) n moment command.now) }
+    ensures put { (n : ℕ) (es : List Event) → IsStateOf es state.old
+        → OnOk result (out.new ≡ out.old ++ made_one_by_one (partition_of state.old) n moment command.now es) }
+    ensures state { (n : ℕ) (es : List Event) → IsStateOf es state.old
+        → OnOk result (IsStateOf (es ++ made_one_by_one (partition_of state.old) n moment command.now es) state.new) }
+    ensures place { partition_of state.new ≡ partition_of state.old }
+{
     match command {
         Command::ProcessInstanceCancel(key) => cancel::put_own(alloc, state, *key, out),
         Command::VariableDocumentUpdate(made) => update::put_own(alloc, state, made, out),
-        _ => {
-            let events = own_events(alloc, state, moment, command)?;
-            see_names(command);
-            put_all(alloc, state, events, out)
-        }
+        Command::JobBatchActivate(asked) => activate::put_own(alloc, state, moment, asked, out),
+        Command::JobComplete(done) => complete::put_own(alloc, state, done, out),
+        Command::JobFail(failed) => fail::put_own(alloc, state, failed, out),
+        _ => Ok(()),
     }
 }
 

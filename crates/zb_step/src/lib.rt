@@ -1,14 +1,18 @@
 //! What a command leads to: why it is rejected, or the events that it makes and those that they force.
 #![tactic(auto)]
 
+mod activate;
 mod assigning;
 mod behind;
 mod cancel;
+mod complete;
 mod create;
 mod deploy;
 mod emitting;
 mod expire;
+mod fail;
 mod go_on;
+mod jobs;
 mod outcome;
 mod own;
 mod publish;

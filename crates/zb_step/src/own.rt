@@ -7,7 +7,7 @@ ghost use Rattle.zb_rules.specs.Sound.{HasKeys};
 ghost use Rattle.zb_state.specs.State.{partition_of, IsStateOf, IsReached};
 ghost use Rattle.zb_step.specs.AtOnce.{IsMadeAtOnce};
 
-use crate::{create, deploy, expire, publish, resolve};
+use crate::{create, deploy, expire, jobs, publish, resolve};
 use std::alloc::{AllocError, Global};
 use zb_model::{Command, Event, List, Moment};
 use zb_state::State;
@@ -31,7 +31,10 @@ pub fn own_events(
     match command {
         Command::DeploymentCreate(model) => deploy::own(alloc, state, model),
         Command::ProcessInstanceCreationCreate(instance) => create::own(alloc, state, instance),
-        Command::IncidentResolve(key) => resolve::own(alloc, *key),
+        Command::JobThrowError(error) => jobs::throw(alloc, error),
+        Command::JobUpdateRetries(update) => jobs::retry(alloc, update),
+        Command::JobTimeOut(key) => jobs::time_out(alloc, *key),
+        Command::IncidentResolve(key) => resolve::own(alloc, state, *key),
         Command::MessagePublish(message) => publish::own(alloc, state, moment, message),
         Command::MessageExpire(key) => expire::own(alloc, *key),
         Command::ProcessInstanceBatchContinue => Ok(List::empty(alloc)),

@@ -3,7 +3,7 @@ ghost use Rattle.zb_model.specs.declared.record.Event.{Event};
 ghost use Rattle.zb_rules.specs.Reason.{reason_for};
 ghost use Rattle.zb_state.specs.State.{IsStateOf};
 
-use crate::{cancel, create, deploy, expire, go_on, publish, resolve, update};
+use crate::{activate, cancel, create, deploy, expire, go_on, jobs, publish, resolve, update};
 use std::alloc::{AllocError, Global};
 use zb_model::{Command, Moment, Rejection};
 use zb_state::State;
@@ -24,6 +24,12 @@ pub fn reason(
         Command::ProcessInstanceCreationCreate(instance) => create::reason(alloc, state, instance),
         Command::ProcessInstanceCancel(key) => cancel::reason(alloc, state, *key),
         Command::VariableDocumentUpdate(made) => update::reason(alloc, state, made.scope),
+        Command::JobBatchActivate(asked) => activate::reason(alloc, asked),
+        Command::JobComplete(done) => jobs::reason_to_end(alloc, state, done.key),
+        Command::JobFail(failed) => jobs::reason_to_end(alloc, state, failed.key),
+        Command::JobThrowError(error) => jobs::reason_to_end(alloc, state, error.key),
+        Command::JobUpdateRetries(update) => jobs::reason_to_retry(alloc, state, update),
+        Command::JobTimeOut(key) => jobs::reason_to_time_out(alloc, state, moment, *key),
         Command::IncidentResolve(key) => resolve::reason(alloc, state, *key),
         Command::MessagePublish(message) => publish::reason(alloc, state, message),
         Command::MessageExpire(key) => expire::reason(alloc, state, moment, *key),

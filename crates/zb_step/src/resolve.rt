@@ -1,32 +1,47 @@
 // Resolving an incident.
 ghost use Rattle.std.specs.Prelude.{◌≡◌, List, IfOk};
 ghost use Rattle.zb_model.specs.declared.record.Event.{Event};
-ghost use Rattle.zb_rules.specs.Resolve.{reason_to_resolve, resolved};
+ghost use Rattle.zb_rules.specs.Resolve.{is_without_retries, reason_to_resolve, resolved};
 ghost use Rattle.zb_state.specs.State.{IsStateOf};
 
-use crate::rejection::no_such;
+use crate::rejection::{no_such, wrong_state};
 use std::alloc::{AllocError, Global};
 use zb_model::{Event, IncidentResolved, Key, List, Rejection};
 use zb_state::State;
 
-/// Why an incident isn't resolved: none has this key.
+/// Why an incident isn't resolved: none has this key, or the job that is its cause has no try left.
 pub fn reason(alloc: Global, state: &State, key: Key) -> Result<Option<Rejection>, AllocError>
     ensures { (es : List Event) → IsStateOf es state.now → IfOk result (λ rejection. rejection ≡ reason_to_resolve es key) }
 {
-    if state.has_incident(key) {
-        return Ok(None);
+    let Some(incident) = state.incident(key) else {
+        return Ok(Some(no_such(alloc, "no incident ", key)?));
+    };
+    let job = incident.job;
+    if is_without_retries(state, job) {
+        return Ok(Some(wrong_state(alloc, "job ", job, " has no retries")?));
     }
-    Ok(Some(no_such(alloc, "no incident ", key)?))
+    Ok(None)
 }
 
-/// The event of an incident that is resolved.
-pub fn own(alloc: Global, key: Key) -> Result<List<Event>, AllocError>
-    ensures { IfOk result (λ events. events ≡ resolved key) }
+// Whether the job with this key is there, and has no try left.
+fn is_without_retries(state: &State, job: Key) -> bool
+    ensures { (es : List Event) → IsStateOf es state.now → result ≡ is_without_retries job es }
+{
+    match state.job(job) {
+        Some(job) => job.retries == 0,
+        None => false,
+    }
+}
+
+/// The event of an incident that is resolved, if it stands. It goes through the incidents.
+pub fn own(alloc: Global, state: &State, key: Key) -> Result<List<Event>, AllocError>
+    ensures { (es : List Event) → IsStateOf es state.now → IfOk result (λ events. events ≡ resolved key es) }
 {
     let mut events = List::empty(alloc);
-    events.push(Event::IncidentResolved(IncidentResolved {
-        key,
-        job: Key::new(0),
-    }))?;
+    if let Some(incident) = state.incident(key) {
+        let key = incident.key;
+        let job = incident.job;
+        events.push(Event::IncidentResolved(IncidentResolved { key, job }))?;
+    }
     Ok(events)
 }

@@ -1,8 +1,8 @@
 // Updating variables from a scope on up.
-ghost use Rattle.std.specs.Prelude.{◌≡◌, ◌++◌, ◌∷◌, List, [], IfOk, OnOk};
+ghost use Rattle.std.specs.Prelude.{◌≡◌, ◌++◌, List, IfOk, OnOk};
 ghost use Rattle.zb_model.specs.declared.record.Event.{Event};
 ghost use Rattle.zb_rules.specs.Update.{reason_to_update, updated};
-ghost use Rattle.zb_state.specs.State.{partition_of, IsStateOf, IsReached, AdmitsMade};
+ghost use Rattle.zb_state.specs.State.{partition_of, IsStateOf, AdmitsMade};
 
 use crate::assigning::put_each;
 use crate::rejection::no_such;
@@ -28,13 +28,10 @@ pub fn put_own(
     command: &VariableDocumentUpdate,
     out: &mut Out,
 ) -> Result<(), AllocError>
-    requires none { out.old ≡ [] }
-    requires reached { IsReached state.old }
-    requires applied { AdmitsMade state.old (updated command.now) }
-    ensures put { (es : List Event) → IsStateOf es state.old → OnOk result (out.new ≡ updated command.now es) }
+    requires { AdmitsMade state.old (updated command.now) }
+    ensures put { (es : List Event) → IsStateOf es state.old → OnOk result (out.new ≡ out.old ++ updated command.now es) }
     ensures state { (es : List Event) → IsStateOf es state.old → OnOk result (IsStateOf (es ++ updated command.now es) state.new) }
     ensures place { partition_of state.new ≡ partition_of state.old }
-    ensures reached { OnOk result (IsReached state.new) }
 {
     let scope = command.scope;
     put_each(
@@ -45,6 +42,5 @@ pub fn put_own(
         command.variables.as_slice(),
         out,
     )?;
-    out.put(alloc, state, Event::VariableDocumentUpdated(scope))?;
-    Ok(())
+    out.put(alloc, state, Event::VariableDocumentUpdated(scope))
 }

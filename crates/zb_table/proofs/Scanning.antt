@@ -63,8 +63,3 @@ module _ {A : Type 0} (key : A → ℕ) (moment : A → Option ℕ) where
       let split : drop i ps ≡ p ∷ drop (i + 1) ps = rw add-one (drop-cons ps i p within ∙ ap (λ (q : Place A). q ∷ drop (suc i) ps) (sym at)) in
       let from = ordered_from 0 ps i o in
       ap (λ (l : List (Place A)). seen now (rows_in l)) split ∙ with_place now from.0 p (drop (i + 1) ps) (subst (λ (l : List (Place A)). AreOrdered key from.0 l) split from.1)
-
-  -- its key
-  pub key_seen : (found : Option A) → option_map (λ (at : ℕ × ℕ). at.1) (option_map (place_in_time key moment) found) ≡ option_map key found
-  key_seen None = refl
-  key_seen (Some r) = refl

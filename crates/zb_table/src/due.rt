@@ -9,19 +9,16 @@ use crate::Timed;
 use crate::row::Place;
 use zb_base::{Key, Moment};
 
-/// The key of the row that is due first. It goes once through all places.
-pub fn first_due<R: Timed>(now: Moment, places: &[Place<R>]) -> Option<Key>
+/// When the row is due that is due first, and its key. It goes once through all places.
+pub fn first_due<R: Timed>(now: Moment, places: &[Place<R>]) -> Option<(Moment, Key)>
     requires { AreOrdered R.key_in 0 places.now }
-    ensures { result ≡ option_map R.key_in (first_due R.key_in R.moment_in now (rows_in places.now)) }
+    ensures { result ≡ option_map (place_in_time R.key_in R.moment_in) (first_due R.key_in R.moment_in now (rows_in places.now)) }
 {
     let mut first = None;
     for place in (0..places.len()).rev() {
         first = with_place(now, &places[place], first);
     }
-    match first {
-        Some((_, key)) => Some(key),
-        None => None,
-    }
+    first
 }
 
 // What is due first, with this place in front of those that it was found among.

@@ -1,7 +1,7 @@
 ghost use Rattle.std.specs.Prelude.{◌≡◌, ◌≤◌, [], None, OnOk, OnErr, is_some, length, option_map};
 ghost use Rattle.std.specs.List.{insert, list_any};
 ghost use Rattle.std.specs.Option.{option_copied};
-ghost use Rattle.zb_table.specs.Earliest.{first_due};
+ghost use Rattle.zb_table.specs.Earliest.{first_due, place_in_time};
 ghost use Rattle.zb_table.specs.Rows.{Ascend, first_passing, last_passing, row_at, with_row, without};
 ghost use Rattle.zb_table.specs.Places.{rows_in, AreOrdered};
 
@@ -149,10 +149,10 @@ impl<R: Row + TryCopy> TryCopy for Table<R> {
 }
 
 impl<R: Timed> Table<R> {
-    /// The key of the row that is due first, if one is due now: the one with the earliest moment, and of those
+    /// When the row is due that is due first, and its key, if one is due now: the one with the earliest moment, and of those
     /// with the same one the one with the least key. It goes once through all rows.
-    pub fn first_due(&self, now: Moment) -> Option<Key>
-        ensures { result ≡ option_map R.key_in (first_due R.key_in R.moment_in now self.now) }
+    pub fn first_due(&self, now: Moment) -> Option<(Moment, Key)>
+        ensures { result ≡ option_map (place_in_time R.key_in R.moment_in) (first_due R.key_in R.moment_in now self.now) }
     {
         due::first_due(now, &self.places)
     }

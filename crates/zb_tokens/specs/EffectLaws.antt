@@ -31,6 +31,8 @@ use Rattle.zb_tokens.specs.MoveLeave.{leaving, ends_scope, with_end, scope_ended
 use Rattle.zb_tokens.specs.MoveTake.{rest_of, with_token, play_take}
 use Rattle.zb_tokens.specs.MoveHalt.{play_halt}
 use Rattle.zb_tokens.specs.MoveGone.{play_gone}
+use Rattle.zb_tokens.specs.Marks.{with_mark}
+use Rattle.zb_tokens.specs.declared.board.Mark.TheVariants as marks
 use Rattle.zb_tokens.specs.MoveAssign.{with_variable}
 use Rattle.zb_tokens.specs.Game.{played}
 use Rattle.zb_tokens.specs.GameLaws.{removed_some, edited_some, any_found, found_passes, found_holds, found_through, both_left, both_right}
@@ -343,6 +345,8 @@ others_stay b after (moves.Halt key) other game is = same_halted (λ c. not (is_
 others_stay b after (moves.Gone key) other game is = same_gone (λ c. not (c.key == key)) (λ t. not (t.scope == key)) key (λ c it. ap not it) b after (λ t it. ap not it) is
 others_stay b after (moves.Assign a) other game is = edit_stays b after a.scope (with_variable a.name a.value) (λ c. refl) is
 others_stay b after (moves.Update a) other game is = edit_stays b after a.scope (with_variable a.name a.value) (λ c. refl) is
+others_stay b after (moves.Done key) other game is = edit_stays b after key (with_mark marks.Done) (λ c. refl) is
+others_stay b after (moves.Throw t) other game is = edit_stays b after t.cell (with_mark (marks.Thrown t.code)) (λ c. refl) is
 others_stay b after (moves.Incident i) other game is = absurd (cc)
 others_stay b after (moves.Repair key) other game is = absurd (cc)
 

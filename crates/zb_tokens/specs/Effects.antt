@@ -34,6 +34,8 @@ names_cell b (moves.Halt key) c = is_or_leaves_in key c
 names_cell b (moves.Gone key) c = c.key == key
 names_cell b (moves.Assign a) c = c.key == a.scope
 names_cell b (moves.Update a) c = c.key == a.scope
+names_cell b (moves.Done key) c = c.key == key
+names_cell b (moves.Throw t) c = c.key == t.cell
 names_cell b (moves.Incident i) c = false
 names_cell b (moves.Repair key) c = false
 

@@ -1,5 +1,5 @@
 -- Who is forced to move (BPMN 2.0.2, 13: a token moves on by itself where nothing is waited for), in which order (own), and to what.
-use Rattle.std.specs.Prelude.{ℕ, max, List, [], ◌∷◌, map, filter, Bool, true, false, ◌&&◌, not, if◌then◌else◌, Option, Some, None, option_map, option_and_then, Result, Ok, Err, ◌≡◌, ◌⊎◌}
+use Rattle.std.specs.Prelude.{ℕ, max, List, [], ◌∷◌, map, filter, Bool, true, false, ◌&&◌, ◌||◌, not, is_some, if◌then◌else◌, Option, Some, None, option_map, option_and_then, Result, Ok, Err, ◌≡◌, ◌⊎◌}
 use Rattle.std.specs.Option.{option_map_or, option_or}
 use Rattle.std.specs.List.{find}
 use Rattle.std.specs.Str.{bytes_eq}
@@ -21,14 +21,15 @@ use Rattle.zb_tokens.specs.Doom.{is_doomed}
 use Rattle.zb_tokens.specs.MoveEnter.{joins, may_enter}
 use Rattle.zb_tokens.specs.MoveOpen.{opens}
 use Rattle.zb_tokens.specs.MoveFinish.{is_done}
-use Rattle.zb_tokens.specs.Incidents.{Hindrance, is_stuck}
+use Rattle.zb_tokens.specs.Incidents.{Hindrance, error_hindrance, is_stuck}
+use Rattle.zb_tokens.specs.Marks.{error_of}
 use Rattle.zb_tokens.specs.Mappings.{inputs_of}
 use Rattle.zb_tokens.specs.MoveLeave.{completion_of}
 
--- in a phase a cell that isn't stuck goes on by itself (BPMN 2.0.2, 13)
+-- in a phase a cell that isn't stuck goes on by itself; with an error that was thrown in it, to its incident (BPMN 2.0.2, 13)
 abbrev pub goes_on_in : Board → Cell → Phase → Bool
 goes_on_in b c phases.Activating = opens b c
-goes_on_in b c phases.Active = is_done b c
+goes_on_in b c phases.Active = is_some (error_of c.mark) || is_done b c
 goes_on_in b c phases.Completing = true
 goes_on_in b c phases.Leaving = not (is_none_of c.owed)
 goes_on_in b c phases.Terminating = not (has_child b c.key)
@@ -80,7 +81,7 @@ take_first key (flow ∷ owed) = Some (moves.Take (record { key = key; flow = fl
 
 -- an incident under this key tells what keeps a cell from going on (Zeebe, incidents)
 abbrev pub stop_by : ℕ → Cell → Hindrance → Move
-stop_by key c hindrance = moves.Incident (record { key = key; kind = hindrance.kind; cell = c.key; text = hindrance.text })
+stop_by key c hindrance = moves.Incident (record { key = key; kind = hindrance.kind; cell = c.key; job = 0; text = hindrance.text })
 
 -- a cell becomes active with these variables, or an incident under this key tells why it can't (BPMN 2.0.2, 13.3.2; Zeebe, incidents)
 abbrev pub open_by : ℕ → Cell → Result (List Variable) Hindrance → Move
@@ -92,10 +93,15 @@ abbrev pub leave_by : ℕ → Cell → Result (List (List ℕ)) Hindrance → Mo
 leave_by key c (Ok owed) = moves.Leave (record { key = c.key; owed = owed })
 leave_by key c (Err hindrance) = stop_by key c hindrance
 
+-- an active cell begins to complete, or an incident under this key tells of the error that was thrown in it (BPMN 2.0.2, 10.5.7 and 13.3.2; Zeebe, incidents)
+abbrev pub finish_by : ℕ → Cell → Option (List ℕ) → Move
+finish_by key c None = moves.Finish c.key
+finish_by key c (Some code) = stop_by key c (error_hindrance code)
+
 -- what a cell does by itself in a phase, where an incident gets this key (BPMN 2.0.2, 13)
 abbrev pub move_in : Board → ℕ → Cell → Phase → Option Move
 move_in b key c phases.Activating = Some (open_by key c (inputs_of b c))
-move_in b key c phases.Active = Some (moves.Finish c.key)
+move_in b key c phases.Active = Some (finish_by key c (error_of c.mark))
 move_in b key c phases.Completing = Some (leave_by key c (completion_of b c))
 move_in b key c phases.Leaving = take_first c.key c.owed
 move_in b key c phases.Terminating = Some (moves.Gone c.key)

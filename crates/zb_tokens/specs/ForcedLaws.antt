@@ -1,14 +1,10 @@
 -- Laws of forced moves, in the subject's own words.
-use Rattle.std.proofs.Common.{◌≡◌, ◌⊎◌, ℕ, ◌+◌, ◌≤◌, ◌==◌, max, length, get_or, List, [], ◌∷◌, map, filter, slice_get, position, All, Contains, Bool, true, false, ◌&&◌, ◌||◌, not, cond, if◌then◌else◌, IsTrue, IsFalse, Option, Some, None, is_some, option_map, option_and_then, Result, Ok, Err, refl, inl, inr, ⊎_elim, ap, sym, ◌∙◌, subst, arith}
+use Rattle.std.proofs.Common.{◌≡◌, ◌⊎◌, ℕ, ◌+◌, ◌≤◌, ◌==◌, max, List, [], ◌∷◌, map, filter, All, Contains, Bool, true, false, ◌&&◌, ◌||◌, not, cond, if◌then◌else◌, IsTrue, IsFalse, Option, Some, None, is_some, option_map, option_and_then, Result, Ok, Err, refl, inl, inr, ⊎_elim, ap, sym, ◌∙◌, subst, arith}
 use Rattle.std.specs.Option.{option_map_or, option_or}
-use Rattle.std.specs.List.{find, position_or_len}
+use Rattle.std.specs.List.{find}
 use Rattle.std.proofs.lemmas.Bool.{and_parts, not-true}
 use Rattle.std.proofs.lemmas.Bool.Decides.{nat_tests}
-use Rattle.std.proofs.lemmas.Grind.{common_steps}
 use Rattle.std.proofs.lemmas.List.Elements.{All-nil, All-cons, All-contains_itself}
-use Rattle.std.proofs.lemmas.List.Quantifiers.{position-Some}
-use Rattle.std.proofs.lemmas.List.Sums.{fails_before_first}
-use Rattle.std.proofs.lemmas.Option.{slice_get-get_or}
 use Rattle.zb_base.specs.declared.vars.Variable.{Variable}
 use Rattle.zb_instance_records.specs.Layouts.{incident_byte}
 use Rattle.zb_tokens.specs.declared.board.Cell.{Cell}
@@ -25,16 +21,18 @@ use Rattle.zb_tokens.specs.Board.{Board, cell_at, is_root, CellsAscend}
 use Rattle.zb_tokens.specs.Doom.{is_doomed}
 use Rattle.zb_tokens.specs.MoveHalt.{is_alive}
 use Rattle.zb_tokens.specs.MoveEnter.{may_enter}
-use Rattle.zb_tokens.specs.Incidents.{Hindrance, is_stuck}
+use Rattle.zb_tokens.specs.Incidents.{Hindrance, error_hindrance, is_stuck}
 use Rattle.zb_tokens.specs.Mappings.{inputs_of}
 use Rattle.zb_tokens.specs.MoveOpen.{opens}
 use Rattle.zb_tokens.specs.MoveLeave.{completion_of}
-use Rattle.zb_tokens.specs.MoveIncident.{evaluates, hindrance_in}
+use Rattle.zb_tokens.specs.MoveIncident.{may_stop, hindrance_in}
+use Rattle.zb_tokens.specs.MoveFinish.{is_done}
+use Rattle.zb_tokens.specs.Marks.{error_of}
 use Rattle.zb_tokens.specs.Game.{fits, agrees}
 use Rattle.zb_tokens.specs.GameLaws.{mapped_some, both_right, found_where, found_holds, none_found}
 use Rattle.zb_tokens.specs.LeaveLaws.{same_bytes, ids_same, exit_may_be_owed}
 use Rattle.zb_tokens.specs.MappingLaws.{completed_with}
-use Rattle.zb_tokens.specs.Forced.{goes_on_in, ends_in, is_forced, way_of, can_enter, greatest, next_mover, IsQuiet, take_first, stop_by, open_by, leave_by, move_in, end_in, move_at, entry_of, move_of, IsEnd}
+use Rattle.zb_tokens.specs.Forced.{finish_by, goes_on_in, ends_in, is_forced, way_of, can_enter, greatest, next_mover, IsQuiet, take_first, stop_by, open_by, leave_by, move_in, end_in, move_at, move_of, IsEnd}
 
 -- a cell with this key that passes is the one that is found with it, and its key is not below `low`
 abbrev pub IsKeyOfCell : (Cell → Bool) → ℕ → List Cell → ℕ → Type 0
@@ -149,7 +147,7 @@ some_move : (a b : Move) → Some a ≡ Some b → a ≡ b
 some_move a b e = cc
 
 -- an incident tells of what keeps a cell from going on (Zeebe, incidents)
-stop_suits : (b : Board) (moment key : ℕ) (c : Cell) (hindrance : Hindrance) → evaluates c.phase ≡ true → cell_at b c.key ≡ Some c → is_stuck b c ≡ false → hindrance_in b c c.phase ≡ Some hindrance → Suits b moment (stop_by key c hindrance)
+stop_suits : (b : Board) (moment key : ℕ) (c : Cell) (hindrance : Hindrance) → may_stop c ≡ true → cell_at b c.key ≡ Some c → is_stuck b c ≡ false → hindrance_in b c c.phase ≡ Some hindrance → Suits b moment (stop_by key c hindrance)
 stop_suits b moment key c hindrance at found free stops =
     let kind : (incident_byte hindrance.kind == incident_byte hindrance.kind) ≡ true = grind (arith, nat_tests) in
     (rw (found, at, free) refl, rw (found, stops, kind, same_bytes hindrance.text) refl)
@@ -166,11 +164,19 @@ leave_suits b moment key c (Ok owed) move at found free exits is =
     subst (Suits b moment) is (rw (found, at, exit_may_be_owed b c owed (completed_with b c owed exits).1) refl, rw (found, exits, ids_same owed) refl)
 leave_suits b moment key c (Err hindrance) move at found free exits is = subst (Suits b moment) is (stop_suits b moment key c hindrance (rw at refl) found free (rw (at, exits) refl))
 
+-- an active cell begins to complete, or an incident tells of the error that was thrown in it (BPMN 2.0.2, 10.5.7 and 13.3.2; Zeebe, incidents)
+finish_suits : (b : Board) (moment key : ℕ) (c : Cell) (error : Option (List ℕ)) (move : Move) → c.phase ≡ phases.Active → cell_at b c.key ≡ Some c → is_stuck b c ≡ false → goes_on_in b c phases.Active ≡ true → error_of c.mark ≡ error → finish_by key c error ≡ move
+    → Suits b moment move
+finish_suits b moment key c None move at found free goes gives is =
+    let done : is_done b c ≡ true = subst (λ (o : Option (List ℕ)). (is_some o || is_done b c) ≡ true) gives goes in
+    subst (Suits b moment) is (rw (found, at, done) refl, refl)
+finish_suits b moment key c (Some code) move at found free goes gives is =
+    subst (Suits b moment) is (stop_suits b moment key c (error_hindrance code) (rw (at, gives) refl) found free (rw (at, gives) refl))
+
 -- by the phase of the cell
 pub cell_suits : (b : Board) (moment key : ℕ) (c : Cell) (phase : Phase) (move : Move) → c.phase ≡ phase → cell_at b c.key ≡ Some c → is_stuck b c ≡ false → goes_on_in b c phase ≡ true → move_in b key c phase ≡ Some move → Suits b moment move
 cell_suits b moment key c phases.Activating move at found free goes is = open_suits b moment key c (inputs_of b c) move at found free goes refl (some_move (open_by key c (inputs_of b c)) move is)
-cell_suits b moment key c phases.Active move at found free goes is =
-    subst (Suits b moment) (some_move (moves.Finish c.key) move is) (rw (found, at, goes) refl, refl)
+cell_suits b moment key c phases.Active move at found free goes is = finish_suits b moment key c (error_of c.mark) move at found free goes refl (some_move (finish_by key c (error_of c.mark)) move is)
 cell_suits b moment key c phases.Completing move at found free goes is = leave_suits b moment key c (completion_of b c) move at found free refl (some_move (leave_by key c (completion_of b c)) move is)
 cell_suits b moment key c phases.Leaving move at found free goes is = by_owed c.owed refl is
   where

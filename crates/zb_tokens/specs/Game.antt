@@ -14,6 +14,8 @@ use Rattle.zb_tokens.specs.MoveHalt.{fits_halt, play_halt}
 use Rattle.zb_tokens.specs.MoveGone.{fits_gone, play_gone}
 use Rattle.zb_tokens.specs.MoveAssign.{fits_assign, fits_update, play_assign}
 use Rattle.zb_tokens.specs.MoveIncident.{fits_incident, agrees_incident, play_incident}
+use Rattle.zb_tokens.specs.MoveDone.{fits_done, play_done}
+use Rattle.zb_tokens.specs.MoveThrow.{fits_throw, play_throw}
 use Rattle.zb_tokens.specs.MoveRepair.{fits_repair, play_repair}
 
 -- nothing on the board
@@ -33,6 +35,8 @@ fits b (moves.Halt key) = fits_halt b key
 fits b (moves.Gone key) = fits_gone b key
 fits b (moves.Assign a) = fits_assign b a
 fits b (moves.Update a) = fits_update b a
+fits b (moves.Done key) = fits_done b key
+fits b (moves.Throw t) = fits_throw b t
 fits b (moves.Incident i) = fits_incident b i
 fits b (moves.Repair key) = fits_repair b key
 
@@ -56,6 +60,8 @@ played b (moves.Halt key) = play_halt b key
 played b (moves.Gone key) = play_gone b key
 played b (moves.Assign a) = play_assign b a
 played b (moves.Update a) = play_assign b a
+played b (moves.Done key) = play_done b key
+played b (moves.Throw t) = play_throw b t
 played b (moves.Incident i) = play_incident b i
 played b (moves.Repair key) = play_repair b key
 

@@ -8,6 +8,7 @@ use Rattle.zb_tokens.specs.declared.board.Cell.{Cell}
 use Rattle.zb_tokens.specs.declared.board.Token.{Token}
 use Rattle.zb_tokens.specs.declared.board.Spot.TheVariants as spots
 use Rattle.zb_tokens.specs.declared.board.Phase.TheVariants as phases
+use Rattle.zb_tokens.specs.declared.board.Mark.TheVariants as marks
 use Rattle.zb_tokens.specs.declared.board.Move.{Move}
 use Rattle.zb_tokens.specs.declared.board.Move.TheVariants as moves
 use Rattle.zb_tokens.specs.declared.board.Enter.{Enter}
@@ -19,6 +20,7 @@ use Rattle.zb_tokens.specs.MoveEnter.{spots_of, stand_at_each, arrives, has_come
 use Rattle.zb_tokens.specs.MoveOpen.{start_tokens, first_tokens, opens}
 use Rattle.zb_tokens.specs.MoveLeave.{leaving}
 use Rattle.zb_tokens.specs.MoveTake.{rest_of, with_token, play_take}
+use Rattle.zb_tokens.specs.Marks.{with_mark}
 use Rattle.zb_tokens.specs.MoveAssign.{with_variable}
 use Rattle.zb_tokens.specs.Game.{fits, played}
 
@@ -185,6 +187,10 @@ fitting_is_played b (moves.Assign a) is =
     mapped_some _ (edited (λ c. c.key == a.scope) (with_variable a.name a.value) b.cells) (cells_edited (with_variable a.name a.value) a.scope b (holds_some _ (cell_at b a.scope) is))
 fitting_is_played b (moves.Update a) is =
     mapped_some _ (edited (λ c. c.key == a.scope) (with_variable a.name a.value) b.cells) (cells_edited (with_variable a.name a.value) a.scope b (holds_some _ (cell_at b a.scope) is))
+fitting_is_played b (moves.Done key) is =
+    mapped_some _ (edited (λ c. c.key == key) (with_mark marks.Done) b.cells) (cells_edited (with_mark marks.Done) key b (holds_some _ (cell_at b key) is))
+fitting_is_played b (moves.Throw t) is =
+    mapped_some _ (edited (λ c. c.key == t.cell) (with_mark (marks.Thrown t.code)) b.cells) (cells_edited (with_mark (marks.Thrown t.code)) t.cell b (holds_some _ (cell_at b t.cell) is))
 fitting_is_played b (moves.Incident i) is = refl
 fitting_is_played b (moves.Repair key) is = mapped_some _ (removed (λ i. i.key == key) b.incidents) (removed_some (λ i. i.key == key) b.incidents (any_found (λ i. i.key == key) b.incidents is))
 

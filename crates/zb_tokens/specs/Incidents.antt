@@ -1,5 +1,5 @@
 -- What keeps a cell from going on, and the incidents that tell of it (Zeebe, incidents).
-use Rattle.std.specs.Prelude.{ℕ, ◌==◌, List, codes, Bool, ◌&&◌, is_some, Option}
+use Rattle.std.specs.Prelude.{ℕ, ◌==◌, List, codes, Bool, ◌&&◌, not, is_some, Option}
 use Rattle.std.specs.List.{find}
 use Rattle.std.specs.Str.{bytes_eq}
 use Rattle.zb_process.specs.Expr.{ValueFault, Unknown, Kind, Overflow}
@@ -24,6 +24,14 @@ text_of Overflow = codes "OVERFLOW"
 -- an expression that has no value keeps a cell from going on, with the text of its fault (Zeebe, incidents)
 abbrev pub hindrance_of : ValueFault → Hindrance
 hindrance_of fault = record { kind = kinds.ExtractValueError; text = text_of fault }
+
+-- an error that nothing catches keeps a cell from going on, with its code (BPMN 2.0.2, 10.5.7; Zeebe, incidents)
+abbrev pub error_hindrance : List ℕ → Hindrance
+error_hindrance code = record { kind = kinds.UnhandledErrorEvent; text = code }
+
+-- a job is the cause of an incident: it has no try left (Zeebe, incidents)
+abbrev pub is_of_job : Incident → Bool
+is_of_job i = not (i.job == 0)
 
 -- the incident with a key
 abbrev pub incident_at : Board → ℕ → Option Incident

@@ -1,6 +1,7 @@
 pub mod Edits
 pub mod Board
 pub mod Doom
+pub mod Marks
 pub mod MoveStand
 pub mod MoveStart
 pub mod MoveEnter
@@ -10,6 +11,7 @@ pub mod Names
 pub mod Incidents
 pub mod Choice
 pub mod Mappings
+pub mod Work
 pub mod MoveOpen
 pub mod MoveLeave
 pub mod MoveTake
@@ -17,6 +19,8 @@ pub mod MoveHalt
 pub mod MoveGone
 pub mod MoveIncident
 pub mod MoveRepair
+pub mod MoveDone
+pub mod MoveThrow
 pub mod Game
 pub mod Forced
 pub mod Effects
@@ -27,4 +31,5 @@ pub mod ChoiceLaws
 pub mod LeaveLaws
 pub mod Mapped
 pub mod MappingLaws
+pub mod VisibleLaws
 pub mod ForcedLaws

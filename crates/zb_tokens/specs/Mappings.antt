@@ -1,6 +1,6 @@
 -- What a node takes in as it begins and gives out as it completes: variables, each with the value of an expression (BPMN 2.0.2, 10.4.2: data associations and their
 -- assignments; Zeebe, variable mappings).
-use Rattle.std.specs.Prelude.{ℕ, List, [], ◌∷◌, true, false, if◌then◌else◌, Option, None, option_map, option_and_then, Result, Ok}
+use Rattle.std.specs.Prelude.{ℕ, List, [], ◌∷◌, Bool, true, false, not, if◌then◌else◌, Option, None, option_map, option_and_then, Result, Ok}
 use Rattle.std.specs.Option.{option_map_or}
 use Rattle.std.specs.Result.{result_map_both, result_unwrap_or}
 use Rattle.zb_base.specs.Results.{◌>>=◌}
@@ -14,6 +14,7 @@ use Rattle.zb_tokens.specs.declared.board.Move.{Move}
 use Rattle.zb_tokens.specs.declared.board.Move.TheVariants as moves
 use Rattle.zb_tokens.specs.declared.board.Assignments.{Assignments}
 use Rattle.zb_tokens.specs.Board.{Board, cell_at, model_under, node_with, is_root}
+use Rattle.zb_tokens.specs.Edits.{is_none_of}
 use Rattle.zb_tokens.specs.Names.{value_seen}
 use Rattle.zb_tokens.specs.Incidents.{Hindrance, hindrance_of}
 
@@ -38,6 +39,10 @@ inputs_of b c = variables_by b c (option_map_or (λ n. n.inputs) (node_of b c) [
 -- what it gives out as it completes: the outputs of its node, in the names that it sees (BPMN 2.0.2, 10.4.2 and 13.3.2)
 abbrev pub outputs_of : Board → Cell → Result (List Variable) Hindrance
 outputs_of b c = variables_by b c (option_map_or (λ n. n.outputs) (node_of b c) [])
+
+-- the node of a cell has outputs, so what comes to the cell stays in it until they hand it up (Zeebe, variable mappings)
+abbrev pub gives_outputs : Board → Cell → Bool
+gives_outputs b c = not (is_none_of (option_map_or (λ n. n.outputs) (node_of b c) []))
 
 -- the variables that are set where a move is made on a board: a cell that becomes active takes in its inputs, and one that has completed hands its
 -- outputs up from the scope around it. All of them are evaluated on that board (BPMN 2.0.2, 10.4.2; Zeebe, variable mappings)

@@ -1,5 +1,5 @@
 -- A cell begins to complete (BPMN 2.0.2, 13.3.2; a scope: 13.2 and 13.3.4, where no token is left).
-use Rattle.std.specs.Prelude.{ℕ, ◌==◌, [], Bool, true, false, ◌&&◌, if◌then◌else◌, Option, option_map}
+use Rattle.std.specs.Prelude.{ℕ, ◌==◌, [], Bool, true, false, ◌&&◌, ◌||◌, if◌then◌else◌, Option, option_map}
 use Rattle.std.specs.Option.{option_map_or}
 use Rattle.zb_process.specs.declared.model.NodeKind.{NodeKind}
 use Rattle.zb_process.specs.declared.model.NodeKind.TheVariants as kinds
@@ -7,6 +7,7 @@ use Rattle.zb_tokens.specs.Edits.{edited}
 use Rattle.zb_tokens.specs.declared.board.Cell.{Cell}
 use Rattle.zb_tokens.specs.declared.board.Phase.TheVariants as phases
 use Rattle.zb_tokens.specs.Board.{Board, cell_at, model_under, is_at, is_phase, is_scope_in, is_empty, in_phase}
+use Rattle.zb_tokens.specs.Marks.{has_come_about}
 
 -- a node of this kind waits for nothing once a token has entered it (BPMN 2.0.2, chapter 13: 13.4 gateways, 13.5 events)
 abbrev pub waits_for_nothing : NodeKind → Bool
@@ -24,9 +25,9 @@ waits_for_nothing kinds.ErrorBoundaryEvent = true
 waits_for_nothing kinds.CompensationBoundaryEvent = true
 waits_for_nothing kind = false
 
--- nothing is left that a cell waits for; a scope waits for what is in it (BPMN 2.0.2, 13.2 and 13.3.4)
+-- nothing is left that a cell waits for: it has come; a scope waits for what is in it (BPMN 2.0.2, 13.2, 13.3.3 and 13.3.4)
 abbrev pub is_done : Board → Cell → Bool
-is_done b c = option_map_or (λ m. if is_scope_in m c then is_empty b c.key else is_at m c.node waits_for_nothing) (model_under b c.definition) false
+is_done b c = option_map_or (λ m. if is_scope_in m c then is_empty b c.key else has_come_about c.mark || is_at m c.node waits_for_nothing) (model_under b c.definition) false
 
 -- when: it is active, and waits for nothing (BPMN 2.0.2, 13.3.2; a process: 13.2)
 abbrev pub fits_finish : Board → ℕ → Bool

@@ -1,13 +1,14 @@
 -- An incident stands on a cell that can't go on (Zeebe, incidents; BPMN 2.0.2, 13.4.2: an exception where no flow can be chosen).
-use Rattle.std.specs.Prelude.{[], ◌∷◌, ◌++◌, Bool, true, false, ◌&&◌, not, Option, Some, None}
+use Rattle.std.specs.Prelude.{[], ◌∷◌, ◌++◌, Bool, true, false, ◌&&◌, ◌||◌, not, is_some, if◌then◌else◌, Option, Some, None, option_map}
 use Rattle.std.specs.Option.{option_map_or}
 use Rattle.std.specs.Result.{result_err}
 use Rattle.zb_tokens.specs.declared.board.Cell.{Cell}
 use Rattle.zb_tokens.specs.declared.board.Incident.{Incident}
 use Rattle.zb_tokens.specs.declared.board.Phase.{Phase}
 use Rattle.zb_tokens.specs.declared.board.Phase.TheVariants as phases
-use Rattle.zb_tokens.specs.Board.{Board, cell_at}
-use Rattle.zb_tokens.specs.Incidents.{Hindrance, is_stuck, tells_of}
+use Rattle.zb_tokens.specs.Board.{Board, cell_at, is_phase}
+use Rattle.zb_tokens.specs.Incidents.{Hindrance, error_hindrance, is_of_job, is_stuck, tells_of}
+use Rattle.zb_tokens.specs.Marks.{error_of, awaits_work}
 use Rattle.zb_tokens.specs.Mappings.{inputs_of}
 use Rattle.zb_tokens.specs.MoveLeave.{completion_of}
 
@@ -17,19 +18,30 @@ evaluates phases.Activating = true
 evaluates phases.Completing = true
 evaluates phase = false
 
--- what keeps a cell from going on in a phase: a fault of its inputs, or of its outputs or of what it is left by (BPMN 2.0.2, 13.3.2 and 13.4.2)
+-- what keeps a cell from going on in a phase: a fault of its inputs, or of its outputs or of what it is left by, or an error that was thrown in it,
+-- which nothing catches so far (BPMN 2.0.2, 10.5.7, 13.3.2 and 13.4.2)
 abbrev pub hindrance_in : Board → Cell → Phase → Option Hindrance
 hindrance_in b c phases.Activating = result_err (inputs_of b c)
 hindrance_in b c phases.Completing = result_err (completion_of b c)
+hindrance_in b c phases.Active = option_map error_hindrance (error_of c.mark)
 hindrance_in b c phase = None
 
--- when, but for what is evaluated: the cell is in such a phase, and isn't stuck (Zeebe, incidents)
-abbrev pub fits_incident : Board → Incident → Bool
-fits_incident b i = option_map_or (λ c. evaluates c.phase && not (is_stuck b c)) (cell_at b i.cell) false
+-- a cell may come to a stop by itself: it evaluates something, or is active and an error was thrown in it (BPMN 2.0.2, 10.5.7 and 13.3.2)
+abbrev pub may_stop : Cell → Bool
+may_stop c = evaluates c.phase || (is_phase c.phase phases.Active && is_some (error_of c.mark))
 
--- what is evaluated: it tells of what keeps the cell from going on (Zeebe, incidents)
+-- an incident may stand on a cell: one that a job is the cause of where the cell waits for its work, another one where it may come to a
+-- stop (Zeebe, incidents)
+abbrev pub may_stand : Board → Incident → Cell → Bool
+may_stand b i c = if is_of_job i then awaits_work b c else may_stop c
+
+-- when, but for what is evaluated: it may stand on the cell, and none does (Zeebe, incidents)
+abbrev pub fits_incident : Board → Incident → Bool
+fits_incident b i = option_map_or (λ c. may_stand b i c && not (is_stuck b c)) (cell_at b i.cell) false
+
+-- what is evaluated: it tells of what keeps the cell from going on, where no job is its cause (Zeebe, incidents)
 abbrev pub agrees_incident : Board → Incident → Bool
-agrees_incident b i = option_map_or (λ c. option_map_or (tells_of i) (hindrance_in b c c.phase) false) (cell_at b i.cell) false
+agrees_incident b i = is_of_job i || option_map_or (λ c. option_map_or (tells_of i) (hindrance_in b c c.phase) false) (cell_at b i.cell) false
 
 -- effect: it stands there (Zeebe, incidents)
 abbrev pub play_incident : Board → Incident → Option Board

@@ -1,8 +1,9 @@
 -- Where a name is looked up, and where a value is set: in a cell, and then in those around it (BPMN 2.0.2, 10.4.1).
 use Rattle.std.specs.Prelude.{ℕ, List, [], ◌∷◌, ◌||◌, if◌then◌else◌, Option, Some, None, option_and_then}
-use Rattle.std.specs.Option.{option_or}
-use Rattle.zb_base.specs.Vars.{value_named}
+use Rattle.std.specs.Option.{option_or, option_map_or}
+use Rattle.zb_base.specs.Vars.{value_named, with_value}
 use Rattle.zb_base.specs.declared.value.Value.{Value}
+use Rattle.zb_base.specs.declared.vars.Variable.{Variable}
 use Rattle.zb_tokens.specs.declared.board.Cell.{Cell}
 use Rattle.zb_tokens.specs.Board.{Board, cell_at, is_root}
 use Rattle.zb_tokens.specs.MoveAssign.{has_name}
@@ -25,3 +26,26 @@ value_seen b key name = value_from b.cells b key name
 -- where a value is set that is handed up from a cell (BPMN 2.0.2, 10.4.1)
 abbrev pub holder_of : Board → ℕ → List ℕ → Option ℕ
 holder_of b key name = holder_from b.cells b key name
+
+-- the root around the cell with a key; no more cells are above it than there are (BPMN 2.0.2, 13.2)
+abbrev pub root_from : List Cell → Board → ℕ → Option ℕ
+root_from [] b key = None
+root_from (more ∷ cells) b key = option_and_then (λ c. if is_root c then Some key else root_from cells b c.scope) (cell_at b key)
+
+-- the instance that a cell is in: the root around it (BPMN 2.0.2, 13.2)
+abbrev pub root_of : Board → ℕ → Option ℕ
+root_of b key = root_from b.cells b key
+
+-- variables with these laid over them: of one name the one in front counts (BPMN 2.0.2, 10.4.1)
+abbrev pub overlaid : List Variable → List Variable → List Variable
+overlaid [] outer = outer
+overlaid (v ∷ inner) outer = with_value v.name v.value (overlaid inner outer)
+
+-- the variables that are seen from the cell with a key on up; no more cells are above it than there are (BPMN 2.0.2, 10.4.1)
+abbrev pub visible_from : List Cell → Board → ℕ → List Variable
+visible_from [] b key = []
+visible_from (more ∷ cells) b key = option_map_or (λ c. overlaid c.variables (visible_from cells b c.scope)) (cell_at b key) []
+
+-- all variables that a cell sees: each name that it or a cell around it has, with the value in the nearest one, names ascending (BPMN 2.0.2, 10.4.1)
+abbrev pub visible : Board → ℕ → List Variable
+visible b key = visible_from b.cells b key

@@ -75,6 +75,8 @@ pub struct Incident {
     pub kind: IncidentKind,
     /// The cell on which it stands.
     pub cell: Key,
+    /// The job that is its cause; 0 where none is.
+    pub job: Key,
     pub text: Text,
 }
 
@@ -123,6 +125,10 @@ pub enum Move {
     Assign(Assigned),
     /// A variable that is there has another value.
     Update(Assigned),
+    /// The work that a cell waits for is done.
+    Done(Key),
+    /// An error is thrown in a cell.
+    Throw(Thrown),
     /// An incident stands on a cell.
     Incident(Incident),
     /// An incident is gone.
@@ -157,6 +163,13 @@ pub struct Leave {
 pub struct Take {
     pub key: Key,
     pub flow: Text,
+}
+
+/// An error with this code is thrown in a cell.
+#[derive(Drop)]
+pub struct Thrown {
+    pub cell: Key,
+    pub code: Text,
 }
 
 /// Who makes a forced move.

@@ -59,6 +59,7 @@ impl TryCopy for Incident {
             key: self.key,
             kind: self.kind,
             cell: self.cell,
+            job: self.job,
             text: self.text.copy(alloc)?,
         })
     }

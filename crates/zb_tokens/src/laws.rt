@@ -2,6 +2,7 @@ ghost use Rattle.std.specs.Prelude.{◌≡◌, ℕ, ◌==◌, IsTrue, IsFalse, i
 ghost use Rattle.std.specs.Result.{is_ok};
 ghost use Rattle.zb_base.specs.declared.value.Value.{Value};
 ghost use Rattle.zb_base.specs.declared.vars.Variable.{Variable};
+ghost use Rattle.zb_base.specs.Vars.{is_ascending, value_named};
 ghost use Rattle.zb_process.specs.declared.model.Mapping.{Mapping};
 ghost use Rattle.zb_process.specs.Expr.{ValueFault};
 ghost use Rattle.zb_process.specs.declared.model.Model.{Model};
@@ -20,7 +21,7 @@ ghost use Rattle.zb_tokens.specs.Board.{Board, cell_at, model_under, is_at, is_r
 ghost use Rattle.zb_tokens.specs.Game.{fits, agrees, played};
 ghost use Rattle.zb_tokens.specs.Effects.{is_stand, is_of_incident, other_cells, other_tokens, scope_ended_by, is_emptied, IsEntered};
 ghost use Rattle.zb_tokens.specs.MoveEnter.{play_enter};
-ghost use Rattle.zb_tokens.specs.Names.{value_seen};
+ghost use Rattle.zb_tokens.specs.Names.{value_seen, visible};
 ghost use Rattle.zb_tokens.specs.Incidents.{Hindrance};
 ghost use Rattle.zb_tokens.specs.Choice.{Gateway};
 ghost use Rattle.zb_tokens.specs.Mappings.{mapped, outputs_of};
@@ -95,6 +96,14 @@ pub fn outputs_come_before_exits()
         → IsTrue (is_ok (outputs_of board cell)) × (exit_of board cell ≡ Ok owed) }
     ensures kept { (board : Board) (cell : Cell) (hindrance : Hindrance)
         → completion_of board cell ≡ Err hindrance → IsKeptBy board cell hindrance }
+{}
+
+/// All that a cell sees are variables whose names ascend, and each name has among them the value that the cell
+/// sees under it: its own one, or that of the nearest cell around it that has the name.
+pub fn visible_variables_are_those_seen()
+    ensures values { (board : Board) (cell : ℕ) (name : List ℕ)
+        → value_named name (visible board cell) ≡ value_seen board cell name }
+    ensures ascending { (board : Board) (cell : ℕ) → IsTrue (is_ascending (visible board cell)) }
 {}
 
 /// Where nobody is forced, no cell is, and no token can enter.

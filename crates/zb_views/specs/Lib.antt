@@ -3,5 +3,8 @@ pub mod Messages
 pub mod MessageLaws
 pub mod Definitions
 pub mod Begin
+pub mod Told
+pub mod Jobs
+pub mod JobLaws
 pub mod ViewLaws
 pub mod CounterLaws

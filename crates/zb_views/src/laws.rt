@@ -1,11 +1,20 @@
-ghost use Rattle.std.specs.Prelude.{◌≡◌, ℕ, List, [], ◌∷◌, ◌++◌};
+ghost use Rattle.std.specs.Prelude.{◌≡◌, ℕ, true, List, [], ◌∷◌, ◌++◌};
 ghost use Rattle.zb_exchange_records.specs.declared.message.MessagePublished.{MessagePublished};
 ghost use Rattle.zb_model.specs.declared.record.Event.{Event};
 ghost use Rattle.zb_model.specs.declared.record.Event.TheVariants as events;
 ghost use Rattle.zb_views.specs.Messages.{buffered, without_message};
+ghost use Rattle.zb_views.specs.Jobs.{jobs, calls_off_job, called_off};
+ghost use Rattle.zb_views.specs.JobLaws.{jobs_by, says_nothing_of_jobs};
 
 /// What an event more makes of the buffered messages.
 pub fn buffered_grows()
     ensures published { (es : List Event) (m : MessagePublished) → buffered (es ++ events.MessagePublished m ∷ []) ≡ buffered es ++ m ∷ [] }
     ensures expired { (es : List Event) (key : ℕ) → buffered (es ++ events.MessageExpired key ∷ []) ≡ without_message key (buffered es) }
+{}
+
+/// What an event more makes of the jobs.
+pub fn jobs_grow()
+    ensures more { (es : List Event) (e : Event) → jobs (es ++ e ∷ []) ≡ jobs_by e (jobs es) }
+    ensures kept { (es : List Event) (e : Event) → says_nothing_of_jobs e ≡ true → jobs (es ++ e ∷ []) ≡ jobs es }
+    ensures called_off { (es : List Event) (e : Event) → called_off (es ++ e ∷ []) ≡ calls_off_job es e }
 {}

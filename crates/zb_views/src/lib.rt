@@ -3,8 +3,10 @@
 
 mod begun;
 mod definition;
+mod job;
 mod laws;
 
 pub use begun::Begun;
 pub use definition::Definition;
-pub use laws::buffered_grows;
+pub use job::{Job, JobPhase};
+pub use laws::{buffered_grows, jobs_grow};

@@ -12,6 +12,11 @@ command_of (requests.Deploy m) = Some (commands.DeploymentCreate m)
 command_of (requests.Create c) = Some (commands.ProcessInstanceCreationCreate c)
 command_of (requests.Cancel key) = Some (commands.ProcessInstanceCancel key)
 command_of (requests.Variables u) = Some (commands.VariableDocumentUpdate u)
+command_of (requests.Activate a) = Some (commands.JobBatchActivate a)
+command_of (requests.Complete c) = Some (commands.JobComplete c)
+command_of (requests.Fail f) = Some (commands.JobFail f)
+command_of (requests.Throw t) = Some (commands.JobThrowError t)
+command_of (requests.Retries r) = Some (commands.JobUpdateRetries r)
 command_of (requests.Publish m) = Some (commands.MessagePublish m)
 command_of (requests.Resolve key) = Some (commands.IncidentResolve key)
 command_of requests.Tick = None
@@ -25,6 +30,10 @@ partition_named n key = if nat_le 1 (key / 2 ^ 51) && nat_le (key / 2 ^ 51) n th
 abbrev pub key_named : Request → Option ℕ
 key_named (requests.Cancel key) = Some key
 key_named (requests.Variables u) = Some u.scope
+key_named (requests.Complete c) = Some c.key
+key_named (requests.Fail f) = Some f.key
+key_named (requests.Throw t) = Some t.key
+key_named (requests.Retries r) = Some r.key
 key_named (requests.Resolve key) = Some key
 key_named _ = None
 

@@ -7,21 +7,26 @@ use Rattle.zb_process.specs.declared.model.NodeKind.{NodeKind}
 use Rattle.zb_process.specs.declared.model.NodeKind.TheVariants as kinds
 use Rattle.zb_reader.specs.Place.{behind, here_unless, place_from}
 use Rattle.zb_reader.specs.Kinds.{kind_in}
+use Rattle.zb_reader.specs.Layout.{flag_in}
 
 -- the kinds of nodes that are built (own)
 abbrev pub is_built_kind : Option NodeKind → Bool
 is_built_kind (Some kinds.StartEvent) = true
 is_built_kind (Some kinds.EndEvent) = true
 is_built_kind (Some kinds.TerminateEndEvent) = true
+is_built_kind (Some kinds.ServiceTask) = true
 is_built_kind (Some kinds.SubProcess) = true
 is_built_kind (Some kinds.ExclusiveGateway) = true
 is_built_kind (Some kinds.ParallelGateway) = true
 is_built_kind (Some kinds.ThrowEvent) = true
 is_built_kind kind = false
 
--- a node is of such a kind, and has no multi-instance (own)
+-- a node is of such a kind, has no multi-instance, and isn't there for a compensation (own)
 abbrev pub is_built : Data → Bool
-is_built d = is_built_kind (kind_in d) && not (is_some (get (codes "multiInstanceLoopCharacteristics") d))
+is_built d =
+    is_built_kind (kind_in d)
+    && not (is_some (get (codes "multiInstanceLoopCharacteristics") d))
+    && not (flag_in (codes "isForCompensation") false d)
 
 -- the place of the first node that isn't built
 unfoldable pub unbuilt_place : Data → Option (List ℕ)

@@ -3,12 +3,17 @@ use Rattle.std.specs.Prelude.{ℕ, List, [], ◌∷◌, codes, Bool, true, false
 use Rattle.std.specs.List.{find}
 use Rattle.std.specs.Str.{bytes_eq}
 use Rattle.serde_json.specs.Data.{Data}
+use Rattle.zb_exchange_records.specs.declared.job.JobBatchActivate.{JobBatchActivate}
+use Rattle.zb_exchange_records.specs.declared.job.JobComplete.{JobComplete}
+use Rattle.zb_exchange_records.specs.declared.job.JobFail.{JobFail}
+use Rattle.zb_exchange_records.specs.declared.job.JobThrowError.{JobThrowError}
+use Rattle.zb_exchange_records.specs.declared.job.JobUpdateRetries.{JobUpdateRetries}
 use Rattle.zb_exchange_records.specs.declared.message.MessagePublish.{MessagePublish}
 use Rattle.zb_instance_records.specs.declared.happening.VariableDocumentUpdate.{VariableDocumentUpdate}
 use Rattle.zb_instance_records.specs.declared.instance.ProcessInstanceCreationCreate.{ProcessInstanceCreationCreate}
 use Rattle.zb_reader.specs.Kinds.{text_in}
 use Rattle.zb_reader.specs.Layout.{flag_in}
-use Rattle.zb_wire.specs.Variables.{longest_name}
+use Rattle.zb_wire.specs.Variables.{longest_name, longest_text}
 use Rattle.zb_wire.specs.Fields.{must, may, count_at, short_count_at, variables_of_field, model_at}
 use Rattle.zb_wire.specs.Op.{Op}
 use Rattle.zb_wire.specs.declared.given.Given.{Given}
@@ -92,6 +97,85 @@ set_variables = record {
   request = λ d. requests.Variables (update_of d);
 }
 
+-- so many tries of a job may be left (own)
+abbrev pub a_retry_count : Kind
+a_retry_count = kinds.Number 0 1000000
+
+-- the jobs that the fields of an activate ask for; the partition isn't kept
+abbrev pub activation_of : Data → JobBatchActivate
+activation_of d = record { kind = text_in (codes "type") d; worker = text_in (codes "worker") d; timeout = count_at (codes "timeout") d; most = short_count_at (codes "max") d }
+
+-- an activation of jobs, which takes from 1 to 1,000 of them (own)
+abbrev pub activate_jobs : Op
+activate_jobs = record {
+  name = codes "activate";
+  by_hand = false;
+  fields =
+      must (codes "type") a_name
+      ∷ must (codes "worker") a_name
+      ∷ must (codes "timeout") (kinds.Number 1 longest_duration)
+      ∷ must (codes "max") (kinds.Number 1 1000)
+      ∷ may (codes "partition") kinds.Partition
+      ∷ [];
+  request = λ d. requests.Activate (activation_of d);
+}
+
+-- the job that the fields of a complete end, with its results
+abbrev pub completing_of : Data → JobComplete
+completing_of d = record { key = count_at (codes "key") d; variables = variables_of_field (codes "variables") d }
+
+-- a completion of a job
+abbrev pub complete_job : Op
+complete_job = record {
+  name = codes "complete";
+  by_hand = false;
+  fields = must (codes "key") a_key ∷ may (codes "variables") kinds.Variables ∷ [];
+  request = λ d. requests.Complete (completing_of d);
+}
+
+-- the job that the fields of a fail say has failed
+abbrev pub failure_of : Data → JobFail
+failure_of d = record { key = count_at (codes "key") d; retries = short_count_at (codes "retries") d; text = text_in (codes "message") d }
+
+-- a failure of a job
+abbrev pub fail_job : Op
+fail_job = record {
+  name = codes "fail";
+  by_hand = false;
+  fields =
+      must (codes "key") a_key
+      ∷ must (codes "retries") a_retry_count
+      ∷ may (codes "message") (kinds.Text longest_text)
+      ∷ [];
+  request = λ d. requests.Fail (failure_of d);
+}
+
+-- the job that the fields of a throw end, by an error of this code
+abbrev pub thrown_of : Data → JobThrowError
+thrown_of d = record { key = count_at (codes "key") d; code = text_in (codes "code") d }
+
+-- an error that a worker throws
+abbrev pub throw_error : Op
+throw_error = record {
+  name = codes "throw";
+  by_hand = false;
+  fields = must (codes "key") a_key ∷ must (codes "code") a_name ∷ [];
+  request = λ d. requests.Throw (thrown_of d);
+}
+
+-- the tries that the fields of a retries line leave a job
+abbrev pub retries_of : Data → JobUpdateRetries
+retries_of d = record { key = count_at (codes "key") d; retries = short_count_at (codes "retries") d }
+
+-- a setting of the tries that a job has left
+abbrev pub update_retries : Op
+update_retries = record {
+  name = codes "retries";
+  by_hand = false;
+  fields = must (codes "key") a_key ∷ must (codes "retries") a_retry_count ∷ [];
+  request = λ d. requests.Retries (retries_of d);
+}
+
 -- the message that the fields of a publish ask for
 abbrev pub message_of : Data → MessagePublish
 message_of d = record { name = text_in (codes "name") d; correlation_key = text_in (codes "correlationKey") d; time_to_live = count_at (codes "timeToLive") d; id = text_in (codes "messageId") d; variables = variables_of_field (codes "variables") d }
@@ -130,7 +214,21 @@ advance = record {
 
 -- all of them
 abbrev pub ops : List Op
-ops = deploy ∷ create ∷ cancel ∷ set_variables ∷ publish ∷ resolve ∷ tick ∷ advance ∷ []
+ops =
+    deploy
+    ∷ create
+    ∷ cancel
+    ∷ set_variables
+    ∷ activate_jobs
+    ∷ complete_job
+    ∷ fail_job
+    ∷ throw_error
+    ∷ update_retries
+    ∷ publish
+    ∷ resolve
+    ∷ tick
+    ∷ advance
+    ∷ []
 
 -- the op of a name in the code
 abbrev pub op_of : OpName → Op
@@ -138,6 +236,11 @@ op_of names.Deploy = deploy
 op_of names.Create = create
 op_of names.Cancel = cancel
 op_of names.Variables = set_variables
+op_of names.Activate = activate_jobs
+op_of names.Complete = complete_job
+op_of names.Fail = fail_job
+op_of names.Throw = throw_error
+op_of names.Retries = update_retries
 op_of names.Publish = publish
 op_of names.Resolve = resolve
 op_of names.Tick = tick

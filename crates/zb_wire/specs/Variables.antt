@@ -12,7 +12,7 @@ use Rattle.zb_base.specs.declared.vars.Variable.{Variable}
 abbrev pub longest_name : ℕ
 longest_name = 255
 
--- the text of a variable has at most so many bytes (own)
+-- the text of a variable has at most so many bytes, and so has a message of a job that failed (own)
 abbrev pub longest_text : ℕ
 longest_text = 32768
 

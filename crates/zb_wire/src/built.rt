@@ -6,7 +6,7 @@ ghost use Rattle.zb_wire.specs.Built as spec;
 use serde_json::Value as Json;
 use std::alloc::{AllocError, Global};
 use zb_model::{NodeKind, Text};
-use zb_reader::{behind, behind_item, kind_in};
+use zb_reader::{behind, behind_item, flag_in, kind_in};
 
 /// The place of the first node of a model that isn't built so far. It takes a step for each node.
 #[tactic(auto, unfolding(crate::specs::Built::unbuilt_place))]
@@ -39,7 +39,9 @@ fn first_unbuilt(alloc: Global, nodes: &[Json]) -> Result<Option<Text>, AllocErr
 fn is_built(node: &Json) -> bool
     ensures { result ≡ spec.is_built (view node.now) }
 {
-    is_built_kind(kind_in(node)) && node.get("multiInstanceLoopCharacteristics").is_none()
+    is_built_kind(kind_in(node))
+        && node.get("multiInstanceLoopCharacteristics").is_none()
+        && !flag_in(node, "isForCompensation", false)
 }
 
 // Whether nodes of this kind are built so far.
@@ -52,6 +54,7 @@ fn is_built_kind(kind: Option<NodeKind>) -> bool
             NodeKind::StartEvent
                 | NodeKind::EndEvent
                 | NodeKind::TerminateEndEvent
+                | NodeKind::ServiceTask
                 | NodeKind::SubProcess
                 | NodeKind::ExclusiveGateway
                 | NodeKind::ParallelGateway

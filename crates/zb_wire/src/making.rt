@@ -1,11 +1,14 @@
 ghost use Rattle.std.specs.Prelude.{◌≡◌, IfOk};
 ghost use Rattle.serde_json.specs.View.{view};
-ghost use Rattle.zb_wire.specs.Ops.{creation_of, update_of, message_of};
+ghost use Rattle.zb_wire.specs.Ops.{creation_of, update_of, activation_of, completing_of, failure_of, thrown_of, retries_of, message_of};
 
 use crate::values::{count_at, key_at, short_count_at, variables_at};
 use serde_json::Value as Json;
 use std::alloc::{AllocError, Global};
-use zb_model::{MessagePublish, ProcessInstanceCreationCreate, Text, VariableDocumentUpdate};
+use zb_model::{
+    JobBatchActivate, JobComplete, JobFail, JobThrowError, JobUpdateRetries, MessagePublish,
+    ProcessInstanceCreationCreate, Text, VariableDocumentUpdate,
+};
 use zb_reader::{flag_in, text_in};
 
 /// The instance that the fields of a create ask for.
@@ -28,6 +31,59 @@ pub fn update_in(alloc: Global, value: &Json) -> Result<VariableDocumentUpdate, 
         local: flag_in(value, "local", false),
         variables: variables_at(alloc, value, "variables")?,
     })
+}
+
+/// The jobs that the fields of an activate ask for.
+pub fn activation_in(alloc: Global, value: &Json) -> Result<JobBatchActivate, AllocError>
+    ensures { IfOk result (λ activation. activation ≡ activation_of (view value.now)) }
+{
+    Ok(JobBatchActivate {
+        kind: Text::of(alloc, text_in(value, "type"))?,
+        worker: Text::of(alloc, text_in(value, "worker"))?,
+        timeout: count_at(value, "timeout"),
+        most: short_count_at(value, "max"),
+    })
+}
+
+/// The job that the fields of a complete end, with its results.
+pub fn completion_in(alloc: Global, value: &Json) -> Result<JobComplete, AllocError>
+    ensures { IfOk result (λ completion. completion ≡ completing_of (view value.now)) }
+{
+    Ok(JobComplete {
+        key: key_at(value, "key"),
+        variables: variables_at(alloc, value, "variables")?,
+    })
+}
+
+/// The job that the fields of a fail say has failed.
+pub fn failure_in(alloc: Global, value: &Json) -> Result<JobFail, AllocError>
+    ensures { IfOk result (λ failure. failure ≡ failure_of (view value.now)) }
+{
+    Ok(JobFail {
+        key: key_at(value, "key"),
+        retries: short_count_at(value, "retries"),
+        text: Text::of(alloc, text_in(value, "message"))?,
+    })
+}
+
+/// The job that the fields of a throw end, by an error of this code.
+pub fn thrown_in(alloc: Global, value: &Json) -> Result<JobThrowError, AllocError>
+    ensures { IfOk result (λ thrown. thrown ≡ thrown_of (view value.now)) }
+{
+    Ok(JobThrowError {
+        key: key_at(value, "key"),
+        code: Text::of(alloc, text_in(value, "code"))?,
+    })
+}
+
+/// The tries that the fields of a retries line leave a job.
+pub fn retries_in(value: &Json) -> JobUpdateRetries
+    ensures { result ≡ retries_of (view value.now) }
+{
+    JobUpdateRetries {
+        key: key_at(value, "key"),
+        retries: short_count_at(value, "retries"),
+    }
 }
 
 /// The message that the fields of a publish ask for.

@@ -5,9 +5,12 @@ ghost use Rattle.zb_wire.specs.Reading.{field_of};
 
 use crate::fields::Field;
 use crate::kind::Kind;
-use crate::making::{creation_in, message_in, update_in};
+use crate::making::{
+    activation_in, completion_in, creation_in, failure_in, message_in, retries_in, thrown_in,
+    update_in,
+};
 use crate::values::{count_at, key_at, model_at};
-use crate::variables::LONGEST_NAME;
+use crate::variables::{LONGEST_NAME, LONGEST_TEXT};
 use crate::{Given, Request};
 use serde_json::Value as Json;
 use std::alloc::{AllocError, Global};
@@ -18,11 +21,17 @@ const LONGEST_DURATION: u64 = 4_000_000_000_000;
 // The greatest version, which is the greatest number of 32 bits.
 const GREATEST_VERSION: u64 = 4_294_967_295;
 
+// So many jobs are taken at most by one activate.
+const MOST_JOBS: u64 = 1_000;
+
 // A name or an id.
 const NAME: Kind = Kind::Text(LONGEST_NAME);
 
 // A time to wait.
 const DURATION: Kind = Kind::Number(0, LONGEST_DURATION);
+
+// How many tries of a job may be left.
+const RETRIES: Kind = Kind::Number(0, 1_000_000);
 
 // A key.
 const KEY: Kind = Kind::Number(0, u64::MAX);
@@ -44,6 +53,29 @@ const VARIABLES: [Field; 3] = [
     Field::May("local", Kind::Flag),
 ];
 
+const ACTIVATE: [Field; 5] = [
+    Field::Must("type", NAME),
+    Field::Must("worker", NAME),
+    Field::Must("timeout", Kind::Number(1, LONGEST_DURATION)),
+    Field::Must("max", Kind::Number(1, MOST_JOBS)),
+    Field::May("partition", Kind::Partition),
+];
+
+const COMPLETE: [Field; 2] = [
+    Field::Must("key", KEY),
+    Field::May("variables", Kind::Variables),
+];
+
+const FAIL: [Field; 3] = [
+    Field::Must("key", KEY),
+    Field::Must("retries", RETRIES),
+    Field::May("message", Kind::Text(LONGEST_TEXT)),
+];
+
+const THROW: [Field; 2] = [Field::Must("key", KEY), Field::Must("code", NAME)];
+
+const UPDATE_RETRIES: [Field; 2] = [Field::Must("key", KEY), Field::Must("retries", RETRIES)];
+
 const PUBLISH: [Field; 5] = [
     Field::Must("name", NAME),
     Field::Must("correlationKey", NAME),
@@ -63,6 +95,11 @@ pub enum OpName {
     Create,
     Cancel,
     Variables,
+    Activate,
+    Complete,
+    Fail,
+    Throw,
+    Retries,
     Publish,
     Resolve,
     Tick,
@@ -80,6 +117,11 @@ impl OpName {
             "create" => Some(OpName::Create),
             "cancel" => Some(OpName::Cancel),
             "variables" => Some(OpName::Variables),
+            "activate" => Some(OpName::Activate),
+            "complete" => Some(OpName::Complete),
+            "fail" => Some(OpName::Fail),
+            "throw" => Some(OpName::Throw),
+            "retries" => Some(OpName::Retries),
             "publish" => Some(OpName::Publish),
             "resolve" => Some(OpName::Resolve),
             "tick" => Some(OpName::Tick),
@@ -97,6 +139,11 @@ impl OpName {
             OpName::Create => &CREATE,
             OpName::Cancel | OpName::Resolve => &BY_KEY,
             OpName::Variables => &VARIABLES,
+            OpName::Activate => &ACTIVATE,
+            OpName::Complete => &COMPLETE,
+            OpName::Fail => &FAIL,
+            OpName::Throw => &THROW,
+            OpName::Retries => &UPDATE_RETRIES,
             OpName::Publish => &PUBLISH,
             OpName::Tick => &TICK,
             OpName::Advance => &ADVANCE,
@@ -112,6 +159,11 @@ impl OpName {
             OpName::Create => Ok(Request::Create(creation_in(alloc, value)?)),
             OpName::Cancel => Ok(Request::Cancel(key_at(value, "key"))),
             OpName::Variables => Ok(Request::Variables(update_in(alloc, value)?)),
+            OpName::Activate => Ok(Request::Activate(activation_in(alloc, value)?)),
+            OpName::Complete => Ok(Request::Complete(completion_in(alloc, value)?)),
+            OpName::Fail => Ok(Request::Fail(failure_in(alloc, value)?)),
+            OpName::Throw => Ok(Request::Throw(thrown_in(alloc, value)?)),
+            OpName::Retries => Ok(Request::Retries(retries_in(value))),
             OpName::Publish => Ok(Request::Publish(message_in(alloc, value)?)),
             OpName::Resolve => Ok(Request::Resolve(key_at(value, "key"))),
             OpName::Tick => Ok(Request::Tick),

@@ -1,8 +1,8 @@
 ghost use Rattle.std.specs.Prelude.{◌≡◌};
 
 use zb_model::{
-    Command, Key, MessagePublish, Model, ProcessInstanceCreationCreate, Text,
-    VariableDocumentUpdate,
+    Command, JobBatchActivate, JobComplete, JobFail, JobThrowError, JobUpdateRetries, Key,
+    MessagePublish, Model, ProcessInstanceCreationCreate, Text, VariableDocumentUpdate,
 };
 
 /// What a line asks for.
@@ -14,6 +14,16 @@ pub enum Request {
     Cancel(Key),
     /// To set variables.
     Variables(VariableDocumentUpdate),
+    /// To give a worker jobs.
+    Activate(JobBatchActivate),
+    /// A worker has done a job.
+    Complete(JobComplete),
+    /// A worker has failed at a job.
+    Fail(JobFail),
+    /// A job ends by an error of the process.
+    Throw(JobThrowError),
+    /// To set how many tries a job has left.
+    Retries(JobUpdateRetries),
     Publish(MessagePublish),
     /// To let the cell of the incident of this key go on.
     Resolve(Key),
@@ -35,6 +45,11 @@ impl Request {
             Request::Create(creation) => Some(Command::ProcessInstanceCreationCreate(creation)),
             Request::Cancel(key) => Some(Command::ProcessInstanceCancel(key)),
             Request::Variables(update) => Some(Command::VariableDocumentUpdate(update)),
+            Request::Activate(activation) => Some(Command::JobBatchActivate(activation)),
+            Request::Complete(completion) => Some(Command::JobComplete(completion)),
+            Request::Fail(failure) => Some(Command::JobFail(failure)),
+            Request::Throw(thrown) => Some(Command::JobThrowError(thrown)),
+            Request::Retries(update) => Some(Command::JobUpdateRetries(update)),
             Request::Publish(message) => Some(Command::MessagePublish(message)),
             Request::Resolve(key) => Some(Command::IncidentResolve(key)),
             Request::Tick | Request::Advance(_) => None,

@@ -10,8 +10,8 @@ use zb_model::{List, Text, Value, Variable, Vars};
 /// A name or an id has at most so many bytes.
 pub const LONGEST_NAME: usize = 255;
 
-// The text of a variable has at most so many bytes.
-const LONGEST_TEXT: usize = 32_768;
+/// The text of a variable has at most so many bytes, and so has a message of a job that failed.
+pub const LONGEST_TEXT: usize = 32_768;
 
 /// Whether each member is of a kind that a variable may have.
 pub fn all_variables(members: &Map<String, Json>) -> bool

@@ -107,4 +107,4 @@ ended =
     ∷ []
 
 twice_ended : HappensOnce ended → ⊥
-twice_ended once = let same : ◌≡◌ {A = ℕ} 0 1 = once.jobs 8 0 1 (events.JobCompleted 8) (events.JobErrorThrown (record { key = 8; code = [] })) refl refl refl refl in absurd (cc same)
+twice_ended once = let twice = once.jobs 8 in omega (arith, twice)

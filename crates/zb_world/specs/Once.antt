@@ -1,11 +1,12 @@
 -- What happens at most once in a history.
-use Rattle.std.specs.Prelude.{ℕ, ◌==◌, List, Bool, false, ◌&&◌}
+use Rattle.std.specs.Prelude.{ℕ, ◌==◌, ◌≤◌, List, Bool, false, ◌&&◌}
 use Rattle.std.specs.List.{list_any}
 use Rattle.std.specs.Str.{bytes_eq}
 use Rattle.zb_model.specs.declared.record.Event.{Event}
 use Rattle.zb_model.specs.declared.record.Event.TheVariants as events
 use Rattle.zb_views.specs.declared.definition.Definition.{Definition}
 use Rattle.zb_views.specs.Definitions.{definitions}
+use Rattle.zb_rules.specs.JobEnds.{times_ended}
 use Rattle.zb_world.specs.Entries.{Entry, happenings, AtMostOne}
 
 -- the event opens the subscription with this key for a process (Zeebe)
@@ -23,14 +24,7 @@ correlates all message process (events.ProcessMessageSubscriptionCorrelated e) =
 correlates all message process (events.MessageStartEventSubscriptionCorrelated e) = (e.message == message) && list_any (defines e.definition process) (definitions all)
 correlates all message process _ = false
 
--- the event is the end of a job: it is completed or canceled, or has thrown an error (Zeebe)
-abbrev pub ends_job : ℕ → Event → Bool
-ends_job job (events.JobCompleted key) = key == job
-ends_job job (events.JobCanceled key) = key == job
-ends_job job (events.JobErrorThrown e) = e.key == job
-ends_job job _ = false
-
--- a message is correlated with a process at most once, and a job ends at most once, whatever the partitions are at which that happens (Zeebe; the exact form own)
+-- a message is correlated with a process at most once, and a job is over at most once, whatever the partitions are at which that happens (Zeebe; the exact form own)
 pub record HappensOnce (h : List Entry) : Type 0 where
   pub messages : (message : ℕ) (process : List ℕ) → AtMostOne (correlates (happenings h) message process) (happenings h)
-  pub jobs : (job : ℕ) → AtMostOne (ends_job job) (happenings h)
+  pub jobs : (job : ℕ) → times_ended job (happenings h) ≤ 1

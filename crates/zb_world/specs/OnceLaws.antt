@@ -1,37 +1,38 @@
--- What is to happen at most once in a history does: so far no event of a step is of such a kind.
-use Rattle.std.proofs.Common.{◌≡◌, ℕ, List, [], ◌∷◌, ◌++◌, Bool, true, false, IsTrue, Option, Some, None, refl}
+-- What is to happen at most once in a history does: so far no event of a step correlates a message; a job is over at most
+-- once at its partition, and at no other one.
+use Rattle.std.proofs.Common.{◌≡◌, ℕ, ◌+◌, ◌/◌, ◌^◌, List, [], ◌∷◌, ◌++◌, Bool, true, false, cond, IsTrue, Option, Some, None, refl, inl, inr, sym, ap, ◌∙◌, subst, append-nil, arith}
 use Rattle.std.specs.List.{list_any}
-use Rattle.std.proofs.lemmas.Bool.{and_parts, or_from}
+use Rattle.std.proofs.lemmas.Bool.{and_parts, or_from, cases_eq, cases_lt}
 use Rattle.std.proofs.lemmas.Grind.{flat_map-append}
 use Rattle.std.proofs.lemmas.List.Folds.{list_any-append}
+use Rattle.std.proofs.lemmas.List.Sums.{sum_by-append}
 use Rattle.std.proofs.lemmas.Map.Keys.{any_passes_from_place}
 use Rattle.zb_model.specs.declared.record.Event.{Event}
 use Rattle.zb_model.specs.declared.record.Event.TheVariants as events
+use Rattle.zb_model.specs.declared.record.Batch.{Batch}
 use Rattle.zb_model.specs.declared.record.Command.{Command}
 use Rattle.zb_model.specs.declared.record.Outcome.{Outcome}
 use Rattle.zb_model.specs.declared.record.Rejection.{Rejection}
 use Rattle.zb_views.specs.View.{events_in, events_of}
+use Rattle.zb_views.specs.ViewLaws.{events_of_more}
 use Rattle.zb_rules.specs.Reason.{reason_for}
 use Rattle.zb_rules.specs.Applies.{holds_own, holds_of_game, may_fit, applies, all_apply}
 use Rattle.zb_rules.specs.Shown.{shown}
-use Rattle.zb_rules.specs.Step.{IsAcceptance, IsOutcomeBy}
-use Rattle.zb_rules.specs.StepLaws.{each_on_all}
+use Rattle.zb_rules.specs.Step.{IsAcceptance, IsOutcomeBy, IsStep, AreStepsOn}
+use Rattle.zb_rules.specs.StepLaws.{each_on_all, all_apply_on}
+use Rattle.zb_rules.specs.JobEnds.{is_end_of, times_ended}
+use Rattle.zb_rules.specs.JobEndsLaws.{ended_once, ended_home}
 use Rattle.zb_world.specs.Entries.{Entry, part_of, happenings, AtMostOne}
 use Rattle.zb_world.specs.History.{IsEntryOf, IsHistory}
-use Rattle.zb_world.specs.Once.{correlates, ends_job, HappensOnce}
+use Rattle.zb_world.specs.Once.{correlates, HappensOnce}
+use Rattle.zb_world.specs.EntryLaws.{part_of_joined, part_of_its, part_of_other}
+use Rattle.zb_world.specs.HistoryLaws.{history_more, parts_are_steps}
 
 -- an event that applies correlates no message
 uncorrelated : (all : List Event) (message : ℕ) (process : List ℕ) (p : ℕ) (before : List Event) (e : Event) → holds_own p before e ≡ true → correlates all message process e ≡ false
 uncorrelated all message process p before (events.ProcessMessageSubscriptionCorrelated e) holds = absurd (cc)
 uncorrelated all message process p before (events.MessageStartEventSubscriptionCorrelated e) holds = absurd (cc)
 uncorrelated all message process p before _ holds = refl
-
--- and ends no job
-unended : (job p : ℕ) (before : List Event) (e : Event) → holds_own p before e ≡ true → ends_job job e ≡ false
-unended job p before (events.JobCompleted key) holds = absurd (cc)
-unended job p before (events.JobCanceled key) holds = absurd (cc)
-unended job p before (events.JobErrorThrown e) holds = absurd (cc)
-unended job p before _ holds = refl
 
 -- a test that no event passes that applies
 module _ (test : Event → Bool) (fails : (p : ℕ) (before : List Event) (e : Event) → holds_own p before e ≡ true → test e ≡ false) where
@@ -63,9 +64,71 @@ module _ (test : Event → Bool) (fails : (p : ℕ) (before : List Event) (e : E
       let any = any_passes_from_place test (happenings h) i x here passes in
       absurd (cc (none, any))
 
+-- the events of a batch apply
+outcome_applies : (p n moment : ℕ) (before : List Event) (command : Command) (outcome : Outcome) (reason : Option Rejection) → IsOutcomeBy reason outcome (IsAcceptance p n moment before command outcome)
+    → IsTrue (all_apply p before (events_in outcome))
+outcome_applies p n moment before command outcome (Some rejection) is = rw is refl
+outcome_applies p n moment before command outcome None is = rw is.accepted is.applied
+
+-- and so do those of a log of steps
+steps_apply : (p n : ℕ) (log : List Batch) → AreStepsOn p n [] log → IsTrue (all_apply p [] (events_of log))
+steps_apply p n log steps =
+    each_on_all (IsStep p n) [] (λ (log : List Batch). IsTrue (all_apply p [] (events_of log)))
+    (λ (front : List Batch) (batch : Batch) before apply step.
+    let its = outcome_applies p n batch.moment (events_of front) batch.command batch.outcome (reason_for (events_of front) batch.moment batch.command) step.outcome in
+    rw (events_of_more front batch, all_apply_on p [] (events_of front) (events_in batch.outcome), apply) its)
+    refl log steps
+
+-- how often a job is over in some events and in those behind them
+times_joined : (job : ℕ) (a b : List Event) → times_ended job (a ++ b) ≡ times_ended job a + times_ended job b
+times_joined job a b = sum_by-append (λ (e : Event). cond (is_end_of job e) 1 0) a b
+
+-- in the events of an entry of another partition than its own a job isn't over
+none_elsewhere : (n job : ℕ) (front : List Entry) (e : Entry) → IsHistory n (front ++ e ∷ []) → (e.partition ≡ job / 2 ^ 51 → ⊥) → times_ended job (events_in e.batch.outcome) ≡ 0
+none_elsewhere n job front e is other =
+    let q = e.partition in
+    let made = events_in e.batch.outcome in
+    let log : part_of q (front ++ e ∷ []) ≡ part_of q front ++ e.batch ∷ [] = part_of_joined q front (e ∷ []) ∙ ap (λ (rest : List Batch). part_of q front ++ rest) (part_of_its q e [] refl) in
+    let all : events_of (part_of q (front ++ e ∷ [])) ≡ events_of (part_of q front) ++ made = ap events_of log ∙ events_of_more (part_of q front) e.batch in
+    let apply : IsTrue (all_apply q [] (events_of (part_of q front) ++ made)) = subst (λ (es : List Event). IsTrue (all_apply q [] es)) all (steps_apply q n (part_of q (front ++ e ∷ [])) (parts_are_steps n q (front ++ e ∷ []) is)) in
+    let count = times_joined job (events_of (part_of q front)) made in
+    elim (cases_lt 0 (times_ended job made)) [
+      | inl more ↦ absurd (other (sym (ended_home q (events_of (part_of q front) ++ made) job apply (omega (arith, count, more)))))
+      | inr none ↦ omega (arith, none)
+    ]
+
+-- in a history a job is over as often as at its partition
+times_at_home : (n job : ℕ) (h : List Entry) → IsHistory n h → times_ended job (happenings h) ≡ times_ended job (events_of (part_of (job / 2 ^ 51) h))
+times_at_home n job h is =
+    let p = job / 2 ^ 51 in
+    each_on_all (IsEntryOf n) [] (λ (h : List Entry). times_ended job (happenings h) ≡ times_ended job (events_of (part_of p h)))
+    (λ (front : List Entry) (e : Entry) before same entry. one_more front e (history_more n front e before entry) same)
+    refl h is
+  where
+    one_more : (front : List Entry) (e : Entry) → IsHistory n (front ++ e ∷ []) → times_ended job (happenings front) ≡ times_ended job (events_of (part_of (job / 2 ^ 51) front))
+        → times_ended job (happenings (front ++ e ∷ [])) ≡ times_ended job (events_of (part_of (job / 2 ^ 51) (front ++ e ∷ [])))
+    one_more front e is same =
+        let p = job / 2 ^ 51 in
+        let made = events_in e.batch.outcome in
+        let all : happenings (front ++ e ∷ []) ≡ happenings front ++ made = flat_map-append (λ (entry : Entry). events_in entry.batch.outcome) front (e ∷ []) ∙ ap (λ (es : List Event). happenings front ++ es) (append-nil made) in
+        let count : times_ended job (happenings (front ++ e ∷ [])) ≡ times_ended job (happenings front) + times_ended job made = ap (times_ended job) all ∙ times_joined job (happenings front) made in
+        elim (cases_eq e.partition p) [
+          | inl its ↦
+              let log : part_of p (front ++ e ∷ []) ≡ part_of p front ++ e.batch ∷ [] = part_of_joined p front (e ∷ []) ∙ ap (λ (rest : List Batch). part_of p front ++ rest) (part_of_its p e [] its) in
+              let home : events_of (part_of p (front ++ e ∷ [])) ≡ events_of (part_of p front) ++ made = ap events_of log ∙ events_of_more (part_of p front) e.batch in
+              count ∙ (ap (λ (k : ℕ). k + times_ended job made) same ∙ (sym (times_joined job (events_of (part_of p front)) made) ∙ ap (times_ended job) (sym home)))
+          | inr other ↦
+              let log : part_of p (front ++ e ∷ []) ≡ part_of p front = part_of_joined p front (e ∷ []) ∙ (ap (λ (rest : List Batch). part_of p front ++ rest) (part_of_other p e [] other) ∙ append-nil (part_of p front)) in
+              let none = none_elsewhere n job front e is other in
+              count ∙ (omega (arith, none, same) ∙ ap (λ (l : List Batch). times_ended job (events_of l)) (sym log))
+        ]
+
 -- a history has what happens at most once at most once
 pub happens_once : (n : ℕ) (h : List Entry) → IsHistory n h → HappensOnce h
 happens_once n h is = record {
   messages = λ (message : ℕ) (process : List ℕ). at_most_one (correlates (happenings h) message process) (uncorrelated (happenings h) message process) n h is;
-  jobs = λ (job : ℕ). at_most_one (ends_job job) (unended job) n h is;
+  jobs = λ (job : ℕ).
+      let p = job / 2 ^ 51 in
+      let once = ended_once p (events_of (part_of p h)) job (steps_apply p n (part_of p h) (parts_are_steps n p h is)) in
+      omega (arith, times_at_home n job h is, once);
 }

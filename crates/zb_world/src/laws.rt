@@ -37,7 +37,7 @@ pub fn cuts_are_histories()
     ensures whole { (n : ℕ) (h : List Entry) → IsCutAt n (length h) h h }
 {}
 
-/// In a history a message is correlated with a process at most once, and a job ends at most once.
+/// In a history a message is correlated with a process at most once, and a job is over at most once.
 pub fn once_in_a_history()
     ensures { (n : ℕ) (h : List Entry) → IsHistory n h → HappensOnce h }
 {}

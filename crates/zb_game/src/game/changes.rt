@@ -6,6 +6,7 @@ ghost use Rattle.zb_tokens.specs.declared.board.Phase.TheVariants as phases;
 ghost use Rattle.zb_tokens.specs.Board.{in_phase, is_phase};
 ghost use Rattle.zb_tokens.specs.Doom.{calls_off};
 ghost use Rattle.zb_tokens.specs.Edits.{edited};
+ghost use Rattle.zb_tokens.specs.Marks.{with_mark};
 ghost use Rattle.zb_tokens.specs.MoveAssign.{with_variable};
 ghost use Rattle.zb_tokens.specs.MoveLeave.{with_end};
 ghost use Rattle.zb_game.specs.Indexed.{is_kept};
@@ -16,7 +17,7 @@ use crate::{Game, GameFault};
 use std::alloc::AllocError;
 use zb_base::{Key, List, Text, Value};
 use zb_table::{Table, comes_last, place_among};
-use zb_tokens::{Cell, Deployed, Phase};
+use zb_tokens::{Cell, Deployed, Mark, Phase};
 
 impl Game {
     // Adds a model.
@@ -69,6 +70,23 @@ impl Game {
         let cell = &mut self.cells[place];
         cell.phase = phase;
         cell.owed = owed;
+        self.ascends = ascends;
+        Ok(())
+    }
+
+    // Tells a cell something. It may go on by itself.
+    pub(super) fn put_mark(&mut self, key: Key, mark: Mark) -> Result<(), GameFault>
+        ensures put { OnOk result (option_map (λ cells. record self.old { cells = cells }) (edited (λ c. c.key == key) (with_mark mark) self.old.cells) ≡ Some self.new) }
+        ensures none { IsErrOf result GameFault.Illegal → edited (λ c. c.key == key) (with_mark mark) self.old.cells ≡ None }
+        ensures kept { IsErrOf result GameFault.Illegal → self.new ≡ self.old }
+    {
+        let Some(place) = place_among(key, &self.cells, self.ascends) else {
+            return Err(GameFault::Illegal);
+        };
+        let ascends = self.ascends;
+        self.ascends = false;
+        keep(&mut self.ready, key)?;
+        self.cells[place].mark = mark;
         self.ascends = ascends;
         Ok(())
     }

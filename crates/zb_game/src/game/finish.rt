@@ -3,6 +3,7 @@ ghost use Rattle.zb_tokens.specs.MoveFinish.{fits_finish, is_done, play_finish};
 ghost use Rattle.zb_game.specs.Indexed.{is_done_in};
 
 use crate::kinds::{goes_on_at, is_scope_in};
+use crate::marks::has_come_about;
 use crate::{Game, GameFault};
 use std::alloc::Global;
 use zb_base::{Key, List};
@@ -37,7 +38,7 @@ impl Game {
         if is_scope_in(model, cell) {
             self.is_empty(cell.key)
         } else {
-            goes_on_at(model, cell.node.as_str())
+            has_come_about(&cell.mark) || goes_on_at(model, cell.node.as_str())
         }
     }
 

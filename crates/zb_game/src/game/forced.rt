@@ -4,6 +4,7 @@ ghost use Rattle.zb_tokens.specs.Forced.{ends_in, goes_on_in, is_forced, next_mo
 ghost use Rattle.zb_game.specs.Searches.{is_forced_at, is_newer, key_in, newest_key};
 
 use crate::Game;
+use crate::marks::error_of;
 use std::alloc::{AllocError, Global};
 use zb_base::{Key, TryCopy};
 use zb_table::Query;
@@ -102,7 +103,7 @@ impl Game {
     {
         match cell.phase {
             Phase::Activating => self.opens(cell),
-            Phase::Active => self.is_done(cell),
+            Phase::Active => error_of(&cell.mark).is_some() || self.is_done(cell),
             Phase::Completing => true,
             Phase::Leaving => !cell.owed.as_slice().is_empty(),
             Phase::Terminating => !self.has_child(cell.key),

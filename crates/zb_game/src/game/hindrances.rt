@@ -53,7 +53,7 @@ pub(super) fn at_fault(
 
 // An incident tells that no flow out of a gateway is chosen.
 pub(super) fn undecided(alloc: Global, key: Key, cell: Key, node: &Node) -> Result<Move, AllocError>
-    ensures { IfOk result (λ move. move ≡ moves.Incident (record { key = key; kind = kinds.ConditionError; cell = cell; text = node.now.id })) }
+    ensures { IfOk result (λ move. move ≡ moves.Incident (record { key = key; kind = kinds.ConditionError; cell = cell; job = 0; text = node.now.id })) }
 {
     incident(
         alloc,
@@ -64,7 +64,14 @@ pub(super) fn undecided(alloc: Global, key: Key, cell: Key, node: &Node) -> Resu
     )
 }
 
-// An incident stands on a cell.
+// An incident tells of an error that was thrown in a cell, and that nothing catches.
+pub(super) fn uncaught(alloc: Global, key: Key, cell: Key, code: &str) -> Result<Move, AllocError>
+    ensures { IfOk result (λ move. move ≡ moves.Incident (record { key = key; kind = kinds.UnhandledErrorEvent; cell = cell; job = 0; text = code.now })) }
+{
+    incident(alloc, key, IncidentKind::UnhandledErrorEvent, cell, code)
+}
+
+// An incident stands on a cell; no job is its cause.
 fn incident(
     alloc: Global,
     key: Key,
@@ -72,13 +79,14 @@ fn incident(
     cell: Key,
     text: &str,
 ) -> Result<Move, AllocError>
-    ensures { IfOk result (λ move. move ≡ moves.Incident (record { key = key; kind = kind; cell = cell; text = text.now })) }
+    ensures { IfOk result (λ move. move ≡ moves.Incident (record { key = key; kind = kind; cell = cell; job = 0; text = text.now })) }
 {
     let text = Text::of(alloc, text)?;
     Ok(Move::Incident(Incident {
         key,
         kind,
         cell,
+        job: Key::new(0),
         text,
     }))
 }

@@ -1,19 +1,20 @@
-ghost use Rattle.std.specs.Prelude.{◌≡◌, Some, None, OnOk, IsErrOf, is_some};
+ghost use Rattle.std.specs.Prelude.{◌≡◌, Some, None, OnOk, IsErrOf};
 ghost use Rattle.std.specs.Option.{option_copied};
 ghost use Rattle.zb_tokens.specs.Incidents.{incident_at, incident_on, is_stuck};
-ghost use Rattle.zb_tokens.specs.MoveIncident.{evaluates, fits_incident, play_incident};
+ghost use Rattle.zb_tokens.specs.MoveIncident.{evaluates, fits_incident, may_stand, may_stop, play_incident};
 
+use crate::marks::error_of;
 use crate::{Game, GameFault};
 use zb_base::Key;
 use zb_table::row_among;
 use zb_tokens::{Cell, Incident, Phase};
 
 impl Game {
-    /// Whether an incident with this key stands. It goes through the incidents, as `incident_on` does.
-    pub fn has_incident(&self, key: Key) -> bool
-        ensures { result ≡ is_some (incident_at self.now key) }
+    /// The incident with a key. It goes through the incidents, as `incident_on` does.
+    pub fn incident(&self, key: Key) -> Option<&Incident>
+        ensures { option_copied result ≡ incident_at self.now key }
     {
-        row_among(key, &self.incidents, false).is_some()
+        row_among(key, &self.incidents, false)
     }
 
     /// The incident on a cell.
@@ -35,8 +36,20 @@ impl Game {
         ensures { result ≡ fits_incident self.now i.now }
     {
         match self.cell(i.cell) {
-            Some(cell) => evaluates(cell.phase) && !self.is_stuck(cell),
+            Some(cell) => self.may_stand(i, cell) && !self.is_stuck(cell),
             None => false,
+        }
+    }
+
+    // Whether an incident may stand on this cell, but for those that do: one that a job is the cause of where the cell
+    // waits for its work, another one where it may come to a stop.
+    fn may_stand(&self, i: &Incident, cell: &Cell) -> bool
+        ensures { result ≡ may_stand self.now i.now cell.now }
+    {
+        if i.job != Key::new(0) {
+            self.awaits_work(cell)
+        } else {
+            may_stop(cell)
         }
     }
 
@@ -49,6 +62,13 @@ impl Game {
         self.incidents.push(i)?;
         Ok(())
     }
+}
+
+// Whether a cell may come to a stop by itself: it evaluates something, or is active and an error was thrown in it.
+fn may_stop(cell: &Cell) -> bool
+    ensures { result ≡ may_stop cell.now }
+{
+    evaluates(cell.phase) || (cell.phase == Phase::Active && error_of(&cell.mark).is_some())
 }
 
 // Whether a cell in this phase evaluates what it goes on with.

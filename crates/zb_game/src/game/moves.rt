@@ -1,8 +1,11 @@
 ghost use Rattle.std.specs.Prelude.{◌≡◌, ℕ, IfOk};
-ghost use Rattle.zb_tokens.specs.Forced.{end_in, entry_at, entry_of, move_at, move_in, move_of, take_first};
+ghost use Rattle.zb_tokens.specs.Marks.{error_of};
+ghost use Rattle.zb_tokens.specs.Forced.{end_in, entry_at, entry_of, finish_by, move_at, move_in, move_of, take_first};
 ghost use Rattle.zb_game.specs.Searches.{entry_by};
 
 use crate::Game;
+use crate::game::hindrances::uncaught;
+use crate::marks::error_of;
 use std::alloc::{AllocError, Global};
 use zb_base::{Key, Text, TryCopy};
 use zb_graph::Graph;
@@ -43,7 +46,7 @@ impl Game {
     {
         match cell.phase {
             Phase::Activating => Ok(Some(self.open_by(alloc, key, cell)?)),
-            Phase::Active => Ok(Some(Move::Finish(cell.key))),
+            Phase::Active => Ok(Some(finish_by(alloc, key, cell)?)),
             Phase::Completing => Ok(Some(self.complete_by(alloc, key, cell)?)),
             Phase::Leaving => take_first(alloc, cell.key, cell.owed.as_slice()),
             Phase::Terminating => Ok(Some(Move::Gone(cell.key))),
@@ -61,6 +64,16 @@ impl Game {
             return Ok(None);
         };
         entry_in(alloc, model, key, token)
+    }
+}
+
+// How an active cell begins to complete, or the incident under this key that tells of the error that was thrown in it.
+fn finish_by(alloc: Global, key: Key, cell: &Cell) -> Result<Move, AllocError>
+    ensures { IfOk result (λ move. move ≡ finish_by key cell.now (error_of cell.now.mark)) }
+{
+    match error_of(&cell.mark) {
+        Some(code) => uncaught(alloc, key, cell.key, code.as_str()),
+        None => Ok(Move::Finish(cell.key)),
     }
 }
 

@@ -10,7 +10,7 @@ impl Game {
     pub(super) fn fits_repair(&self, key: Key) -> bool
         ensures { result ≡ fits_repair self.now key }
     {
-        self.has_incident(key)
+        self.incident(key).is_some()
     }
 
     // Plays that an incident is gone. Those behind it move up.

@@ -5,6 +5,7 @@ ghost use Rattle.zb_game.specs.Indexed.{is_awake, rests_in, stays_active, stays_
 
 use crate::Game;
 use crate::keys::forget;
+use crate::marks::error_of;
 use zb_base::Key;
 use zb_places::comes;
 use zb_tokens::{Cell, Phase, Token};
@@ -29,10 +30,13 @@ impl Game {
         }
     }
 
-    // The same for one.
-    fn look_at_token(&mut self, number: Key)
+    // The same for one, where it is among the coming ones.
+    pub(super) fn look_at_token(&mut self, number: Key)
         ensures { self.new ≡ self.old }
     {
+        if !self.coming.contains(number) {
+            return;
+        }
         match self.tokens.get(number) {
             Some(token) => {
                 if self.stays_out(token) {
@@ -80,10 +84,13 @@ impl Game {
         }
     }
 
-    // Whether an active cell rests: its model is there, and it waits for something.
+    // Whether an active cell rests: no error was thrown in it, its model is there, and it waits for something.
     fn stays_active(&self, cell: &Cell) -> bool
         ensures { result ≡ stays_active self.now cell.now }
     {
+        if error_of(&cell.mark).is_some() {
+            return false;
+        }
         match self.model(cell.definition) {
             Some(model) => !self.is_done_in(model, cell),
             None => false,

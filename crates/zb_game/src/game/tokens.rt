@@ -7,8 +7,9 @@ ghost use Rattle.zb_tokens.specs.MoveEnter.{stands_at, without_each};
 
 use crate::Game;
 use crate::edits::copy_of;
+use crate::game::needing::needing;
 use crate::game::removals::wake;
-use crate::keys::keep_all;
+use crate::keys::{keep, keep_all};
 use std::alloc::{AllocError, Global};
 use zb_base::{Key, Text};
 use zb_places::{Coming, On, take_first, take_scope};
@@ -16,18 +17,20 @@ use zb_table::Query;
 use zb_tokens::Token;
 
 impl Game {
-    // Adds a token. Its scope may rest then, and the tokens in it may go on.
+    // Adds a token. Its scope may rest then, and the tokens in it that need it may go on.
     pub(super) fn add_token(&mut self, alloc: Global, token: Token) -> Result<(), AllocError>
         ensures { OnOk result (self.new ≡ record self.old { tokens = self.old.tokens ++ token ∷ [] }) }
     {
         let scope = token.scope;
+        let numbers = needing(alloc, self.scope_model(scope), &self.tokens, &token)?;
         let ascends = self.ascends;
         self.ascends = false;
-        self.tokens.push(alloc, token)?;
-        let numbers = copy_of(alloc, self.tokens.numbers_in(scope))?;
+        let number = self.tokens.push(alloc, token)?;
+        keep(&mut self.coming, number)?;
         keep_all(&mut self.coming, numbers.as_slice())?;
         self.ascends = ascends;
         self.look_at(scope);
+        self.look_at_token(number);
         self.look_at_tokens(numbers.as_slice());
         Ok(())
     }

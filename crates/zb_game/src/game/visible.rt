@@ -1,7 +1,6 @@
 // All that a cell sees.
-ghost use Rattle.std.specs.Prelude.{◌≡◌, ℕ, List, IfOk};
-ghost use Rattle.zb_base.specs.Vars.{value_named};
-ghost use Rattle.zb_tokens.specs.Names.{value_seen};
+ghost use Rattle.std.specs.Prelude.{◌≡◌, IfOk};
+ghost use Rattle.zb_tokens.specs.Names.{visible};
 
 use crate::Game;
 use crate::unseen::add_unseen;
@@ -13,7 +12,7 @@ impl Game {
     /// goes up the scopes, and for each variable there through those that are seen so far; a cell is found as in
     /// `fits`.
     pub fn visible(&self, alloc: Global, cell: Key) -> Result<Vars, AllocError>
-        ensures { (name : List ℕ) → IfOk result (λ vars. value_named name vars ≡ value_seen self.now cell name) }
+        ensures { IfOk result (λ vars. vars ≡ visible self.now cell) }
     {
         let mut vars = Vars::empty(alloc);
         let mut key = cell;

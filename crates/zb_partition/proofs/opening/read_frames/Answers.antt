@@ -1,7 +1,39 @@
-use Rattle.std.proofs.Common.{◌≡◌, ◌∙◌, ◌++◌, ◌∷◌, [], IsFalse, rules}
-use Rattle.zb_store.specs.CallLaws.{reads_then}
+use Rattle.std.proofs.Common.{◌≡◌, ◌∙◌, ◌++◌, ◌∷◌, [], IsFalse, refl, arith, rules}
+use Rattle.zb_store.specs.CallLaws.{leaves_none, reads_then}
 use Rattle.zb_store.specs.Scan.{disk_of_scan, is_over}
 use Rattle.zb_partition.proofs.opening.read_frames.Goals as goal
+
+-- no frame was read so far
+pub loop-known-init : goal.loop-known-init
+loop-known-init g c =
+    let start = c.requires in
+    let d = disk_of_scan c.args.scan.now in
+    record {
+      read = (
+        [],
+        record {
+          knows = record {
+            place = c.empty.ensures.place;
+            fits = tt;
+            applied = refl;
+            state = c.empty.ensures.state;
+            moment = search rules;
+          };
+          count = start.count;
+          extent = search rules;
+          found = start.none;
+        },
+      );
+      going = start.going;
+      limit = refl;
+      reads = record {
+        later = omega arith;
+        same = λ tells. refl;
+        crash = λ tells contents left. left;
+        time = λ tells. leaves_none (g.D.Disk.view d).moment (g.D.Disk.since d) (g.D.Disk.images d);
+      };
+      steady = λ counts. refl;
+    }
 
 -- one more frame was read
 pub loop-known-preserved : goal.loop-known-preserved

@@ -1,4 +1,4 @@
-use Rattle.std.proofs.Common.{◌≡◌, ◌<◌, sym, ap, ◌∙◌, arith}
+use Rattle.std.proofs.Common.{◌≡◌, ◌<◌, sym, ◌∙◌, arith}
 use Rattle.zb_tokens.specs.Board.{flows_in}
 use Rattle.zb_places.specs.Places.{held_tokens, count_apart, count_in_scope}
 use Rattle.zb_places.proofs.FlowLemmas.{not_at_each}

@@ -1,4 +1,4 @@
-use Rattle.std.proofs.Common.{◌≡◌, sym, subst}
+use Rattle.std.proofs.Common.{sym, subst}
 use Rattle.zb_places.specs.Places.{IsTokenTaken}
 use Rattle.zb_places.proofs.TakingLemmas.{fits, taken_one, taken_none}
 use Rattle.zb_places.proofs.taking.take_first.Goals as goal

@@ -1,6 +1,6 @@
-use Rattle.std.proofs.Common.{◌≡◌, ◌==◌, not, refl, sym, ap, subst, ◌∙◌}
+use Rattle.std.proofs.Common.{◌==◌, not, ap, ◌∙◌}
 use Rattle.zb_tokens.specs.declared.board.Token.{Token}
-use Rattle.zb_places.specs.Places.{held_tokens, count_in_scope, IsFewer}
+use Rattle.zb_places.specs.Places.{held_tokens, count_in_scope}
 use Rattle.zb_places.proofs.HeldLemmas.{filter_row, scope_out}
 use Rattle.zb_places.proofs.taking.take_scope.Goals as goal
 

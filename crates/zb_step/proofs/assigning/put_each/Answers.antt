@@ -6,7 +6,7 @@ use Rattle.zb_model.specs.declared.record.Event.{Event}
 use Rattle.zb_rules.specs.Applies.{all_apply}
 use Rattle.zb_rules.specs.Update.{set_by, set_each}
 use Rattle.zb_state.specs.State.{partition_of, IsStateOf}
-use Rattle.zb_step.proofs.UpdateLemmas.{parted_at, set_each-more, set_applies}
+use Rattle.zb_step.proofs.MakingLemmas.{parted_at, each_made-more, one_applies}
 use Rattle.zb_step.proofs.assigning.put_each.Goals as goal
 
 pub put_one-requires : goal.put_one-requires
@@ -22,7 +22,7 @@ put_one-requires c =
     ∥∥₁_map c.requires (λ r. (
       r.0 ++ set_each local scope done r.0,
       at.invariant.comes_to r.0 r.1,
-      subst (Apply r.0) (sym at.invariant.place) (set_applies local scope (partition_of c.args.state.now) items r.0 r.2 done v (drop (suc at.variable-index) items) parted),
+      subst (Apply r.0) (sym at.invariant.place) (one_applies (set_by local scope) (partition_of c.args.state.now) items r.0 r.2 done v (drop (suc at.variable-index) items) parted),
     ))
 
 pub loop-variable-preserved : goal.loop-variable-preserved
@@ -36,7 +36,7 @@ loop-variable-preserved c =
     let within : at.variable-index < length items = omega arith in
     let more : take (at.variable-index + 1) items ≡ done ++ v ∷ [] = take_more items at.variable-index v within ∙ ap (λ (y : Variable). done ++ y ∷ []) (sym c.variable-item.is) in
     let made : (es : List Event) → set_each local scope (take (at.variable-index + 1) items) es ≡ set_each local scope done es ++ set_by local scope v (es ++ set_each local scope done es) =
-    λ es. ap (λ (vs : List Variable). set_each local scope vs es) more ∙ set_each-more local scope done v es in
+    λ es. ap (λ (vs : List Variable). set_each local scope vs es) more ∙ each_made-more (set_by local scope) done v es in
     record {
       place = c.put_one.ensures.place ∙ at.invariant.place;
       more = omega (arith, at.invariant.more, c.in_ok-put_one.ensures.more);

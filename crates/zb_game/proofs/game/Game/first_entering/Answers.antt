@@ -1,15 +1,11 @@
-use Rattle.std.proofs.Common.{◌≡◌, true, All, sym, ap, subst, ◌∙◌, rules}
+use Rattle.std.proofs.Common.{All, ap, subst, ◌∙◌, rules}
 use Rattle.std.specs.Bool.{IsTrue}
 use Rattle.std.specs.List.{find}
 use Rattle.std.proofs.lemmas.Iterator.Adapters.{option_map_id}
-use Rattle.std.proofs.lemmas.List.Elements.{All-weaker}
-use Rattle.zb_groups.specs.declared.held.Held.{Held}
-use Rattle.zb_tokens.specs.declared.board.Token.{Token}
 use Rattle.zb_tokens.specs.Board.{Board}
 use Rattle.zb_tokens.specs.Forced.{can_enter}
-use Rattle.zb_game.specs.Indexed.{stays_out, is_kept}
-use Rattle.zb_game.proofs.ComingLemmas.{IsAwaited, enters_moves}
-use Rattle.zb_game.proofs.FirstLemmas.{IsWaiting, all_waiting, first_coming, read_first, read_none}
+use Rattle.zb_game.proofs.ComingLemmas.{IsAwaited}
+use Rattle.zb_game.proofs.FirstLemmas.{all_waiting, first_coming, read_first, read_none}
 use Rattle.zb_game.proofs.game.Game.first_entering.Goals as goal
 
 pub returns-in-Some : goal.returns-in-Some

@@ -1,9 +1,10 @@
-use Rattle.std.proofs.Common.{◌≡◌, ℕ, List, drop}
+use Rattle.std.proofs.Common.{◌≡◌, ℕ, List, IsTrue, drop}
 use Rattle.std.specs.Option.{option_or}
-use Rattle.zb_base.specs.Vars.{value_named}
+use Rattle.zb_base.specs.Vars.{is_ascending, value_named}
 use Rattle.zb_tokens.specs.Names.{value_from}
 use Rattle.zb_game.proofs.game.Game.visible.Given as goal
 
 -- what was seen so far, and what is seen from there on up
 abbrev pub invariant-loop-step : goal.invariant-loop-step
-invariant-loop-step l = (name : List ℕ) → option_or (value_named name l.vars) (value_from (drop l._step l.self.cells) l.self l.key name) ≡ value_from l.self.cells l.self l.fn.cell name
+invariant-loop-step l = IsTrue (is_ascending l.vars)
+    × ((name : List ℕ) → option_or (value_named name l.vars) (value_from (drop l._step l.self.cells) l.self l.key name) ≡ value_from l.self.cells l.self l.fn.cell name)

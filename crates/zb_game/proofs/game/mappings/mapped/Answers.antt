@@ -1,6 +1,5 @@
-use Rattle.std.proofs.Common.{◌≡◌, ◌∙◌, Some, Ok, ap, sym, slice_get, arith}
+use Rattle.std.proofs.Common.{◌≡◌, ◌∙◌, Some, ap, sym, slice_get, arith}
 use Rattle.std.proofs.lemmas.Option.{slice_get-get_or}
-use Rattle.zb_process.specs.Expr.{value_of}
 use Rattle.zb_tokens.specs.Names.{value_seen}
 use Rattle.zb_game.proofs.MappingLemmas.{fault_here, left_behind}
 use Rattle.zb_game.proofs.game.mappings.mapped.Goals as goal

@@ -11,6 +11,8 @@ returns-clause-reached c = ∣ (
     messages = sym c.empty.ensures;
     definitions = sym c.new.ensures.items;
     begun = refl;
-    game = ap (λ (b : Board). Some b) (sym c.empty-2.ensures);
+    jobs = sym c.empty-2.ensures;
+    called_off = refl;
+    game = ap (λ (b : Board). Some b) (sym c.empty-3.ensures);
   },
 ) ∣₁

@@ -1,55 +1,47 @@
-use Rattle.std.proofs.Common.{◌∙◌, arith}
-use Rattle.zb_state.proofs.StateLemmas.{below_kept, below_added, below_expired, stands_last}
+use Rattle.std.proofs.Common.{◌∙◌, sym, refl, append-nil, arith}
+use Rattle.zb_state.proofs.StateLemmas.{below_added, below_expired, stands_last}
 use Rattle.zb_state.proofs.state.State.note.Goals as goal
-
-pub invariant_of-self : goal.invariant_of-self
-invariant_of-self c =
-    let s = c.args.self.now in
-    record {
-      drawn = omega (arith, s.drawn, c.requires.small, c.max-self.ensures);
-      in_order = below_kept s.place s.counter c.max-self.result s.messages (omega (arith, c.max-self.ensures)) s.in_order;
-      resting = s.resting;
-    }
-
-pub invariant_of-self-in-Begun : goal.invariant_of-self-in-Begun
-invariant_of-self-in-Begun c =
-    let s = c.args.self.now in
-    record {
-      drawn = omega (arith, s.drawn, c.requires.small, c.max-self.ensures);
-      in_order = below_kept s.place s.counter c.max-self.result s.messages (omega (arith, c.max-self.ensures)) s.in_order;
-      resting = s.resting;
-    }
-
-pub invariant_of-self-in-Nothing : goal.invariant_of-self-in-Nothing
-invariant_of-self-in-Nothing c =
-    let s = c.args.self.now in
-    record {
-      drawn = omega (arith, s.drawn, c.requires.small, c.max-self.ensures);
-      in_order = below_kept s.place s.counter c.max-self.result s.messages (omega (arith, c.max-self.ensures)) s.in_order;
-      resting = s.resting;
-    }
 
 pub invariant_of-self-in-Published : goal.invariant_of-self-in-Published
 invariant_of-self-in-Published c =
-    let s = c.args.self.now in
+    let old = c.args.self.now in
+    let s = c.note_jobs.new.self in
     let draws = rw c.in-Published.is at c.requires.draws in
     record {
-      drawn = omega (arith, s.drawn, c.requires.small, c.max-self.ensures);
-      in_order = below_added s.place s.counter c.args.counter c.max-self.result s.messages c.in-Published.message c.max-self.ensures draws s.in_order c.add.new.self c.add.result (rw c.new.ensures at c.add.ensures.ok) c.add.ensures.err;
+      drawn = s.drawn;
+      in_order = rw c.note_jobs.ensures.place
+          (below_added old.place old.counter c.args.counter s.counter old.messages c.in-Published.message c.in_ok-note_jobs.ensures.counter draws old.in_order c.add.new.self c.add.result
+          (rw (c.new.ensures, c.note_jobs.ensures.messages) at c.add.ensures.ok) (rw c.note_jobs.ensures.messages at c.add.ensures.err));
+      jobs_in_order = s.jobs_in_order;
       resting = s.resting;
     }
 
 pub invariant_of-self-in-Expired : goal.invariant_of-self-in-Expired
 invariant_of-self-in-Expired c =
-    let s = c.args.self.now in
+    let s = c.note_jobs.new.self in
     record {
-      drawn = omega (arith, s.drawn, c.requires.small, c.max-self.ensures);
-      in_order = rw c.remove.ensures (below_expired s.place s.counter c.max-self.result c.in-Expired.key s.messages (omega (arith, c.max-self.ensures)) s.in_order);
+      drawn = s.drawn;
+      in_order = rw c.remove.ensures (below_expired s.place s.counter s.counter c.in-Expired.key s.messages (omega arith) s.in_order);
+      jobs_in_order = s.jobs_in_order;
       resting = s.resting;
     }
 
-pub returns-in_ok-add-in-Published-clause-messages : goal.returns-in_ok-add-in-Published-clause-messages
-returns-in_ok-add-in-Published-clause-messages c =
-    let s = c.args.self.now in
+pub returns-in_ok-add-in-Published : goal.returns-in_ok-add-in-Published
+returns-in_ok-add-in-Published c =
+    let old = c.args.self.now in
+    let s = c.note_jobs.new.self in
     let draws = rw c.in-Published.is at c.requires.draws in
-    rw c.in-Published.is (rw c.new.ensures at c.in_ok-add-in-Published.ensures.ok ∙ stands_last s.place s.counter c.args.counter c.max-self.result s.messages c.in-Published.message c.max-self.ensures draws s.in_order)
+    let added = rw (c.new.ensures, c.note_jobs.ensures.messages) at c.in_ok-add-in-Published.ensures.ok in
+    record {
+      place = c.note_jobs.ensures.place;
+      noted = record {
+        place = c.note_jobs.ensures.place;
+        counter = c.in_ok-note_jobs.ensures.counter;
+        messages = rw c.in-Published.is (added ∙ stands_last old.place old.counter c.args.counter s.counter old.messages c.in-Published.message c.in_ok-note_jobs.ensures.counter draws old.in_order);
+        definitions = rw (c.in-Published.is, c.note_jobs.ensures.definitions) (sym (append-nil old.definitions.items));
+        begun = rw c.in-Published.is refl;
+        jobs = c.in_ok-note_jobs.ensures.jobs;
+        called_off = c.in_ok-note_jobs.ensures.called_off;
+        game = c.note_jobs.ensures.game;
+      };
+    }

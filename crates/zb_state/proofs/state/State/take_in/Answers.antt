@@ -1,13 +1,14 @@
-use Rattle.zb_state.proofs.StateLemmas.{state_more, draws_of}
+use Rattle.std.proofs.Common.{refl}
+use Rattle.zb_state.proofs.StateLemmas.{state_taken, draws_of, opens_of}
 use Rattle.zb_state.proofs.state.State.take_in.Goals as goal
 
-pub note-requires : goal.note-requires
-note-requires c = record {
+pub take-requires : goal.take-requires
+take-requires c = record {
   small = c.greatest_counter_of-counter.ensures.small;
-  draws = draws_of c.args.self.now c.admit.new.self c.args.event c.admit.ensures.beside c.greatest_counter_of-counter.ensures.value c.in_ok-change.ensures c.in_ok-admit.ensures.next;
+  draws = draws_of c.args.self.now c.admit.new.self c.args.event c.admit.ensures.beside c.greatest_counter_of-counter.ensures.value refl c.in_ok-admit.ensures.next;
+  opens = opens_of c.args.self.now c.admit.new.self c.args.event c.admit.ensures.beside c.greatest_counter_of-counter.ensures.value c.in_ok-admit.ensures.next c.in_ok-admit.ensures.first;
 }
 
 pub returns-clause-state : goal.returns-clause-state
 returns-clause-state c = λ es is.
-    let noted = c.in_ok-note.ensures in
-    state_more es c.args.event c.args.self.now c.admit.new.self c.note.new.self is c.admit.ensures.beside (c.in_ok-admit.ensures.applied es is) (c.in_ok-admit.ensures.played es) c.in_ok-change.ensures c.greatest_counter_of-counter.ensures.value (record { place = noted.place; counter = noted.counter; messages = noted.messages; definitions = noted.definitions; begun = noted.begun; game = noted.game })
+    state_taken es c.args.event c.args.self.now c.admit.new.self c.take.new.self is c.admit.ensures.beside (c.in_ok-admit.ensures.applied es is) (c.in_ok-admit.ensures.played es is) c.greatest_counter_of-counter.ensures.value c.in_ok-take.ensures.noted

@@ -1,0 +1,32 @@
+use Rattle.std.proofs.Common.{◌≡◌, ℕ, ◌==◌, List, filter, not, Option, Some, None, refl, sym, ap, subst, ◌∙◌}
+use Rattle.std.specs.Option.{option_map}
+use Rattle.std.proofs.lemmas.Result.{on_ok_weaker}
+use Rattle.zb_table.specs.Rows.{without}
+use Rattle.zb_views.specs.declared.job.Job.{Job}
+use Rattle.zb_jobs.specs.Table.{job_of_cell, HaveOwnCells}
+use Rattle.zb_table.specs.Rows.{Ascend}
+use Rattle.zb_jobs.proofs.RowLemmas.{cell_gone, all_stay}
+use Rattle.zb_jobs.proofs.jobs.Jobs.end_on.Goals as goal
+
+-- the job of the cell has the key
+gone : (cell key : ℕ) (js : List Job) (found : Option Job) → job_of_cell cell js ≡ found → Some key ≡ option_map (λ j. j.key) found → Ascend (λ j. j.key) 0 js → HaveOwnCells js
+    → without (λ j. j.key) key js ≡ filter (λ j. not (j.cell == cell)) js
+gone cell key js None is at up own = absurd (cc)
+gone cell key js (Some j) is at up own =
+    let same : key ≡ j.key = cc in
+    ap (λ (k : ℕ). without (λ (x : Job). x.key) k js) same ∙ cell_gone cell 0 js j up own is
+
+absent : (found : Option Job) → None ≡ option_map (λ j. j.key) found → found ≡ None
+absent None is = refl
+absent (Some j) is = absurd (cc)
+
+pub returns-in-Some : goal.returns-in-Some
+returns-in-Some c =
+    let js = c.args.self.now in
+    let both : Ascend (λ j. j.key) 0 js × HaveOwnCells js = subst (λ (l : List Job). Ascend (λ j. j.key) 0 l × HaveOwnCells l) c.self.view_is (c.self.invariant.ascend, c.self.invariant.own) in
+    on_ok_weaker c.end.result (λ is. is ∙ gone c.args.cell c.in-Some.key js (job_of_cell c.args.cell js) refl c.in-Some.ensures both.0 both.1) c.end.ensures
+
+pub returns-in-None : goal.returns-in-None
+returns-in-None c =
+    let js = c.args.self.now in
+    sym (all_stay (λ (j : Job). j.cell == c.args.cell) js (absent (job_of_cell c.args.cell js) c.in-None.ensures))

@@ -1,0 +1,10 @@
+//! The table of jobs that a partition keeps.
+#![tactic(auto)]
+
+mod change;
+mod given;
+mod jobs;
+mod places;
+mod waiting;
+
+pub use jobs::Jobs;

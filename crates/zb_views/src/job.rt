@@ -1,0 +1,38 @@
+use zb_model::{Key, Moment, Text};
+use zb_table::Row;
+
+/// Where a job is in its life.
+#[derive(Clone, Copy, Debug, PartialEq, Eq)]
+pub enum JobPhase {
+    /// It waits for a worker.
+    Created,
+    /// A worker has it.
+    Activated,
+    /// A worker had it until its deadline, and it waits for another one.
+    TimedOut,
+    /// It has failed, and has no try left.
+    Failed,
+}
+
+/// A job: a piece of work that a worker is to do for a cell.
+#[derive(Drop)]
+pub struct Job {
+    pub key: Key,
+    /// The cell that waits for it.
+    pub cell: Key,
+    /// Its type, by which workers ask for it.
+    pub kind: Text,
+    /// How many tries are left.
+    pub retries: u32,
+    pub phase: JobPhase,
+    /// Until when a worker has it, or had it. 0 where none has had it.
+    pub deadline: Moment,
+}
+
+impl Row for Job {
+    ghost key_in = { λ j. j.key };
+
+    fn key(&self) -> Key {
+        self.key
+    }
+}
