@@ -14,5 +14,3 @@ mod models;
 mod states;
 #[cfg(test)]
 mod steps;
-#[cfg(test)]
-mod workers;

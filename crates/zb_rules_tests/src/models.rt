@@ -4,8 +4,8 @@ ghost use Rattle.std.specs.Prelude.{◌≡◌, length};
 use std::alloc::Global;
 use std::process::Abort;
 use zb_model::{
-    Event, Flow, JobBatchActivate, Key, List, MessagePublish, MessagePublished, Model, Moment,
-    Node, NodeKind, ProcessInstanceCreationCreate, Text, Value, Vars,
+    Event, Flow, Key, List, MessagePublish, MessagePublished, Model, Moment, Node, NodeKind,
+    ProcessInstanceCreationCreate, Text, Value, Vars,
 };
 use zb_tokens::{Assigned, Move};
 
@@ -157,16 +157,6 @@ pub fn is_the_amount(variables: &Vars) -> bool {
     match variables.as_slice() {
         [only] => only.name.as_str() == "amount" && matches!(only.value, Value::Int(7)),
         _ => false,
-    }
-}
-
-/// The command of a worker that asks for one job of the type `pay`, for a second.
-pub fn asked(rt: &impl Abort, alloc: Global) -> JobBatchActivate {
-    JobBatchActivate {
-        kind: text(rt, alloc, "pay"),
-        worker: text(rt, alloc, "w"),
-        timeout: 1_000,
-        most: 1,
     }
 }
 
