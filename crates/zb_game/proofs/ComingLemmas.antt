@@ -265,7 +265,7 @@ module _ (new : Token) (ts : List Token) where
       by_way None out = refl
       by_way (Some w) out = ap (λ (u : Bool). is_some (node_with m w.0) && arrives m w.0 w.1 && (not (is_none_of (spots_of m w.0 w.1)) && u)) (each_same x.scope (spots_of m w.0 w.1) out)
 
--- a token rests by the model of its scope
+-- a token is_resting by the model of its scope
 out_by_model : (b : Board) (t : Token) → stays_out b t ≡ option_map_or (λ m. not (comes_in m b.tokens t)) (scope_model b t.scope) false
 out_by_model b t = by_cell_there (cell_at b t.scope)
   where

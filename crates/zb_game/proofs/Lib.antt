@@ -1,11 +1,10 @@
 pub mod ScopeLemmas
-pub mod EditLemmas
 pub mod ComingLemmas
 pub mod FirstLemmas
 pub mod FlowLemmas
 pub mod BoardLemmas
-pub mod NewestLemmas
-pub mod InsideLemmas
+pub mod EditedLemmas
+pub mod TallyLemmas
 pub mod SweepLemmas
 pub mod UnseenLemmas
 pub mod KeyLemmas

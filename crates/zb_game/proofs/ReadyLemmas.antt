@@ -18,14 +18,18 @@ use Rattle.zb_tokens.specs.Marks.{error_of}
 use Rattle.zb_tokens.specs.MoveFinish.{is_done}
 use Rattle.zb_tokens.specs.Forced.{ends_in, goes_on_in, is_forced, greatest}
 use Rattle.zb_process.specs.declared.model.Model.{Model}
-use Rattle.zb_game.specs.declared.inside.Inside.{Inside}
-use Rattle.zb_game.specs.Indexed.{IsIndexed, is_done_in, rests_in, is_kept}
+use Rattle.zb_game.specs.declared.tallies.Tally.{Tally}
+use Rattle.zb_game.specs.Indexed.{IsIndexed, is_done_in, rests_in, is_resting, is_kept}
 use Rattle.zb_game.specs.Searches.{is_forced_at, newest_key}
 use Rattle.zb_table.proofs.Ascending.{finds_own}
 
 is_not : (t : Bool) → not t ≡ true → t ≡ false
 is_not true is = absurd (cc)
 is_not false is = refl
+
+one_of : (s t : Bool) → (s && t) ≡ true → s ≡ true
+one_of true t is = refl
+one_of false t is = absurd (cc)
 
 both : (s t : Bool) → (s && t) ≡ true → t ≡ true
 both true t is = is
@@ -137,7 +141,7 @@ among_kept p key (x ∷ cells) c found it = by_key (x.key == key) (p x) refl ref
     by_key false true other passes found later = rw other (later found)
     by_key false false other fails found later = later found
 
-module _ (b : Board) (rows : List (Held Token)) (inside : List Inside) (ready calling coming : List ℕ) (kept : IsIndexed b rows inside ready calling coming) (free : (c : Cell) → is_doomed b c ≡ false) where
+module _ (b : Board) (rows : List (Held Token)) (inside stuck : List Tally) (ready calling coming : List ℕ) (kept : IsIndexed b rows inside stuck ready calling coming) (free : (c : Cell) → is_doomed b c ≡ false) where
   -- the key of a forced cell is among the ready ones, and one of a forced cell
   abbrev IsFound : ℕ → Type 0
   IsFound n = (is_kept ready n ≡ true) × (is_forced_at b n ≡ true)
@@ -148,7 +152,9 @@ module _ (b : Board) (rows : List (Held Token)) (inside : List Inside) (ready ca
       let goes_free : (not (is_stuck b c) && goes_on_in b c c.phase) ≡ true = sym (ap (λ (t : Bool). if t then ends_in b c c.phase else not (is_stuck b c) && goes_on_in b c c.phase) (free c)) ∙ forced in
       let goes : goes_on_in b c c.phase ≡ true = both (not (is_stuck b c)) (goes_on_in b c c.phase) goes_free in
       let found : cell_at b c.key ≡ Some c = finds_own (λ (x : Cell). x.key) 0 b.cells k d within kept.cells_ascend in
-      (kept.awake k d within (goes_not_rests b c c.phase goes), rw found forced)
+      let free_of : is_stuck b c ≡ false = is_not (is_stuck b c) (one_of (not (is_stuck b c)) (goes_on_in b c c.phase) goes_free) in
+      let moves : is_resting b c ≡ false = rw free_of (goes_not_rests b c c.phase goes) in
+      (kept.awake k d within moves, rw found forced)
 
   all_found : All IsFound (map (λ (c : Cell). c.key) (filter (is_forced b) b.cells))
   all_found = All-map IsFound (λ (c : Cell). c.key) (filter (is_forced b) b.cells)

@@ -8,11 +8,12 @@ use Rattle.zb_tokens.specs.declared.board.Phase.{Phase}
 use Rattle.zb_tokens.specs.declared.board.Phase.TheVariants as phases
 use Rattle.zb_tokens.specs.Board.{Board, model_under, is_phase, is_scope_in, is_at, is_empty, has_child, in_phase}
 use Rattle.zb_tokens.specs.Doom.{calls_off}
+use Rattle.zb_tokens.specs.Incidents.{is_stuck}
 use Rattle.zb_tokens.specs.Marks.{error_of, has_come_about}
 use Rattle.zb_tokens.specs.MoveFinish.{waits_for_nothing}
-use Rattle.zb_game.specs.Inside.{cells_in, tokens_in}
-use Rattle.zb_game.specs.Indexed.{is_done_in, rests_in, is_kept}
-use Rattle.zb_game.proofs.InsideLemmas.{child_counted, token_counted}
+use Rattle.zb_game.specs.Tallies.{cells_in, tokens_in}
+use Rattle.zb_game.specs.Indexed.{is_done_in, rests_in, is_resting, is_kept}
+use Rattle.zb_game.proofs.TallyLemmas.{child_counted, token_counted}
 
 -- a law of tests
 pub back : (s t : Bool) → (s ≡ true → t ≡ true) → t ≡ false → s ≡ false
@@ -75,18 +76,27 @@ rests_on b b' c phases.Completing models full is = is
 rests_on b b' c phases.Leaving models full is = is
 rests_on b b' c phases.Terminating models full is = full.1 is
 
+-- and where it is stuck, while it is
+rest_on : (b b' : Board) (c : Cell) → is_stuck b' c ≡ is_stuck b c → ((m : Model) → model_under b c.definition ≡ Some m → model_under b' c.definition ≡ Some m) → IsFuller b b' c.key → is_resting b c ≡ true → is_resting b' c ≡ true
+rest_on b b' c same models full is = by_stuck (is_stuck b' c) (is_stuck b c) same is
+  where
+    by_stuck : (s t : Bool) → s ≡ t → (t || rests_in b c c.phase) ≡ true → (s || rests_in b' c c.phase) ≡ true
+    by_stuck true t same is = refl
+    by_stuck false true same is = absurd (cc)
+    by_stuck false false same is = rests_on b b' c c.phase models full is
+
 -- a cell is among the ready ones unless it rests
 abbrev pub IsSeen : Board → List ℕ → Cell → Type 0
-IsSeen b ready c = rests_in b c c.phase ≡ false → is_kept ready c.key ≡ true
+IsSeen b ready c = is_resting b c ≡ false → is_kept ready c.key ≡ true
 
 -- a cell that calls off what is in it is among those that do
 abbrev pub IsCalling : List ℕ → Cell → Type 0
 IsCalling calling c = calls_off c ≡ true → is_kept calling c.key ≡ true
 
--- a cell that is seen is seen on another board, where something stays in it
-pub seen_on : (b b' : Board) (ready ready' : List ℕ) (c : Cell) → ((m : Model) → model_under b c.definition ≡ Some m → model_under b' c.definition ≡ Some m) → IsFuller b b' c.key
+-- a cell that is seen is seen on another board, where something stays in it, and it is stuck just when it was
+pub seen_on : (b b' : Board) (ready ready' : List ℕ) (c : Cell) → is_stuck b' c ≡ is_stuck b c → ((m : Model) → model_under b c.definition ≡ Some m → model_under b' c.definition ≡ Some m) → IsFuller b b' c.key
     → (is_kept ready c.key ≡ true → is_kept ready' c.key ≡ true) → IsSeen b ready c → IsSeen b' ready' c
-seen_on b b' ready ready' c models full still seen moves = still (seen (back _ _ (rests_on b b' c c.phase models full) moves))
+seen_on b b' ready ready' c same models full still seen moves = still (seen (back _ _ (rest_on b b' c same models full) moves))
 
 -- a cell that was put in a phase calls off what is in it where the phase says so, or where it did before
 pub calling_on : (calling calling' : List ℕ) (c : Cell) (phase : Phase) (owed : List (List ℕ)) → ((k : ℕ) → is_kept calling k ≡ true → is_kept calling' k ≡ true) → (is_phase phase phases.Terminating ≡ true → is_kept calling' c.key ≡ true) → IsCalling calling c → IsCalling calling' (in_phase phase owed c)

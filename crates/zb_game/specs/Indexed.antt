@@ -12,11 +12,12 @@ use Rattle.zb_tokens.specs.declared.board.Phase.TheVariants as phases
 use Rattle.zb_tokens.specs.Edits.{is_none_of}
 use Rattle.zb_tokens.specs.Board.{Board, cell_at, model_under, is_at, is_scope_in, is_empty, has_child}
 use Rattle.zb_tokens.specs.Doom.{calls_off}
+use Rattle.zb_tokens.specs.Incidents.{is_stuck}
 use Rattle.zb_tokens.specs.Marks.{error_of, has_come_about}
 use Rattle.zb_tokens.specs.MoveFinish.{waits_for_nothing}
 use Rattle.zb_places.specs.Places.{comes_in}
-use Rattle.zb_game.specs.Inside.{cells_counted, cells_in}
-use Rattle.zb_game.specs.declared.inside.Inside.{Inside}
+use Rattle.zb_game.specs.Tallies.{tally_of, cells_in, incidents_on}
+use Rattle.zb_game.specs.declared.tallies.Tally.{Tally}
 
 -- in a model nothing is left that an active cell waits for (BPMN 2.0.2, 13.2, 13.3.3 and 13.3.4)
 abbrev pub is_done_in : Model → Board → Cell → Bool
@@ -26,7 +27,7 @@ is_done_in m b c = if is_scope_in m c then is_empty b c.key else has_come_about 
 abbrev pub stays_active : Board → Cell → Bool
 stays_active b c = not (is_some (error_of c.mark)) && option_map_or (λ m. not (is_done_in m b c)) (model_under b c.definition) false
 
--- in a phase a cell rests, whatever models come, where nobody is called off or stuck (own)
+-- in a phase a cell rests, whatever models come, where nobody is called off (own)
 abbrev pub rests_in : Board → Cell → Phase → Bool
 rests_in b c phases.Activating = false
 rests_in b c phases.Active = stays_active b c
@@ -34,9 +35,13 @@ rests_in b c phases.Completing = false
 rests_in b c phases.Leaving = is_none_of c.owed
 rests_in b c phases.Terminating = has_child b c.key
 
+-- a cell rests, whatever models come, where nobody is called off: it is stuck, or rests in its phase (own)
+abbrev pub is_resting : Board → Cell → Bool
+is_resting b c = is_stuck b c || rests_in b c c.phase
+
 -- the cell with a key is there, and doesn't rest (own)
 abbrev pub is_awake : Board → ℕ → Bool
-is_awake b key = option_map_or (λ c. not (rests_in b c c.phase)) (cell_at b key) false
+is_awake b key = option_map_or (λ c. not (is_resting b c)) (cell_at b key) false
 
 -- a token rests, whatever models and cells come, where nobody is called off: its cell and its model are there, and the
 -- tokens that it needs to enter its node haven't come (own)
@@ -47,14 +52,15 @@ stays_out b t = option_map_or (λ c. option_map_or (λ m. not (comes_in m b.toke
 abbrev pub is_kept : List ℕ → ℕ → Bool
 is_kept keys key = list_any (λ k. k == key) keys
 
--- what is kept is right, where the tokens have these numbers: keys and numbers ascend, the counts of cells are those of the board,
+-- what is kept is right, where the tokens have these numbers: keys and numbers ascend, the counts of cells and incidents are those of the board,
 -- each cell that doesn't rest is among the ready ones, each that calls off what is in it among those that do, and each
 -- token that doesn't rest among the coming ones (own)
-pub record IsIndexed (b : Board) (rows : List (Held Token)) (inside : List Inside) (ready calling coming : List ℕ) : Type 0 where
+pub record IsIndexed (b : Board) (rows : List (Held Token)) (inside stuck : List Tally) (ready calling coming : List ℕ) : Type 0 where
   pub models_ascend : Ascend (λ d. d.key) 0 b.models
   pub cells_ascend : Ascend (λ c. c.key) 0 b.cells
   pub tokens_ascend : Ascend (λ h. h.number) 0 rows
-  pub cells_right : (scope : ℕ) → cells_counted inside scope ≡ cells_in b scope
-  pub awake : All (λ c. rests_in b c c.phase ≡ false → is_kept ready c.key ≡ true) b.cells
+  pub cells_right : (scope : ℕ) → tally_of inside scope ≡ cells_in b scope
+  pub stuck_right : (cell : ℕ) → tally_of stuck cell ≡ incidents_on b cell
+  pub awake : All (λ c. is_resting b c ≡ false → is_kept ready c.key ≡ true) b.cells
   pub called : All (λ c. calls_off c ≡ true → is_kept calling c.key ≡ true) b.cells
   pub awaited : All (λ h. stays_out b h.row ≡ false → is_kept coming h.number ≡ true) rows

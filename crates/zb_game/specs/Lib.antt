@@ -1,5 +1,5 @@
 pub mod BoardCode
-pub mod Inside
+pub mod Tallies
 pub mod Indexed
 pub mod Searches
 pub mod Exits

@@ -1,22 +1,17 @@
 -- Words of the player's own functions.
-use Rattle.std.specs.Prelude.{ℕ, ◌==◌, nat_lt, List, [], ◌∷◌, map, filter, Bool, true, false, if◌then◌else◌, Option, Some, None, option_map, option_and_then}
+use Rattle.std.specs.Prelude.{ℕ, ◌==◌, List, [], ◌∷◌, map, filter, Bool, false, if◌then◌else◌, Option, option_map, option_and_then}
 use Rattle.std.specs.Option.{option_map_or}
 use Rattle.std.specs.List.{list_any}
 use Rattle.std.specs.Str.{bytes_eq}
 use Rattle.zb_process.specs.declared.model.Model.{Model}
 use Rattle.zb_groups.specs.declared.held.Held.{Held}
 use Rattle.zb_groups.specs.Groups.{passes_at}
-use Rattle.zb_tokens.specs.declared.board.Cell.{Cell}
 use Rattle.zb_tokens.specs.declared.board.Token.{Token}
 use Rattle.zb_tokens.specs.declared.board.Move.{Move}
 use Rattle.zb_tokens.specs.declared.board.Move.TheVariants as moves
 use Rattle.zb_tokens.specs.Board.{Board, cell_at, model_under}
 use Rattle.zb_tokens.specs.Forced.{greatest, is_forced}
 use Rattle.zb_places.specs.Places.{counts_for}
-
--- the key of a cell that may be there
-abbrev pub key_in : Option Cell → Option ℕ
-key_in found = option_map (λ c. c.key) found
 
 -- the cell with a key is there, and is forced
 abbrev pub is_forced_at : Board → ℕ → Bool
@@ -25,11 +20,6 @@ is_forced_at b key = option_map_or (is_forced b) (cell_at b key) false
 -- the greatest key of the cells that are forced
 abbrev pub newest_key : Board → Option ℕ
 newest_key b = greatest (map (λ c. c.key) (filter (is_forced b) b.cells))
-
--- a key is greater than the best so far
-abbrev pub is_newer : ℕ → Option ℕ → Bool
-is_newer key None = true
-is_newer key (Some best) = nat_lt best key
 
 -- which ids are still to be found once this one was met
 abbrev pub left_after : List (List ℕ) → List ℕ → List (List ℕ)

@@ -1,9 +1,13 @@
-// What moves put on a board.
-ghost use Rattle.std.specs.Prelude.{◌≡◌, IfOk};
-ghost use Rattle.zb_tokens.specs.Board.{new_cell};
+// What moves put on a board, and what they make of cells.
+ghost use Rattle.std.specs.Prelude.{◌≡◌};
+ghost use Rattle.zb_tokens.specs.Board.{in_phase, new_cell};
+ghost use Rattle.zb_tokens.specs.Marks.{with_mark};
+ghost use Rattle.zb_tokens.specs.MoveAssign.{with_variable};
+ghost use Rattle.zb_tokens.specs.MoveLeave.{with_end};
 
 use std::alloc::{AllocError, Global};
-use zb_base::{Key, List, Text, TryCopy, Vars};
+use zb_arrivals::Edit;
+use zb_base::{Key, List, Text, Value, Vars};
 use zb_instance_records::Role;
 use zb_tokens::{Cell, Mark, Phase};
 
@@ -36,13 +40,63 @@ pub fn new_cell(
     }
 }
 
-/// A copy of these items. It takes a step for each part of them.
-pub fn copy_of<T: TryCopy>(alloc: Global, items: &[T]) -> Result<List<T>, AllocError>
-    ensures { IfOk result (λ copy. copy ≡ items.now) }
-{
-    let mut copy = List::empty(alloc);
-    for item in items {
-        copy.push(item.copy(alloc)?)?;
+/// A cell gets into a phase, and owes these flows.
+#[derive(Drop)]
+pub struct InPhase {
+    pub phase: Phase,
+    pub owed: List<Text>,
+}
+
+impl Edit<Cell> for InPhase {
+    ghost edits = { λ e c. in_phase e.phase e.owed c };
+
+    fn edit(self, mut row: Cell) -> Result<Cell, AllocError> {
+        row.phase = self.phase;
+        row.owed = self.owed;
+        Ok(row)
     }
-    Ok(copy)
+}
+
+/// A cell is told something.
+#[derive(Drop)]
+pub struct WithMark {
+    pub mark: Mark,
+}
+
+impl Edit<Cell> for WithMark {
+    ghost edits = { λ e c. with_mark e.mark c };
+
+    fn edit(self, mut row: Cell) -> Result<Cell, AllocError> {
+        row.mark = self.mark;
+        Ok(row)
+    }
+}
+
+/// A cell is ended: what is in it is called off.
+#[derive(Drop)]
+pub struct WithEnd;
+
+impl Edit<Cell> for WithEnd {
+    ghost edits = { λ _ c. with_end c };
+
+    fn edit(self, mut row: Cell) -> Result<Cell, AllocError> {
+        row.ending = true;
+        Ok(row)
+    }
+}
+
+/// A cell gets a variable. It goes through the variables of the cell.
+#[derive(Drop)]
+pub struct WithVariable {
+    pub name: Text,
+    pub value: Value,
+}
+
+impl Edit<Cell> for WithVariable {
+    ghost edits = { λ e c. with_variable e.name e.value c };
+
+    fn edit(self, mut row: Cell) -> Result<Cell, AllocError> {
+        row.variables.put(self.name, self.value)?;
+        Ok(row)
+    }
 }

@@ -38,10 +38,10 @@ mod tokens;
 mod visible;
 mod work;
 
-use crate::edits::copy_of;
-use crate::inside::Inside;
+use crate::tallies::Tally;
 use std::alloc::{AllocError, AllocFailed, Global};
 use std::marker::Model;
+use zb_arrivals::{Arrivals, copy_of};
 use zb_base::{Key, TryCopy};
 use zb_graph::Graph;
 use zb_groups::Groups;
@@ -76,15 +76,17 @@ impl<T: Drop> From<AllocFailed<T>> for GameFault {
 #[derive(Drop)]
 pub struct Game {
     models: Vec<Deployed>,
-    cells: Vec<Cell>,
+    cells: Arrivals<Cell>,
     tokens: Groups<Token>,
-    incidents: Vec<Incident>,
+    incidents: Arrivals<Incident>,
     // Whether the keys of the models and of the cells ascend, and what is kept below is right. Where it isn't set,
-    // things are searched for.
+    // models are searched for, and what is kept below counts no more.
     ascends: bool,
     // How many cells are in each scope.
-    inside: Table<Inside>,
-    // The keys of the cells that may go on by themselves, as if nobody were called off or stuck.
+    inside: Table<Tally>,
+    // How many incidents stand on each cell.
+    stuck: Table<Tally>,
+    // The keys of the cells that may go on by themselves, as if nobody were called off.
     ready: Table<Key>,
     // The keys of the cells that call off what is in them.
     calling: Table<Key>,
@@ -107,9 +109,9 @@ impl Model for Game {
 
     ghost view = { λ g. record {
       models = g.models.items;
-      cells = g.cells.items;
+      cells = g.cells;
       tokens = held_tokens g.tokens;
-      incidents = g.incidents.items;
+      incidents = g.incidents;
     } };
 
     ghost use Rattle.std.specs.Prelude.{IsTrue};
@@ -117,21 +119,22 @@ impl Model for Game {
 
     ghost invariant = { λ g. IsTrue g.ascends → IsIndexed (record {
       models = g.models.items;
-      cells = g.cells.items;
+      cells = g.cells;
       tokens = held_tokens g.tokens;
-      incidents = g.incidents.items;
-    }) g.tokens g.inside g.ready g.calling g.coming };
+      incidents = g.incidents;
+    }) g.tokens g.inside g.stuck g.ready g.calling g.coming };
 }
 
 impl TryCopy for Game {
     fn copy(&self, alloc: Global) -> Result<Game, AllocError> {
         Ok(Game {
             models: copy_of(alloc, &self.models)?.into_vec(),
-            cells: copy_of(alloc, &self.cells)?.into_vec(),
+            cells: self.cells.copy(alloc)?,
             tokens: self.tokens.copy(alloc)?,
-            incidents: copy_of(alloc, &self.incidents)?.into_vec(),
+            incidents: self.incidents.copy(alloc)?,
             ascends: self.ascends,
             inside: self.inside.copy(alloc)?,
+            stuck: self.stuck.copy(alloc)?,
             ready: self.ready.copy(alloc)?,
             calling: self.calling.copy(alloc)?,
             coming: self.coming.copy(alloc)?,
@@ -146,24 +149,26 @@ impl Game {
     {
         Game {
             models: Vec::new(alloc),
-            cells: Vec::new(alloc),
+            cells: Arrivals::empty(alloc),
             tokens: Groups::empty(alloc),
-            incidents: Vec::new(alloc),
+            incidents: Arrivals::empty(alloc),
             ascends: true,
             inside: Table::empty(alloc),
+            stuck: Table::empty(alloc),
             ready: Table::empty(alloc),
             calling: Table::empty(alloc),
             coming: Table::empty(alloc),
         }
     }
 
-    /// Whether a move fits the board. Where the keys of the models and of the cells ascend, a cell or a model costs
-    /// the logarithm of how many there are, and what is in a cell that of how many scopes there are; where they
-    /// don't, each is searched for from the front. An entry goes through the tokens in its scope up to the first that
-    /// has come; at a gateway where flows join, for each of them, where so many tokens are in the scope, and through
-    /// pairs of the flows. Where a cell is terminating or ended, an entry and a halt go up the scopes too. Leaving goes through the
-    /// flows out of a node, an assignment through the variables of a cell, and an incident or its end through the
-    /// incidents. A node or a flow of a model is found by its id in constant time, on average.
+    /// Whether a move fits the board. Where the keys of the models and of the cells ascend, a cell, an incident or a
+    /// model costs the logarithm of how many there are, what is in a cell that of how many scopes there are, and whether
+    /// an incident stands on a cell that of on how many cells one does; where they don't, each is searched for from the
+    /// front. An entry goes through the tokens in its scope up to the first that has come; at a gateway where flows join,
+    /// for each of them, where so many tokens are in the scope, and through pairs of the flows. Where a cell is
+    /// terminating or ended, an entry and a halt go up the scopes too. Leaving goes through the flows out of a node, and an
+    /// assignment through the variables of a cell. A node or a flow of a model is found by its id in constant time, on
+    /// average.
     pub fn fits(&self, m: &Move) -> bool
         ensures { result ≡ fits self.now m.now }
     {
@@ -189,10 +194,11 @@ impl Game {
     /// Plays a move, whether it fits or not; its texts go onto the board. `Illegal` says that its effect names a cell,
     /// a token, a model or an incident that isn't there, and nothing has changed; where all are there, only `Memory`
     /// is answered for a fault. After `Memory` the game is only dropped. What a move names is found as `fits` does. A
-    /// new cell, model or incident takes constant time; those behind one that goes move up. Where a token comes, it
-    /// goes through those in its scope, and looks again at those that need one like it; where one goes, at those that
-    /// may enter by themselves. Each look costs what an entry does in `fits`. A halt and a terminate end
-    /// go through all cells, where the scope that they empty has any, and through its tokens.
+    /// new cell, model or incident takes constant time, and one that changes or goes the logarithm of how many there are,
+    /// on average. Where a token comes, it goes through those in its scope, and looks again at those that need one like
+    /// it; where one goes, at those that may enter by themselves. Each look costs what an entry does in `fits`. A halt
+    /// and a terminate end go through all cells, where the scope that they empty has any, once more for each that leaves
+    /// in it, and through its tokens.
     pub fn play(&mut self, alloc: Global, m: Move) -> Result<(), GameFault>
         ensures played { OnOk result (played self.old m ≡ Some self.new) }
         ensures illegal { IsErrOf result GameFault.Illegal → played self.old m ≡ None }
@@ -253,11 +259,11 @@ impl Game {
         }
     }
 
-    // The cell with a key, found by halves where the keys ascend.
+    // The cell with a key.
     fn cell(&self, key: Key) -> Option<&Cell>
         ensures { option_copied result ≡ cell_at self.now key }
     {
-        row_among(key, &self.cells, self.ascends)
+        self.cells.get(key)
     }
 
     /// The model of a definition, as a graph. It takes the logarithm of how many models there are, where their keys

@@ -5,11 +5,11 @@
 mod edits;
 mod flows;
 mod game;
-mod inside;
 mod keys;
 mod kinds;
 mod lookups;
 mod marks;
+mod tallies;
 mod unseen;
 
 pub use game::{Game, GameFault};

@@ -287,14 +287,15 @@ impl State {
         self.rests || self.game.is_quiet()
     }
 
-    /// The incident with this key. It goes through the incidents.
+    /// The incident with this key. It takes the logarithm of how many there are.
     pub fn incident(&self, key: Key) -> Option<&Incident>
         ensures { (es : List Event) → IsStateOf es self.now → option_copied result ≡ incident_in key es }
     {
         self.game.incident(key)
     }
 
-    /// The incident on a cell. It goes through the incidents.
+    /// The incident on a cell. Where there is none it takes the logarithm of on how many cells one stands, and else it goes
+    /// through the incidents up to it.
     pub fn incident_on(&self, cell: Key) -> Option<&Incident>
         ensures { (es : List Event) → IsStateOf es self.now
             → option_copied result ≡ option_and_then (λ b. incident_on b cell) (board_of es) }

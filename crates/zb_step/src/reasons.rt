@@ -9,8 +9,8 @@ use zb_model::{Command, Moment, Rejection};
 use zb_state::State;
 
 /// Why a command is rejected at this moment, if there is a reason. A model costs its check, an instance a walk
-/// over the definitions, a repair one over the incidents, an expiry or a message with an id one over those that are buffered, and a command to go
-/// on what `State::quiet` does.
+/// over the definitions, an expiry or a message with an id one over those that are buffered, and a command to go on what
+/// `State::quiet` does.
 pub fn reason(
     alloc: Global,
     state: &State,

@@ -33,7 +33,7 @@ fn is_without_retries(state: &State, job: Key) -> bool
     }
 }
 
-/// The event of an incident that is resolved, if it stands. It goes through the incidents.
+/// The event of an incident that is resolved, if it stands. It costs what `State::incident` does.
 pub fn own(alloc: Global, state: &State, key: Key) -> Result<List<Event>, AllocError>
     ensures { (es : List Event) → IsStateOf es state.now → IfOk result (λ events. events ≡ resolved key es) }
 {

@@ -11,12 +11,13 @@ ghost use Rattle.zb_tokens.specs.MoveAssign.{with_variable};
 ghost use Rattle.zb_tokens.specs.MoveLeave.{with_end};
 ghost use Rattle.zb_game.specs.Indexed.{is_kept};
 
-use crate::inside::one_cell_more;
+use crate::edits::{InPhase, WithEnd, WithMark, WithVariable};
 use crate::keys::keep;
+use crate::tallies::one_more;
 use crate::{Game, GameFault};
 use std::alloc::AllocError;
 use zb_base::{Key, List, Text, Value};
-use zb_table::{Table, comes_last, place_among};
+use zb_table::{Table, comes_last};
 use zb_tokens::{Cell, Deployed, Mark, Phase};
 
 impl Game {
@@ -39,10 +40,10 @@ impl Game {
     {
         let key = cell.key;
         let scope = cell.scope;
-        let ascends = self.ascends && comes_last(key, &self.cells);
+        let ascends = self.ascends && self.cells.comes_last(key);
         self.ascends = false;
         self.cells.push(cell)?;
-        one_cell_more(&mut self.inside, scope)?;
+        one_more(&mut self.inside, scope)?;
         keep(&mut self.ready, key)?;
         self.ascends = ascends;
         self.look_at(scope);
@@ -60,16 +61,14 @@ impl Game {
         ensures none { IsErrOf result GameFault.Illegal → edited (λ c. c.key == key) (in_phase phase owed) self.old.cells ≡ None }
         ensures kept { IsErrOf result GameFault.Illegal → self.new ≡ self.old }
     {
-        let Some(place) = place_among(key, &self.cells, self.ascends) else {
+        if self.cell(key).is_none() {
             return Err(GameFault::Illegal);
-        };
+        }
         let ascends = self.ascends;
         self.ascends = false;
         keep(&mut self.ready, key)?;
         note_phase(&mut self.calling, key, phase)?;
-        let cell = &mut self.cells[place];
-        cell.phase = phase;
-        cell.owed = owed;
+        self.cells.edit(key, InPhase { phase, owed })?;
         self.ascends = ascends;
         Ok(())
     }
@@ -80,13 +79,13 @@ impl Game {
         ensures none { IsErrOf result GameFault.Illegal → edited (λ c. c.key == key) (with_mark mark) self.old.cells ≡ None }
         ensures kept { IsErrOf result GameFault.Illegal → self.new ≡ self.old }
     {
-        let Some(place) = place_among(key, &self.cells, self.ascends) else {
+        if self.cell(key).is_none() {
             return Err(GameFault::Illegal);
-        };
+        }
         let ascends = self.ascends;
         self.ascends = false;
         keep(&mut self.ready, key)?;
-        self.cells[place].mark = mark;
+        self.cells.edit(key, WithMark { mark })?;
         self.ascends = ascends;
         Ok(())
     }
@@ -95,13 +94,13 @@ impl Game {
     pub(super) fn put_ending(&mut self, key: Key) -> Result<(), AllocError>
         ensures { OnOk result (self.new ≡ record self.old { cells = option_map_or (λ cells. cells) (edited (λ c. c.key == key) with_end self.old.cells) self.old.cells }) }
     {
-        let Some(place) = place_among(key, &self.cells, self.ascends) else {
+        if self.cell(key).is_none() {
             return Ok(());
-        };
+        }
         let ascends = self.ascends;
         self.ascends = false;
         keep(&mut self.calling, key)?;
-        self.cells[place].ending = true;
+        self.cells.edit(key, WithEnd)?;
         self.ascends = ascends;
         Ok(())
     }
@@ -117,12 +116,12 @@ impl Game {
         ensures none { IsErrOf result GameFault.Illegal → edited (λ c. c.key == key) (with_variable name value) self.old.cells ≡ None }
         ensures kept { IsErrOf result GameFault.Illegal → self.new ≡ self.old }
     {
-        let Some(place) = place_among(key, &self.cells, self.ascends) else {
+        if self.cell(key).is_none() {
             return Err(GameFault::Illegal);
-        };
+        }
         let ascends = self.ascends;
         self.ascends = false;
-        self.cells[place].variables.put(name, value)?;
+        self.cells.edit(key, WithVariable { name, value })?;
         self.ascends = ascends;
         Ok(())
     }

@@ -4,8 +4,8 @@ ghost use Rattle.zb_tokens.specs.Board.{has_child, is_empty};
 ghost use Rattle.zb_game.specs.Searches.{has_token};
 
 use crate::Game;
-use crate::inside::cells_counted;
-use crate::lookups::has_cell_in;
+use crate::lookups::In;
+use crate::tallies::tally_of;
 use zb_base::Key;
 use zb_places::has_token_in;
 
@@ -22,9 +22,9 @@ impl Game {
         ensures { result ≡ has_child self.now key }
     {
         if self.ascends {
-            cells_counted(&self.inside, key) != 0
+            tally_of(&self.inside, key) != 0
         } else {
-            has_cell_in(key, &self.cells)
+            self.cells.first(&In { scope: key }).is_some()
         }
     }
 

@@ -1,7 +1,7 @@
 ghost use Rattle.std.specs.Prelude.{◌≡◌, IfOk, is_none};
 ghost use Rattle.std.specs.Option.{option_copied};
 ghost use Rattle.zb_tokens.specs.Forced.{ends_in, goes_on_in, is_forced, next_mover};
-ghost use Rattle.zb_game.specs.Searches.{is_forced_at, is_newer, key_in, newest_key};
+ghost use Rattle.zb_game.specs.Searches.{is_forced_at, newest_key};
 
 use crate::Game;
 use crate::marks::error_of;
@@ -28,8 +28,7 @@ impl Game {
     /// Whether nobody is forced to move. Where the keys ascend and no cell is terminating or ended, it goes through the
     /// cells that may go on by themselves, from the greatest key down to the first that is forced, and through no others;
     /// else through all. Where no cell is forced it goes through the tokens that may enter by themselves, up to the first
-    /// that can; where the keys don't ascend, through all. To see whether a cell moves costs what `fits` does, and a walk
-    /// through the incidents up to one on it, and to see whether a token does costs what `fits` does.
+    /// that can; where the keys don't ascend, through all. To see whether a cell or a token moves costs what `fits` does.
     pub fn is_quiet(&self) -> bool
         ensures { result ≡ is_none (next_mover self.now) }
     {
@@ -44,10 +43,7 @@ impl Game {
         if self.ascends && self.has_none_calling() {
             return self.ready.last_key(&Forced { game: self });
         }
-        match self.newest_forced() {
-            Some(cell) => Some(cell.key),
-            None => None,
-        }
+        self.cells.greatest(&ForcedCell { game: self })
     }
 
     // Whether the cell with a key is there, and is forced.
@@ -58,20 +54,6 @@ impl Game {
             Some(cell) => self.is_forced(cell),
             None => false,
         }
-    }
-
-    // The cell with the greatest key of those that are forced, among all.
-    fn newest_forced(&self) -> Option<&Cell>
-        ensures { key_in (option_copied result) ≡ newest_key self.now }
-    {
-        let mut best: Option<&Cell> = None;
-        for i in (0..self.cells.len()).rev() {
-            let cell = &self.cells[i];
-            if is_newer(cell, best) && self.is_forced(cell) {
-                best = Some(cell);
-            }
-        }
-        best
     }
 
     // Whether a cell is forced: it goes on by itself where it isn't stuck, or ends where it is doomed.
@@ -126,12 +108,17 @@ impl<'a> Query<Key> for Forced<'a> {
     }
 }
 
-// Whether the cell has a greater key than the best so far.
-fn is_newer(cell: &Cell, best: Option<&Cell>) -> bool
-    ensures { result ≡ is_newer cell.now.key (key_in (option_copied best.entry)) }
-{
-    match best {
-        Some(best) => cell.key > best.key,
-        None => true,
+// Whether a cell is forced in a game.
+#[derive(Drop)]
+struct ForcedCell<'a> {
+    game: &'a Game,
+}
+
+impl<'a> Query<Cell> for ForcedCell<'a> {
+    ghost passes = { λ forced c. is_forced forced.game.now c };
+
+    fn passes(&self, cell: &Cell) -> bool {
+        let game = self.game;
+        game.is_forced(cell)
     }
 }

@@ -3,32 +3,38 @@ ghost use Rattle.std.specs.Option.{option_copied};
 ghost use Rattle.zb_tokens.specs.Incidents.{incident_at, incident_on, is_stuck};
 ghost use Rattle.zb_tokens.specs.MoveIncident.{evaluates, fits_incident, may_stand, may_stop, play_incident};
 
+use crate::lookups::On;
 use crate::marks::error_of;
+use crate::tallies::{one_more, tally_of};
 use crate::{Game, GameFault};
 use zb_base::Key;
-use zb_table::row_among;
 use zb_tokens::{Cell, Incident, Phase};
 
 impl Game {
-    /// The incident with a key. It goes through the incidents, as `incident_on` does.
+    /// The incident with a key. It is found as a cell in `fits`.
     pub fn incident(&self, key: Key) -> Option<&Incident>
         ensures { option_copied result ≡ incident_at self.now key }
     {
-        row_among(key, &self.incidents, false)
+        self.incidents.get(key)
     }
 
-    /// The incident on a cell.
+    /// The incident on a cell. Where there is none it takes the logarithm of on how many cells one stands, and else it
+    /// goes through the incidents up to it; where the keys don't ascend, through all.
     pub fn incident_on(&self, cell: Key) -> Option<&Incident>
         ensures { option_copied result ≡ incident_on self.now cell }
     {
-        self.incidents.iter().find(|incident| incident.cell == cell)
+        self.incidents.first(&On { cell })
     }
 
-    // Whether an incident stands on a cell. It takes constant time where there are no incidents.
+    // Whether an incident stands on a cell. Where the keys ascend, the number of those that do is kept.
     pub(super) fn is_stuck(&self, cell: &Cell) -> bool
         ensures { result ≡ is_stuck self.now cell.now }
     {
-        self.incident_on(cell.key).is_some()
+        if self.ascends {
+            tally_of(&self.stuck, cell.key) != 0
+        } else {
+            self.incident_on(cell.key).is_some()
+        }
     }
 
     // Whether an incident may stand on its cell.
@@ -53,13 +59,19 @@ impl Game {
         }
     }
 
-    // Plays that an incident stands on its cell, which stays among the ready ones if it is there.
+    // Plays that an incident stands on its cell, which rests then.
     pub(super) fn raise(&mut self, i: Incident) -> Result<(), GameFault>
         ensures played { OnOk result (play_incident self.old i ≡ Some self.new) }
         ensures illegal { IsErrOf result GameFault.Illegal → play_incident self.old i ≡ None }
         ensures kept { IsErrOf result GameFault.Illegal → self.new ≡ self.old }
     {
+        let cell = i.cell;
+        let ascends = self.ascends;
+        self.ascends = false;
         self.incidents.push(i)?;
+        one_more(&mut self.stuck, cell)?;
+        self.ascends = ascends;
+        self.look_at(cell);
         Ok(())
     }
 }

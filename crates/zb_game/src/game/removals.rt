@@ -1,35 +1,47 @@
 // How cells go from the board, and with them what is kept of them beside the board.
-ghost use Rattle.std.specs.Prelude.{◌≡◌, ℕ, true, ◌==◌, ◌<◌, Some, None, OnOk, IsErrOf, filter, length, not, option_map};
-ghost use Rattle.std.specs.List.{remove};
+ghost use Rattle.std.specs.Prelude.{◌≡◌, ℕ, true, false, ◌+◌, ◌==◌, ◌≤◌, Some, None, IfOk, OnOk, IsErrOf, filter, is_some, not, option_map, if◌then◌else◌};
+ghost use Rattle.std.specs.List.{find};
 ghost use Rattle.zb_tokens.specs.Board.{emptied, leaves_in};
-ghost use Rattle.zb_tokens.specs.Edits.{removed};
+ghost use Rattle.zb_tokens.specs.Edits.{removed, without_first};
 ghost use Rattle.zb_game.specs.Indexed.{is_kept};
-ghost use Rattle.zb_game.specs.Inside.{cells_counted};
+ghost use Rattle.zb_game.specs.Tallies.{tally_of};
 
-use crate::inside::{Inside, cells_counted, one_cell_less};
 use crate::keys::{forget, keep};
-use crate::lookups::leaves_in;
+use crate::lookups::LeavingIn;
+use crate::tallies::{Tally, one_less, tally_of};
 use crate::{Game, GameFault};
 use std::alloc::{AllocError, Global};
 use zb_base::Key;
-use zb_table::{Table, place_among};
+use zb_table::Table;
 
 impl Game {
-    // Takes away a cell. Those behind it move up.
+    // Takes away a cell. Its scope may go on then. Where tokens are in it, what is kept counts no more.
     pub(super) fn take_away(&mut self, key: Key) -> Result<(), GameFault>
         ensures gone { OnOk result (option_map (λ cells. record self.old { cells = cells }) (removed (λ c. c.key == key) self.old.cells) ≡ Some self.new) }
         ensures none { IsErrOf result GameFault.Illegal → removed (λ c. c.key == key) self.old.cells ≡ None }
         ensures kept { IsErrOf result GameFault.Illegal → self.new ≡ self.old }
     {
-        let Some(place) = place_among(key, &self.cells, self.ascends) else {
+        let Some(cell) = self.cell(key) else {
             return Err(GameFault::Illegal);
         };
-        self.take_away_at(place)?;
+        let around = cell.scope;
+        let ascends = self.ascends && !self.has_token(key);
+        self.ascends = false;
+        note_gone(
+            &mut self.inside,
+            &mut self.ready,
+            &mut self.calling,
+            key,
+            around,
+        )?;
+        self.cells.remove(key);
+        self.ascends = ascends;
+        self.look_at(around);
         Ok(())
     }
 
     // Empties a scope of its tokens, and of the cells that leave in it. It goes through these tokens; where cells are in
-    // it, through all cells, and those behind one that goes move up.
+    // it, through all cells, once more for each that leaves.
     pub(super) fn empty_scope(&mut self, alloc: Global, scope: Key) -> Result<(), AllocError>
         ensures { OnOk result (self.new ≡ emptied scope self.old) }
     {
@@ -44,45 +56,68 @@ impl Game {
         if !self.has_child(scope) {
             return Ok(());
         }
-        for place in (0..self.cells.len()).rev() {
-            if leaves_in(scope, &self.cells[place]) {
-                self.take_away_at(place)?;
-            }
-        }
+        while self.take_one_leaving(scope)? {}
         Ok(())
     }
 
-    // Takes away the cell at a place. Its scope may go on then. Where tokens are in it, what is kept counts no more.
-    fn take_away_at(&mut self, place: usize) -> Result<(), AllocError>
-        requires { place < length self.old.cells }
-        ensures { OnOk result (self.new ≡ record self.old { cells = remove self.old.cells place }) }
+    // Takes away the first cell that leaves in a scope, and tells whether there was one. Where tokens are in it, what is
+    // kept counts no more.
+    fn take_one_leaving(&mut self, scope: Key) -> Result<bool, AllocError>
+        ensures one { IfOk result (λ one. one ≡ is_some (find (leaves_in scope) self.old.cells)) }
+        ensures left { OnOk result (self.new ≡ record self.old { cells = without_first (leaves_in scope) self.old.cells }) }
     {
-        let cell = &self.cells[place];
+        let Some(cell) = self.cells.first(&LeavingIn { scope }) else {
+            return Ok(false);
+        };
         let key = cell.key;
         let around = cell.scope;
         let ascends = self.ascends && !self.has_token(key);
         self.ascends = false;
-        one_cell_less(&mut self.inside, around)?;
-        wake(&mut self.ready, &self.inside, around)?;
-        self.cells.remove(place);
-        forget(&mut self.ready, key);
-        forget(&mut self.calling, key);
+        note_gone(
+            &mut self.inside,
+            &mut self.ready,
+            &mut self.calling,
+            key,
+            around,
+        )?;
+        self.cells.remove_first(&LeavingIn { scope });
         self.ascends = ascends;
         self.look_at(around);
-        Ok(())
+        Ok(true)
     }
+}
+
+// Counts a cell less in its scope, which may go on then, and keeps its key no longer.
+fn note_gone(
+    inside: &mut Table<Tally>,
+    ready: &mut Table<Key>,
+    calling: &mut Table<Key>,
+    key: Key,
+    around: Key,
+) -> Result<(), AllocError>
+    ensures fewer { OnOk result (1 ≤ tally_of inside.old around
+        → (other : ℕ) → tally_of inside.old other ≡ tally_of inside.new other + (if around == other then 1 else 0)) }
+    ensures ready { OnOk result ((other : ℕ) → (other == key) ≡ false → is_kept ready.old other ≡ true → is_kept ready.new other ≡ true) }
+    ensures calling { OnOk result ((other : ℕ) → (other == key) ≡ false → is_kept calling.old other ≡ true → is_kept calling.new other ≡ true) }
+    ensures woken { OnOk result (tally_of inside.new around ≡ 0 → (around == key) ≡ false → is_kept ready.new around ≡ true) }
+{
+    one_less(inside, around)?;
+    wake(ready, inside, around)?;
+    forget(ready, key);
+    forget(calling, key);
+    Ok(())
 }
 
 // Puts a scope among the ready cells where no cell is left in it.
 pub(super) fn wake(
     ready: &mut Table<Key>,
-    inside: &Table<Inside>,
+    inside: &Table<Tally>,
     scope: Key,
 ) -> Result<(), AllocError>
     ensures still { OnOk result ((key : ℕ) → is_kept ready.old key ≡ true → is_kept ready.new key ≡ true) }
-    ensures woken { OnOk result (cells_counted inside.now scope ≡ 0 → is_kept ready.new scope ≡ true) }
+    ensures woken { OnOk result (tally_of inside.now scope ≡ 0 → is_kept ready.new scope ≡ true) }
 {
-    if cells_counted(inside, scope) == 0 {
+    if tally_of(inside, scope) == 0 {
         keep(ready, scope)
     } else {
         Ok(())

@@ -1,9 +1,10 @@
 ghost use Rattle.std.specs.Prelude.{◌≡◌, Some, None, OnOk, IsErrOf};
 ghost use Rattle.zb_tokens.specs.MoveRepair.{fits_repair, play_repair};
 
+use crate::keys::keep;
+use crate::tallies::one_less;
 use crate::{Game, GameFault};
 use zb_base::Key;
-use zb_table::place_among;
 
 impl Game {
     // Whether an incident may be resolved.
@@ -13,16 +14,23 @@ impl Game {
         self.incident(key).is_some()
     }
 
-    // Plays that an incident is gone. Those behind it move up.
+    // Plays that an incident is gone. Its cell may go on then.
     pub(super) fn repair(&mut self, key: Key) -> Result<(), GameFault>
         ensures played { OnOk result (play_repair self.old key ≡ Some self.new) }
         ensures illegal { IsErrOf result GameFault.Illegal → play_repair self.old key ≡ None }
         ensures kept { IsErrOf result GameFault.Illegal → self.new ≡ self.old }
     {
-        let Some(place) = place_among(key, &self.incidents, false) else {
+        let Some(incident) = self.incident(key) else {
             return Err(GameFault::Illegal);
         };
-        self.incidents.remove(place);
+        let cell = incident.cell;
+        let ascends = self.ascends;
+        self.ascends = false;
+        one_less(&mut self.stuck, cell)?;
+        keep(&mut self.ready, cell)?;
+        self.incidents.remove(key);
+        self.ascends = ascends;
+        self.look_at(cell);
         Ok(())
     }
 }

@@ -1,7 +1,7 @@
 // Cells and tokens that rest: nothing but a change of a cell, or of what is in it, or of the tokens in a scope, lets them
 // go on by themselves.
 ghost use Rattle.std.specs.Prelude.{◌≡◌};
-ghost use Rattle.zb_game.specs.Indexed.{is_awake, rests_in, stays_active, stays_out};
+ghost use Rattle.zb_game.specs.Indexed.{is_awake, is_resting, rests_in, stays_active, stays_out};
 
 use crate::Game;
 use crate::keys::forget;
@@ -65,14 +65,21 @@ impl Game {
         ensures { result ≡ is_awake self.now key }
     {
         match self.cell(key) {
-            Some(cell) => !self.rests(cell),
+            Some(cell) => !self.is_resting(cell),
             None => false,
         }
     }
 
-    // Whether a cell rests, whatever models come.
+    // Whether a cell rests, whatever models come: it is stuck, or rests in its phase.
+    fn is_resting(&self, cell: &Cell) -> bool
+        ensures { result ≡ is_resting self.now cell.now }
+    {
+        self.is_stuck(cell) || self.rests_in(cell)
+    }
+
+    // Whether a cell rests in its phase.
     #[tactic(auto, using(crate::proofs::FlowLemmas::compared))]
-    fn rests(&self, cell: &Cell) -> bool
+    fn rests_in(&self, cell: &Cell) -> bool
         ensures { result ≡ rests_in self.now cell.now cell.now.phase }
     {
         match cell.phase {

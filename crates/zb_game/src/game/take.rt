@@ -1,9 +1,9 @@
 ghost use Rattle.std.specs.Prelude.{◌≡◌, Some, None, IfOk, OnOk, IsErrOf};
 ghost use Rattle.zb_tokens.specs.MoveTake.{fits_take, is_first, play_take, rest_of};
 
-use crate::edits::copy_of;
 use crate::{Game, GameFault};
 use std::alloc::{AllocError, Global};
+use zb_arrivals::copy_of;
 use zb_base::{List, Text};
 use zb_tokens::{Phase, Spot, Take, Token};
 

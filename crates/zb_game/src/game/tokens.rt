@@ -6,11 +6,11 @@ ghost use Rattle.zb_tokens.specs.Edits.{without_first};
 ghost use Rattle.zb_tokens.specs.MoveEnter.{stands_at, without_each};
 
 use crate::Game;
-use crate::edits::copy_of;
 use crate::game::needing::needing;
 use crate::game::removals::wake;
 use crate::keys::{keep, keep_all};
 use std::alloc::{AllocError, Global};
+use zb_arrivals::copy_of;
 use zb_base::{Key, Text};
 use zb_places::{Coming, On, take_first, take_scope};
 use zb_table::Query;

@@ -15,8 +15,7 @@ use zb_process::Node;
 use zb_tokens::{Cell, Phase};
 
 impl Game {
-    /// Whether a cell waits for its work, and no incident stands on it. The cell and its model are found as in `fits`,
-    /// and it goes through the incidents.
+    /// Whether a cell waits for its work, and no incident stands on it. The cell and its model are found as in `fits`.
     pub fn may_have_job(&self, cell: Key) -> bool
         ensures { result ≡ may_have_job cell self.now }
     {

@@ -11,6 +11,6 @@ invariant_of-self-2 c = λ ascends. elim c.if-self.branch [
       let below : are_below (λ (x : Deployed). x.key) c.args.deployed.key c.self.inside.models.items ≡ true =
       ap (are_below (λ (x : Deployed). x.key) c.args.deployed.key) (sym w.deref.ensures.value) ∙ (sym w.comes_last-ascends.ensures ∙ (sym w.ascends-is ∙ ascends)) in
       let added : c.push.new.self.items ≡ c.self.inside.models.items ++ c.args.deployed ∷ [] = search rules in
-      rw added (kept_model _ _ _ _ _ _ (c.self.invariant w.if-self.true) c.args.deployed below)
+      rw added (kept_model _ _ _ _ _ _ _ (c.self.invariant w.if-self.true) c.args.deployed below)
   | else-self w ↦ absurd (search rules)
 ]

@@ -15,7 +15,7 @@ pub invariant_of-self-2 : goal.invariant_of-self-2
 invariant_of-self-2 c = λ ascends.
     let rows = c.self.inside.tokens in
     let token = c.args.token in
-    let b : Board = record { models = c.self.inside.models.items; cells = c.self.inside.cells.items; tokens = held_tokens rows; incidents = c.self.inside.incidents.items } in
+    let b : Board = record { models = c.self.inside.models.items; cells = c.self.inside.cells; tokens = held_tokens rows; incidents = c.self.inside.incidents } in
     let new : Held Token = record { number = c.in_ok-number.number; row = token } in
     let added : c.push.new.self ≡ rows ++ new ∷ [] = c.in_ok-number.ensures.row in
     let numbers : c.as_slice.result.now ≡ c.in_ok-numbers.numbers = search rules in
@@ -25,4 +25,4 @@ invariant_of-self-2 c = λ ascends.
     λ k there needed.
     let asked = ap (λ (m : Option Model). needs m token rows k) c.scope_model.ensures ∙ (ap (λ (x : Board). needs (scope_model x token.scope) token rows k) (sym c.self.view_is) ∙ needed) in
     c.in_ok-keep_all.ensures.kept k (ap (λ (keys : List ℕ). is_kept keys k) numbers ∙ c.in_ok-numbers.ensures k there asked) in
-    rw added (kept_token _ _ _ _ _ _ (c.self.invariant ascends) new _ (rw (← added) c.push.ensures.order) refl still own met)
+    rw added (kept_token _ _ _ _ _ _ _ (c.self.invariant ascends) new _ (rw (← added) c.push.ensures.order) refl still own met)

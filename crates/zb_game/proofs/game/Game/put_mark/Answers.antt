@@ -1,36 +1,38 @@
-use Rattle.std.proofs.Common.{◌≡◌, ◌==◌, get_or, position, Some, None, slice_set, refl, arith, rules}
-use Rattle.std.proofs.lemmas.List.Quantifiers.{position-Some}
-use Rattle.std.proofs.lemmas.Bool.Decides.{nat_tests}
+use Rattle.std.proofs.Common.{◌≡◌, ◌==◌, is_none, true, false, refl, ap, ◌∙◌, rules}
+use Rattle.std.specs.List.{find}
+use Rattle.zb_tokens.specs.Board.{Board}
 use Rattle.zb_tokens.specs.declared.board.Cell.{Cell}
 use Rattle.zb_tokens.specs.Marks.{with_mark}
-use Rattle.zb_tokens.specs.Edits.{edited}
-use Rattle.zb_game.proofs.EditLemmas.{edited_at, edited_none}
+use Rattle.zb_arrivals.proofs.EditLemmas.{found_none}
+use Rattle.zb_arrivals.proofs.SplitLemmas.{or_kept}
+use Rattle.zb_game.proofs.EditedLemmas.{none_there, some_there}
 use Rattle.zb_game.proofs.IndexedLemmas.{kept_changed, calls_as}
 use Rattle.zb_game.proofs.game.Game.put_mark.Goals as goal
 
-pub returns-in_default-clause-none : goal.returns-in_default-clause-none
-returns-in_default-clause-none c = λ _.
-    let nowhere : position (λ (x : Cell). x.key == c.args.key) c.args.self.now.cells ≡ None = search rules in
-    edited_none (λ (x : Cell). x.key == c.args.key) (with_mark c.args.mark) c.args.self.now.cells nowhere
+pub returns-then-is_none-clause-none : goal.returns-then-is_none-clause-none
+returns-then-is_none-clause-none c = λ _.
+    let cells = c.args.self.now.cells in
+    let none : is_none (find (λ (x : Cell). x.key == c.args.key) cells) ≡ true = search rules in
+    (found_none (λ (x : Cell). x.key == c.args.key) cells (none_there cells c.args.key none)).1 (with_mark c.args.mark)
 
 pub invariant_of-self-2 : goal.invariant_of-self-2
 invariant_of-self-2 c = λ ascends.
-    let cell = c.index_mut.result.now in
-    let cells = c.self.inside.cells.items in
+    let cells = c.self.inside.cells in
     let kept = c.self.invariant ascends in
-    let place : position (λ (x : Cell). x.key == c.args.key) cells ≡ Some c.in-Some.place = search rules in
-    let found = position-Some (λ (x : Cell). x.key == c.args.key) cells c.in-Some.place cell place in
-    let at : cell ≡ get_or cells c.in-Some.place cell = c.index_mut.ensures.value in
-    let has_key = found.1 in
-    let own : cell.key ≡ c.args.key = grind (arith, nat_tests, at, has_key) in
-    kept_changed _ _ _ _ _ _ kept c.in-Some.place cell (with_mark c.args.mark cell) _ _ found.0 at refl refl refl
-    c.in_ok-keep.ensures.others (λ k is. is) (λ moves. rw own c.in_ok-keep.ensures.kept)
-    (calls_as _ _ _ _ _ _ kept c.in-Some.place cell found.0 at)
+    let found : is_none (find (λ (x : Cell). x.key == c.args.key) c.args.self.now.cells) ≡ false = search rules in
+    let r = some_there cells c.args.key (ap (λ (b : Board). is_none (find (λ (x : Cell). x.key == c.args.key) b.cells)) c.self.view_is ∙ found) in
+    let cell = r.0 in
+    let its = r.1 in
+    let made = c.in_ok-edit.ensures ∙ ap (λ o. or_kept o cells) (its.made (with_mark c.args.mark)) in
+    rw made (kept_changed _ _ _ _ _ _ _ kept its.place cell (with_mark c.args.mark cell) _ _ its.within its.at refl refl refl
+    c.in_ok-keep.ensures.others (λ k is. is) (λ moves. rw its.own c.in_ok-keep.ensures.kept)
+    (calls_as _ _ _ _ _ _ _ kept its.place cell its.within its.at))
 
 pub returns-clause-put : goal.returns-clause-put
 returns-clause-put c =
-    let cell = c.index_mut.result.now in
-    let cells = c.self.inside.cells.items in
-    let place : position (λ (x : Cell). x.key == c.args.key) cells ≡ Some c.in-Some.place = search rules in
-    let put : edited (λ (x : Cell). x.key == c.args.key) (with_mark c.args.mark) cells ≡ Some (slice_set cells c.in-Some.place (with_mark c.args.mark cell)) = edited_at (λ (x : Cell). x.key == c.args.key) (with_mark c.args.mark) cells c.in-Some.place cell place c.index_mut.ensures.value in
-    rw (← c.self.view_is, put) refl
+    let cells = c.self.inside.cells in
+    let found : is_none (find (λ (x : Cell). x.key == c.args.key) c.args.self.now.cells) ≡ false = search rules in
+    let r = some_there cells c.args.key (ap (λ (b : Board). is_none (find (λ (x : Cell). x.key == c.args.key) b.cells)) c.self.view_is ∙ found) in
+    let its = r.1 in
+    let made = its.made (with_mark c.args.mark) in
+    rw (← c.self.view_is, c.in_ok-edit.ensures, made) refl

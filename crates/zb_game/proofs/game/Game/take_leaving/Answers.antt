@@ -1,8 +1,9 @@
-use Rattle.std.proofs.Common.{◌≡◌, ◌+◌, ◌-◌, ◌<◌, ◌==◌, length, get_or, not, true, false, List, refl, sym, ap, ◌∙◌, arith, rules}
+use Rattle.std.proofs.Common.{◌≡◌, ◌==◌, List, length, not, false, filter, refl, sym, ap, ◌∙◌, arith, rules}
 use Rattle.std.specs.List.{list_any}
-use Rattle.zb_tokens.specs.Board.{Board, leaves_in}
 use Rattle.zb_tokens.specs.declared.board.Cell.{Cell}
-use Rattle.zb_game.proofs.SweepLemmas.{swept, swept-kept, all_kept}
+use Rattle.zb_tokens.specs.Board.{Board, leaves_in}
+use Rattle.zb_tokens.specs.Edits.{without_first}
+use Rattle.zb_game.proofs.SweepLemmas.{all_kept, stay_without, fewer_without, none_goes, none_taken}
 use Rattle.zb_game.proofs.game.Game.take_leaving.Goals as goal
 
 pub returns-then-not-has_child : goal.returns-then-not-has_child
@@ -11,14 +12,25 @@ returns-then-not-has_child c =
     let none : list_any (λ (x : Cell). x.scope == c.args.scope) b.cells ≡ false = search rules in
     ap (λ (cs : List Cell). record b { cells = cs }) (sym (all_kept (λ (x : Cell). not (leaves_in c.args.scope x)) (λ (x : Cell). x.scope == c.args.scope) b.cells (λ x other. rw other refl) none))
 
-pub loop-place-preserved : goal.loop-place-preserved
-loop-place-preserved c =
-    let b = c.args.self.now in
-    let i = c.loop-place.place - 1 in
-    let cell = c.index.result.now in
-    let next : c.loop-place.place ≡ i + 1 = omega arith in
-    let within : i < length b.cells = search rules in
-    let at : cell ≡ get_or (swept (λ (x : Cell). not (leaves_in c.args.scope x)) c.loop-place.place b.cells) i cell =
-    c.index.ensures ∙ ap (λ (x : Board). get_or x.cells i cell) (c.self-in-loop-place.view_is ∙ c.loop-place.invariant) in
-    let stays : not (leaves_in c.args.scope cell) ≡ true = search rules in
-    c.loop-place.invariant ∙ ap (λ (cs : List Cell). record b { cells = cs }) (swept-kept (λ (x : Cell). not (leaves_in c.args.scope x)) b.cells i c.loop-place.place next within cell at stays)
+pub loop-smaller : goal.loop-smaller
+loop-smaller c =
+    let some = sym c.in_ok-take_one_leaving.ensures.one ∙ c.if-branch.true in
+    let left = ap (λ (b : Board). length b.cells) c.in_ok-take_one_leaving.ensures.left in
+    let fewer = fewer_without (leaves_in c.args.scope) c.loop.self.cells some in
+    omega (arith, left, fewer)
+
+pub loop-preserved : goal.loop-preserved
+loop-preserved c =
+    let left = c.in_ok-take_one_leaving.ensures.left in
+    let cells = ap (λ (b : Board). b.cells) left in (
+      left ∙ (ap (λ (b : Board). record b { cells = without_first (leaves_in c.args.scope) c.loop.self.cells }) c.loop.invariant.0 ∙ ap (λ (cs : List Cell). record c.args.self.now { cells = cs }) (sym cells)),
+      ap (filter (λ (x : Cell). not (leaves_in c.args.scope x))) cells ∙ (stay_without (leaves_in c.args.scope) c.loop.self.cells ∙ c.loop.invariant.1),
+    )
+
+pub returns : goal.returns
+returns c =
+    let none = sym c.in_ok-take_one_leaving.ensures.one ∙ c.if-branch.false in
+    let stays = none_goes (leaves_in c.args.scope) c.loop.self.cells none in
+    let same = none_taken (leaves_in c.args.scope) c.loop.self.cells none in
+    c.in_ok-take_one_leaving.ensures.left ∙ (ap (λ (b : Board). record b { cells = without_first (leaves_in c.args.scope) c.loop.self.cells }) c.loop.invariant.0
+    ∙ ap (λ (cs : List Cell). record c.args.self.now { cells = cs }) (same ∙ (sym stays ∙ c.loop.invariant.1)))

@@ -1,8 +1,11 @@
-use Rattle.std.proofs.Common.{◌≡◌, not}
+use Rattle.std.proofs.Common.{◌≡◌, length, not, filter}
 use Rattle.zb_tokens.specs.Board.{leaves_in}
-use Rattle.zb_game.proofs.SweepLemmas.{swept}
 use Rattle.zb_game.proofs.game.Game.take_leaving.Given as goal
 
--- the cells from here on are swept
-abbrev pub invariant-loop-place : goal.invariant-loop-place
-invariant-loop-place l = l.self ≡ record l.fn.self { cells = swept (λ c. not (leaves_in l.scope c)) l.place l.fn.self.cells }
+-- nothing but the cells has changed, and those that stay are there
+abbrev pub invariant-loop : goal.invariant-loop
+invariant-loop l = (l.self ≡ record l.fn.self { cells = l.self.cells }) × (filter (λ c. not (leaves_in l.scope c)) l.self.cells ≡ filter (λ c. not (leaves_in l.scope c)) l.fn.self.cells)
+
+-- the cells get fewer
+abbrev pub decreases-loop : goal.decreases-loop
+decreases-loop l = length l.self.cells

@@ -1,5 +1,5 @@
 use Rattle.std.proofs.Common.{◌≡◌, take}
-use Rattle.zb_game.proofs.edits.copy_of.Given as goal
+use Rattle.zb_arrivals.proofs.copies.copy_of.Given as goal
 
 -- the items so far are copied
 abbrev pub invariant-loop-item : goal.invariant-loop-item

@@ -1,9 +1,8 @@
 -- Edits at the first member that passes a test.
-use Rattle.std.proofs.Common.{◌≡◌, ℕ, suc, ◌+◌, ◌≤◌, ◌<◌, List, [], ◌∷◌, length, Bool, true, false, not, cond, ◌||◌, nat_lt, is_some, if◌then◌else◌, Option, Some, None, option_map, slice_get, slice_set, get_or, remove, refl, ap, sym, ◌∙◌, arith}
-use Rattle.std.specs.List.{position, position_or_len, list_any}
-use Rattle.std.proofs.lemmas.Bool.Decides.{nat_tests}
+use Rattle.std.proofs.Common.{◌≡◌, ℕ, zero, suc, ◌+◌, ◌≤◌, ◌<◌, List, [], ◌∷◌, length, Bool, true, false, not, cond, if◌then◌else◌, Option, Some, None, option_map, slice_get, slice_set, get_or, remove, refl, ap, sym, ◌∙◌, arith}
+use Rattle.std.specs.List.{find, insert, position, position_or_len}
 use Rattle.std.proofs.lemmas.Grind.{common_steps}
-use Rattle.std.proofs.lemmas.List.Sums.{position_or_len_is}
+use Rattle.std.proofs.lemmas.List.Folds.{find_at}
 use Rattle.std.proofs.lemmas.Option.{slice_get_read}
 use Rattle.zb_tokens.specs.Edits.{edited, removed}
 
@@ -80,34 +79,50 @@ module _ {A : Type 0} (passes : A → Bool) where
   pub removed_none : (xs : List A) → position passes xs ≡ None → removed passes xs ≡ None
   removed_none xs is = removed_nowhere xs (no_place xs is)
 
-  some_where : (t : Bool) (i : ℕ) → is_some (cond t (Some i) None) ≡ t
-  some_where true i = refl
-  some_where false i = refl
+-- what is taken out and put back in the same place, changed
+pub put_back : {A : Type 0} (xs : List A) (i : ℕ) (y : A) → i < length xs → insert (remove xs i) i y ≡ slice_set xs i y
+put_back [] i y within = absurd (omega (arith, within))
+put_back (x ∷ xs) zero y within = refl
+put_back (x ∷ xs) (suc i) y within = ap (λ l. x ∷ l) (put_back xs i y (omega (arith, within)))
 
-  any_before : (xs : List A) → list_any passes xs ≡ nat_lt (position_or_len passes xs) (length xs)
-  any_before [] = refl
-  any_before (x ∷ xs) = by_test (passes x) (any_before xs)
+-- what is found, by its position
+pub found_at : {A : Type 0} (passes : A → Bool) (xs : List A) (i : ℕ) (x : A) → position passes xs ≡ Some i → x ≡ get_or xs i x → find passes xs ≡ Some x
+found_at passes xs i x is at = find_at passes xs ∙ at_place passes xs i x is at
+
+pub found_nowhere : {A : Type 0} (passes : A → Bool) (xs : List A) → position passes xs ≡ None → find passes xs ≡ None
+found_nowhere {A} passes xs is = find_at passes xs ∙ past xs (position_or_len passes xs) (no_place passes xs is)
+  where
+    past : (ys : List A) (i : ℕ) → length ys ≤ i → slice_get ys i ≡ None
+    past [] i le = refl
+    past (y ∷ ys) zero le = absurd (omega (arith, le))
+    past (y ∷ ys) (suc i) le = past ys i (omega (arith, le))
+
+module _ {A : Type 0} (passes : A → Bool) where
+  -- what is found stands at a place, and there it is taken out, or edited
+  pub found_place : (xs : List A) (x : A) → find passes xs ≡ Some x
+      → (i : ℕ) × (i < length xs) × (x ≡ get_or xs i x) × (removed passes xs ≡ Some (remove xs i)) × ((edit : A → A) → edited passes edit xs ≡ Some (slice_set xs i (edit x))) × (passes x ≡ true)
+  found_place [] x is = absurd (cc)
+  found_place (y ∷ ys) x is = by_test (passes y) refl is (found_place ys x)
     where
-      by_test : (t : Bool) → list_any passes xs ≡ nat_lt (position_or_len passes xs) (length xs) → (t || list_any passes xs) ≡ nat_lt (cond (not t) (1 + position_or_len passes xs) 0) (suc (length xs))
-      by_test true later = grind (arith, nat_tests)
-      by_test false later = later ∙ grind (arith, nat_tests)
+      by_test : (t : Bool) → passes y ≡ t → ◌≡◌ {A = Option A} (cond t (Some y) (find passes ys)) (Some x)
+          → (find passes ys ≡ Some x → (i : ℕ) × (i < length ys) × (x ≡ get_or ys i x) × (removed passes ys ≡ Some (remove ys i)) × ((edit : A → A) → edited passes edit ys ≡ Some (slice_set ys i (edit x))) × (passes x ≡ true))
+          → (i : ℕ) × (i < length (y ∷ ys)) × (x ≡ get_or (y ∷ ys) i x) × ((if t then Some ys else option_map (λ zs. y ∷ zs) (removed passes ys)) ≡ Some (remove (y ∷ ys) i))
+          × ((edit : A → A) → (if t then Some (edit y ∷ ys) else option_map (λ zs. y ∷ zs) (edited passes edit ys)) ≡ Some (slice_set (y ∷ ys) i (edit x))) × (passes x ≡ true)
+      by_test true here is later =
+          let same : y ≡ x = cc in
+          (0, omega arith, sym same, refl, λ edit. ap (λ z. Some (edit z ∷ ys)) same, ap passes (sym same) ∙ here)
+      by_test false here is later =
+          let r = later is in
+          (suc r.0, omega (arith, r.1), r.2, ap (option_map (λ zs. y ∷ zs)) r.3, λ edit. ap (option_map (λ zs. y ∷ zs)) (r.4 edit), r.5)
 
-  -- one passes where there is a first that does
-  pub any_place : (xs : List A) → list_any passes xs ≡ is_some (position passes xs)
-  any_place xs = any_before xs ∙ sym (some_where (nat_lt (position_or_len passes xs) (length xs)) (position_or_len passes xs))
-
-  -- the first that passes, where none before it does
-  pub position_is : (xs : List A) (i : ℕ) → i < length xs → ((k : ℕ) (d : A) → k < i → passes (get_or xs k d) ≡ false) → ((d : A) → passes (get_or xs i d) ≡ true) → position passes xs ≡ Some i
-  position_is [] i within before here = absurd (omega (arith, within))
-  position_is (x ∷ xs) i within before here =
-      let place : position_or_len passes (x ∷ xs) ≡ i = position_or_len_is passes (x ∷ xs) i x (omega arith) (λ k lower. before k x lower) (λ _. here x) in
-      let inside : nat_lt i (length (x ∷ xs)) ≡ true = grind (arith, nat_tests, within) in
-      ap (λ (n : ℕ). cond (nat_lt n (length (x ∷ xs))) (Some n) None) place ∙ rw inside refl
-
-  -- none, where none passes
-  pub position_nowhere : (xs : List A) → ((k : ℕ) (d : A) → k < length xs → passes (get_or xs k d) ≡ false) → position passes xs ≡ None
-  position_nowhere [] none = refl
-  position_nowhere (x ∷ xs) none =
-      let place : position_or_len passes (x ∷ xs) ≡ length (x ∷ xs) = position_or_len_is passes (x ∷ xs) (length (x ∷ xs)) x (omega arith) (λ k within. none k x within) (λ past. absurd (omega (arith, past))) in
-      let outside : nat_lt (length (x ∷ xs)) (length (x ∷ xs)) ≡ false = grind (arith, nat_tests) in
-      ap (λ (n : ℕ). cond (nat_lt n (length (x ∷ xs))) (Some n) None) place ∙ rw outside refl
+  -- and nothing is where none is found
+  pub found_none : (xs : List A) → find passes xs ≡ None → (removed passes xs ≡ None) × ((edit : A → A) → edited passes edit xs ≡ None)
+  found_none [] none = (refl, λ edit. refl)
+  found_none (y ∷ ys) none = by_test (passes y) none (found_none ys)
+    where
+      by_test : (t : Bool) → ◌≡◌ {A = Option A} (cond t (Some y) (find passes ys)) None → (find passes ys ≡ None → (removed passes ys ≡ None) × ((edit : A → A) → edited passes edit ys ≡ None))
+          → ((if t then Some ys else option_map (λ zs. y ∷ zs) (removed passes ys)) ≡ None) × ((edit : A → A) → (if t then Some (edit y ∷ ys) else option_map (λ zs. y ∷ zs) (edited passes edit ys)) ≡ None)
+      by_test true none later = absurd (cc)
+      by_test false none later =
+          let r = later none in
+          (ap (option_map (λ zs. y ∷ zs)) r.0, λ edit. ap (option_map (λ zs. y ∷ zs)) (r.1 edit))

@@ -1,0 +1,5 @@
+pub mod EditLemmas
+pub mod OrderedLemmas
+pub mod SplitLemmas
+pub mod GreatestLemmas
+pub mod CountedLemmas
