@@ -12,9 +12,10 @@ const DAY: u64 = 86_400_000;
 // How many nanoseconds a millisecond has.
 const MILLISECOND: u128 = 1_000_000;
 
-/// The moment at which a timer is due that starts at `now`. A date is an RFC 3339 text that `jiff` reads as a
-/// timestamp. A duration begins with `P`, is an ISO 8601 text that `jiff` reads as a span, and has no years and no
-/// months. Parts of a millisecond are dropped. It takes a step for each byte.
+/// The moment at which a timer is due that starts at `now`. A date is a text that `jiff` reads as a
+/// timestamp, as RFC 3339 has it. A duration begins with `P`, is read by `jiff` as a span of
+/// ISO 8601, and has no years and no months. Parts of a millisecond are dropped, towards 1970. It
+/// takes a step for each byte.
 #[tactic(auto, unfolding(crate::specs::Due::due_of))]
 pub fn due(form: TimeForm, text: &str, now: Moment) -> Result<Moment, DueFault>
     ensures { result ≡ due_of form text.now now }
