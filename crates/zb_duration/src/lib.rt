@@ -1,0 +1,12 @@
+//! When a timer is due: dates and durations, as texts write them.
+#![tactic(auto)]
+
+mod fault;
+mod form;
+#[cfg(test)]
+mod tests;
+mod timer;
+
+pub use fault::DueFault;
+pub use form::TimeForm;
+pub use timer::due;
