@@ -5,6 +5,8 @@ ghost use Rattle.zb_model.specs.declared.record.Event.TheVariants as events;
 ghost use Rattle.zb_views.specs.Messages.{buffered, without_message};
 ghost use Rattle.zb_views.specs.Jobs.{jobs, calls_off_job, called_off};
 ghost use Rattle.zb_views.specs.JobLaws.{jobs_by, says_nothing_of_jobs};
+ghost use Rattle.zb_views.specs.Timers.{timers};
+ghost use Rattle.zb_views.specs.TimerLaws.{timers_by, says_nothing_of_timers};
 
 /// What an event more makes of the buffered messages.
 pub fn buffered_grows()
@@ -17,4 +19,10 @@ pub fn jobs_grow()
     ensures more { (es : List Event) (e : Event) → jobs (es ++ e ∷ []) ≡ jobs_by e (jobs es) }
     ensures kept { (es : List Event) (e : Event) → says_nothing_of_jobs e ≡ true → jobs (es ++ e ∷ []) ≡ jobs es }
     ensures called_off { (es : List Event) (e : Event) → called_off (es ++ e ∷ []) ≡ calls_off_job es e }
+{}
+
+/// What an event more makes of the timers.
+pub fn timers_grow()
+    ensures more { (es : List Event) (e : Event) → timers (es ++ e ∷ []) ≡ timers_by e (timers es) }
+    ensures kept { (es : List Event) (e : Event) → says_nothing_of_timers e ≡ true → timers (es ++ e ∷ []) ≡ timers es }
 {}
