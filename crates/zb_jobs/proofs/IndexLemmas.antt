@@ -1,5 +1,5 @@
 -- What is kept beside the jobs stays right with one job more, one fewer, or one changed.
-use Rattle.std.proofs.Common.{◌≡◌, ℕ, ◌<◌, ◌==◌, List, [], ◌∷◌, ◌++◌, map, filter, Bool, true, false, not, ◌&&◌, cond, if◌then◌else◌, Option, Some, None, option_map, refl, sym, ap, ◌∙◌, arith, nat_cmp, bytes_eq, BTreeMap}
+use Rattle.std.proofs.Common.{◌≡◌, ℕ, ◌==◌, List, [], ◌∷◌, ◌++◌, map, filter, Bool, true, false, not, ◌&&◌, cond, if◌then◌else◌, Option, Some, None, option_map, refl, sym, ap, ◌∙◌, arith, nat_cmp, bytes_eq, BTreeMap}
 use Rattle.std.specs.List.{find}
 use Rattle.std.specs.BTreeMap.{get, is_at}
 use Rattle.std.specs.BTreeSet.{insert_key}
@@ -16,15 +16,6 @@ use Rattle.zb_jobs.specs.Indexed.{HasIndexes}
 use Rattle.zb_waits.proofs.FoundLemmas.{found_passes, found_new, found_other, found_mapped, found_without, ascend_kept, ascend_mapped}
 use Rattle.zb_jobs.proofs.RowLemmas.{own_more, own_kept, own_mapped, cell_gone}
 use Rattle.zb_jobs.proofs.OfferedLemmas.{same_number, offered_more, offered_same, offered_gone, offered_kept, offered_on, offered_off, offered_stays}
-
--- no job has a key that is greater than all
-pub none_below : (k : ℕ) (js : List Job) → are_below (λ j. j.key) k js ≡ true → find (λ j. j.key == k) js ≡ None
-none_below k [] below = refl
-none_below k (j ∷ js) below =
-    let less : j.key < k = grind (arith, nat_tests, below) in
-    let later : are_below (λ o. o.key) k js ≡ true = grind (arith, nat_tests, below) in
-    let apart : (j.key == k) ≡ false = grind (arith, nat_tests, less) in
-    rw apart (none_below k js later)
 
 -- the job that is found is that of its cell
 own_found : (p : Job → Bool) (js : List Job) (j : Job) → HaveOwnCells js → find p js ≡ Some j → job_of_cell j.cell js ≡ Some j

@@ -1,5 +1,5 @@
 -- Laws of the timers as a log grows by an event.
-use Rattle.std.proofs.Common.{◌≡◌, ℕ, ◌==◌, List, [], ◌∷◌, ◌++◌, filter, not, Bool, true, false, ◌||◌, ◌&&◌, is_none, if◌then◌else◌, Option, Some, None, refl, sym, ap, ◌∙◌, append_assoc, append-nil, arith}
+use Rattle.std.proofs.Common.{◌≡◌, List, [], ◌∷◌, ◌++◌, filter, not, Bool, true, false, ◌||◌, ◌&&◌, is_none, if◌then◌else◌, Option, Some, None, refl, sym, ap, ◌∙◌, append_assoc, append-nil, arith}
 use Rattle.std.specs.List.{list_any}
 use Rattle.std.proofs.lemmas.List.Elements.{filter-append}
 use Rattle.std.proofs.lemmas.List.Folds.{list_any-append}
@@ -53,7 +53,8 @@ nothing_there : {A : Type 0} (a : Option A) → is_none a ≡ true → a ≡ Non
 nothing_there None is = refl
 nothing_there (Some x) is = absurd (cc)
 
-left_all : (e : Event) (ts : List Timer) → timer_ended e ≡ None → timers_left e ts ≡ ts
+-- an event that ends no timer leaves them all
+pub left_all : (e : Event) (ts : List Timer) → timer_ended e ≡ None → timers_left e ts ≡ ts
 left_all e [] none = refl
 left_all e (t ∷ ts) none = rw none (ap (λ (l : List Timer). t ∷ l) (left_all e ts none))
 

@@ -2,14 +2,19 @@
 use Rattle.std.specs.Prelude.{ℕ, ◌==◌, List, [], ◌∷◌, ◌++◌, filter, count_by, Bool, true, false, ◌&&◌, is_some, if◌then◌else◌, Option, Some, None}
 use Rattle.std.specs.Option.{option_map_or}
 use Rattle.std.specs.List.{find, list_any}
+use Rattle.zb_instance_records.specs.declared.happening.TimerCreated.{TimerCreated}
 use Rattle.zb_model.specs.declared.record.Event.{Event}
 use Rattle.zb_model.specs.declared.record.Event.TheVariants as events
 use Rattle.zb_table.specs.Rows.{are_below}
 use Rattle.zb_views.specs.declared.timer.Timer.{Timer}
 
--- the timer that an event makes (Zeebe, timers)
+-- a timer as it is made (Zeebe, timers)
+abbrev pub timer_of : TimerCreated → Timer
+timer_of e = record { key = e.key; cell = e.cell; node = e.node; due = e.due }
+
+-- the timer that an event makes
 abbrev pub timer_told : Event → Option Timer
-timer_told (events.TimerCreated e) = Some (record { key = e.key; cell = e.cell; node = e.node; due = e.due })
+timer_told (events.TimerCreated e) = Some (timer_of e)
 timer_told _ = None
 
 -- the key of the timer that an event ends: it is triggered or canceled. One whose cell ends stands until it is canceled itself (Zeebe, timers)

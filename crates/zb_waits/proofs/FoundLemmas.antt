@@ -2,7 +2,7 @@
 use Rattle.std.proofs.Common.{◌≡◌, ℕ, ◌+◌, ◌<◌, ◌≤◌, ◌==◌, nat_lt, List, [], ◌∷◌, ◌++◌, map, filter, Bool, true, false, not, cond, if◌then◌else◌, Option, Some, None, option_map, refl, sym, ap, subst, ◌∙◌, arith}
 use Rattle.std.specs.List.{find}
 use Rattle.std.proofs.lemmas.Bool.Decides.{nat_tests}
-use Rattle.zb_table.specs.Rows.{Ascend, first_passing, with_row, without}
+use Rattle.zb_table.specs.Rows.{Ascend, are_below, first_passing, with_row, without}
 use Rattle.zb_table.proofs.Ascending.{lower}
 use Rattle.zb_table.proofs.Changing.{without_none}
 
@@ -175,6 +175,15 @@ found_without {A} number gone n (x ∷ xs) = by_tests (number x == gone) (number
     by_tests false true true at both back later = absurd (let is = back refl refl in cc)
     by_tests false true false at both back later = rw at refl
     by_tests false false u at both back later = rw at later
+
+-- none has a key that is greater than all
+pub none_below : {A : Type 0} (key : A → ℕ) (k : ℕ) (rows : List A) → are_below key k rows ≡ true → find (λ r. key r == k) rows ≡ None
+none_below key k [] below = refl
+none_below key k (r ∷ rows) below =
+    let less : key r < k = grind (arith, nat_tests, below) in
+    let later : are_below key k rows ≡ true = grind (arith, nat_tests, below) in
+    let apart : (key r == k) ≡ false = grind (arith, nat_tests, less) in
+    rw apart (none_below key k rows later)
 
 module _ {A : Type 0} (key : A → ℕ) (row : A) where
   -- what is found where a row comes in whose key none has

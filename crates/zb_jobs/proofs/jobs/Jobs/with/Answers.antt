@@ -5,8 +5,9 @@ use Rattle.zb_views.specs.declared.job.Job.{Job}
 use Rattle.zb_views.specs.Jobs.{job_behind}
 use Rattle.zb_jobs.specs.Waiting.{keys_waiting}
 use Rattle.zb_jobs.specs.Indexed.{HasIndexes}
+use Rattle.zb_waits.proofs.FoundLemmas.{none_below}
 use Rattle.zb_jobs.proofs.RowLemmas.{has_place}
-use Rattle.zb_jobs.proofs.IndexLemmas.{none_below, with_made}
+use Rattle.zb_jobs.proofs.IndexLemmas.{with_made}
 use Rattle.zb_jobs.proofs.jobs.Jobs.with.Goals as goal
 
 -- the rows with the new one
@@ -20,7 +21,7 @@ added c =
 pub add-requires : goal.add-requires
 add-requires c =
     let place = has_place c.args.created.now.key c.args.created.now.cell c.self.inside.rows (rw c.self.view_is c.requires) in
-    rw c.in_ok-job.ensures (none_below c.args.created.now.key c.self.inside.rows place.0)
+    rw c.in_ok-job.ensures (none_below (λ (j : Job). j.key) c.args.created.now.key c.self.inside.rows place.0)
 
 pub invariant_of-self : goal.invariant_of-self
 invariant_of-self c =
