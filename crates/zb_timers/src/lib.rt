@@ -1,0 +1,8 @@
+//! The table of timers that a partition keeps.
+#![tactic(auto)]
+
+mod cells;
+mod change;
+mod timers;
+
+pub use timers::Timers;
