@@ -8,5 +8,6 @@ pub mod Jobs
 pub mod JobLaws
 pub mod Timers
 pub mod TimerLaws
+pub mod TimerEndsLaws
 pub mod ViewLaws
 pub mod CounterLaws

@@ -50,6 +50,14 @@ abbrev pub timers_made : List Event → List ℕ
 timers_made [] = []
 timers_made (e ∷ es) = option_map_or (λ t. t.key ∷ []) (timer_told e) [] ++ timers_made es
 
+-- an event makes the timer with a key (own)
+abbrev pub makes_timer : ℕ → Event → Bool
+makes_timer timer e = option_map_or (λ t. t.key == timer) (timer_told e) false
+
+-- how many of these events make the timer with a key (own)
+abbrev pub times_timer_made : ℕ → List Event → ℕ
+times_timer_made timer es = count_by (makes_timer timer) es
+
 -- how many of these events end the timer with a key (own)
 abbrev pub times_timer_ended : ℕ → List Event → ℕ
 times_timer_ended timer es = count_by (ends_timer timer) es

@@ -10,5 +10,5 @@ mod timer;
 pub use begun::Begun;
 pub use definition::Definition;
 pub use job::{Job, JobPhase};
-pub use laws::{buffered_grows, jobs_grow, timers_grow};
+pub use laws::{buffered_grows, jobs_grow, timers_end_once, timers_grow};
 pub use timer::Timer;
