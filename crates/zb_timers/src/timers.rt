@@ -83,11 +83,7 @@ impl Timers {
         }
         match event {
             Event::TimerCreated(e) => self.add(alloc, e),
-            Event::TimerTriggered(key) => {
-                self.end(*key);
-                Ok(())
-            }
-            Event::TimerCanceled(key) => {
+            Event::TimerTriggered(key) | Event::TimerCanceled(key) => {
                 self.end(*key);
                 Ok(())
             }
