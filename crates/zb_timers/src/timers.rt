@@ -55,8 +55,8 @@ impl Timers {
         self.rows.get(key)
     }
 
-    /// The keys of the timers of this cell, ascending. It takes the logarithm of how many timers there are, and a step for
-    /// each of the cell.
+    /// The keys of the timers of this cell, ascending. It takes the logarithm of how many timers there are, and a step
+    /// for each of the cell.
     pub fn on(&self, alloc: Global, cell: Key) -> Result<List<Key>, AllocError>
         ensures keys { IfOk result (λ keys. keys ≡ keys_on cell self.now) }
         ensures order { IfOk result (λ keys. Ascend (λ key. key) 0 keys) }
@@ -64,16 +64,16 @@ impl Timers {
         Ok(List::from_vec(keys_under(alloc, cell, &self.cells)?))
     }
 
-    /// The moment and the key of the timer that is due first, if one is due now. It takes the logarithm of how many timers
-    /// there are.
+    /// The moment and the key of the timer that is due first, if one is due now. It takes the logarithm of how many
+    /// timers there are.
     pub fn first_due(&self, now: Moment) -> Option<(Moment, Key)>
         ensures { result ≡ option_map place_of_timer (due_timer now self.now) }
     {
         self.rows.first_due(now)
     }
 
-    /// Takes in what an event says of timers. After a refusal the timers are only dropped. It takes the logarithm of how
-    /// many timers there are, on average.
+    /// Takes in what an event says of timers. After a refusal the timers are only dropped. It takes the logarithm of
+    /// how many timers there are, on average.
     pub fn apply(&mut self, alloc: Global, event: &Event) -> Result<(), AllocError>
         requires { IsTrue (has_place_for self.old event.now) }
         ensures { OnOk result (self.new ≡ timers_by event.now self.old) }

@@ -6,8 +6,9 @@ use Rattle.std.proofs.lemmas.Bool.Decides.{nat_tests}
 use Rattle.std.proofs.lemmas.List.Sums.{sum_by_push, sum_by-append}
 use Rattle.zb_model.specs.declared.record.Event.{Event}
 use Rattle.zb_table.specs.Rows.{Ascend, are_below}
-use Rattle.zb_table.proofs.Ascending.{lower, ascend_more}
+use Rattle.zb_table.proofs.Ascending.{ascend_more}
 use Rattle.zb_table.proofs.Growing.{below_more}
+use Rattle.zb_waits.proofs.FoundLemmas.{ascend_kept}
 use Rattle.zb_views.specs.declared.timer.Timer.{Timer}
 use Rattle.zb_views.specs.Timers.{timer_told, timer_ended, ends_timer, timers, timer_at, timers_made, makes_timer, times_timer_made, times_timer_ended, makes_later_timer, ends_timer_there, fits_timers, all_fit_timers}
 use Rattle.zb_views.specs.TimerLaws.{timer_made, timers_left, timers_more}
@@ -97,15 +98,6 @@ below_left high keeps (t ∷ ts) below =
     by_test true here later = rw here later
     by_test false here later = later
 
--- some of those that ascend
-ascend_left : (low : ℕ) (keeps : Timer → Bool) (ts : List Timer) → Ascend (λ t. t.key) low ts → Ascend (λ t. t.key) low (filter keeps ts)
-ascend_left low keeps [] up = tt
-ascend_left low keeps (t ∷ ts) up = by_test (keeps t) (ascend_left (t.key + 1) keeps ts up.1)
-  where
-    by_test : (s : Bool) → Ascend (λ x. x.key) (t.key + 1) (filter keeps ts) → Ascend (λ x. x.key) low (cond s (t ∷ filter keeps ts) (filter keeps ts))
-    by_test true later = (up.0, later)
-    by_test false later = lower (λ (x : Timer). x.key) low (t.key + 1) (filter keeps ts) (omega (arith, up.0)) later
-
 -- what is below a key with one more, is so without it
 below_both : (high k : ℕ) (ks : List ℕ) → are_below (λ x. x) high (ks ++ k ∷ []) ≡ true → (are_below (λ x. x) high ks ≡ true) × (k < high)
 below_both high k [] below = (refl, grind (arith, nat_tests, both (nat_lt k high) true below))
@@ -117,10 +109,10 @@ below_both high k (x ∷ ks) below =
 module _ (before : List Event) (e : Event) (s : IsSettled before) where
   -- those that the event leaves, and the one that it makes, if it does
   ascend_by : (told : Option Timer) → makes_later_timer before told ≡ true → Ascend (λ (t : Timer). t.key) 0 (timers_left e (timers before) ++ timer_made told)
-  ascend_by None later = subst (λ (ts : List Timer). Ascend (λ (t : Timer). t.key) 0 ts) (sym (append-nil (timers_left e (timers before)))) (ascend_left 0 (λ (t : Timer). not (ends_timer t.key e)) (timers before) s.ascend)
+  ascend_by None later = subst (λ (ts : List Timer). Ascend (λ (t : Timer). t.key) 0 ts) (sym (append-nil (timers_left e (timers before)))) (ascend_kept (λ (t : Timer). t.key) (λ (t : Timer). not (ends_timer t.key e)) 0 (timers before) s.ascend)
   ascend_by (Some t) later =
       let keeps : Timer → Bool = λ x. not (ends_timer x.key e) in
-      ascend_more (λ (x : Timer). x.key) 0 (timers_left e (timers before)) t (omega arith) (ascend_left 0 keeps (timers before) s.ascend) (below_left t.key keeps (timers before) (s.below t.key later))
+      ascend_more (λ (x : Timer). x.key) 0 (timers_left e (timers before)) t (omega arith) (ascend_kept (λ (t : Timer). t.key) keeps 0 (timers before) s.ascend) (below_left t.key keeps (timers before) (s.below t.key later))
 
   below_by : (told : Option Timer) (high : ℕ) → are_below (λ k. k) high (timers_made before ++ key_made told) ≡ true → are_below (λ (t : Timer). t.key) high (timers_left e (timers before) ++ timer_made told) ≡ true
   below_by None high below =

@@ -51,8 +51,8 @@ impl<R: Timed> Waits<R> {
         self.rows.get(key)
     }
 
-    /// When the row is due that is due first, and its key, if one is due now: the one with the earliest moment, and of those
-    /// with the same one the one with the least key. It takes the logarithm of how many rows wait.
+    /// When the row is due that is due first, and its key, if one is due now: the one with the earliest moment, and of
+    /// those with the same one the one with the least key. It takes the logarithm of how many rows wait.
     pub fn first_due(&self, now: Moment) -> Option<(Moment, Key)>
         ensures { result ≡ option_map (place_in_time R.key_in R.moment_in) (first_due R.key_in R.moment_in now self.now) }
     {
@@ -62,8 +62,8 @@ impl<R: Timed> Waits<R> {
         }
     }
 
-    /// Adds a row whose key none has. After a refusal the rows are only dropped. It takes the logarithm of how many rows
-    /// wait where its key is greater than all; else a step for each row behind it as well.
+    /// Adds a row whose key none has. After a refusal the rows are only dropped. It takes the logarithm of how many
+    /// rows wait where its key is greater than all; else a step for each row behind it as well.
     pub fn add(&mut self, alloc: Global, row: R) -> Result<(), AllocError>
         requires { find (λ r. R.key_in r == R.key_in row) self.old ≡ None }
         ensures { OnOk result (self.new ≡ with_row R.key_in row self.old) }
@@ -83,7 +83,8 @@ impl<R: Timed> Waits<R> {
         Ok(self)
     }
 
-    /// Takes out the row with this key, if there is one. It takes the logarithm of how many rows there are, on average.
+    /// Takes out the row with this key, if there is one. It takes the logarithm of how many rows there are, on
+    /// average.
     pub fn take(&mut self, key: Key) -> Option<R>
         ensures row { result ≡ find (λ r. R.key_in r == key) self.old }
         ensures left { self.new ≡ without R.key_in key self.old }
