@@ -1,5 +1,5 @@
 -- What is kept beside the jobs stays right with one job more, one fewer, or one changed.
-use Rattle.std.proofs.Common.{◌≡◌, ℕ, ◌<◌, ◌==◌, List, [], ◌∷◌, ◌++◌, map, filter, Bool, true, false, not, ◌&&◌, cond, if◌then◌else◌, Option, Some, None, option_map, refl, sym, ap, ◌∙◌, arith, nat_cmp, bytes_eq, BTreeMap}
+use Rattle.std.proofs.Common.{◌≡◌, ℕ, ◌==◌, List, [], ◌∷◌, ◌++◌, map, filter, Bool, true, false, not, ◌&&◌, cond, if◌then◌else◌, Option, Some, None, option_map, refl, sym, ap, ◌∙◌, arith, nat_cmp, bytes_eq, BTreeMap}
 use Rattle.std.specs.List.{find}
 use Rattle.std.specs.BTreeMap.{get, is_at}
 use Rattle.std.specs.BTreeSet.{insert_key}
@@ -8,61 +8,14 @@ use Rattle.std.proofs.lemmas.Bool.Decides.{nat_tests}
 use Rattle.zb_table.specs.Rows.{are_below, without}
 use Rattle.zb_table.proofs.Ascending.{ascend_more}
 use Rattle.zb_views.specs.declared.job.Job.{Job}
-use Rattle.zb_views.specs.Jobs.{is_activatable, is_activated}
+use Rattle.zb_views.specs.Jobs.{is_activatable}
 use Rattle.zb_jobs.specs.declared.waiting.Waiting.{Waiting}
-use Rattle.zb_jobs.specs.declared.given.Given.{Given}
 use Rattle.zb_jobs.specs.Table.{job_of_cell, HaveOwnCells, offered_keys}
 use Rattle.zb_jobs.specs.Waiting.{keys_waiting}
-use Rattle.zb_jobs.specs.Given.{is_given}
-use Rattle.zb_jobs.specs.Indexed.{is_held, HasIndexes}
-use Rattle.zb_jobs.proofs.RowLemmas.{none_here, none_later, found_passes, ascend_kept, ascend_mapped, own_more, own_kept, own_mapped, cell_gone}
+use Rattle.zb_jobs.specs.Indexed.{HasIndexes}
+use Rattle.zb_waits.proofs.FoundLemmas.{found_passes, found_new, found_other, found_mapped, found_without, ascend_kept, ascend_mapped}
+use Rattle.zb_jobs.proofs.RowLemmas.{own_more, own_kept, own_mapped, cell_gone}
 use Rattle.zb_jobs.proofs.OfferedLemmas.{same_number, offered_more, offered_same, offered_gone, offered_kept, offered_on, offered_off, offered_stays}
-
-module _ {A : Type 0} (p : A → Bool) where
-  -- what is found with one more that is the first to pass
-  found_new : (xs : List A) (x : A) → find p xs ≡ None → p x ≡ true → find p (xs ++ x ∷ []) ≡ Some x
-  found_new [] x none is = rw is refl
-  found_new (y ∷ xs) x none is = rw (none_here p y xs none) (found_new xs x (none_later p y xs none) is)
-
-  -- or that doesn't
-  found_other : (xs : List A) (x : A) → p x ≡ false → find p (xs ++ x ∷ []) ≡ find p xs
-  found_other [] x isnt = rw isnt refl
-  found_other (y ∷ xs) x isnt = ap (λ (o : Option A). cond (p y) (Some y) o) (found_other xs x isnt)
-
-  -- where all are changed in another respect
-  found_mapped : (f : A → A) (xs : List A) → ((x : A) → p (f x) ≡ p x) → find p (map f xs) ≡ option_map f (find p xs)
-  found_mapped f [] keeps = refl
-  found_mapped f (x ∷ xs) keeps = rw (keeps x) (by_test (p x) (found_mapped f xs keeps))
-    where
-      by_test : (t : Bool) → find p (map f xs) ≡ option_map f (find p xs) → cond t (Some (f x)) (find p (map f xs)) ≡ option_map f (cond t (Some x) (find p xs))
-      by_test true later = refl
-      by_test false later = later
-
--- what is found without those that have a number
-found_without : {A : Type 0} (number : A → ℕ) (gone n : ℕ) (xs : List A) → find (λ x. number x == n) (filter (λ x. not (number x == gone)) xs) ≡ cond (gone == n) None (find (λ x. number x == n) xs)
-found_without {A} number gone n [] = by_test (gone == n)
-  where
-    by_test : (t : Bool) → ◌≡◌ {A = Option A} None (cond t None None)
-    by_test true = refl
-    by_test false = refl
-found_without {A} number gone n (x ∷ xs) = by_tests (number x == gone) (number x == n) (gone == n) refl (λ is at. grind (arith, nat_tests)) (λ is at. grind (arith, nat_tests)) (found_without number gone n xs)
-  where
-    by_tests : (s t u : Bool) → (number x == n) ≡ t → (s ≡ true → t ≡ true → u ≡ true) → (u ≡ true → t ≡ true → s ≡ true) → find (λ y. number y == n) (filter (λ y. not (number y == gone)) xs) ≡ cond u None (find (λ y. number y == n) xs)
-        → find (λ y. number y == n) (cond (not s) (x ∷ filter (λ y. not (number y == gone)) xs) (filter (λ y. not (number y == gone)) xs)) ≡ cond u None (cond t (Some x) (find (λ y. number y == n) xs))
-    by_tests true true u at both back later = rw (both refl refl) (later ∙ rw (both refl refl) refl)
-    by_tests true false u at both back later = later
-    by_tests false true true at both back later = absurd (let is = back refl refl in cc)
-    by_tests false true false at both back later = rw at refl
-    by_tests false false u at both back later = rw at later
-
--- no job has a key that is greater than all
-none_below : (k : ℕ) (js : List Job) → are_below (λ j. j.key) k js ≡ true → find (λ j. j.key == k) js ≡ None
-none_below k [] below = refl
-none_below k (j ∷ js) below =
-    let less : j.key < k = grind (arith, nat_tests, below) in
-    let later : are_below (λ o. o.key) k js ≡ true = grind (arith, nat_tests, below) in
-    let apart : (j.key == k) ≡ false = grind (arith, nat_tests, less) in
-    rw apart (none_below k js later)
 
 -- the job that is found is that of its cell
 own_found : (p : Job → Bool) (js : List Job) (j : Job) → HaveOwnCells js → find p js ≡ Some j → job_of_cell j.cell js ≡ Some j
@@ -87,22 +40,17 @@ own_found p (x ∷ js) j own at = by_test (p x) at (own_found p js j own.1)
 abbrev pub IsOffered : Waiting → Waiting → Job → Type 0
 IsOffered old new j = (kind : List ℕ) → keys_waiting new kind ≡ (if bytes_eq j.kind kind then (if is_activatable j.phase then insert_key nat_cmp (keys_waiting old kind) j.key else remove_key (is_at (nat_cmp j.key)) (keys_waiting old kind)) else keys_waiting old kind)
 
--- a job is taken away from those that workers have, and put to them again, as its phase is
-abbrev pub IsHeldAgain : Given → Given → ℕ → Job → Type 0
-IsHeldAgain old new deadline j = (m k : ℕ) → is_given new m k ≡ (if is_activated j.phase && ((j.deadline == m) && (j.key == k)) then true else if (deadline == m) && (j.key == k) then false else is_given old m k)
-
-module _ (rows : List Job) (cells : BTreeMap ℕ ℕ) (waiting : Waiting) (given : Given) (right : HasIndexes rows cells waiting given) where
+module _ (rows : List Job) (cells : BTreeMap ℕ ℕ) (waiting : Waiting) (right : HasIndexes rows cells waiting) where
   -- with a job that is made
-  pub with_made : (job : Job) (more : BTreeMap ℕ ℕ) (wait : Waiting) → are_below (λ j. j.key) job.key rows ≡ true → job_of_cell job.cell rows ≡ None → is_activatable job.phase ≡ true → is_activated job.phase ≡ false
+  pub with_made : (job : Job) (more : BTreeMap ℕ ℕ) (wait : Waiting) → are_below (λ j. j.key) job.key rows ≡ true → job_of_cell job.cell rows ≡ None → is_activatable job.phase ≡ true
       → ((c : ℕ) → get nat_cmp more c ≡ cond (is_at (nat_cmp job.cell) c) (Some job.key) (get nat_cmp cells c))
       → ((kind : List ℕ) → keys_waiting wait kind ≡ (if bytes_eq job.kind kind then insert_key nat_cmp (keys_waiting waiting kind) job.key else keys_waiting waiting kind))
-      → HasIndexes (rows ++ job ∷ []) more wait given
-  with_made job more wait below free waits isnt on_more waits_more = record {
+      → HasIndexes (rows ++ job ∷ []) more wait
+  with_made job more wait below free waits on_more waits_more = record {
     ascend = ascend_more (λ (j : Job). j.key) 0 rows job (omega arith) right.ascend below;
     own = own_more rows job right.own free;
     on = λ c. on_more c ∙ (ap (λ (t : Bool). cond t (Some job.key) (get nat_cmp cells c)) (same_number job.cell c) ∙ on_by c (job.cell == c) refl);
     waits = λ kind. waits_more kind ∙ waits_by kind (bytes_eq job.kind kind) refl;
-    held = λ d k. right.held d k ∙ held_by d k (job.key == k) refl;
   }
     where
       on_by : (c : ℕ) (t : Bool) → (job.cell == c) ≡ t → cond t (Some job.key) (get nat_cmp cells c) ≡ option_map (λ j. j.key) (job_of_cell c (rows ++ job ∷ []))
@@ -117,25 +65,16 @@ module _ (rows : List Job) (cells : BTreeMap ℕ ℕ) (waiting : Waiting) (given
           ap (λ (l : List ℕ). insert_key nat_cmp l job.key) (right.waits kind) ∙ sym (offered_more kind rows job below (rw (waits, same) refl))
       waits_by kind false other = right.waits kind ∙ sym (offered_same kind rows job (rw (waits, other) refl))
 
-      held_by : (d k : ℕ) (t : Bool) → (job.key == k) ≡ t → is_held d (find (λ j. j.key == k) rows) ≡ is_held d (find (λ j. j.key == k) (rows ++ job ∷ []))
-      held_by d k true same =
-          let is : job.key ≡ k = grind (arith, nat_tests, same) in
-          let none = none_below k rows (ap (λ (n : ℕ). are_below (λ (j : Job). j.key) n rows) (sym is) ∙ below) in
-          rw (none, found_new (λ (j : Job). j.key == k) rows job none same, isnt) refl
-      held_by d k false other = sym (ap (is_held d) (found_other (λ (j : Job). j.key == k) rows job other))
-
   -- without the job with a key
-  pub without_one : (key : ℕ) (job : Job) (less : BTreeMap ℕ ℕ) (wait : Waiting) (left : Given) → find (λ j. j.key == key) rows ≡ Some job
+  pub without_one : (key : ℕ) (job : Job) (less : BTreeMap ℕ ℕ) (wait : Waiting) → find (λ j. j.key == key) rows ≡ Some job
       → ((c : ℕ) → get nat_cmp less c ≡ cond (is_at (nat_cmp job.cell) c) None (get nat_cmp cells c))
       → ((kind : List ℕ) → keys_waiting wait kind ≡ (if bytes_eq job.kind kind then remove_key (is_at (nat_cmp key)) (keys_waiting waiting kind) else keys_waiting waiting kind))
-      → ((m k : ℕ) → is_given left m k ≡ (if (job.deadline == m) && (key == k) then false else is_given given m k))
-      → HasIndexes (without (λ j. j.key) key rows) less wait left
-  without_one key job less wait left at on_less waits_less held_less = record {
+      → HasIndexes (without (λ j. j.key) key rows) less wait
+  without_one key job less wait at on_less waits_less = record {
     ascend = ascend_kept (λ (j : Job). j.key) (λ (j : Job). not (j.key == key)) 0 rows right.ascend;
     own = own_kept (λ (j : Job). not (j.key == key)) rows right.own;
     on = λ c. on_less c ∙ (ap (λ (t : Bool). cond t None (get nat_cmp cells c)) (same_number job.cell c) ∙ on_by c);
     waits = λ kind. waits_less kind ∙ waits_by kind (bytes_eq job.kind kind) refl;
-    held = λ m k. held_less m k ∙ held_by m k (key == k) (job.deadline == m) refl refl;
   }
     where
       its : job.key ≡ key
@@ -162,34 +101,16 @@ module _ (rows : List Job) (cells : BTreeMap ℕ ℕ) (waiting : Waiting) (given
       waits_by kind true same = ap (remove_key (is_at (nat_cmp key))) (right.waits kind) ∙ sym (offered_gone kind key 0 rows right.ascend)
       waits_by kind false other = right.waits kind ∙ sym (offered_kept kind key 0 rows job right.ascend at (rw other (nothing (is_activatable job.phase))))
 
-      held_by : (m k : ℕ) (t u : Bool) → (key == k) ≡ t → (job.deadline == m) ≡ u → (if u && t then false else is_given given m k) ≡ is_held m (find (λ j. j.key == k) (without (λ j. j.key) key rows))
-      held_by m k true u same when =
-          let is : key ≡ k = grind (arith, nat_tests, same) in
-          let old : is_given given m k ≡ (is_activated job.phase && (job.deadline == m)) = right.held m k ∙ (ap (λ (n : ℕ). is_held m (find (λ (j : Job). j.key == n) rows)) (sym is) ∙ ap (is_held m) at) in
-          rw (found_without (λ (j : Job). j.key) key k rows, same, old, when) (both u (is_activated job.phase))
-        where
-          both : (u a : Bool) → (if u && true then false else (a && u)) ≡ false
-          both true a = refl
-          both false true = refl
-          both false false = refl
-      held_by m k false u other when = rw (found_without (λ (j : Job). j.key) key k rows, other, right.held m k) (neither u)
-        where
-          neither : (u : Bool) → (if u && false then false else is_held m (find (λ j. j.key == k) rows)) ≡ is_held m (find (λ j. j.key == k) rows)
-          neither true = refl
-          neither false = refl
-
   -- with the job with a key changed
-  pub with_one_changed : (key : ℕ) (job : Job) (f : Job → Job) (wait : Waiting) (left : Given) → find (λ j. j.key == key) rows ≡ Some job
+  pub with_one_changed : (key : ℕ) (job : Job) (f : Job → Job) (wait : Waiting) → find (λ j. j.key == key) rows ≡ Some job
       → ((j : Job) → (f j).key ≡ j.key) → ((j : Job) → (f j).cell ≡ j.cell) → (f job).kind ≡ job.kind → ((j : Job) → (j.key == key) ≡ false → f j ≡ j)
       → IsOffered waiting wait (f job)
-      → IsHeldAgain given left job.deadline (f job)
-      → HasIndexes (map f rows) cells wait left
-  with_one_changed key job f wait left at keeps stays kinds only waits_new held_new = record {
+      → HasIndexes (map f rows) cells wait
+  with_one_changed key job f wait at keeps stays kinds only waits_new = record {
     ascend = ascend_mapped (λ (j : Job). j.key) f 0 rows keeps right.ascend;
     own = own_mapped f rows stays right.own;
     on = λ c. right.on c ∙ sym (ap (option_map (λ (j : Job). j.key)) (found_mapped (λ (j : Job). j.cell == c) f rows (λ j. ap (λ (n : ℕ). n == c) (stays j))) ∙ keys_stay (job_of_cell c rows));
     waits = λ kind. waits_new kind ∙ rw its (waits_by kind (bytes_eq (f job).kind kind) (is_activatable (f job).phase) refl refl);
-    held = λ m k. held_new m k ∙ rw its (held_by m k (key == k) refl);
   }
     where
       its : (f job).key ≡ key
@@ -212,39 +133,3 @@ module _ (rows : List Job) (cells : BTreeMap ℕ ℕ) (waiting : Waiting) (given
       waits_by kind false u other waits =
           let old : bytes_eq job.kind kind ≡ false = ap (λ (l : List ℕ). bytes_eq l kind) (sym kinds) ∙ other in
           right.waits kind ∙ sym (offered_stays kind f key keeps only 0 rows job right.ascend at (rw old (nothing (is_activatable job.phase))) (rw other (nothing (is_activatable (f job).phase))))
-
-      now_at : (k : ℕ) → find (λ j. j.key == k) (map f rows) ≡ option_map f (find (λ j. j.key == k) rows)
-      now_at k = found_mapped (λ (j : Job). j.key == k) f rows (λ j. ap (λ (n : ℕ). n == k) (keeps j))
-
-      as_before : (k : ℕ) → (key == k) ≡ false → (found : Option Job) → find (λ j. j.key == k) rows ≡ found → option_map f found ≡ found
-      as_before k other None is = refl
-      as_before k other (Some j) is =
-          let same = found_passes (λ (o : Job). o.key == k) rows j is in
-          let apart : (j.key == key) ≡ false = grind (arith, nat_tests, other, same) in
-          ap (λ (o : Job). Some o) (only j apart)
-
-      held_by : (m k : ℕ) (t : Bool) → (key == k) ≡ t
-          → (if is_activated (f job).phase && (((f job).deadline == m) && (key == k)) then true else if (job.deadline == m) && (key == k) then false else is_given given m k) ≡ is_held m (find (λ j. j.key == k) (map f rows))
-      held_by m k true same =
-          let is : key ≡ k = grind (arith, nat_tests, same) in
-          let here : find (λ j. j.key == k) rows ≡ Some job = ap (λ (n : ℕ). find (λ (j : Job). j.key == n) rows) (sym is) ∙ at in
-          let old : is_given given m k ≡ (is_activated job.phase && (job.deadline == m)) = right.held m k ∙ ap (is_held m) here in
-          rw (now_at k, here, same, old) (both (is_activated (f job).phase) ((f job).deadline == m) (is_activated job.phase) (job.deadline == m))
-        where
-          both : (a d b e : Bool) → (if a && (d && true) then true else if e && true then false else (b && e)) ≡ (a && d)
-          both true true b e = refl
-          both true false b true = refl
-          both true false true false = refl
-          both true false false false = refl
-          both false d b true = refl
-          both false d true false = refl
-          both false d false false = refl
-      held_by m k false other = rw (now_at k, as_before k other (find (λ j. j.key == k) rows) refl, other, right.held m k) (neither (is_activated (f job).phase) ((f job).deadline == m) (job.deadline == m))
-        where
-          neither : (a d e : Bool) → (if a && (d && false) then true else if e && false then false else is_held m (find (λ j. j.key == k) rows)) ≡ is_held m (find (λ j. j.key == k) rows)
-          neither true true true = refl
-          neither true true false = refl
-          neither true false true = refl
-          neither true false false = refl
-          neither false d true = refl
-          neither false d false = refl

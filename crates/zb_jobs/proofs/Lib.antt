@@ -1,6 +1,5 @@
 pub mod RowLemmas
 pub mod WaitingLemmas
-pub mod GivenLemmas
 pub mod OfferedLemmas
 pub mod DueLemmas
 pub mod IndexLemmas

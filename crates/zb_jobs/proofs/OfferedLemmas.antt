@@ -12,7 +12,7 @@ use Rattle.zb_table.proofs.Changing.{without_none}
 use Rattle.zb_views.specs.declared.job.Job.{Job}
 use Rattle.zb_views.specs.Jobs.{is_offered}
 use Rattle.zb_jobs.specs.Table.{offered_keys}
-use Rattle.zb_jobs.proofs.RowLemmas.{found_above, found_passes, map_above}
+use Rattle.zb_waits.proofs.FoundLemmas.{found_above, found_passes, map_above}
 
 -- numbers are equal
 pub same_number : (a b : ℕ) → is_eq (nat_cmp a b) ≡ (a == b)

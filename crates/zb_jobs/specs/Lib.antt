@@ -1,5 +1,4 @@
 pub mod Table
 pub mod Waiting
-pub mod Given
 pub mod Indexed
 pub mod EarlierLaws

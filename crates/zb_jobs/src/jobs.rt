@@ -1,4 +1,4 @@
-ghost use Rattle.std.specs.Prelude.{◌≡◌, ◌==◌, ◌&&◌, ◌++◌, ◌∷◌, [], IsTrue, OnOk, IfOk, filter, map, take, not, nat_le, is_none, option_map, Some, None, if◌then◌else◌};
+ghost use Rattle.std.specs.Prelude.{◌≡◌, ◌==◌, ◌&&◌, ◌++◌, ◌∷◌, [], IsTrue, OnOk, IfOk, filter, map, take, not, is_none, option_map};
 ghost use Rattle.std.specs.List.{find};
 ghost use Rattle.std.specs.Option.{option_copied};
 ghost use Rattle.zb_table.specs.Rows.{Ascend, are_below, without};
@@ -7,25 +7,24 @@ ghost use Rattle.zb_views.specs.JobLaws.{job_changed, jobs_by};
 ghost use Rattle.zb_jobs.specs.Table.{job_of_cell, HaveOwnCells, has_place_for, ChangesOnly, place_of_job, due_job};
 
 use crate::change::{changed, made, says_nothing_of_jobs};
-use crate::given::Given;
-use crate::places::{hold, offer};
+use crate::places::offer;
 use crate::waiting::Waiting;
 use std::alloc::{AllocError, Global};
 use std::collections::BTreeMap;
 use std::marker::Model;
 use std::mem;
 use zb_model::{Event, JobCreated, Key, List, Moment};
-use zb_table::Table;
 use zb_views::Job;
+use zb_waits::Waits;
 
 /// The jobs that are there, in the order of their keys. Contracts see the list of them.
 #[derive(Drop)]
 pub struct Jobs {
-    rows: Table<Job>,
+    // They wait for their deadlines where workers have them.
+    rows: Waits<Job>,
     // The key of the job that waits on each cell.
     cells: BTreeMap<Key, Key>,
     waiting: Waiting,
-    given: Given,
 }
 
 impl Model for Jobs {
@@ -37,7 +36,7 @@ impl Model for Jobs {
 
     ghost view = { λ t. t.rows };
 
-    ghost invariant = { λ t. HasIndexes t.rows t.cells t.waiting t.given };
+    ghost invariant = { λ t. HasIndexes t.rows t.cells t.waiting };
 }
 
 impl Jobs {
@@ -46,10 +45,9 @@ impl Jobs {
         ensures { result ≡ [] }
     {
         Jobs {
-            rows: Table::empty(alloc),
+            rows: Waits::empty(alloc),
             cells: BTreeMap::new(alloc),
             waiting: Waiting::empty(alloc),
-            given: Given::empty(alloc),
         }
     }
 
@@ -87,10 +85,7 @@ impl Jobs {
     pub fn first_due(&self, now: Moment) -> Option<(Moment, Key)>
         ensures { result ≡ option_map place_of_job (due_job now self.now) }
     {
-        match self.given.first() {
-            Some(first) => if_come(first, now),
-            None => None,
-        }
+        self.rows.first_due(now)
     }
 
     /// Takes in what an event says of jobs. After a refusal the jobs are only dropped. It takes the logarithm of how
@@ -135,7 +130,8 @@ impl Jobs {
         self.cells.insert(created.cell, created.key)?;
         self.waiting
             .join(alloc, created.kind.as_str(), created.key)?;
-        self.rows.add(made(alloc, created)?)?;
+        let job = made(alloc, created)?;
+        self.rows.add(alloc, job)?;
         Ok(self)
     }
 
@@ -167,7 +163,6 @@ impl Jobs {
             Some(job) => {
                 self.cells.remove(&job.cell);
                 self.waiting.leave(job.kind.as_str(), key)?;
-                self.given.take(job.deadline, key);
                 Ok(self)
             }
             None => Ok(self),
@@ -191,21 +186,12 @@ impl Jobs {
     {
         match self.rows.take(key) {
             Some(job) => {
-                let deadline = job.deadline;
                 let after = changed(job, event);
                 offer(alloc, &mut self.waiting, &after)?;
-                hold(&mut self.given, deadline, &after)?;
-                self.rows.add(after)?;
+                self.rows.add(alloc, after)?;
                 Ok(self)
             }
             None => Ok(self),
         }
     }
-}
-
-// What is first, if its deadline has come.
-fn if_come(first: (Moment, Key), now: Moment) -> Option<(Moment, Key)>
-    ensures { result ≡ (if nat_le first.0 now then Some first else None) }
-{
-    if first.0 <= now { Some(first) } else { None }
 }

@@ -2,7 +2,6 @@
 #![tactic(auto)]
 
 mod change;
-mod given;
 mod jobs;
 mod places;
 mod waiting;

@@ -6,5 +6,8 @@ pub mod Begin
 pub mod Told
 pub mod Jobs
 pub mod JobLaws
+pub mod Timers
+pub mod TimerLaws
+pub mod TimerEndsLaws
 pub mod ViewLaws
 pub mod CounterLaws

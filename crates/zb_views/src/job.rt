@@ -1,5 +1,8 @@
+ghost use Rattle.std.specs.Prelude.{Some, None, if◌then◌else◌};
+ghost use Rattle.zb_views.specs.Jobs.{is_activated};
+
 use zb_model::{Key, Moment, Text};
-use zb_table::Row;
+use zb_table::{Row, Timed};
 
 /// Where a job is in its life.
 #[derive(Clone, Copy, Debug, PartialEq, Eq)]
@@ -34,5 +37,16 @@ impl Row for Job {
 
     fn key(&self) -> Key {
         self.key
+    }
+}
+
+impl Timed for Job {
+    ghost moment_in = { λ j. if is_activated j.phase then Some j.deadline else None };
+
+    fn moment(&self) -> Option<Moment> {
+        match self.phase {
+            JobPhase::Activated => Some(self.deadline),
+            JobPhase::Created | JobPhase::TimedOut | JobPhase::Failed => None,
+        }
     }
 }

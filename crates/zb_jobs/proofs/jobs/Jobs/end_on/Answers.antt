@@ -5,7 +5,8 @@ use Rattle.zb_table.specs.Rows.{without}
 use Rattle.zb_views.specs.declared.job.Job.{Job}
 use Rattle.zb_jobs.specs.Table.{job_of_cell, HaveOwnCells}
 use Rattle.zb_table.specs.Rows.{Ascend}
-use Rattle.zb_jobs.proofs.RowLemmas.{cell_gone, all_stay}
+use Rattle.zb_waits.proofs.FoundLemmas.{all_stay}
+use Rattle.zb_jobs.proofs.RowLemmas.{cell_gone}
 use Rattle.zb_jobs.proofs.jobs.Jobs.end_on.Goals as goal
 
 -- the job of the cell has the key

@@ -1,0 +1,58 @@
+// Each public call with ample memory.
+ghost use Rattle.std.specs.Prelude.{◌≡◌};
+
+use crate::Timers;
+use std::alloc::Global;
+use std::process::Abort;
+use zb_model::{Event, Key, Moment, Text, TimerCreated};
+
+const CELL: u64 = 1;
+
+// A timer with this key is made on the cell, and is due at this moment.
+fn created(rt: &impl Abort, alloc: Global, key: u64, due: u64) -> TimerCreated
+    ensures { result.key ≡ key }
+{
+    TimerCreated {
+        key: Key::new(key),
+        cell: Key::new(CELL),
+        node: Text::of(alloc, "wait").expect(rt, "memory"),
+        due: Moment::new(due),
+    }
+}
+
+// The timer 2, which is due at 1,000, and the timer 3, which is due at 500.
+fn two_timers(rt: &impl Abort, alloc: Global) -> Timers {
+    let mut timers = Timers::empty(alloc);
+    let slow = Event::TimerCreated(created(rt, alloc, 2, 1_000));
+    assert!(rt; timers.apply(alloc, &slow) == Ok(()));
+    let fast = Event::TimerCreated(created(rt, alloc, 3, 500));
+    assert!(rt; timers.apply(alloc, &fast) == Ok(()));
+    timers
+}
+
+// How many timers the cell has.
+fn count_on(rt: &impl Abort, alloc: Global, timers: &Timers) -> usize {
+    let keys = timers.on(alloc, Key::new(CELL)).expect(rt, "memory");
+    keys.as_slice().len()
+}
+
+#[test]
+fn the_first_by_moment_is_due_first(rt: HostRuntime) {
+    let timers = two_timers(&rt, rt.alloc());
+    assert!(rt; timers.first_due(Moment::new(499)).is_none());
+    assert!(rt; timers.first_due(Moment::new(1_000)) == Some((Moment::new(500), Key::new(3))));
+}
+
+#[test]
+fn a_timer_that_ends_is_there_no_more(rt: HostRuntime) {
+    let alloc = rt.alloc();
+    let (slow, fast) = (Key::new(2), Key::new(3));
+    let mut timers = two_timers(&rt, alloc);
+    assert!(rt; timers.get(slow).is_some());
+    assert!(rt; count_on(&rt, alloc, &timers) == 2);
+    assert!(rt; timers.apply(alloc, &Event::TimerTriggered(fast)) == Ok(()));
+    assert!(rt; timers.first_due(Moment::new(1_000)) == Some((Moment::new(1_000), slow)));
+    assert!(rt; timers.apply(alloc, &Event::TimerCanceled(slow)) == Ok(()));
+    assert!(rt; timers.get(slow).is_none());
+    assert!(rt; count_on(&rt, alloc, &timers) == 0);
+}

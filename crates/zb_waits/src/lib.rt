@@ -1,0 +1,6 @@
+//! Rows in the order of their keys, found by the moments for which they wait.
+#![tactic(auto)]
+
+mod waits;
+
+pub use waits::Waits;
