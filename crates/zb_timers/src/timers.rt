@@ -4,7 +4,7 @@ ghost use Rattle.std.specs.Option.{option_copied};
 ghost use Rattle.zb_table.specs.Rows.{Ascend, are_below, without};
 ghost use Rattle.zb_views.specs.Timers.{timer_of};
 ghost use Rattle.zb_views.specs.TimerLaws.{timers_by};
-ghost use Rattle.zb_timers.specs.Table.{has_place_for, keys_on, place_of_timer, due_timer};
+ghost use Rattle.zb_timers.specs.Table.{comes_behind, keys_on, place_of_timer, due_timer};
 
 use crate::cells::keys_under;
 use crate::change::{made, says_nothing_of_timers};
@@ -75,7 +75,7 @@ impl Timers {
     /// Takes in what an event says of timers. After a refusal the timers are only dropped. It takes the logarithm of
     /// how many timers there are, on average.
     pub fn apply(&mut self, alloc: Global, event: &Event) -> Result<(), AllocError>
-        requires { IsTrue (has_place_for self.old event.now) }
+        requires { IsTrue (comes_behind self.old event.now) }
         ensures { OnOk result (self.new ≡ timers_by event.now self.old) }
     {
         if says_nothing_of_timers(event) {
