@@ -50,7 +50,7 @@ due_no_unit reading p [] entries q command is = absurd (cc)
 due_no_unit reading p (log ∷ logs) entries q command is =
     let events = events_of (log_behind p log entries) in
     due_pair p q (due_command reading events) (due_in_logs reading (suc p) logs entries) command
-    (due_command_has reading events IsNoUnit (λ key. refl) (λ key. refl)) (due_no_unit reading (suc p) logs entries q command) is
+    (due_command_has reading events IsNoUnit (λ key. refl) (λ key. refl) (λ key. refl)) (due_no_unit reading (suc p) logs entries q command) is
 
 tick_no_unit : (few : Bool) (due : Option (ℕ × Command)) (q : ℕ) (command : Command) → (due ≡ Some (q, command) → IsNoUnit command) → (if few then due else None) ≡ Some (q, command) → IsNoUnit command
 tick_no_unit true due q command nounit is = nounit is

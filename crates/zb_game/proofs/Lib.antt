@@ -13,3 +13,4 @@ pub mod IndexedLemmas
 pub mod ReadyLemmas
 pub mod ExitLemmas
 pub mod MappingLemmas
+pub mod LastLemmas

@@ -1,12 +1,10 @@
 -- What mappings make, one after the other.
-use Rattle.std.proofs.Common.{◌≡◌, ℕ, ◌+◌, ◌<◌, ◌≤◌, ◌++◌, Bool, true, List, [], ◌∷◌, length, drop, slice_get, position, Option, Some, None, Result, Ok, Err, IfOk, option_map, refl, sym, ap, subst, ◌∙◌, append_assoc, arith}
+use Rattle.std.proofs.Common.{◌≡◌, ℕ, ◌+◌, ◌<◌, ◌≤◌, ◌++◌, Bool, List, [], ◌∷◌, length, drop, slice_get, position, Option, Some, None, Result, Ok, Err, option_map, refl, sym, ap, subst, ◌∙◌, append_assoc, arith}
 use Rattle.std.specs.List.{find, position_or_len}
 use Rattle.std.proofs.lemmas.Grind.{common_steps}
 use Rattle.std.proofs.lemmas.List.Folds.{find_at}
 use Rattle.std.proofs.lemmas.Option.{slice_get_past, slice_get_within, get_or_from_slice_get}
 use Rattle.std.proofs.lemmas.List.{drop_more}
-use Rattle.std.proofs.lemmas.Result.{IfOk-weaker}
-use Rattle.std.specs.Result.{result_map_both}
 use Rattle.zb_base.specs.Results.{◌>>=◌}
 use Rattle.zb_base.specs.declared.value.Value.{Value}
 use Rattle.zb_base.specs.declared.vars.Variable.{Variable}
@@ -16,12 +14,7 @@ use Rattle.zb_process.specs.Tree.{Tree}
 use Rattle.zb_expr.specs.Outcome.{IsTold}
 use Rattle.zb_expr.specs.declared.fault.EvalFault.{EvalFault}
 use Rattle.zb_expr.proofs.RunLemmas.{told-too}
-use Rattle.zb_tokens.specs.declared.board.Cell.{Cell}
-use Rattle.zb_tokens.specs.declared.board.Move.{Move}
-use Rattle.zb_tokens.specs.Incidents.{Hindrance, hindrance_of}
 use Rattle.zb_tokens.specs.Mappings.{mapped}
-use Rattle.zb_tokens.specs.Forced.{open_by, leave_by}
-use Rattle.zb_game.specs.Exits.{fault_told}
 
 -- what is made so far, and then the rest
 abbrev pub behind : List Variable → Result (List Variable) ValueFault → Result (List Variable) ValueFault
@@ -91,26 +84,3 @@ module _ (names : List ℕ → Option Value) (ms : List Mapping) (made : List Va
       let same : p.mapping ≡ m = (let e : Some p.mapping ≡ Some m = sym p.there ∙ there in cc) in
       subst (λ (x : Mapping). behind (made ++ record { name = x.target; value = value } ∷ []) (mapped names (drop (i + 1) ms)) ≡ mapped names ms) same
       (sym (mapped_more names p.mapping (drop (i + 1) ms) made value (ap (value_of names) p.is ∙ gives)) ∙ from_here)
-
--- an incident tells of the fault of some mappings: a cell doesn't become active
-open_by_fault : (key : ℕ) (c : Cell) (variables : Result (List Variable) ValueFault) (move : Move) → Some move ≡ fault_told key c.key (variables >>= (λ vs. Ok true)) → move ≡ open_by key c (result_map_both (λ vs. vs) hindrance_of variables)
-open_by_fault key c (Ok vs) move is = absurd (cc)
-open_by_fault key c (Err e) move is = cc
-
-leave_by_fault : (key : ℕ) (c : Cell) (exit : Result (List (List ℕ)) Hindrance) (variables : Result (List Variable) ValueFault) (move : Move) → Some move ≡ fault_told key c.key (variables >>= (λ vs. Ok true))
-    → move ≡ leave_by key c (result_map_both (λ vs. vs) hindrance_of variables >>= (λ vs. exit))
-leave_by_fault key c exit (Ok vs) move is = absurd (cc)
-leave_by_fault key c exit (Err e) move is = cc
-
-module _ {E : Type 0} (key : ℕ) (c : Cell) (fault : EvalFault) (variables : Result (List Variable) ValueFault) (told : IsTold fault variables) (answer : Result Move E)
-    (stops : (truth : Result Bool ValueFault) → IsTold fault truth → IfOk answer (λ move. Some move ≡ fault_told key c.key truth)) where
-  stopped : IfOk answer (λ move. Some move ≡ fault_told key c.key (variables >>= (λ vs. Ok true)))
-  stopped = stops (variables >>= (λ vs. Ok true)) (told-too fault variables (variables >>= (λ vs. Ok true)) (λ e is. rw is refl) told)
-
-  -- so it doesn't
-  pub not_opened : IfOk answer (λ move. move ≡ open_by key c (result_map_both (λ vs. vs) hindrance_of variables))
-  not_opened = IfOk-weaker answer (λ move. Some move ≡ fault_told key c.key (variables >>= (λ vs. Ok true))) (λ move. move ≡ open_by key c (result_map_both (λ vs. vs) hindrance_of variables)) (open_by_fault key c variables) stopped
-
-  -- nor is it left
-  pub not_left : (exit : Result (List (List ℕ)) Hindrance) → IfOk answer (λ move. move ≡ leave_by key c (result_map_both (λ vs. vs) hindrance_of variables >>= (λ vs. exit)))
-  not_left exit = IfOk-weaker answer (λ move. Some move ≡ fault_told key c.key (variables >>= (λ vs. Ok true))) (λ move. move ≡ leave_by key c (result_map_both (λ vs. vs) hindrance_of variables >>= (λ vs. exit))) (leave_by_fault key c exit variables) stopped

@@ -1,5 +1,5 @@
 -- How a cell is left, in the words of the player's own functions.
-use Rattle.std.specs.Prelude.{ℕ, List, [], ◌∷◌, Bool, if◌then◌else◌, Option, Some, None, Result, Ok, Err}
+use Rattle.std.specs.Prelude.{ℕ, List, [], ◌∷◌, Bool, if◌then◌else◌, Option, Some, None, Result, Ok}
 use Rattle.std.specs.Option.{option_map_or}
 use Rattle.zb_base.specs.Results.{◌>>=◌}
 use Rattle.zb_base.specs.declared.value.Value.{Value}
@@ -8,13 +8,11 @@ use Rattle.zb_process.specs.declared.model.Node.{Node}
 use Rattle.zb_process.specs.declared.model.Flow.{Flow}
 use Rattle.zb_process.specs.Expr.{ValueFault, value_of}
 use Rattle.zb_process.specs.Tree.{Tree}
-use Rattle.zb_instance_records.specs.declared.happening.IncidentKind.TheVariants as kinds
 use Rattle.zb_tokens.specs.declared.board.Cell.{Cell}
 use Rattle.zb_tokens.specs.declared.board.Move.{Move}
-use Rattle.zb_tokens.specs.declared.board.Move.TheVariants as moves
 use Rattle.zb_tokens.specs.Board.{Board, flows_out}
 use Rattle.zb_tokens.specs.Names.{value_seen}
-use Rattle.zb_tokens.specs.Incidents.{Hindrance, text_of}
+use Rattle.zb_tokens.specs.Incidents.{Hindrance}
 use Rattle.zb_tokens.specs.Choice.{gateway_in, choice_at, decided, decides, truth_at, truth_of}
 use Rattle.zb_tokens.specs.Forced.{leave_by}
 
@@ -37,8 +35,3 @@ exit_in m b c = option_map_or (λ g. owed_for (choice_at (value_seen b c.key) g)
 -- how a cell is left, where an incident gets this key, if a flow decides it
 abbrev pub decided_by : (List ℕ → Option Value) → Node → Flow → ℕ → Cell → Option Move
 decided_by names n f key c = if decides names n f then Some (leave_by key c (owed_for (decided f (truth_at names f)))) else None
-
--- the incident with a key on a cell, which tells of the fault of an expression, if it has one
-abbrev pub fault_told : ℕ → ℕ → Result Bool ValueFault → Option Move
-fault_told key cell (Ok truth) = None
-fault_told key cell (Err fault) = Some (moves.Incident (record { key = key; kind = kinds.ExtractValueError; cell = cell; job = 0; text = text_of fault }))

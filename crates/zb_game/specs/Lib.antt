@@ -4,3 +4,4 @@ pub mod Indexed
 pub mod Searches
 pub mod Exits
 pub mod Mapped
+pub mod Opens

@@ -6,6 +6,7 @@ ghost use Rattle.zb_tokens.specs.Game.{empty_board, fits, played};
 ghost use Rattle.zb_game.specs.declared.game.GameFault.TheVariants as faults;
 
 mod assign;
+mod catches;
 mod changes;
 mod conditions;
 mod contents;
@@ -35,6 +36,7 @@ mod start;
 mod take;
 mod throw;
 mod tokens;
+mod trigger;
 mod visible;
 mod work;
 
@@ -186,6 +188,7 @@ impl Game {
             Move::Update(a) => self.fits_update(a),
             Move::Done(key) => self.fits_done(*key),
             Move::Throw(t) => self.fits_throw(t),
+            Move::Trigger(t) => self.fits_trigger(t),
             Move::Incident(i) => self.fits_incident(i),
             Move::Repair(key) => self.fits_repair(*key),
         }
@@ -218,6 +221,7 @@ impl Game {
             Move::Update(a) => self.assign(a),
             Move::Done(key) => self.done(key),
             Move::Throw(t) => self.throw(t),
+            Move::Trigger(t) => self.trigger(t),
             Move::Incident(i) => self.raise(i),
             Move::Repair(key) => self.repair(key),
         }

@@ -7,6 +7,7 @@ mod flows;
 mod game;
 mod keys;
 mod kinds;
+mod lasts;
 mod lookups;
 mod marks;
 mod tallies;

@@ -18,6 +18,7 @@ pub use Rattle.zb_rules.specs.Shown.{holds_of_game}
 use Rattle.zb_rules.specs.Shown.{shown}
 use Rattle.zb_views.specs.Jobs.{is_activated, is_given_out}
 use Rattle.zb_rules.specs.JobEvents.{has_job, is_job_in, begins_job, hands_out, is_called_off_next, are_jobs, has_cause}
+use Rattle.zb_rules.specs.TimerEvents.{may_open, has_timer}
 use Rattle.zb_tokens.specs.Work.{is_cause_of}
 use Rattle.zb_views.specs.Begin.{begun}
 use Rattle.zb_views.specs.Definitions.{definitions}
@@ -87,6 +88,10 @@ holds_own p before (events.JobFailed e) = is_job_in is_given_out e.key before
 holds_own p before (events.JobErrorThrown e) = is_job_in is_given_out e.key before
 holds_own p before (events.JobRetriesUpdated e) = has_job e.key before
 holds_own p before (events.JobBatchActivated e) = is_fresh p before e.key && are_jobs e.jobs before
+holds_own p before (events.TimerCreated e) = is_fresh p before e.key && holds_of_game (may_open e) before
+holds_own p before (events.TimerTriggered key) = has_timer key before
+holds_own p before (events.TimerCanceled key) = has_timer key before
+holds_own p before (events.ProcessEventTriggered e) = true
 holds_own p before (events.IncidentCreated e) = is_fresh p before e.key && has_cause e before
 holds_own p before (events.IncidentResolved e) = holds_of_game (is_cause_of e.job e.key) before
 holds_own p before _ = false

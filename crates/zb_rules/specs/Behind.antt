@@ -1,15 +1,18 @@
 -- The events behind one by which a cell becomes active or begins to end: what it waits for begins, and ends with it (Zeebe, the records).
-use Rattle.std.specs.Prelude.{ℕ, [], ◌∷◌, option_and_then}
+use Rattle.std.specs.Prelude.{ℕ, [], ◌∷◌, map, option_and_then}
 use Rattle.std.specs.Option.{option_map_or}
 use Rattle.zb_process.specs.declared.model.Node.{Node}
 use Rattle.zb_model.specs.declared.record.Event.{Event}
 use Rattle.zb_model.specs.declared.record.Event.TheVariants as events
 use Rattle.zb_views.specs.View.{next_key}
 use Rattle.zb_views.specs.Jobs.{called_off}
+use Rattle.zb_views.specs.Timers.{timers_on}
 use Rattle.zb_tokens.specs.declared.board.Incident.{Incident}
+use Rattle.zb_tokens.specs.declared.board.Opening.{Opening}
+use Rattle.zb_tokens.specs.Catches.{openings_at}
 use Rattle.zb_tokens.specs.Incidents.{incident_on}
 use Rattle.zb_tokens.specs.Work.{work_at}
-use Rattle.zb_rules.specs.Making.{Making, just, and_then}
+use Rattle.zb_rules.specs.Making.{Making, just, and_then, each_made}
 use Rattle.zb_rules.specs.Shown.{board_of}
 
 -- the event by which an incident is resolved, with the job that is its cause; 0 where none is
@@ -32,14 +35,27 @@ job_made_on p cell before = option_map_or (λ n. job_of p cell n before) (option
 abbrev pub canceled : Making
 canceled before = option_map_or (λ job. events.JobCanceled job ∷ []) (called_off before) []
 
--- what waits for a cell that begins to terminate ends: its job is canceled, and then the incident on it is resolved (Zeebe, the records)
-abbrev pub ended_on : ℕ → Making
-ended_on cell = and_then canceled (resolved_on cell)
+-- a timer of the cell with a key is made (Zeebe, timers)
+abbrev pub timer_opened : (p cell : ℕ) → Opening → Making
+timer_opened p cell o before = events.TimerCreated (record { key = next_key p before; cell = cell; node = o.node; due = o.due }) ∷ []
 
--- the events behind an event: a cell that becomes active has its job made, and one that begins to terminate has what waits for it ended; so far
--- there are no others (Zeebe, the records)
+-- the timers of the cell with a key are made, as it has become active (BPMN 2.0.2, 13.5.3; Zeebe, timers)
+abbrev pub timers_made_on : (p moment cell : ℕ) → Making
+timers_made_on p moment cell before = each_made (timer_opened p cell) (option_map_or (λ b. openings_at b moment cell) (board_of before) []) before
+
+-- the timers of the cell with a key are canceled, by their keys (Zeebe, timers)
+abbrev pub timers_canceled_on : ℕ → Making
+timers_canceled_on cell before = map (λ t. events.TimerCanceled t.key) (timers_on cell before)
+
+-- what waits for a cell that begins to terminate ends: its job is canceled, then its timers are, and then the incident on it is resolved (Zeebe, the records)
+abbrev pub ended_on : ℕ → Making
+ended_on cell = and_then canceled (and_then (timers_canceled_on cell) (resolved_on cell))
+
+-- the events behind an event: a cell that becomes active has its job or its timers made, one that begins to complete has its timers canceled, and one
+-- that begins to terminate has what waits for it ended; so far there are no others (Zeebe, the records)
 abbrev pub events_behind : (p n moment : ℕ) → Event → Making
-events_behind p n moment (events.ElementActivated e) before = job_made_on p e.key before
+events_behind p n moment (events.ElementActivated e) before = and_then (job_made_on p e.key) (timers_made_on p moment e.key) before
+events_behind p n moment (events.ElementCompleting key) before = timers_canceled_on key before
 events_behind p n moment (events.ElementTerminating key) before = ended_on key before
 events_behind p n moment e before = []
 

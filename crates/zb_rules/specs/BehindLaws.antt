@@ -1,5 +1,5 @@
 -- The events behind an event apply, and evaluate nothing; an incident that stands may be resolved.
-use Rattle.std.proofs.Common.{◌≡◌, ℕ, ◌==◌, List, [], ◌∷◌, ◌++◌, true, IsTrue, is_some, Option, Some, None, option_and_then, refl, sym, ap, subst, append-nil, arith}
+use Rattle.std.proofs.Common.{◌≡◌, ℕ, ◌<◌, ◌==◌, List, [], ◌∷◌, ◌++◌, Bool, true, false, if◌then◌else◌, IsTrue, is_some, All, Option, Some, None, option_and_then, Result, Ok, Err, refl, sym, ap, ◌∙◌, subst, append-nil, arith}
 use Rattle.std.specs.Option.{option_map_or}
 use Rattle.std.proofs.lemmas.Bool.Decides.{nat_tests}
 use Rattle.std.specs.List.{AllPairs}
@@ -8,10 +8,27 @@ use Rattle.zb_model.specs.declared.record.Event.TheVariants as events
 use Rattle.zb_model.specs.declared.record.RejectionKind.TheVariants as kinds
 use Rattle.zb_tokens.specs.declared.board.Incident.{Incident}
 use Rattle.zb_tokens.specs.declared.board.Move.TheVariants as moves
-use Rattle.zb_tokens.specs.Board.{Board}
-use Rattle.zb_tokens.specs.Incidents.{incident_at, incident_on}
+use Rattle.zb_tokens.specs.declared.board.Cell.{Cell}
+use Rattle.zb_tokens.specs.declared.board.Opening.{Opening}
+use Rattle.zb_tokens.specs.declared.board.Phase.TheVariants as phases
+use Rattle.zb_tokens.specs.Catches.{due_by, own_time, opening_by, openings_of, openings_at}
+use Rattle.zb_tokens.specs.Mappings.{node_of}
+use Rattle.zb_tokens.specs.Marks.{is_service_cell}
+use Rattle.zb_tokens.specs.Names.{value_seen}
+use Rattle.zb_tokens.specs.LeaveLaws.{same_bytes}
+use Rattle.zb_table.specs.Rows.{Ascend}
+use Rattle.zb_views.specs.declared.timer.Timer.{Timer}
+use Rattle.zb_views.specs.Timers.{timers, timers_on}
+use Rattle.zb_views.specs.TimerLaws.{timers_kept}
+use Rattle.zb_process.specs.Tree.{Tree}
+use Rattle.zb_duration.specs.declared.form.TimeForm.{TimeForm}
+use Rattle.zb_base.specs.Results.{◌>>=◌}
+use Rattle.std.specs.Result.{result_unwrap_or}
+use Rattle.std.proofs.lemmas.List.Elements.{All-weaker}
+use Rattle.zb_tokens.specs.Board.{Board, cell_at, is_phase}
+use Rattle.zb_tokens.specs.Incidents.{Hindrance, incident_at, incident_on}
 use Rattle.zb_tokens.specs.GameLaws.{found_passes}
-use Rattle.zb_tokens.specs.Work.{work_at, may_have_job, is_cause_of}
+use Rattle.zb_tokens.specs.Work.{work_of, work_at, may_have_job, is_cause_of}
 use Rattle.zb_views.specs.Jobs.{job_on, called_off}
 use Rattle.zb_views.specs.View.{next_key}
 use Rattle.zb_process.specs.declared.model.Node.{Node}
@@ -21,8 +38,13 @@ use Rattle.zb_rules.specs.Applies.{is_fresh, holds_own, holds_of_game, applies, 
 use Rattle.zb_rules.specs.LegalLaws.{NeverEvaluate, shows_none, shows_some, joined_never}
 use Rattle.zb_rules.specs.StepLaws.{all_apply_on}
 use Rattle.zb_rules.specs.OwnLaws.{fresh_from, silent_applies, board_after}
-use Rattle.zb_rules.specs.Behind.{repair_event, resolved_on, job_of, job_made_on, canceled, events_behind}
-use Rattle.zb_rules.specs.Sound.{StandApart, HasKeys}
+use Rattle.zb_rules.specs.Making.{and_then, each_made}
+use Rattle.zb_rules.specs.Behind.{repair_event, resolved_on, job_of, job_made_on, canceled, timer_opened, timers_made_on, timers_canceled_on, events_behind}
+use Rattle.zb_rules.specs.TimerEvents.{may_open}
+use Rattle.zb_rules.specs.TimedLaws.{service_no_time}
+use Rattle.zb_rules.specs.TimerSoundLaws.{cancels, canceled_on_apply}
+use Rattle.zb_rules.specs.KeysLaws.{next_key_more}
+use Rattle.zb_rules.specs.Sound.{StandApart, HasKeys, HasSoundTimers}
 use Rattle.zb_rules.specs.IncidentsLaws.{found_again}
 use Rattle.zb_rules.specs.Resolve.{no_incident, incident_in, reason_to_leave, reason_to_resolve, resolved}
 use Rattle.zb_rules.specs.AppliedLaws.{game_holds_from, applied_from}
@@ -76,23 +98,41 @@ cancel_never : (found : Option ℕ) → NeverEvaluate (option_map_or (λ job. ev
 cancel_never None = tt
 cancel_never (Some job) = (λ before b moment move is. shows_none b moment move is, tt)
 
+timers_never : (p cell : ℕ) (os : List Opening) (es : List Event) → NeverEvaluate (each_made (timer_opened p cell) os es)
+timers_never p cell [] es = tt
+timers_never p cell (o ∷ os) es = (λ before b moment move is. shows_none b moment move is, timers_never p cell os (es ++ timer_opened p cell o es))
+
+cancels_never : (ts : List Timer) → NeverEvaluate (cancels ts)
+cancels_never [] = tt
+cancels_never (t ∷ ts) = (λ before b moment move is. shows_none b moment move is, cancels_never ts)
+
 -- what comes behind an event evaluates nothing
 pub behind_never : (p n moment : ℕ) (e : Event) (es : List Event) → NeverEvaluate (events_behind p n moment e es)
-behind_never p n moment (events.ElementActivated e) es = job_never p e.key es (option_and_then (λ b. work_at b e.key) (board_of es))
+behind_never p n moment (events.ElementActivated e) es =
+    let made = job_made_on p e.key es in
+    joined_never made (timers_made_on p moment e.key (es ++ made)) (job_never p e.key es (option_and_then (λ b. work_at b e.key) (board_of es)))
+    (timers_never p e.key (option_map_or (λ b. openings_at b moment e.key) (board_of (es ++ made)) []) (es ++ made))
+behind_never p n moment (events.ElementCompleting key) es = cancels_never (timers_on key es)
 behind_never p n moment (events.ElementTerminating key) es =
-    joined_never (canceled es) (resolved_on key (es ++ canceled es)) (cancel_never (called_off es)) (repair_never (option_and_then (λ b. incident_on b key) (board_of (es ++ canceled es))))
+    let over = es ++ canceled es in
+    let closed = timers_canceled_on key over in
+    joined_never (canceled es) (closed ++ resolved_on key (over ++ closed)) (cancel_never (called_off es))
+    (joined_never closed (resolved_on key (over ++ closed)) (cancels_never (timers_on key over)) (repair_never (option_and_then (λ b. incident_on b key) (board_of (over ++ closed)))))
 behind_never p n moment e es = tt
 
--- a cell may get the job that its node asks for: a key is left, and where there is work the cell waits for it, and has no job (BPMN 2.0.2, 13.3.3; Zeebe, jobs)
+-- a cell may get the job or the timers that its node asks for: a key is left, and where there is work the cell waits for it, and has no job; it is
+-- active (BPMN 2.0.2, 13.3.3 and 13.5.3; Zeebe, jobs)
 pub record MayHaveWork (p : ℕ) (es : List Event) (b : Board) (cell : ℕ) : Type 0 where
   pub keys : HasKeys p es 1
   pub waits : IsTrue (is_some (work_at b cell)) → IsTrue (may_have_job cell b)
   pub none : job_on cell es ≡ None
+  pub active : (c : Cell) → cell_at b cell ≡ Some c → IsTrue (is_phase c.phase phases.Active)
 
 -- what the events behind an event ask of those before them, and of their board
 abbrev pub MayFollow : ℕ → List Event → Board → Event → Type 0
 MayFollow p es b (events.ElementActivated e) = MayHaveWork p es b e.key
-MayFollow p es b (events.ElementTerminating key) = AllPairs StandApart b.incidents
+MayFollow p es b (events.ElementCompleting key) = HasSoundTimers p es
+MayFollow p es b (events.ElementTerminating key) = AllPairs StandApart b.incidents × HasSoundTimers p es
 MayFollow p es b e = Unit {0}
 
 module _ (p : ℕ) (es : List Event) (b : Board) (is : board_of es ≡ Some b) where
@@ -108,10 +148,68 @@ module _ (p : ℕ) (es : List Event) (b : Board) (is : board_of es ≡ Some b) w
       silent_applies p es b (events.JobCreated (record { key = next_key p es; cell = cell; kind = n.name; retries = n.retries })) is (rw (fresh, begins) refl) refl in
       rw first refl
 
-  made_apply : (cell : ℕ) → MayHaveWork p es b cell → IsTrue (all_apply p es (job_made_on p cell es))
-  made_apply cell w = subst (λ (o : Option Board). IsTrue (all_apply p es (option_map_or (λ n. job_of p cell n es) (option_and_then (λ x. work_at x cell) o) []))) (sym is)
-      (work_goes cell (work_at b cell) refl w)
+  -- a timer of a cell is made, if it has a time
+  opening_goes : (moment cell : ℕ) (c : Cell) (opened : Result (List Opening) Hindrance) (time : TimeForm × Tree) → cell_at b cell ≡ Some c → IsTrue (is_phase c.phase phases.Active) → own_time b c ≡ Some time → HasKeys p es 1
+      → opening_by (value_seen b c.key) moment c time ≡ opened → IsTrue (all_apply p es (each_made (timer_opened p cell) (result_unwrap_or opened []) es))
+  opening_goes moment cell c opened time found active timed keys is_opened = by_due (due_by (value_seen b c.key) moment time.0 time.1) is_opened
+    where
+      by_due : (due : Result ℕ Hindrance) → (due >>= (λ d. Ok (record { node = c.node; due = d } ∷ []))) ≡ opened → IsTrue (all_apply p es (each_made (timer_opened p cell) (result_unwrap_or opened []) es))
+      by_due (Err hindrance) same = subst (λ (o : Result (List Opening) Hindrance). IsTrue (all_apply p es (each_made (timer_opened p cell) (result_unwrap_or o []) es))) same refl
+      by_due (Ok due) same =
+          let e : Event = events.TimerCreated (record { key = next_key p es; cell = cell; node = c.node; due = due }) in
+          let fresh : IsTrue (is_fresh p es (next_key p es)) = fresh_from p es keys in
+          let opens : IsTrue (holds_of_game (may_open (record { key = next_key p es; cell = cell; node = c.node; due = due })) es) =
+          game_holds_from (may_open (record { key = next_key p es; cell = cell; node = c.node; due = due })) es b is (rw (found, active, same_bytes c.node, timed) refl) in
+          let first : IsTrue (applies p es e) = silent_applies p es b e is (rw (fresh, opens) refl) refl in
+          subst (λ (o : Result (List Opening) Hindrance). IsTrue (all_apply p es (each_made (timer_opened p cell) (result_unwrap_or o []) es))) same (rw first refl)
 
+  time_goes : (moment cell : ℕ) (c : Cell) (time : Option (TimeForm × Tree)) → cell_at b cell ≡ Some c → IsTrue (is_phase c.phase phases.Active) → own_time b c ≡ time → HasKeys p es 1
+      → IsTrue (all_apply p es (each_made (timer_opened p cell) (result_unwrap_or (option_map_or (opening_by (value_seen b c.key) moment c) time (Ok [])) []) es))
+  time_goes moment cell c None found active timed keys = refl
+  time_goes moment cell c (Some time) found active timed keys = opening_goes moment cell c (opening_by (value_seen b c.key) moment c time) time found active timed keys refl
+
+  cell_goes : (moment cell : ℕ) (at : Option Cell) → cell_at b cell ≡ at → ((c : Cell) → at ≡ Some c → IsTrue (is_phase c.phase phases.Active)) → HasKeys p es 1
+      → IsTrue (all_apply p es (each_made (timer_opened p cell) (option_map_or (λ c. result_unwrap_or (openings_of b moment c) []) at []) es))
+  cell_goes moment cell None found active keys = refl
+  cell_goes moment cell (Some c) found active keys = time_goes moment cell c (own_time b c) found (active c refl) refl keys
+
+  openings_are : (moment cell : ℕ) → timers_made_on p moment cell es ≡ each_made (timer_opened p cell) (openings_at b moment cell) es
+  openings_are moment cell = ap (λ (o : Option Board). each_made (timer_opened p cell) (option_map_or (λ x. openings_at x moment cell) o []) es) is
+
+  -- the timers of a cell are made
+  timers_apply : (moment cell : ℕ) → ((c : Cell) → cell_at b cell ≡ Some c → IsTrue (is_phase c.phase phases.Active)) → HasKeys p es 1 → IsTrue (all_apply p es (timers_made_on p moment cell es))
+  timers_apply moment cell active keys = subst (λ (made : List Event). IsTrue (all_apply p es made)) (sym (openings_are moment cell)) (cell_goes moment cell (cell_at b cell) refl active keys)
+
+  -- there are none where it has work
+  none_timed : (moment cell : ℕ) (n : Node) (at : Option Cell) → option_and_then (work_of b) at ≡ Some n → option_map_or (λ c. result_unwrap_or (openings_of b moment c) []) at [] ≡ []
+  none_timed moment cell n None works = refl
+  none_timed moment cell n (Some c) works =
+      let service : is_service_cell b c ≡ true = by_test (is_service_cell b c) works in
+      let none = service_no_time b c service in
+      rw none refl
+    where
+      by_test : (t : Bool) → (if t then node_of b c else None) ≡ Some n → t ≡ true
+      by_test true works = refl
+      by_test false works = absurd (cc)
+
+-- the job or the timers of a cell that has become active are made
+module _ (p : ℕ) (es : List Event) (b : Board) (is : board_of es ≡ Some b) (moment cell : ℕ) (w : MayHaveWork p es b cell) where
+  both_by : (found : Option Node) → work_at b cell ≡ found → IsTrue (all_apply p es (and_then (λ before. option_map_or (λ n. job_of p cell n before) found []) (timers_made_on p moment cell) es))
+  both_by None at = subst (λ (over : List Event). IsTrue (all_apply p es (timers_made_on p moment cell over))) (sym (append-nil es)) (timers_apply p es b is moment cell w.active w.keys)
+  both_by (Some n) at =
+      let e : Event = events.JobCreated (record { key = next_key p es; cell = cell; kind = n.name; retries = n.retries }) in
+      let job : IsTrue (all_apply p es (e ∷ [])) = work_goes p es b is cell (Some n) at w in
+      let then_is = board_after es b b e is refl in
+      let none : timers_made_on p moment cell (es ++ e ∷ []) ≡ [] = openings_are p (es ++ e ∷ []) b then_is moment cell ∙ ap (λ (os : List Opening). each_made (timer_opened p cell) os (es ++ e ∷ [])) (none_timed p es b is moment cell n (cell_at b cell) at) in
+      subst (λ (more : List Event). IsTrue (all_apply p es (e ∷ more))) (sym none) job
+
+  -- what is made behind a cell that becomes active applies: its job, and then its timers
+  pub opened_apply : IsTrue (all_apply p es (and_then (job_made_on p cell) (timers_made_on p moment cell) es))
+  opened_apply =
+      let same : job_made_on p cell es ≡ option_map_or (λ n. job_of p cell n es) (work_at b cell) [] = ap (λ (o : Option Board). option_map_or (λ n. job_of p cell n es) (option_and_then (λ x. work_at x cell) o) []) is in
+      subst (λ (made : List Event). IsTrue (all_apply p es (made ++ timers_made_on p moment cell (es ++ made)))) (sym same) (both_by (work_at b cell) refl)
+
+module _ (p : ℕ) (es : List Event) (b : Board) (is : board_of es ≡ Some b) where
   cancel_goes : (found : Option ℕ) → called_off es ≡ found
       → IsTrue (all_apply p es (option_map_or (λ job. events.JobCanceled job ∷ []) found [])) × (board_of (es ++ option_map_or (λ job. events.JobCanceled job ∷ []) found []) ≡ Some b)
   cancel_goes None off = (refl, rw (append-nil es) is)
@@ -124,12 +222,28 @@ module _ (p : ℕ) (es : List Event) (b : Board) (is : board_of es ≡ Some b) w
   pub canceled_apply : IsTrue (all_apply p es (canceled es)) × (board_of (es ++ canceled es) ≡ Some b)
   canceled_apply = cancel_goes (called_off es) refl
 
+-- the timers of a log with an event more that makes none and ends none
+pub sound_over : (p : ℕ) (es : List Event) (found : Option ℕ) → HasSoundTimers p es → HasSoundTimers p (es ++ option_map_or (λ job. events.JobCanceled job ∷ []) found [])
+sound_over p es None s = subst (HasSoundTimers p) (sym (append-nil es)) s
+sound_over p es (Some job) s =
+    let same : timers (es ++ events.JobCanceled job ∷ []) ≡ timers es = timers_kept es (events.JobCanceled job) refl in
+    record {
+      ascend = subst (Ascend (λ (t : Timer). t.key) 0) (sym same) s.ascend;
+      below = subst (All (λ (t : Timer). t.key < next_key p (es ++ events.JobCanceled job ∷ []))) (sym same)
+          (All-weaker (λ (t : Timer). t.key < next_key p es) (λ (t : Timer). t.key < next_key p (es ++ events.JobCanceled job ∷ [])) (λ t less. omega (arith, less, next_key_more p es (events.JobCanceled job))) (timers es) s.below);
+    }
+
 -- the events behind an event apply
 pub behind_apply : (p : ℕ) (es : List Event) (b : Board) → board_of es ≡ Some b → (n moment : ℕ) (e : Event) → MayFollow p es b e → IsTrue (all_apply p es (events_behind p n moment e es))
-behind_apply p es b is n moment (events.ElementActivated e) may = made_apply p es b is e.key may
+behind_apply p es b is n moment (events.ElementActivated e) may = opened_apply p es b is moment e.key may
+behind_apply p es b is n moment (events.ElementCompleting key) may = (canceled_on_apply p es b key is may).0
 behind_apply p es b is n moment (events.ElementTerminating key) may =
+    let over = es ++ canceled es in
     let first = canceled_apply p es b is in
-    let second = resolved_apply p (es ++ canceled es) b first.1 key may in
-    let applied = first.0 in
-    rw (all_apply_on p es (canceled es) (resolved_on key (es ++ canceled es)), applied) second
+    let second = canceled_on_apply p over b key first.1 (sound_over p es (called_off es) may.1) in
+    let closed = timers_canceled_on key over in
+    let third = resolved_apply p (over ++ closed) b second.1 key may.0 in
+    let one = first.0 in
+    let two = second.0 in
+    rw (all_apply_on p es (canceled es) (closed ++ resolved_on key (over ++ closed)), one, all_apply_on p over closed (resolved_on key (over ++ closed)), two) third
 behind_apply p es b is n moment e may = refl

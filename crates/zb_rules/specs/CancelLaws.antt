@@ -51,5 +51,6 @@ module _ (p : ℕ) (es : List Event) (b : Board) (is : board_of es ≡ Some b) (
       let runs : is_terminating key b ≡ false = subst (λ (o : Option Board). option_map_or (is_terminating key) o false ≡ false) is r.1 in
       let first : IsTrue (applies p es (events.ElementTerminating key)) = applied_from p es b (events.ElementTerminating key) (moves.Halt key) is refl refl (halts key root runs) in
       let after = applied_board p es b (events.ElementTerminating key) is first in
-      let behind = behind_apply p (es ++ events.ElementTerminating key ∷ []) after.0 (board_behind p es b (events.ElementTerminating key) after.0 after.1) n moment (events.ElementTerminating key) (keeps_on p es b (events.ElementTerminating key) after.0 after.1 k).incidents.apart in
+      let behind = behind_apply p (es ++ events.ElementTerminating key ∷ []) after.0 (board_behind p es b (events.ElementTerminating key) after.0 after.1) n moment (events.ElementTerminating key)
+      ((keeps_on p es b (events.ElementTerminating key) after.0 after.1 k).incidents.apart, (keeps_on p es b (events.ElementTerminating key) after.0 after.1 k).timers) in
       rw (first, behind) refl

@@ -1,5 +1,5 @@
 -- Which command is due first.
-use Rattle.std.specs.Prelude.{ℕ, List, ◌++◌, map, filter, Bool, nat_le, Option, option_map, ◌≡◌, ◌≤◌, Contains}
+use Rattle.std.specs.Prelude.{ℕ, List, ◌++◌, map, filter, Bool, nat_le, is_none, Option, option_map, ◌≡◌, ◌≤◌, Contains}
 use Rattle.zb_exchange_records.specs.declared.message.MessagePublished.{MessagePublished}
 use Rattle.zb_model.specs.declared.record.Command.{Command}
 use Rattle.zb_model.specs.declared.record.Command.TheVariants as commands
@@ -8,12 +8,10 @@ use Rattle.zb_table.specs.Earliest.{earliest}
 use Rattle.zb_views.specs.declared.job.Job.{Job}
 use Rattle.zb_views.specs.Jobs.{jobs, is_activated}
 use Rattle.zb_views.specs.Messages.{buffered}
-
--- what time makes due: a command, from a moment on, for what has this key
-pub record Alarm : Type 0 where
-  pub moment : ℕ
-  pub key : ℕ
-  pub command : Command
+use Rattle.zb_views.specs.declared.timer.Timer.{Timer}
+use Rattle.zb_views.specs.Timers.{timers}
+use Rattle.zb_rules.specs.declared.alarm.Alarm.{Alarm}
+use Rattle.zb_rules.specs.Trigger.{reason_to_trigger}
 
 -- a message expires at its deadline (own)
 abbrev pub alarm_of_message : MessagePublished → Alarm
@@ -27,9 +25,17 @@ alarm_of_job j = record { moment = j.deadline; key = j.key; command = commands.J
 abbrev pub jobs_given : List Event → List Job
 jobs_given es = filter (λ j. is_activated j.phase) (jobs es)
 
+-- a timer is triggered from the moment on at which it is due (Zeebe, timers)
+abbrev pub alarm_of_timer : Timer → Alarm
+alarm_of_timer t = record { moment = t.due; key = t.key; command = commands.TimerTrigger t.key }
+
+-- the timers against whose trigger there is no reason once they are due: the cells of the others don't wait, and will be gone (Zeebe, timers)
+abbrev pub timers_awaited : List Event → List Timer
+timers_awaited es = filter (λ t. is_none (reason_to_trigger es t.due t.key)) (timers es)
+
 -- all that time makes due, now or later
 abbrev pub alarms : List Event → List Alarm
-alarms es = map alarm_of_message (buffered es) ++ map alarm_of_job (jobs_given es)
+alarms es = map alarm_of_message (buffered es) ++ (map alarm_of_job (jobs_given es) ++ map alarm_of_timer (timers_awaited es))
 
 -- when it is due, and its key
 abbrev pub place_of_alarm : Alarm → ℕ × ℕ

@@ -23,6 +23,9 @@ use Rattle.zb_tokens.specs.MoveFinish.{waits_for_nothing, is_done}
 use Rattle.zb_tokens.specs.MoveLeave.{may_owe, leaving, ends_scope, with_end}
 use Rattle.zb_tokens.specs.MoveTake.{is_first, rest_of}
 use Rattle.zb_tokens.specs.MoveAssign.{with_variable}
+use Rattle.zb_tokens.specs.declared.board.Triggered.{Triggered}
+use Rattle.zb_tokens.specs.MoveTrigger.{awaits_event, fits_trigger}
+use Rattle.zb_rules.specs.TimedLaws.{told_active}
 use Rattle.zb_tokens.specs.Edits.{edited}
 use Rattle.zb_tokens.specs.Game.{fits}
 use Rattle.zb_tokens.specs.GameLaws.{both_left, both_right}
@@ -46,6 +49,7 @@ abbrev pub ends_wait : Move → ℕ → Bool
 ends_wait (moves.Halt key) cell = cell == key
 ends_wait (moves.Done key) cell = cell == key
 ends_wait (moves.Throw t) cell = cell == t.cell
+ends_wait (moves.Trigger t) cell = cell == t.cell
 ends_wait move cell = false
 
 -- what is in another phase isn't active
@@ -170,6 +174,7 @@ module _ (b : Board) where
   waits_made (moves.Update a) fit = λ cells made q out is. kept_edited (awaits_work b) a.scope (with_variable a.name a.value) b.cells cells (λ x. refl) (λ x there h. h) made q is
   waits_made (moves.Done key) fit = λ cells made q out is. others_edited (awaits_work b) key (with_mark marks.Done) b.cells cells (λ x. refl) made q out is
   waits_made (moves.Throw t) fit = λ cells made q out is. others_edited (awaits_work b) t.cell (with_mark (marks.Thrown t.code)) b.cells cells (λ x. refl) made q out is
+  waits_made (moves.Trigger t) fit = λ cells made q out is. others_edited (awaits_work b) t.cell (with_mark marks.Done) b.cells cells (λ x. refl) made q out is
   waits_made (moves.Incident i) fit = λ q out is. is
   waits_made (moves.Repair key) fit = λ incidents gone q out is. is
 
@@ -193,6 +198,12 @@ untold_at b key mark fit c found is begins =
     let active = waits_active b c (at_cell (awaits_work b) (cell_at b key) c found fit) in
     absurd (let none = active_alone c.phase phases.Activating active refl in cc)
 
+-- a cell that is told of an event doesn't begin
+told_untold : (b : Board) (t : Triggered) → IsTrue (fits_trigger b t) → (c : Cell) → cell_at b t.cell ≡ Some c → IsUntold c → IsUntold (with_mark marks.Done c)
+told_untold b t fit c found is begins =
+    let active : IsTrue (is_phase c.phase phases.Active) = told_active b t c (at_cell (awaits_event b t) (cell_at b t.cell) c found fit) in
+    absurd (let none = active_alone c.phase phases.Activating active refl in cc)
+
 untold_kept : (b : Board) (move : Move) → IsTrue (fits b move) → CellKept b IsUntold move
 untold_kept b (moves.Stand d) fit = tt
 untold_kept b (moves.Start s) fit = λ node there phase. refl
@@ -207,6 +218,7 @@ untold_kept b (moves.Assign a) fit = λ c found is. is
 untold_kept b (moves.Update a) fit = λ c found is. is
 untold_kept b (moves.Done key) fit = untold_at b key marks.Done fit
 untold_kept b (moves.Throw t) fit = untold_at b t.cell (marks.Thrown t.code) fit
+untold_kept b (moves.Trigger t) fit = told_untold b t fit
 untold_kept b (moves.Incident i) fit = tt
 untold_kept b (moves.Repair key) fit = tt
 

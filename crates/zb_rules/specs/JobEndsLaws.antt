@@ -41,7 +41,7 @@ record EndsWell (p : ℕ) (es : List Event) : Type 0 where
   home : All (λ (j : Job). IsKeyOf p j.key) (jobs es)
 
 -- a fresh key is one of the partition
-fresh_home : (p : ℕ) (before : List Event) (key : ℕ) → IsTrue (is_fresh p before key) → IsKeyOf p key
+pub fresh_home : (p : ℕ) (before : List Event) (key : ℕ) → IsTrue (is_fresh p before key) → IsKeyOf p key
 fresh_home p before key fresh = let f = fresh_is p before key fresh in let less = f.0 in let its = f.1 in omega (arith, less, its)
 
 -- one event more

@@ -15,6 +15,8 @@ pub mod Fail
 pub mod Throw
 pub mod Retries
 pub mod TimeOut
+pub mod Trigger
+pub mod TimerEvents
 pub mod Resolve
 pub mod Publish
 pub mod Expire
@@ -42,10 +44,14 @@ pub mod ModelsLaws
 pub mod PlayedLaws
 pub mod ScopesLaws
 pub mod OwesLaws
+pub mod TimedLaws
+pub mod TriggerLaws
 pub mod JobCellsLaws
 pub mod JobListLaws
 pub mod JobSoundLaws
+pub mod TimerSoundLaws
 pub mod JobEndsLaws
+pub mod TimerEndsLaws
 pub mod PlacedLaws
 pub mod IncidentsLaws
 pub mod SoundLaws

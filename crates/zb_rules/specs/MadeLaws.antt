@@ -64,6 +64,7 @@ HoldsMade b Q (moves.Assign a) = HoldsEdited b Q a.scope (with_variable a.name a
 HoldsMade b Q (moves.Update a) = HoldsEdited b Q a.scope (with_variable a.name a.value)
 HoldsMade b Q (moves.Done key) = HoldsEdited b Q key (with_mark marks.Done)
 HoldsMade b Q (moves.Throw t) = HoldsEdited b Q t.cell (with_mark (marks.Thrown t.code))
+HoldsMade b Q (moves.Trigger t) = HoldsEdited b Q t.cell (with_mark marks.Done)
 HoldsMade b Q (moves.Incident i) = Q (record b { incidents = b.incidents ++ i ∷ [] })
 HoldsMade b Q (moves.Repair key) = (incidents : List Incident) → removed (λ i. i.key == key) b.incidents ≡ Some incidents → Q (record b { incidents = incidents })
 
@@ -107,5 +108,6 @@ module _ (b : Board) (Q : Board → Type 0) where
   made_holds after (moves.Update a) holds made = mapped_holds Q _ (edited (is_keyed a.scope) (with_variable a.name a.value) b.cells) after holds made
   made_holds after (moves.Done key) holds made = mapped_holds Q _ (edited (is_keyed key) (with_mark marks.Done) b.cells) after holds made
   made_holds after (moves.Throw t) holds made = mapped_holds Q _ (edited (is_keyed t.cell) (with_mark (marks.Thrown t.code)) b.cells) after holds made
+  made_holds after (moves.Trigger t) holds made = mapped_holds Q _ (edited (is_keyed t.cell) (with_mark marks.Done) b.cells) after holds made
   made_holds after (moves.Incident i) holds made = subst Q (let same : record b { incidents = b.incidents ++ i ∷ [] } ≡ after = cc in same) holds
   made_holds after (moves.Repair key) holds made = mapped_holds Q _ (removed (λ i. i.key == key) b.incidents) after holds made

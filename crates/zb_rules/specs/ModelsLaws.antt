@@ -61,6 +61,7 @@ module _ (b : Board) where
   by_move (moves.Update a) = λ cells made. none_more
   by_move (moves.Done key) = λ cells made. none_more
   by_move (moves.Throw t) = λ cells made. none_more
+  by_move (moves.Trigger t) = λ cells made. none_more
   by_move (moves.Incident i) = none_more
   by_move (moves.Repair key) = λ incidents gone. none_more
 

@@ -8,7 +8,12 @@ use Rattle.zb_base.specs.Results.{◌>>=◌}
 use Rattle.zb_base.specs.declared.value.Value.{Value}
 use Rattle.zb_base.specs.declared.vars.Variable.{Variable}
 use Rattle.zb_process.specs.declared.model.Flow.{Flow}
-use Rattle.zb_process.specs.Expr.{ValueFault}
+use Rattle.zb_process.specs.Expr.{ValueFault, value_of}
+use Rattle.zb_process.specs.Tree.{Tree}
+use Rattle.zb_duration.specs.Due.{due_of}
+use Rattle.zb_duration.specs.declared.fault.DueFault.{DueFault}
+use Rattle.zb_duration.specs.declared.form.TimeForm.{TimeForm}
+use Rattle.zb_tokens.specs.Catches.{text_told, time_hindrance, due_by, own_time, opening_by, openings_by, seen_with, opened_with}
 use Rattle.zb_instance_records.specs.declared.happening.IncidentKind.TheVariants as kinds
 use Rattle.zb_tokens.specs.declared.board.Cell.{Cell}
 use Rattle.zb_tokens.specs.declared.board.Token.{Token}
@@ -40,6 +45,7 @@ IsMade key (moves.Assign a) = ⊥
 IsMade key (moves.Update a) = ⊥
 IsMade key (moves.Done cell) = ⊥
 IsMade key (moves.Throw t) = ⊥
+IsMade key (moves.Trigger t) = ⊥
 IsMade key (moves.Repair other) = ⊥
 IsMade key (moves.Enter e) = e.key ≡ key
 IsMade key (moves.Incident i) = (i.key ≡ key) × (i.job ≡ 0) × (tells_of_job i.kind ≡ false)
@@ -84,6 +90,23 @@ exit_by b c (Some g) = then_tells_none (choice_at (value_seen b c.key) g) (λ f.
 completion_tells_none : (b : Board) (c : Cell) → TellsOfNone (completion_of b c)
 completion_tells_none b c = then_tells_none (outputs_of b c) (λ vs. exit_of b c) (fault_tells_none _) (λ vs. exit_by b c (gateway_of b c))
 
+due_tells_none : (r : Result ℕ DueFault) → TellsOfNone (result_map_both (λ due. due) time_hindrance r)
+due_tells_none (Ok due) = tt
+due_tells_none (Err fault) = refl
+
+opening_tells_none : (names : List ℕ → Option Value) (moment : ℕ) (c : Cell) (time : TimeForm × Tree) → TellsOfNone (opening_by names moment c time)
+opening_tells_none names moment c time = then_tells_none (due_by names moment time.0 time.1) (λ due. Ok (record { node = c.node; due = due } ∷ []))
+    (then_tells_none (result_map_both (λ text. text) hindrance_of (value_of names time.1 >>= text_told)) (λ text. result_map_both (λ due. due) time_hindrance (due_of time.0 text moment)) (fault_tells_none _)
+    (λ text. due_tells_none (due_of time.0 text moment))) (λ due. tt)
+
+openings_tell_none : (names : List ℕ → Option Value) (moment : ℕ) (c : Cell) (time : Option (TimeForm × Tree)) → TellsOfNone (option_map_or (opening_by names moment c) time (Ok []))
+openings_tell_none names moment c None = tt
+openings_tell_none names moment c (Some time) = opening_tells_none names moment c time
+
+opened_tells_none : (b : Board) (moment : ℕ) (c : Cell) → TellsOfNone (opened_with b moment c)
+opened_tells_none b moment c = then_tells_none (inputs_of b c) (λ vs. openings_by (seen_with vs (value_seen b c.key)) b moment c >>= (λ openings. Ok vs)) (fault_tells_none _)
+    (λ vs. then_tells_none (openings_by (seen_with vs (value_seen b c.key)) b moment c) (λ openings. Ok vs) (openings_tell_none (seen_with vs (value_seen b c.key)) moment c (own_time b c)) (λ openings. tt))
+
 open_made : (key : ℕ) (c : Cell) (inputs : Result (List Variable) Hindrance) → TellsOfNone inputs → IsMade key (open_by key c inputs)
 open_made key c (Ok vs) none = tt
 open_made key c (Err hindrance) none = (refl, refl, none)
@@ -96,12 +119,12 @@ leave_made : (key : ℕ) (c : Cell) (exit : Result (List (List ℕ)) Hindrance) 
 leave_made key c (Ok owed) none = tt
 leave_made key c (Err hindrance) none = (refl, refl, none)
 
-phase_made : (b : Board) (key : ℕ) (c : Cell) (phase : Phase) (move : Move) → move_in b key c phase ≡ Some move → IsMade key move
-phase_made b key c phases.Activating move is = some_made key (open_by key c (inputs_of b c)) move (open_made key c (inputs_of b c) (fault_tells_none _)) is
-phase_made b key c phases.Active move is = some_made key (finish_by key c (error_of c.mark)) move (finish_made key c (error_of c.mark)) is
-phase_made b key c phases.Completing move is = some_made key (leave_by key c (completion_of b c)) move (leave_made key c (completion_of b c) (completion_tells_none b c)) is
-phase_made b key c phases.Leaving move is = first_made key c.key c.owed move is
-phase_made b key c phases.Terminating move is = some_made key (moves.Gone c.key) move tt is
+phase_made : (b : Board) (moment key : ℕ) (c : Cell) (phase : Phase) (move : Move) → move_in b moment key c phase ≡ Some move → IsMade key move
+phase_made b moment key c phases.Activating move is = some_made key (open_by key c (opened_with b moment c)) move (open_made key c (opened_with b moment c) (opened_tells_none b moment c)) is
+phase_made b moment key c phases.Active move is = some_made key (finish_by key c (error_of c.mark)) move (finish_made key c (error_of c.mark)) is
+phase_made b moment key c phases.Completing move is = some_made key (leave_by key c (completion_of b c)) move (leave_made key c (completion_of b c) (completion_tells_none b c)) is
+phase_made b moment key c phases.Leaving move is = first_made key c.key c.owed move is
+phase_made b moment key c phases.Terminating move is = some_made key (moves.Gone c.key) move tt is
 
 end_made : (key : ℕ) (c : Cell) (phase : Phase) (move : Move) → end_in c phase ≡ Some move → IsMade key move
 end_made key c phases.Activating move is = some_made key (moves.Halt c.key) move tt is
@@ -110,13 +133,13 @@ end_made key c phases.Completing move is = some_made key (moves.Halt c.key) move
 end_made key c phases.Leaving move is = absurd (cc)
 end_made key c phases.Terminating move is = some_made key (moves.Gone c.key) move tt is
 
-doomed_made : (b : Board) (key : ℕ) (c : Cell) (doomed : Bool) (move : Move) → (if doomed then end_in c c.phase else move_in b key c c.phase) ≡ Some move → IsMade key move
-doomed_made b key c true move is = end_made key c c.phase move is
-doomed_made b key c false move is = phase_made b key c c.phase move is
+doomed_made : (b : Board) (moment key : ℕ) (c : Cell) (doomed : Bool) (move : Move) → (if doomed then end_in c c.phase else move_in b moment key c c.phase) ≡ Some move → IsMade key move
+doomed_made b moment key c true move is = end_made key c c.phase move is
+doomed_made b moment key c false move is = phase_made b moment key c c.phase move is
 
-cell_made : (b : Board) (key : ℕ) (found : Option Cell) (move : Move) → option_and_then (move_at b key) found ≡ Some move → IsMade key move
-cell_made b key None move is = absurd (cc)
-cell_made b key (Some c) move is = doomed_made b key c (is_doomed b c) move is
+cell_made : (b : Board) (moment key : ℕ) (found : Option Cell) (move : Move) → option_and_then (move_at b moment key) found ≡ Some move → IsMade key move
+cell_made b moment key None move is = absurd (cc)
+cell_made b moment key (Some c) move is = doomed_made b moment key c (is_doomed b c) move is
 
 way_made : (key : ℕ) (t : Token) (way : Option (List ℕ × List ℕ)) (move : Move)
     → option_map (λ (w : List ℕ × List ℕ). moves.Enter (record { key = key; scope = t.scope; node = w.0; via = w.1 })) way ≡ Some move → IsMade key move
@@ -125,7 +148,7 @@ way_made key t (Some way) move is = some_made key (moves.Enter (record { key = k
 
 -- the move of a mover is one of those that somebody is forced to, under this key
 pub mover_made : (b : Board) (moment key : ℕ) (mover : Mover) (move : Move) → move_of b moment key mover ≡ Some move → IsMade key move
-mover_made b moment key (movers.Cell cell) move is = cell_made b key (cell_at b cell) move is
+mover_made b moment key (movers.Cell cell) move is = cell_made b moment key (cell_at b cell) move is
 mover_made b moment key (movers.Token t) move is = way_made key t (way_of b t) move is
 
 -- a cell that is found has a key of its own
@@ -159,5 +182,6 @@ event_there b key (moves.Assign a) made fit = absurd made
 event_there b key (moves.Update a) made fit = absurd made
 event_there b key (moves.Done cell) made fit = absurd made
 event_there b key (moves.Throw t) made fit = absurd made
+event_there b key (moves.Trigger t) made fit = absurd made
 event_there b key (moves.Incident i) made fit = refl
 event_there b key (moves.Repair other) made fit = absurd made

@@ -32,7 +32,8 @@ use Rattle.zb_tokens.specs.ForcedLaws.{IsMover, mover_known}
 use Rattle.zb_tokens.specs.Game.{fits, played}
 use Rattle.zb_tokens.specs.GameLaws.{both_left, both_right, holds_some, found_holds}
 use Rattle.zb_tokens.specs.Incidents.{Hindrance, incident_on, is_stuck}
-use Rattle.zb_tokens.specs.Mappings.{assignments_of, inputs_of}
+use Rattle.zb_tokens.specs.Mappings.{assignments_of}
+use Rattle.zb_tokens.specs.Catches.{opened_with}
 use Rattle.zb_tokens.specs.Marks.{is_unset, awaits_work, is_service_cell}
 use Rattle.zb_tokens.specs.MoveLeave.{completion_of}
 use Rattle.zb_tokens.specs.MoveOpen.{start_tokens}
@@ -43,7 +44,7 @@ use Rattle.zb_rules.specs.Applies.{holds_of_game, applies, all_apply}
 use Rattle.zb_rules.specs.Create.{variable_event}
 use Rattle.zb_rules.specs.Update.{is_named_in, set_in, place_of, set_by, set_each}
 use Rattle.zb_rules.specs.InFront.{set_all, events_in_front}
-use Rattle.zb_rules.specs.Sound.{HasKeys, IsAwaited, HasSoundJobs}
+use Rattle.zb_rules.specs.Sound.{HasKeys, IsAwaited, HasSoundJobs, HasSoundTimers}
 use Rattle.zb_rules.specs.MadeLaws.{is_keyed, made_holds, mapped_holds}
 use Rattle.zb_rules.specs.AppliedLaws.{Advances, some_of, applied_board, board_behind}
 use Rattle.zb_rules.specs.ScopesLaws.{at_cell, edited_found}
@@ -152,12 +153,12 @@ take_opens_none : (key cell : ℕ) (owed : List (List ℕ)) → take_first cell 
 take_opens_none key cell [] is = cc
 take_opens_none key cell (flow ∷ owed) is = cc
 
-opens_in : (b : Board) (k key : ℕ) (c : Cell) (phase : Phase) → move_in b k c phase ≡ Some (moves.Open key) → c.key ≡ key
-opens_in b k key c phases.Activating is = open_of k key c (inputs_of b c) is
-opens_in b k key c phases.Active is = absurd (finish_opens_none k key c (error_of c.mark) is)
-opens_in b k key c phases.Completing is = absurd (leave_opens_none k key c (completion_of b c) is)
-opens_in b k key c phases.Leaving is = absurd (take_opens_none key c.key c.owed is)
-opens_in b k key c phases.Terminating is = absurd (cc)
+opens_in : (b : Board) (moment k key : ℕ) (c : Cell) (phase : Phase) → move_in b moment k c phase ≡ Some (moves.Open key) → c.key ≡ key
+opens_in b moment k key c phases.Activating is = open_of k key c (opened_with b moment c) is
+opens_in b moment k key c phases.Active is = absurd (finish_opens_none k key c (error_of c.mark) is)
+opens_in b moment k key c phases.Completing is = absurd (leave_opens_none k key c (completion_of b c) is)
+opens_in b moment k key c phases.Leaving is = absurd (take_opens_none key c.key c.owed is)
+opens_in b moment k key c phases.Terminating is = absurd (cc)
 
 end_opens_none : (key : ℕ) (c : Cell) (phase : Phase) → end_in c phase ≡ Some (moves.Open key) → ⊥
 end_opens_none key c phases.Activating is = cc
@@ -166,10 +167,10 @@ end_opens_none key c phases.Completing is = cc
 end_opens_none key c phases.Leaving is = cc
 end_opens_none key c phases.Terminating is = cc
 
-free_by : (b : Board) (k key : ℕ) (c : Cell) (doomed : Bool) → (if doomed then ends_in b c c.phase else not (is_stuck b c) && goes_on_in b c c.phase) ≡ true
-    → (if doomed then end_in c c.phase else move_in b k c c.phase) ≡ Some (moves.Open key) → (c.key ≡ key) × (is_stuck b c ≡ false)
-free_by b k key c true forced is = absurd (end_opens_none key c c.phase is)
-free_by b k key c false forced is = (opens_in b k key c c.phase is, not-true (is_stuck b c) (both_left (not (is_stuck b c)) (goes_on_in b c c.phase) forced))
+free_by : (b : Board) (moment k key : ℕ) (c : Cell) (doomed : Bool) → (if doomed then ends_in b c c.phase else not (is_stuck b c) && goes_on_in b c c.phase) ≡ true
+    → (if doomed then end_in c c.phase else move_in b moment k c c.phase) ≡ Some (moves.Open key) → (c.key ≡ key) × (is_stuck b c ≡ false)
+free_by b moment k key c true forced is = absurd (end_opens_none key c c.phase is)
+free_by b moment k key c false forced is = (opens_in b moment k key c c.phase is, not-true (is_stuck b c) (both_left (not (is_stuck b c)) (goes_on_in b c c.phase) forced))
 
 way_opens_none : (k key : ℕ) (t : Token) (way : Option (List ℕ × List ℕ))
     → option_map (λ (w : List ℕ × List ℕ). moves.Enter (record { key = k; scope = t.scope; node = w.0; via = w.1 })) way ≡ Some (moves.Open key) → ⊥
@@ -183,8 +184,8 @@ no_incident (Some i) is = absurd (cc)
 opener_free : (b : Board) (moment k key : ℕ) (mover : Mover) → IsMover b mover → move_of b moment k mover ≡ Some (moves.Open key) → incident_on b key ≡ None
 opener_free b moment k key (movers.Cell cell) known is =
     let c = known.0 in
-    let its : move_at b k c ≡ Some (moves.Open key) = sym (ap (option_and_then (move_at b k)) known.1) ∙ is in
-    let r = free_by b k key c (is_doomed b c) known.3 its in
+    let its : move_at b moment k c ≡ Some (moves.Open key) = sym (ap (option_and_then (move_at b moment k)) known.1) ∙ is in
+    let r = free_by b moment k key c (is_doomed b c) known.3 its in
     subst (λ (q : ℕ). incident_on b q ≡ None) r.0 (no_incident (incident_on b c.key) r.1)
 opener_free b moment k key (movers.Token t) known is = absurd (way_opens_none k key t (way_of b t) is)
 
@@ -247,6 +248,11 @@ module _ (p : ℕ) (es : List Event) (b : Board) (is : board_of es ≡ Some b) (
             let same : c2 ≡ c = (let both : Some c2 ≡ Some c = sym found2 ∙ found in cc) in
             waits_at (record b { cells = cells; tokens = b.tokens ++ start_tokens c2 m }) key c2 (edited_found key (in_phase phases.Active []) c2 b.cells cells (λ x. refl) found2 opened) (subst (λ (x : Cell). IsTrue (is_unset x.mark)) (sym same) unset) free) h.leads;
         none = ap (find (λ j. j.cell == key)) (jobs_kept es active refl) ∙ no_job_begins p es b key c k.jobs found begins;
+        active = made_holds b (λ (x : Board). (c2 : Cell) → cell_at x key ≡ Some c2 → IsTrue (is_phase c2.phase phases.Active)) after (moves.Open key)
+            (λ c2 m found2 stands cells opened c3 found3.
+            let now : cell_at (record b { cells = cells; tokens = b.tokens ++ start_tokens c2 m }) key ≡ Some (in_phase phases.Active [] c2) = edited_found key (in_phase phases.Active []) c2 b.cells cells (λ x. refl) found2 opened in
+            let same : in_phase phases.Active [] c2 ≡ c3 = (let both : Some (in_phase phases.Active [] c2) ≡ Some c3 = sym now ∙ found3 in cc) in
+            subst (λ (x : Cell). IsTrue (is_phase x.phase phases.Active)) same refl) h.leads;
       }
 
   -- a cell that has become active may have its job
@@ -259,20 +265,21 @@ module _ (p : ℕ) (es : List Event) (b : Board) (is : board_of es ≡ Some b) (
 -- what the event of a move asks of those before it, and of their board, where one of each kind may follow
 pub follows_by : (p : ℕ) (es : List Event) (b : Board) (before : Board) (move : Move) (e : Event) → event_of before move ≡ Some e
     → ((key : ℕ) → move ≡ moves.Open key → MayFollow p es b (events.ElementActivated (record { key = key; items = [] })))
-    → ((key : ℕ) → MayFollow p es b (events.ElementTerminating key)) → MayFollow p es b e
-follows_by p es b before (moves.Stand d) e told opens ends = absurd (cc)
-follows_by p es b before (moves.Start s) e told opens ends = absurd (cc)
-follows_by p es b before (moves.Enter x) e told opens ends = mapped_holds (MayFollow p es b) _ (cell_at before x.scope) e (λ c found. tt) told
-follows_by p es b before (moves.Open key) e told opens ends = subst (MayFollow p es b) (let same : events.ElementActivated (record { key = key; items = [] }) ≡ e = cc in same) (opens key refl)
-follows_by p es b before (moves.Finish key) e told opens ends = subst (MayFollow p es b) (let same : events.ElementCompleting key ≡ e = cc in same) tt
-follows_by p es b before (moves.Leave l) e told opens ends = subst (MayFollow p es b) (let same : events.ElementCompleted (record { key = l.key; owed = l.owed }) ≡ e = cc in same) tt
-follows_by p es b before (moves.Take t) e told opens ends = subst (MayFollow p es b) (let same : events.SequenceFlowTaken (record { key = t.key; flow = t.flow }) ≡ e = cc in same) tt
-follows_by p es b before (moves.Halt key) e told opens ends = subst (MayFollow p es b) (let same : events.ElementTerminating key ≡ e = cc in same) (ends key)
-follows_by p es b before (moves.Gone key) e told opens ends = subst (MayFollow p es b) (let same : events.ElementTerminated key ≡ e = cc in same) tt
-follows_by p es b before (moves.Assign a) e told opens ends = absurd (cc)
-follows_by p es b before (moves.Update a) e told opens ends = absurd (cc)
-follows_by p es b before (moves.Done key) e told opens ends = absurd (cc)
-follows_by p es b before (moves.Throw t) e told opens ends = absurd (cc)
-follows_by p es b before (moves.Incident i) e told opens ends =
+    → ((key : ℕ) → MayFollow p es b (events.ElementTerminating key)) → HasSoundTimers p es → MayFollow p es b e
+follows_by p es b before (moves.Stand d) e told opens ends timed = absurd (cc)
+follows_by p es b before (moves.Start s) e told opens ends timed = absurd (cc)
+follows_by p es b before (moves.Enter x) e told opens ends timed = mapped_holds (MayFollow p es b) _ (cell_at before x.scope) e (λ c found. tt) told
+follows_by p es b before (moves.Open key) e told opens ends timed = subst (MayFollow p es b) (let same : events.ElementActivated (record { key = key; items = [] }) ≡ e = cc in same) (opens key refl)
+follows_by p es b before (moves.Finish key) e told opens ends timed = subst (MayFollow p es b) (let same : events.ElementCompleting key ≡ e = cc in same) timed
+follows_by p es b before (moves.Leave l) e told opens ends timed = subst (MayFollow p es b) (let same : events.ElementCompleted (record { key = l.key; owed = l.owed }) ≡ e = cc in same) tt
+follows_by p es b before (moves.Take t) e told opens ends timed = subst (MayFollow p es b) (let same : events.SequenceFlowTaken (record { key = t.key; flow = t.flow }) ≡ e = cc in same) tt
+follows_by p es b before (moves.Halt key) e told opens ends timed = subst (MayFollow p es b) (let same : events.ElementTerminating key ≡ e = cc in same) (ends key)
+follows_by p es b before (moves.Gone key) e told opens ends timed = subst (MayFollow p es b) (let same : events.ElementTerminated key ≡ e = cc in same) tt
+follows_by p es b before (moves.Assign a) e told opens ends timed = absurd (cc)
+follows_by p es b before (moves.Update a) e told opens ends timed = absurd (cc)
+follows_by p es b before (moves.Done key) e told opens ends timed = absurd (cc)
+follows_by p es b before (moves.Throw t) e told opens ends timed = absurd (cc)
+follows_by p es b before (moves.Trigger t) e told opens ends timed = absurd (cc)
+follows_by p es b before (moves.Incident i) e told opens ends timed =
     subst (MayFollow p es b) (let same : events.IncidentCreated (record { key = i.key; kind = i.kind; cell = i.cell; job = i.job; text = i.text }) ≡ e = cc in same) tt
-follows_by p es b before (moves.Repair key) e told opens ends = absurd (cc)
+follows_by p es b before (moves.Repair key) e told opens ends timed = absurd (cc)

@@ -10,6 +10,7 @@ use Rattle.zb_rules.specs.Complete.{completed}
 use Rattle.zb_rules.specs.Fail.{failed}
 use Rattle.zb_rules.specs.Throw.{thrown}
 use Rattle.zb_rules.specs.Retries.{retried}
+use Rattle.zb_rules.specs.Trigger.{triggered}
 use Rattle.zb_rules.specs.TimeOut.{timed_out}
 use Rattle.zb_rules.specs.Deploy.{deployed}
 use Rattle.zb_rules.specs.Create.{created}
@@ -30,6 +31,7 @@ IsSupported (commands.JobFail c) = Unit {0}
 IsSupported (commands.JobThrowError c) = Unit {0}
 IsSupported (commands.JobUpdateRetries c) = Unit {0}
 IsSupported (commands.JobTimeOut key) = Unit {0}
+IsSupported (commands.TimerTrigger key) = Unit {0}
 IsSupported (commands.IncidentResolve key) = Unit {0}
 IsSupported (commands.MessagePublish c) = Unit {0}
 IsSupported (commands.MessageExpire key) = Unit {0}
@@ -48,6 +50,7 @@ own_events p n before moment (commands.JobFail c) = Some (failed p c before)
 own_events p n before moment (commands.JobThrowError c) = Some (thrown c)
 own_events p n before moment (commands.JobUpdateRetries c) = Some (retried c)
 own_events p n before moment (commands.JobTimeOut key) = Some (timed_out key)
+own_events p n before moment (commands.TimerTrigger key) = Some (triggered key before)
 own_events p n before moment (commands.IncidentResolve key) = Some (resolved key before)
 own_events p n before moment (commands.MessagePublish c) = Some (published_under (next_key p before) moment c)
 own_events p n before moment (commands.MessageExpire key) = Some (expired key)

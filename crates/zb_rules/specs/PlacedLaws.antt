@@ -295,6 +295,7 @@ made_placed b (moves.Assign a) fit new owes placed = scope_edited b a.scope (wit
 made_placed b (moves.Update a) fit new owes placed = scope_edited b a.scope (with_variable a.name a.value) (λ c. refl) (λ x c is. is) (λ c found is. is) placed
 made_placed b (moves.Done key) fit new owes placed = scope_edited b key (with_mark marks.Done) (λ c. refl) (λ x c is. is) (λ c found is. is) placed
 made_placed b (moves.Throw t) fit new owes placed = scope_edited b t.cell (with_mark (marks.Thrown t.code)) (λ c. refl) (λ x c is. is) (λ c found is. is) placed
+made_placed b (moves.Trigger t) fit new owes placed = scope_edited b t.cell (with_mark marks.Done) (λ c. refl) (λ x c is. is) (λ c found is. is) placed
 made_placed b (moves.Incident i) fit new owes placed = record { scopes = placed.scopes; tokens = placed.tokens }
 made_placed b (moves.Repair key) fit new owes placed = λ incidents gone. record { scopes = placed.scopes; tokens = placed.tokens }
 

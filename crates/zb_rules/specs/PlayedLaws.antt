@@ -83,6 +83,7 @@ CellKept b P (moves.Assign a) = EditKept b P a.scope (with_variable a.name a.val
 CellKept b P (moves.Update a) = EditKept b P a.scope (with_variable a.name a.value)
 CellKept b P (moves.Done key) = EditKept b P key (with_mark marks.Done)
 CellKept b P (moves.Throw t) = EditKept b P t.cell (with_mark (marks.Thrown t.code))
+CellKept b P (moves.Trigger t) = EditKept b P t.cell (with_mark marks.Done)
 CellKept b P (moves.Incident i) = Unit {0}
 CellKept b P (moves.Repair key) = Unit {0}
 
@@ -112,6 +113,7 @@ module _ (b : Board) (P : Cell → Type 0) (all : All P b.cells) where
   made_all (moves.Update a) kept = edit_all a.scope (with_variable a.name a.value) kept
   made_all (moves.Done key) kept = edit_all key (with_mark marks.Done) kept
   made_all (moves.Throw t) kept = edit_all t.cell (with_mark (marks.Thrown t.code)) kept
+  made_all (moves.Trigger t) kept = edit_all t.cell (with_mark marks.Done) kept
   made_all (moves.Incident i) kept = all
   made_all (moves.Repair key) kept = λ incidents gone. all
 

@@ -30,7 +30,7 @@ use Rattle.zb_tokens.specs.ForcedLaws.{movers_move, movers_fit, movers_agree}
 use Rattle.zb_rules.specs.Shown.{shown, board_of, event_of}
 use Rattle.zb_rules.specs.Applies.{is_fresh, holds_own, holds_of_game, applies, all_apply, is_definition_of}
 use Rattle.zb_rules.specs.InFront.{events_in_front}
-use Rattle.zb_rules.specs.Behind.{canceled, resolved_on, events_behind, with_events_behind}
+use Rattle.zb_rules.specs.Behind.{canceled, resolved_on, events_behind, with_events_behind, timers_canceled_on}
 use Rattle.zb_rules.specs.Settling.{turn_of, turn, HasQuietGame}
 use Rattle.zb_rules.specs.Legal.{AllLegal, EachLegal}
 use Rattle.zb_rules.specs.Reason.{reason_for}
@@ -54,7 +54,7 @@ use Rattle.zb_rules.specs.MadeLaws.{mapped_holds}
 use Rattle.zb_rules.specs.LegalLaws.{made_legally, NeverEvaluate, shows_none, shows_some, joined_never, legal_by, each_legal_by}
 use Rattle.zb_rules.specs.StepLaws.{all_apply_on, all_legal_on}
 use Rattle.zb_rules.specs.FrontLaws.{each_never, front_never, begins_end, front_begins_no_end, in_front}
-use Rattle.zb_rules.specs.BehindLaws.{MayHaveWork, MayFollow, resolve_applies, canceled_apply, behind_apply, resolved_never, behind_never}
+use Rattle.zb_rules.specs.BehindLaws.{MayHaveWork, MayFollow, resolve_applies, canceled_apply, behind_apply, resolved_never, behind_never, sound_over}
 use Rattle.zb_rules.specs.CellsLaws.{ascend_between}
 use Rattle.zb_rules.specs.OpenedLaws.{IsSetBehind, set_behind, front_are, opens_free, opened_may_work, follows_by}
 use Rattle.zb_rules.specs.ModelsLaws.{Knows, board_knows}
@@ -67,6 +67,10 @@ use Rattle.zb_rules.specs.MoversLaws.{IsMade, mover_made, found_key, from_none, 
 use Rattle.zb_rules.specs.AppliedLaws.{Advances, applied_from, some_of, game_holds_from, applied_board, board_behind}
 use Rattle.zb_rules.specs.SoundLaws.{BoardKeeps, board_is_there, cells_ascend, keeps_on, board_keeps}
 use Rattle.zb_rules.specs.IncidentsLaws.{none_behind}
+use Rattle.zb_views.specs.Jobs.{called_off}
+use Rattle.zb_rules.specs.Trigger.{triggered}
+use Rattle.zb_rules.specs.TriggerLaws.{trigger_applies, triggered_never}
+use Rattle.zb_rules.specs.TimerSoundLaws.{canceled_on_apply}
 
 module _ (p moment : ℕ) (es : List Event) (b : Board) (mover : Mover) (is : board_of es ≡ Some b) (k : BoardKeeps p es b) where
   event_by : (move : Move) (e : Event) → move_of b moment (next_key p es) mover ≡ Some move → IsTrue (fits b move) → IsTrue (agrees b moment move) → event_of b move ≡ Some e
@@ -113,6 +117,7 @@ module _ (p moment : ℕ) (es : List Event) (b : Board) (mover : Mover) (is : bo
   forced_by (moves.Update a) up keys from made fit agreed = absurd from
   forced_by (moves.Done key) up keys from made fit agreed = absurd from
   forced_by (moves.Throw t) up keys from made fit agreed = absurd from
+  forced_by (moves.Trigger t) up keys from made fit agreed = absurd from
   forced_by (moves.Incident i) up keys from made fit agreed =
       let fresh : IsTrue (is_fresh p es i.key) = (let key = from.0 in grind (arith, nat_tests)) in
       event_by (moves.Incident i) (events.IncidentCreated (record { key = i.key; kind = i.kind; cell = i.cell; job = i.job; text = i.text })) made fit agreed refl (rw (append-nil es, fresh, from.2, from.1) refl) refl
@@ -196,7 +201,7 @@ module _ (p n moment : ℕ) (es : List Event) (b : Board) (mover : Mover) (is : 
       (λ key its.
       let told : events.ElementActivated (record { key = key; items = [] }) ≡ f.event = (let e : event_of b (moves.Open key) ≡ Some f.event = subst (λ (m : Move). event_of b m ≡ Some f.event) its f.is_event in cc) in
       subst (λ (x : Event). MayHaveWork p ((es ++ front) ++ x ∷ []) r.0 key) told (open_follows key its f.event r.0 told r.1))
-      (λ key. keeps.incidents.apart) in
+      (λ key. (keeps.incidents.apart, keeps.timers)) keeps.timers in
       let second = behind_apply p ((es ++ front) ++ f.event ∷ []) r.0 after_is n moment f.event may in (
         rw (all_apply_on p es front (f.event ∷ behind), ahead, first) second,
         all_legal_on moment es es front (f.event ∷ behind) (legal_by p moment es b is es front (front_never b f.move es) ahead)
@@ -237,9 +242,12 @@ module _ (p n moment : ℕ) (es : List Event) (key : ℕ) (apply : IsTrue (all_a
       let k = keeps_on p es b begins r.0 r.1 (board_keeps p es b apply is) in
       let over = es ++ begins ∷ [] in
       let called = canceled_apply p over r.0 (board_behind p es b begins r.0 r.1) in
-      let line : (over ++ canceled over) ++ resolved_on key (over ++ canceled over) ≡ es ++ begins ∷ events_behind p n moment begins over =
-      append_assoc over (canceled over) (resolved_on key (over ++ canceled over)) ∙ append_assoc es (begins ∷ []) (canceled over ++ resolved_on key (over ++ canceled over)) in
-      none_behind (over ++ canceled over) r.0 key called.1 k.incidents.apart after (ap board_of line ∙ led)
+      let next = over ++ canceled over in
+      let closed = timers_canceled_on key next in
+      let timed = canceled_on_apply p next r.0 key called.1 (sound_over p over (called_off over) k.timers) in
+      let line : (next ++ closed) ++ resolved_on key (next ++ closed) ≡ es ++ begins ∷ events_behind p n moment begins over =
+      append_assoc next closed (resolved_on key (next ++ closed)) ∙ (append_assoc over (canceled over) (closed ++ resolved_on key (next ++ closed)) ∙ append_assoc es (begins ∷ []) (canceled over ++ (closed ++ resolved_on key (next ++ closed)))) in
+      none_behind (next ++ closed) r.0 key timed.1 k.incidents.apart after (ap board_of line ∙ led)
 
   -- no event stands in front of it, so it is the one that is forced
   its_own : (front rest : List Event) (e : Event) → begins_end front ≡ false → IsTrue (applies p (es ++ front) e) → front ++ with_events_behind p n moment e (es ++ front) ≡ begins ∷ rest
@@ -301,6 +309,7 @@ own_there p n es moment (commands.JobFail c) supported none = refl
 own_there p n es moment (commands.JobThrowError c) supported none = refl
 own_there p n es moment (commands.JobUpdateRetries c) supported none = refl
 own_there p n es moment (commands.JobTimeOut key) supported none = refl
+own_there p n es moment (commands.TimerTrigger key) supported none = refl
 own_there p n es moment (commands.IncidentResolve key) supported none = refl
 own_there p n es moment (commands.MessagePublish c) supported none = refl
 own_there p n es moment (commands.MessageExpire key) supported none = refl
@@ -352,6 +361,7 @@ own_never p n es moment (commands.JobFail c) own apply is = failure_never p c es
 own_never p n es moment (commands.JobThrowError c) own apply is = some_never (thrown c) own (thrown_never c) is
 own_never p n es moment (commands.JobUpdateRetries c) own apply is = some_never (retried c) own (λ before b moment move is. shows_none b moment move is, tt) is
 own_never p n es moment (commands.JobTimeOut key) own apply is = some_never (timed_out key) own (λ before b moment move is. shows_none b moment move is, tt) is
+own_never p n es moment (commands.TimerTrigger key) own apply is = some_never (triggered key es) own (triggered_never key es) is
 own_never p n es moment (commands.IncidentResolve key) own apply is = some_never (resolved key es) own (resolved_never key es) is
 own_never p n es moment (commands.MessagePublish c) own apply is = some_never (published_under (next_key p es) moment c) own (published_never (next_key p es) moment c) is
 own_never p n es moment (commands.MessageExpire key) own apply is = some_never (expired key) own (λ before b moment move is. shows_none b moment move is, tt) is
@@ -384,6 +394,8 @@ own_apply_by p n es b moment (commands.JobUpdateRetries c) own is k knows keys o
     subst (λ (x : List Event). IsTrue (all_apply p es x)) (let same : retried c ≡ own = cc in same) (retry_applies p es b is k c none)
 own_apply_by p n es b moment (commands.JobTimeOut key) own is k knows keys ordered supported none made =
     subst (λ (x : List Event). IsTrue (all_apply p es x)) (let same : timed_out key ≡ own = cc in same) (time_out_applies p es b is k moment key none)
+own_apply_by p n es b moment (commands.TimerTrigger key) own is k knows keys ordered supported none made =
+    subst (λ (x : List Event). IsTrue (all_apply p es x)) (let same : triggered key es ≡ own = cc in same) (trigger_applies p es b is moment key none)
 own_apply_by p n es b moment (commands.IncidentResolve key) own is k knows keys ordered supported none made =
     subst (λ (x : List Event). IsTrue (all_apply p es x)) (let same : resolved key es ≡ own = cc in same) (resolve_applies p es b is key none)
 own_apply_by p n es b moment (commands.MessagePublish c) own is k knows keys ordered supported none made =

@@ -8,6 +8,7 @@ use Rattle.zb_rules.specs.Publish.{reason_to_publish}
 use Rattle.zb_rules.specs.JobReasons.{reason_to_end}
 use Rattle.zb_rules.specs.Activate.{reason_to_activate}
 use Rattle.zb_rules.specs.Retries.{reason_to_retry}
+use Rattle.zb_rules.specs.Trigger.{reason_to_trigger}
 use Rattle.zb_rules.specs.TimeOut.{reason_to_time_out}
 use Rattle.zb_rules.specs.Deploy.{reason_to_deploy}
 use Rattle.zb_rules.specs.Create.{reason_to_create}
@@ -29,6 +30,7 @@ reason_for before moment (commands.JobFail c) = reason_to_end before c.key
 reason_for before moment (commands.JobThrowError c) = reason_to_end before c.key
 reason_for before moment (commands.JobUpdateRetries c) = reason_to_retry before c
 reason_for before moment (commands.JobTimeOut key) = reason_to_time_out before moment key
+reason_for before moment (commands.TimerTrigger key) = reason_to_trigger before moment key
 reason_for before moment (commands.IncidentResolve key) = reason_to_resolve before key
 reason_for before moment (commands.MessagePublish c) = reason_to_publish before c
 reason_for before moment (commands.MessageExpire key) = reason_to_expire before moment key

@@ -25,6 +25,7 @@ shown before (events.VariableCreated e) = Some (moves.Assign (record { scope = e
 shown before (events.VariableUpdated e) = Some (moves.Update (record { scope = e.scope; name = e.name; value = e.value }))
 shown before (events.JobCompleted key) = option_map (λ j. moves.Done j.cell) (job_at key before)
 shown before (events.JobErrorThrown e) = option_map (λ j. moves.Throw (record { cell = j.cell; code = e.code })) (job_at e.key before)
+shown before (events.ProcessEventTriggered e) = Some (moves.Trigger (record { cell = e.cell; node = e.node }))
 shown before (events.IncidentCreated e) = Some (moves.Incident (record { key = e.key; kind = e.kind; cell = e.cell; job = e.job; text = e.text }))
 shown before (events.IncidentResolved e) = Some (moves.Repair e.key)
 shown before _ = None
@@ -62,5 +63,6 @@ event_of b (moves.Assign a) = None
 event_of b (moves.Update a) = None
 event_of b (moves.Done key) = None
 event_of b (moves.Throw t) = None
+event_of b (moves.Trigger t) = None
 event_of b (moves.Incident i) = Some (events.IncidentCreated (record { key = i.key; kind = i.kind; cell = i.cell; job = i.job; text = i.text }))
 event_of b (moves.Repair key) = None

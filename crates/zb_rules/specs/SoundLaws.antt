@@ -14,7 +14,8 @@ use Rattle.zb_tokens.specs.Game.{empty_board}
 use Rattle.zb_tokens.specs.GameLaws.{both_left}
 use Rattle.zb_rules.specs.Shown.{shown, board_of}
 use Rattle.zb_rules.specs.Applies.{is_fresh, begins_instance, begins_cell, all_apply}
-use Rattle.zb_rules.specs.Sound.{IsSound, HasSoundJobs}
+use Rattle.zb_rules.specs.Sound.{IsSound, HasSoundJobs, HasSoundTimers}
+use Rattle.zb_rules.specs.TimerSoundLaws.{timers_sound_on, timers_sound_first}
 use Rattle.zb_rules.specs.CellsLaws.{Between, ascend_between}
 use Rattle.zb_rules.specs.GrowthLaws.{job_shows}
 use Rattle.zb_rules.specs.AppliedLaws.{Advances, holds_on, holds_of_all}
@@ -57,6 +58,7 @@ pub record BoardKeeps (p : ℕ) (es : List Event) (b : Board) : Type 0 where
   pub placed : Placed b
   pub incidents : HasApartIncidents p es b
   pub jobs : HasSoundJobs p es b
+  pub timers : HasSoundTimers p es
   pub drawn : All (IsDrawn p es) b.incidents
   pub unset : All IsUntold b.cells
 
@@ -69,6 +71,7 @@ keeps_on p before b e after h k = record {
   placed = placed_on b after (shown before e) h.fit (shown_new p before b e after h k.stands) h.leads k.owes k.placed;
   incidents = apart_on p before b e after h k.incidents;
   jobs = jobs_on p before b e after h k.incidents.apart k.drawn k.jobs;
+  timers = timers_sound_on p before b e after h k.timers;
   drawn = drawn_on p before b e after h k.jobs k.drawn;
   unset = untold_on b after (shown before e) h.fit h.leads k.unset;
 }
@@ -82,6 +85,7 @@ keeps_first p = record {
   placed = record { scopes = All-nil (InScope empty_board); tokens = All-nil (IsIn empty_board) };
   incidents = apart_first p;
   jobs = jobs_first p;
+  timers = timers_sound_first p;
   drawn = All-nil (IsDrawn p []);
   unset = All-nil IsUntold;
 }

@@ -11,6 +11,7 @@ ghost use Rattle.zb_tokens.specs.Names.{holder_of};
 ghost use Rattle.zb_tokens.specs.Incidents.{incident_on};
 ghost use Rattle.zb_tokens.specs.Game.{agrees, fits};
 ghost use Rattle.zb_tokens.specs.Forced.{next_mover};
+ghost use Rattle.zb_views.specs.Timers.{times_timer_ended};
 ghost use Rattle.zb_rules.specs.Shown.{shown, board_of};
 ghost use Rattle.zb_rules.specs.Applies.{applies, all_apply};
 ghost use Rattle.zb_rules.specs.Legal.{IsMadeLegally, AllLegal, EachLegal};
@@ -22,10 +23,11 @@ ghost use Rattle.zb_rules.specs.Cancel.{reason_to_cancel, cancelled};
 ghost use Rattle.zb_rules.specs.Update.{reason_to_update, updated};
 ghost use Rattle.zb_rules.specs.Reason.{reason_for};
 ghost use Rattle.zb_rules.specs.Own.{IsSupported, own_events};
-ghost use Rattle.zb_rules.specs.Due.{Alarm, alarms, due_command, IsFirstDue};
+ghost use Rattle.zb_rules.specs.declared.alarm.Alarm.{Alarm};
+ghost use Rattle.zb_rules.specs.Due.{alarms, due_command, IsFirstDue};
 
-/// The command that is due first is that of an alarm, a message's or a job's, whose moment has come, and no other
-/// one whose moment has come is before it by that moment, then by its key. Where no command is due, each moment
+/// The command that is due first is that of an alarm, a message's, a job's or a timer's, whose moment has come, and no
+/// other one whose moment has come is before it by that moment, then by its key. Where no command is due, each moment
 /// lies ahead.
 pub fn due_commands_come_first()
     ensures first { (now : ℕ) (es : List Event) (command : Command) → due_command now es ≡ Some command
@@ -34,7 +36,8 @@ pub fn due_commands_come_first()
 {}
 
 /// From the moment at which a command is due there is no reason against it, and it is one that is run: a message
-/// whose deadline has come expires, and a job whose deadline has come is taken back from the worker that has it.
+/// whose deadline has come expires, a job whose deadline has come is taken back from the worker that has it, and a
+/// timer whose moment has come, and whose cell waits for it, is triggered.
 pub fn due_commands_have_no_reason()
     ensures no_reason { (now moment : ℕ) (es : List Event) (command : Command) → now ≤ moment → due_command now es ≡ Some command → reason_for es moment command ≡ None }
     ensures run { (now : ℕ) (es : List Event) (command : Command) → due_command now es ≡ Some command → IsSupported command }
@@ -61,6 +64,13 @@ pub fn jobs_of_logs_are_sound()
 pub fn jobs_end_once()
     ensures once { (p : ℕ) (es : List Event) (job : ℕ) → IsTrue (all_apply p [] es) → times_ended job es ≤ 1 }
     ensures home { (p : ℕ) (es : List Event) (job : ℕ) → IsTrue (all_apply p [] es) → 1 ≤ times_ended job es → job / 2 ^ 51 ≡ p }
+{}
+
+/// In a log whose events apply each timer ends at most once: it is triggered or canceled. One that ended has a key of
+/// the log's partition.
+pub fn timers_end_once()
+    ensures once { (p : ℕ) (es : List Event) (timer : ℕ) → IsTrue (all_apply p [] es) → times_timer_ended timer es ≤ 1 }
+    ensures home { (p : ℕ) (es : List Event) (timer : ℕ) → IsTrue (all_apply p [] es) → 1 ≤ times_timer_ended timer es → timer / 2 ^ 51 ≡ p }
 {}
 
 /// Who is forced behind a log whose events apply has an event, where a key is left: those in front of it apply,

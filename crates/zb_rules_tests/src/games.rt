@@ -3,7 +3,7 @@ use std::alloc::Global;
 use std::process::Abort;
 use zb_game::{Game, GameFault};
 use zb_graph::{BoxedGraph, compile};
-use zb_model::{Key, NodeKind, TryCopy};
+use zb_model::{Key, Moment, NodeKind, TryCopy};
 use zb_tokens::{Deployed, Move, Start};
 
 // A board with the process `p` with this last node under key 1, and an instance of it begun under key 2.
@@ -27,7 +27,10 @@ fn goes_on(rt: &impl Abort, alloc: Global, game: &mut Game, key: Key) -> bool {
     let Some(mover) = game.next_mover(alloc).expect(rt, "memory") else {
         return false;
     };
-    match game.move_of(alloc, key, mover).expect(rt, "memory") {
+    match game
+        .move_of(alloc, Moment::new(0), key, mover)
+        .expect(rt, "memory")
+    {
         Some(m) => {
             assert!(rt; game.make(alloc, m) == Ok(()));
             true

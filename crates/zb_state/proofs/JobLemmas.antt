@@ -13,7 +13,7 @@ use Rattle.zb_views.specs.Jobs.{jobs, job_at, job_told, ends_job}
 use Rattle.zb_views.specs.JobLaws.{job_changed, job_made, jobs_by}
 use Rattle.zb_jobs.specs.Table.{has_place_for}
 use Rattle.zb_rules.specs.JobEvents.{has_job, are_jobs}
-use Rattle.zb_state.specs.Change.{OpensJob}
+use Rattle.zb_state.specs.Change.{BeginsWait}
 
 there_or_not : {A : Type 0} (found : Option A) → not (is_none found) ≡ is_some found
 there_or_not None = refl
@@ -48,7 +48,7 @@ made_below : (high : ℕ) (told : Option JobCreated) (js : List Job) → ((made 
 made_below high None js less below = rw (append-nil js) below
 made_below high (Some made) js less below = below_more key high js _ (less made refl) below
 
-opened_below : (p n next high : ℕ) (js : List Job) (e : Event) → OpensJob p n next js (Some e) → key_of p (n + 1) < high → (made : JobCreated) → job_told e ≡ Some made → made.key < high
+opened_below : (p n next high : ℕ) (js : List Job) (e : Event) → BeginsWait p n next js (Some e) → key_of p (n + 1) < high → (made : JobCreated) → job_told e ≡ Some made → made.key < high
 opened_below p n next high js (events.JobCreated x) opens less made is =
     let same : x ≡ made = cc in
     subst (λ (m : JobCreated). m.key < high) same (omega (arith, opens.1, less))
@@ -58,7 +58,7 @@ opened_below p n next high js e opens less made is = absurd (cc)
 pub jobs_below_kept : (p n n' : ℕ) (js : List Job) → n ≤ n' → IsTrue (are_below key (key_of p (n + 1)) js) → IsTrue (are_below key (key_of p (n' + 1)) js)
 jobs_below_kept p n n' js le below = below_higher key (key_of p (n + 1)) (key_of p (n' + 1)) js (omega (arith, le)) below
 
-kept_by_event : (p n next n' : ℕ) (js : List Job) (e : Event) (told : Option JobCreated) → job_told e ≡ told → n' ≡ max n next → OpensJob p n next js (Some e) → IsTrue (are_below key (key_of p (n + 1)) js)
+kept_by_event : (p n next n' : ℕ) (js : List Job) (e : Event) (told : Option JobCreated) → job_told e ≡ told → n' ≡ max n next → BeginsWait p n next js (Some e) → IsTrue (are_below key (key_of p (n + 1)) js)
     → IsTrue (are_below key (key_of p (n' + 1)) (jobs_by e js))
 kept_by_event p n next n' js e told is raised opens below =
     let kept = jobs_below_kept p n n' js (omega (arith, raised)) below in
@@ -66,18 +66,18 @@ kept_by_event p n next n' js e told is raised opens below =
     (by_told e opens is)
     (changed_below (key_of p (n' + 1)) e (λ j. not (ends_job j.key j.cell e)) js kept)
   where
-    by_told : (x : Event) → OpensJob p n next js (Some x) → job_told x ≡ told → (made : JobCreated) → job_told x ≡ Some made → made.key < key_of p (n' + 1)
+    by_told : (x : Event) → BeginsWait p n next js (Some x) → job_told x ≡ told → (made : JobCreated) → job_told x ≡ Some made → made.key < key_of p (n' + 1)
     by_told (events.JobCreated y) opens is made told_is =
         let same : y ≡ made = cc in
         subst (λ (m : JobCreated). m.key < key_of p (n' + 1)) same (omega (arith, opens.0, opens.1, raised))
     by_told x opens is made told_is = absurd (cc)
 
 -- the jobs are below the next key once an event is taken in
-pub jobs_below_by : (p n next n' : ℕ) (js : List Job) (e : Event) → n' ≡ max n next → OpensJob p n next js (Some e) → IsTrue (are_below key (key_of p (n + 1)) js) → IsTrue (are_below key (key_of p (n' + 1)) (jobs_by e js))
+pub jobs_below_by : (p n next n' : ℕ) (js : List Job) (e : Event) → n' ≡ max n next → BeginsWait p n next js (Some e) → IsTrue (are_below key (key_of p (n + 1)) js) → IsTrue (are_below key (key_of p (n' + 1)) (jobs_by e js))
 jobs_below_by p n next n' js e raised opens below = kept_by_event p n next n' js e (job_told e) refl raised opens below
 
 -- an event finds its place among the jobs
-pub has_place : (p n next : ℕ) (js : List Job) (e : Event) → OpensJob p n next js (Some e) → IsTrue (are_below key (key_of p (n + 1)) js) → IsTrue (has_place_for js e)
+pub has_place : (p n next : ℕ) (js : List Job) (e : Event) → BeginsWait p n next js (Some e) → IsTrue (are_below key (key_of p (n + 1)) js) → IsTrue (has_place_for js e)
 has_place p n next js (events.JobCreated x) opens below =
     let high : IsTrue (are_below key x.key js) = rw opens.1 below in
     rw (high, opens.2) refl

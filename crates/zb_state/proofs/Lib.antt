@@ -1,4 +1,5 @@
 pub mod StateLemmas
 pub mod DueLemmas
 pub mod JobLemmas
+pub mod TimerLemmas
 pub mod SmallLemmas

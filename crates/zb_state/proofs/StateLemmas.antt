@@ -34,7 +34,9 @@ use Rattle.zb_state.specs.declared.change.Change.TheVariants as changes
 use Rattle.zb_views.specs.declared.job.Job.{Job}
 use Rattle.zb_views.specs.Jobs.{jobs, job_on, ending_told, calls_off_job, called_off}
 use Rattle.zb_views.specs.JobLaws.{jobs_by, jobs_more, jobs_kept, called_off_more}
-use Rattle.zb_state.specs.Change.{change_told, definition_of_change, instance_of_change, with_change, jobs_with, called_off_by, HasNextKey, IsFirstOfCell, Draws, OpensJob}
+use Rattle.zb_views.specs.Timers.{timers}
+use Rattle.zb_views.specs.TimerLaws.{timers_by, timers_more, timers_kept}
+use Rattle.zb_state.specs.Change.{change_told, definition_of_change, instance_of_change, with_change, jobs_with, timers_with, called_off_by, HasNextKey, IsFirstOfCell, Draws, BeginsWait}
 use Rattle.zb_state.specs.State.{IsStateOf, IsSameBeside, GoesBy, IsNoted, HasTaken}
 use Rattle.zb_state.specs.declared.state.State.{State}
 
@@ -127,6 +129,11 @@ jobs_noted : (es : List Event) (e : Event) (found : Option Event) → GoesBy e f
 jobs_noted es e None by = jobs_kept es e by.0
 jobs_noted es e (Some x) by = jobs_more es e ∙ ap (λ (y : Event). jobs_by y (jobs es)) (sym by)
 
+-- the timers
+timers_noted : (es : List Event) (e : Event) (found : Option Event) → GoesBy e found → timers (es ++ e ∷ []) ≡ timers_with found (timers es)
+timers_noted es e None by = timers_kept es e by.2
+timers_noted es e (Some x) by = timers_more es e ∙ ap (λ (y : Event). timers_by y (timers es)) (sym by)
+
 -- the one that is called off
 calls_none : (before : List Event) (found : Option ℕ) → found ≡ None → option_and_then (λ (cell : ℕ). option_map (λ (j : Job). j.key) (job_on cell before)) found ≡ None
 calls_none before found none = rw none refl
@@ -135,22 +142,25 @@ called_off_noted : (es : List Event) (e : Event) (found : Option Event) → Goes
 called_off_noted es e None by = called_off_more es e ∙ calls_none es (ending_told e) by.1
 called_off_noted es e (Some x) by = called_off_more es e ∙ ap (λ (y : Event). calls_off_job es y) (sym by)
 
--- a job that an event makes is the first of its cell, and has the next key
-opens_by : (p n : ℕ) (js : List Job) (e : Event) → HasNextKey p n e → IsFirstOfCell js e → OpensJob p n (greatest_among p (keys_in e)) js (Some e)
+-- a job that an event makes is the first of its cell, and has the next key, as a timer has
+opens_by : (p n : ℕ) (js : List Job) (e : Event) → HasNextKey p n e → IsFirstOfCell js e → BeginsWait p n (greatest_among p (keys_in e)) js (Some e)
 opens_by p n js (events.JobCreated e) next first =
     let drawn : counter_at p e.key ≡ n + 1 = ap (counter_at p) next.1 ∙ counter_at-key_of p (n + 1) next.0 in
     (omega (arith, drawn), next.1, first)
+opens_by p n js (events.TimerCreated e) next first =
+    let drawn : counter_at p e.key ≡ n + 1 = ap (counter_at p) next.1 ∙ counter_at-key_of p (n + 1) next.0 in
+    (omega (arith, drawn), next.1)
 opens_by p n js e next first = tt
 
 pub opens_of : {counter : ℕ} → (old mid : State) (e : Event) → IsSameBeside old mid → counter ≡ greatest_among mid.place (keys_in e) → HasNextKey old.place old.counter e → IsFirstOfCell old.jobs e
-    → OpensJob mid.place mid.counter counter mid.jobs (Some e)
+    → BeginsWait mid.place mid.counter counter mid.jobs (Some e)
 opens_of {counter = counter} old mid e same told next first =
-    let start : OpensJob old.place old.counter (greatest_among old.place (keys_in e)) old.jobs (Some e) = opens_by old.place old.counter old.jobs e next first in
+    let start : BeginsWait old.place old.counter (greatest_among old.place (keys_in e)) old.jobs (Some e) = opens_by old.place old.counter old.jobs e next first in
     let drawn : greatest_among old.place (keys_in e) ≡ counter = ap (λ (p : ℕ). greatest_among p (keys_in e)) (sym same.place) ∙ sym told in
-    let counted = subst (λ (k : ℕ). OpensJob old.place old.counter k old.jobs (Some e)) drawn start in
-    let placed = subst (λ (p : ℕ). OpensJob p old.counter counter old.jobs (Some e)) (sym same.place) counted in
-    let behind = subst (λ (n : ℕ). OpensJob mid.place n counter old.jobs (Some e)) (sym same.counter) placed in
-    subst (λ (js : List Job). OpensJob mid.place mid.counter counter js (Some e)) (sym same.jobs) behind
+    let counted = subst (λ (k : ℕ). BeginsWait old.place old.counter k old.jobs (Some e)) drawn start in
+    let placed = subst (λ (p : ℕ). BeginsWait p old.counter counter old.jobs (Some e)) (sym same.place) counted in
+    let behind = subst (λ (n : ℕ). BeginsWait mid.place n counter old.jobs (Some e)) (sym same.counter) placed in
+    subst (λ (js : List Job). BeginsWait mid.place mid.counter counter js (Some e)) (sym same.jobs) behind
 
 -- the state where each part grows
 pub state_more : {counter : ℕ} {change : Change} → (es : List Event) (e : Event) (found : Option Event) (old mid new : State) → GoesBy e found → IsStateOf es old → IsSameBeside old mid → IsTrue (applies old.place es e) → after_shown old.game (shown es e) ≡ Some mid.game
@@ -162,6 +172,7 @@ state_more es e found old mid new by is same applied played change counter noted
   definitions = rw (definitions_more es e, is.definitions, definition_made e) (sym (rw (change, same.definitions) at noted.definitions));
   begun = begun_more es e ∙ (instance_made e ∙ sym (rw change at noted.begun));
   jobs = rw (jobs_noted es e found by, is.jobs) (sym (rw same.jobs at noted.jobs));
+  timers = rw (timers_noted es e found by, is.timers) (sym (rw same.timers at noted.timers));
   called_off = rw (called_off_noted es e found by, is.jobs) (sym (rw same.jobs at noted.called_off));
   game = rw (board_of_more es e, is.game) (played ∙ ap (λ (b : Board). Some b) (sym noted.game));
 }

@@ -8,6 +8,8 @@ use Rattle.zb_model.specs.declared.record.Event.TheVariants as events
 use Rattle.zb_views.specs.declared.begun.Begun.{Begun}
 use Rattle.zb_views.specs.declared.definition.Definition.{Definition}
 use Rattle.zb_views.specs.declared.job.Job.{Job}
+use Rattle.zb_views.specs.declared.timer.Timer.{Timer}
+use Rattle.zb_views.specs.TimerLaws.{timers_by}
 use Rattle.zb_views.specs.Jobs.{ending_told}
 use Rattle.zb_views.specs.JobLaws.{jobs_by}
 use Rattle.zb_views.specs.Messages.{without_message}
@@ -50,6 +52,7 @@ may_show (events.ElementTerminated key) = true
 may_show (events.SequenceFlowTaken e) = true
 may_show (events.JobCompleted key) = true
 may_show (events.JobErrorThrown e) = true
+may_show (events.ProcessEventTriggered e) = true
 may_show (events.VariableCreated e) = true
 may_show (events.VariableUpdated e) = true
 may_show (events.IncidentCreated e) = true
@@ -61,23 +64,30 @@ abbrev pub jobs_with : Option Event → List Job → List Job
 jobs_with None js = js
 jobs_with (Some e) js = jobs_by e js
 
+-- what an event makes of the timers, if there is one to go by
+abbrev pub timers_with : Option Event → List Timer → List Timer
+timers_with None ts = ts
+timers_with (Some e) ts = timers_by e ts
+
 -- which of these jobs an event calls off: that of the cell which it begins to terminate
 abbrev pub called_off_by : Option Event → List Job → Option ℕ
 called_off_by found js = option_and_then (λ e. option_and_then (λ cell. option_map (λ j. j.key) (find (λ j. j.cell == cell) js)) (ending_told e)) found
 
--- a job that an event makes has the next key, and is the first of its cell
-abbrev pub OpensJob : (p counter next : ℕ) → List Job → Option Event → Type 0
-OpensJob p counter next js (Some (events.JobCreated e)) = (counter + 1 ≤ next) × (e.key ≡ key_of p (counter + 1)) × IsTrue (is_none (find (λ j. j.cell == e.cell) js))
-OpensJob p counter next js found = Unit {0}
+-- a job that an event makes has the next key, and is the first of its cell; a timer that it makes has the next key
+abbrev pub BeginsWait : (p counter next : ℕ) → List Job → Option Event → Type 0
+BeginsWait p counter next js (Some (events.JobCreated e)) = (counter + 1 ≤ next) × (e.key ≡ key_of p (counter + 1)) × IsTrue (is_none (find (λ j. j.cell == e.cell) js))
+BeginsWait p counter next js (Some (events.TimerCreated e)) = (counter + 1 ≤ next) × (e.key ≡ key_of p (counter + 1))
+BeginsWait p counter next js found = Unit {0}
 
 -- the key is the next one behind a counter of partition p, and there is one
 abbrev pub IsNext : ℕ → ℕ → ℕ → Type 0
 IsNext p counter key = (counter + 1 < 2 ^ 51) × (key ≡ key_of p (counter + 1))
 
--- a message that the event publishes has the next key, and so has a job that it makes
+-- a message that the event publishes has the next key, and so has a job or a timer that it makes
 abbrev pub HasNextKey : ℕ → ℕ → Event → Type 0
 HasNextKey p counter (events.MessagePublished m) = IsNext p counter m.key
 HasNextKey p counter (events.JobCreated e) = IsNext p counter e.key
+HasNextKey p counter (events.TimerCreated e) = IsNext p counter e.key
 HasNextKey p counter _ = Unit {0}
 
 -- a job that the event makes is the first of its cell

@@ -3,10 +3,12 @@ use Rattle.std.specs.Prelude.{◌≡◌, ℕ, max, List, [], ◌++◌, true, Opt
 use Rattle.zb_model.specs.declared.record.Event.{Event}
 use Rattle.zb_state.specs.declared.state.State.{State}
 use Rattle.zb_state.specs.declared.change.Change.{Change}
-use Rattle.zb_state.specs.Change.{change_told, with_change, definition_of_change, instance_of_change, jobs_with, called_off_by}
+use Rattle.zb_state.specs.Change.{change_told, with_change, definition_of_change, instance_of_change, jobs_with, timers_with, called_off_by}
 use Rattle.zb_views.specs.View.{greatest_counter}
 use Rattle.zb_views.specs.Jobs.{jobs, called_off, ending_told}
 use Rattle.zb_views.specs.JobLaws.{says_nothing_of_jobs}
+use Rattle.zb_views.specs.Timers.{timers}
+use Rattle.zb_views.specs.TimerLaws.{says_nothing_of_timers}
 use Rattle.zb_views.specs.Messages.{buffered}
 use Rattle.zb_views.specs.Definitions.{definitions}
 use Rattle.zb_views.specs.Begin.{begun}
@@ -26,6 +28,7 @@ pub record IsStateOf (es : List Event) (state : State) : Type 0 where
   pub definitions : definitions es ≡ state.definitions.items
   pub begun : begun es ≡ state.begun
   pub jobs : jobs es ≡ state.jobs
+  pub timers : timers es ≡ state.timers
   pub called_off : called_off es ≡ state.called_off
   pub game : board_of es ≡ Some state.game
 
@@ -49,9 +52,10 @@ pub record IsSameBeside (old new : State) : Type 0 where
   pub definitions : new.definitions.items ≡ old.definitions.items
   pub begun : new.begun ≡ old.begun
   pub jobs : new.jobs ≡ old.jobs
+  pub timers : new.timers ≡ old.timers
   pub called_off : new.called_off ≡ old.called_off
 
--- a state that took in the greatest counter of an event, what that changes, and what it makes of the jobs
+-- a state that took in the greatest counter of an event, what that changes, and what it makes of the jobs and timers
 pub record IsNoted (n : ℕ) (change : Change) (found : Option Event) (old new : State) : Type 0 where
   pub place : new.place ≡ old.place
   pub counter : new.counter ≡ max old.counter n
@@ -59,12 +63,13 @@ pub record IsNoted (n : ℕ) (change : Change) (found : Option Event) (old new :
   pub definitions : new.definitions.items ≡ old.definitions.items ++ definition_of_change change
   pub begun : new.begun ≡ instance_of_change change
   pub jobs : new.jobs ≡ jobs_with found old.jobs
+  pub timers : new.timers ≡ timers_with found old.timers
   pub called_off : new.called_off ≡ called_off_by found old.jobs
   pub game : new.game ≡ old.game
 
--- an event by which the jobs go on, or one that says nothing of them
+-- an event by which the jobs and timers go on, or one that says nothing of them
 abbrev pub GoesBy : Event → Option Event → Type 0
-GoesBy e None = (says_nothing_of_jobs e ≡ true) × (ending_told e ≡ None)
+GoesBy e None = (says_nothing_of_jobs e ≡ true) × (ending_told e ≡ None) × (says_nothing_of_timers e ≡ true)
 GoesBy e (Some found) = found ≡ e
 
 -- a state that took in the greatest counter of an event and what it says, but for its move

@@ -17,10 +17,10 @@ use zb_graph::{BoxedGraph, compile};
 use zb_jobs::Jobs;
 use zb_model::{
     ElementActivated, ElementActivating, ElementCompleted, Event, IncidentCreated, JobErrorThrown,
-    Key, List, ProcessCreated, Role, SequenceFlowTaken, TableFault, Text, TryCopy, VariableCreated,
-    VariableUpdated,
+    Key, List, ProcessCreated, ProcessEventTriggered, Role, SequenceFlowTaken, TableFault, Text,
+    TryCopy, VariableCreated, VariableUpdated,
 };
-use zb_tokens::{Assigned, Deployed, Enter, Incident, Leave, Move, Start, Take, Thrown};
+use zb_tokens::{Assigned, Deployed, Enter, Incident, Leave, Move, Start, Take, Thrown, Triggered};
 
 /// Makes the move that the event shows, if it shows one. At `NotApplicable`, exactly where it doesn't fit,
 /// nothing has changed; after `Memory` the game is only dropped. It costs a copy of the event's texts, its
@@ -58,6 +58,7 @@ pub fn may_show(event: &Event) -> bool
             | Event::VariableUpdated(_)
             | Event::JobCompleted(_)
             | Event::JobErrorThrown(_)
+            | Event::ProcessEventTriggered(_)
             | Event::IncidentCreated(_)
             | Event::IncidentResolved(_)
     )
@@ -96,6 +97,7 @@ fn shown(alloc: Global, event: &Event, jobs: &Jobs) -> Result<Option<Move>, Allo
         Event::VariableUpdated(variable) => Ok(Some(update_of(alloc, variable)?)),
         Event::JobCompleted(key) => Ok(done_of(*key, jobs)),
         Event::JobErrorThrown(thrown) => throw_of(alloc, thrown, jobs),
+        Event::ProcessEventTriggered(told) => Ok(Some(trigger_of(alloc, told)?)),
         Event::IncidentCreated(incident) => Ok(Some(incident_of(alloc, incident)?)),
         Event::IncidentResolved(incident) => Ok(Some(Move::Repair(incident.key))),
         _ => Ok(None),
@@ -138,6 +140,15 @@ fn leave_of(alloc: Global, element: &ElementCompleted) -> Result<Move, AllocErro
     Ok(Move::Leave(Leave {
         key: element.key,
         owed: element.owed.copy(alloc)?,
+    }))
+}
+
+fn trigger_of(alloc: Global, told: &ProcessEventTriggered) -> Result<Move, AllocError>
+    ensures { IfOk result (λ move. Some move ≡ shown [] (events.ProcessEventTriggered told.now)) }
+{
+    Ok(Move::Trigger(Triggered {
+        cell: told.cell,
+        node: told.node.copy(alloc)?,
     }))
 }
 

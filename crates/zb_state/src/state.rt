@@ -14,7 +14,9 @@ ghost use Rattle.zb_rules.specs.Update.{is_named_in};
 ghost use Rattle.zb_rules.specs.Resolve.{incident_in};
 ghost use Rattle.zb_rules.specs.JobEvents.{has_cause};
 ghost use Rattle.zb_jobs.specs.Table.{has_place_for};
+ghost use Rattle.zb_timers.specs.Table.{has_place_for_timer};
 ghost use Rattle.zb_views.specs.JobLaws.{jobs_by};
+ghost use Rattle.zb_views.specs.TimerLaws.{timers_by};
 ghost use Rattle.zb_tokens.specs.Incidents.{incident_on};
 ghost use Rattle.zb_base.specs.Vars.{value_named};
 ghost use Rattle.zb_tokens.specs.Names.{holder_of, value_seen};
@@ -28,10 +30,11 @@ ghost use Rattle.zb_tokens.specs.Forced.{next_mover};
 ghost use Rattle.zb_rules.specs.Shown.{shown, after_shown, board_of};
 ghost use Rattle.zb_table.specs.Rows.{are_below};
 ghost use Rattle.zb_state.specs.Small.{HasSmallModel};
-ghost use Rattle.zb_state.specs.Change.{change_told, jobs_with, called_off_by, IsNext, HasNextKey, IsFirstOfCell, Draws, OpensJob};
+ghost use Rattle.zb_state.specs.Change.{change_told, jobs_with, timers_with, called_off_by, IsNext, HasNextKey, IsFirstOfCell, Draws, BeginsWait};
 
 mod due;
 mod jobs;
+mod timers;
 
 use crate::buffered::{self, Buffered};
 use crate::change::{Change, copied_change};
@@ -50,6 +53,7 @@ use zb_model::{
     Model as ProcessModel, Moment, PartitionId, ProcessCreated, Role, TableFault, TryCopy, Vars,
 };
 use zb_table::Table;
+use zb_timers::Timers;
 use zb_tokens::{Incident, Mover, Phase};
 use zb_views::{Begun, Definition};
 
@@ -68,6 +72,8 @@ pub struct State {
     begun: Option<Begun>,
     // The jobs that are there.
     jobs: Jobs,
+    // The timers that are there.
+    timers: Timers,
     // The job that the last event called off, if it called one off.
     called_off: Option<Key>,
     game: Game,
@@ -76,6 +82,7 @@ pub struct State {
     ghost drawn: { counter < 2 ^ 51 },
     ghost in_order: { IsTrue (are_below (λ m. m.key) (key_of place (counter + 1)) messages) },
     ghost jobs_in_order: { IsTrue (are_below (λ j. j.key) (key_of place (counter + 1)) jobs) },
+    ghost timers_in_order: { IsTrue (are_below (λ t. t.key) (key_of place (counter + 1)) timers) },
     ghost resting: { IsTrue rests → IsTrue (is_none (next_mover game)) },
 }
 
@@ -95,6 +102,7 @@ impl State {
             definitions: Vec::new(alloc),
             begun: None,
             jobs: Jobs::empty(alloc),
+            timers: Timers::empty(alloc),
             called_off: None,
             game: Game::empty(alloc),
             rests: false,
@@ -303,14 +311,19 @@ impl State {
         self.game.incident_on(cell)
     }
 
-    /// What a mover does, if it does anything: the event of its move, and the variables that are set in front of that;
+    /// What a mover does at a moment, if it does anything: the event of its move, and the variables that are set in front of that;
     /// the turn has the events behind it too. It costs what `Game::move_of` and `Game::assignments_of` do.
-    pub fn turn_of(&self, alloc: Global, mover: Mover) -> Result<Option<Turn>, AllocError>
-        ensures { (n moment : ℕ) (es : List Event) (b : Board) → IsStateOf es self.now → board_of es ≡ Some b
+    pub fn turn_of(
+        &self,
+        alloc: Global,
+        moment: Moment,
+        mover: Mover,
+    ) -> Result<Option<Turn>, AllocError>
+        ensures { (n : ℕ) (es : List Event) (b : Board) → IsStateOf es self.now → board_of es ≡ Some b
             → IfOk result (λ turn. turn_of (partition_of self.now) n moment es b mover
             ≡ option_map (λ t. turn_with (partition_of self.now) n moment t.assignments t.event es) turn) }
     {
-        match self.game.move_of(alloc, self.next_key(), mover)? {
+        match self.game.move_of(alloc, moment, self.next_key(), mover)? {
             Some(made) => turn_by(alloc, made, &self.game),
             None => Ok(None),
         }
@@ -355,7 +368,8 @@ impl State {
             | Event::ElementTerminated(_)
             | Event::SequenceFlowTaken(_)
             | Event::VariableCreated(_)
-            | Event::VariableUpdated(_) => Ok(true),
+            | Event::VariableUpdated(_)
+            | Event::ProcessEventTriggered(_) => Ok(true),
             Event::VariableDocumentUpdated(scope) => Ok(self.has_cell(*scope)),
             Event::IncidentCreated(incident) => Ok(self.begins_incident(incident)),
             Event::IncidentResolved(incident) => Ok(self.is_cause_of(incident.job, incident.key)),
@@ -364,6 +378,8 @@ impl State {
             Event::JobTimedOut(key) => Ok(self.has_activated(*key)),
             Event::JobCompleted(key) => Ok(self.has_given_out(*key)),
             Event::JobCanceled(key) => Ok(self.called_off == Some(*key)),
+            Event::TimerCreated(timer) => Ok(self.opens_timer(timer)),
+            Event::TimerTriggered(key) | Event::TimerCanceled(key) => Ok(self.has_timer(*key)),
             Event::JobFailed(failed) => Ok(self.has_given_out(failed.key)),
             Event::JobErrorThrown(thrown) => Ok(self.has_given_out(thrown.key)),
             Event::JobRetriesUpdated(updated) => Ok(self.job(updated.key).is_some()),
@@ -377,10 +393,6 @@ impl State {
             | Event::CommandDistributionFinished(_)
             | Event::ElementMigrated(_)
             | Event::ProcessInstanceMigrationMigrated(_)
-            | Event::TimerCreated(_)
-            | Event::TimerTriggered(_)
-            | Event::TimerCanceled(_)
-            | Event::ProcessEventTriggered(_)
             | Event::MessageStartEventSubscriptionCorrelated(_)
             | Event::MessageSubscriptionCreated(_)
             | Event::MessageSubscriptionCorrelating(_)
@@ -515,7 +527,7 @@ impl State {
     fn take(&mut self, alloc: Global, counter: u64, event: Event) -> Result<(), AllocError>
         requires small { counter < 2 ^ 51 }
         requires draws { Draws (partition_of self.old) self.old.counter counter (change_told event) }
-        requires opens { OpensJob (partition_of self.old) self.old.counter counter self.old.jobs (Some event) }
+        requires opens { BeginsWait (partition_of self.old) self.old.counter counter self.old.jobs (Some event) }
         ensures place { partition_of self.new ≡ partition_of self.old }
         ensures noted { OnOk result (HasTaken counter event self.old self.new) }
     {
@@ -529,7 +541,7 @@ impl State {
     fn follow(&mut self, alloc: Global, counter: u64, event: &Event) -> Result<(), AllocError>
         requires small { counter < 2 ^ 51 }
         requires draws { Draws (partition_of self.old) self.old.counter counter (change_told event.now) }
-        requires opens { OpensJob (partition_of self.old) self.old.counter counter self.old.jobs (Some event.now) }
+        requires opens { BeginsWait (partition_of self.old) self.old.counter counter self.old.jobs (Some event.now) }
         ensures place { partition_of self.new ≡ partition_of self.old }
         ensures noted { OnOk result (IsNoted counter (change_told event.now) (Some event.now) self.old self.new) }
     {
@@ -537,21 +549,22 @@ impl State {
         self.note(alloc, counter, change, Some(event))
     }
 
-    // Takes in the greatest counter of an event, and what it makes of the jobs. After a refusal the state is only
-    // dropped.
-    fn note_jobs(
+    // Takes in the greatest counter of an event, and what it makes of the jobs and the timers. After a refusal the state
+    // is only dropped.
+    fn note_waits(
         &mut self,
         alloc: Global,
         counter: u64,
         event: Option<&Event>,
     ) -> Result<(), AllocError>
         requires small { counter < 2 ^ 51 }
-        requires opens { OpensJob (partition_of self.old) self.old.counter counter self.old.jobs (option_copied event) }
+        requires opens { BeginsWait (partition_of self.old) self.old.counter counter self.old.jobs (option_copied event) }
         ensures place { partition_of self.new ≡ partition_of self.old }
         ensures counter { OnOk result (self.new.counter ≡ max self.old.counter counter) }
         ensures messages { self.new.messages ≡ self.old.messages }
         ensures definitions { self.new.definitions ≡ self.old.definitions }
         ensures jobs { OnOk result (self.new.jobs ≡ jobs_with (option_copied event.entry) self.old.jobs) }
+        ensures timers { OnOk result (self.new.timers ≡ timers_with (option_copied event.entry) self.old.timers) }
         ensures called_off { OnOk result (self.new.called_off ≡ called_off_by (option_copied event.entry) self.old.jobs) }
         ensures game { self.new.game ≡ self.old.game }
     {
@@ -562,6 +575,8 @@ impl State {
         };
         let jobs = mem::replace(&mut self.jobs, Jobs::empty(alloc));
         self.jobs = followed(alloc, jobs, event)?;
+        let timers = mem::replace(&mut self.timers, Timers::empty(alloc));
+        self.timers = timed(alloc, timers, event)?;
         Ok(())
     }
 
@@ -577,11 +592,11 @@ impl State {
     ) -> Result<(), AllocError>
         requires small { counter < 2 ^ 51 }
         requires draws { Draws (partition_of self.old) self.old.counter counter change }
-        requires opens { OpensJob (partition_of self.old) self.old.counter counter self.old.jobs (option_copied event) }
+        requires opens { BeginsWait (partition_of self.old) self.old.counter counter self.old.jobs (option_copied event) }
         ensures place { partition_of self.new ≡ partition_of self.old }
         ensures noted { OnOk result (IsNoted counter change (option_copied event.entry) self.old self.new) }
     {
-        self.note_jobs(alloc, counter, event)?;
+        self.note_waits(alloc, counter, event)?;
         self.begun = None;
         match change {
             Change::Defined(definition) => {
@@ -633,6 +648,15 @@ fn followed(alloc: Global, mut jobs: Jobs, event: &Event) -> Result<Jobs, AllocE
 {
     jobs.apply(alloc, event)?;
     Ok(jobs)
+}
+
+// These timers as an event leaves them.
+fn timed(alloc: Global, mut timers: Timers, event: &Event) -> Result<Timers, AllocError>
+    requires { IsTrue (has_place_for_timer timers event.now) }
+    ensures { IfOk result (λ after. after ≡ timers_by event.now timers) }
+{
+    timers.apply(alloc, event)?;
+    Ok(timers)
 }
 
 // Whether the model has no fault.

@@ -3,34 +3,39 @@ ghost use Rattle.std.specs.Prelude.{◌≡◌, ◌++◌, ◌<◌, ◌≤◌, ℕ
 ghost use Rattle.zb_model.specs.declared.record.Event.{Event};
 ghost use Rattle.zb_rules.specs.Behind.{job_made_on, canceled, resolved_on, ended_on, events_behind, with_events_behind};
 ghost use Rattle.zb_state.specs.State.{partition_of, IsStateOf, IsReached, AdmitsMade};
-ghost use Rattle.zb_step.specs.Behind.{made_behind, any_event};
+ghost use Rattle.zb_step.specs.Behind.{opened_on, closed_on, made_behind, any_event};
 
+use crate::timers::{put_canceled, put_made};
 use std::alloc::{AllocError, Global};
-use zb_model::{Event, IncidentResolved, JobCreated, Key, TryCopy};
+use zb_model::{Event, IncidentResolved, JobCreated, Key, Moment, TryCopy};
 use zb_state::{Out, State};
 
 /// What comes behind an event.
 #[derive(Clone, Copy)]
 pub enum Behind {
     Nothing,
-    /// The cell that becomes active may have a job.
+    /// The cell that becomes active may have a job or timers.
     Work(Key),
+    /// The cell begins to complete, and its timers end.
+    Close(Key),
     /// The cell begins to terminate, and what waits for it ends.
     End(Key),
 }
 
-/// Puts an event and those behind it. It costs what `Out::put` does for each, and, where a cell begins to
-/// terminate, what `State::incident_on` does. After a refusal the state and the events are only dropped.
+/// Puts an event and those behind it, at a moment. It costs what `Out::put` does for each; where a cell becomes active what
+/// `State::work_at` and `State::openings_at` do, where it begins to complete what `State::timers_on` does, and where it
+/// begins to terminate what that and `State::incident_on` do. After a refusal the state and the events are only dropped.
 pub fn put_with_behind(
     alloc: Global,
     state: &mut State,
+    moment: Moment,
     event: Event,
     out: &mut Out,
 ) -> Result<(), AllocError>
-    requires { (n moment : ℕ) → AdmitsMade state.old (with_events_behind (partition_of state.old) n moment event) }
-    ensures put { (n moment : ℕ) (es : List Event) → IsStateOf es state.old
+    requires { (n : ℕ) → AdmitsMade state.old (with_events_behind (partition_of state.old) n moment event) }
+    ensures put { (n : ℕ) (es : List Event) → IsStateOf es state.old
         → OnOk result (out.new ≡ out.old ++ with_events_behind (partition_of state.old) n moment event es) }
-    ensures state { (n moment : ℕ) (es : List Event) → IsStateOf es state.old
+    ensures state { (n : ℕ) (es : List Event) → IsStateOf es state.old
         → OnOk result (IsStateOf (es ++ with_events_behind (partition_of state.old) n moment event es) state.new) }
     ensures more { OnOk result (length out.old < length out.new) }
     ensures place { partition_of state.new ≡ partition_of state.old }
@@ -38,15 +43,16 @@ pub fn put_with_behind(
 {
     let behind = behind_of(&event);
     out.put(alloc, state, event)?;
-    put_behind(alloc, state, behind, out)
+    put_behind(alloc, state, moment, behind, out)
 }
 
 // What comes behind this event.
 fn behind_of(event: &Event) -> Behind
-    ensures { (p n moment : ℕ) (es : List Event) → events_behind p n moment event.now es ≡ made_behind p result es }
+    ensures { (p n moment : ℕ) (es : List Event) → events_behind p n moment event.now es ≡ made_behind p moment result es }
 {
     match event {
         Event::ElementActivated(element) => Behind::Work(element.key),
+        Event::ElementCompleting(cell) => Behind::Close(*cell),
         Event::ElementTerminating(cell) => Behind::End(*cell),
         _ => Behind::Nothing,
     }
@@ -56,22 +62,43 @@ fn behind_of(event: &Event) -> Behind
 fn put_behind(
     alloc: Global,
     state: &mut State,
+    moment: Moment,
     behind: Behind,
     out: &mut Out,
 ) -> Result<(), AllocError>
-    requires { AdmitsMade state.old (made_behind (partition_of state.old) behind) }
-    ensures put { (es : List Event) → IsStateOf es state.old → OnOk result (out.new ≡ out.old ++ made_behind (partition_of state.old) behind es) }
+    requires { AdmitsMade state.old (made_behind (partition_of state.old) moment behind) }
+    ensures put { (es : List Event) → IsStateOf es state.old → OnOk result (out.new ≡ out.old ++ made_behind (partition_of state.old) moment behind es) }
     ensures state { (es : List Event) → IsStateOf es state.old
-        → OnOk result (IsStateOf (es ++ made_behind (partition_of state.old) behind es) state.new) }
+        → OnOk result (IsStateOf (es ++ made_behind (partition_of state.old) moment behind es) state.new) }
     ensures more { OnOk result (length out.old ≤ length out.new) }
     ensures place { partition_of state.new ≡ partition_of state.old }
     ensures reached { OnOk result (IsReached state.new) }
 {
     match behind {
         Behind::Nothing => Ok(()),
-        Behind::Work(cell) => put_job(alloc, state, cell, out),
+        Behind::Work(cell) => put_opened(alloc, state, moment, cell, out),
+        Behind::Close(cell) => put_canceled(alloc, state, cell, out),
         Behind::End(cell) => put_ended(alloc, state, cell, out),
     }
+}
+
+// Puts the events by which what a cell waits for begins: its job is made, and then its timers are.
+fn put_opened(
+    alloc: Global,
+    state: &mut State,
+    moment: Moment,
+    cell: Key,
+    out: &mut Out,
+) -> Result<(), AllocError>
+    requires { AdmitsMade state.old (opened_on (partition_of state.old) moment cell) }
+    ensures put { (es : List Event) → IsStateOf es state.old → OnOk result (out.new ≡ out.old ++ opened_on (partition_of state.old) moment cell es) }
+    ensures state { (es : List Event) → IsStateOf es state.old → OnOk result (IsStateOf (es ++ opened_on (partition_of state.old) moment cell es) state.new) }
+    ensures more { OnOk result (length out.old ≤ length out.new) }
+    ensures place { partition_of state.new ≡ partition_of state.old }
+    ensures reached { OnOk result (IsReached state.new) }
+{
+    put_job(alloc, state, cell, out)?;
+    put_made(alloc, state, moment, cell, out)
 }
 
 // Puts the event by which the job of a cell is made, if the cell is to have one.
@@ -102,7 +129,8 @@ fn job_of(alloc: Global, state: &State, cell: Key) -> Result<Option<Event>, Allo
     })))
 }
 
-// Puts the events by which what waits for a cell ends: its job is canceled, and the incident on it resolved.
+// Puts the events by which what waits for a cell ends: its job is canceled, then its timers are, and then the incident on
+// it is resolved.
 fn put_ended(alloc: Global, state: &mut State, cell: Key, out: &mut Out) -> Result<(), AllocError>
     requires { AdmitsMade state.old (ended_on cell) }
     ensures put { (es : List Event) → IsStateOf es state.old → OnOk result (out.new ≡ out.old ++ ended_on cell es) }
@@ -113,6 +141,19 @@ fn put_ended(alloc: Global, state: &mut State, cell: Key, out: &mut Out) -> Resu
 {
     let event = canceled(state);
     put_any(alloc, state, event, out)?;
+    put_closed(alloc, state, cell, out)
+}
+
+// Puts the events by which what waits for a cell beside its job ends: its timers, and then the incident on it.
+fn put_closed(alloc: Global, state: &mut State, cell: Key, out: &mut Out) -> Result<(), AllocError>
+    requires { AdmitsMade state.old (closed_on cell) }
+    ensures put { (es : List Event) → IsStateOf es state.old → OnOk result (out.new ≡ out.old ++ closed_on cell es) }
+    ensures state { (es : List Event) → IsStateOf es state.old → OnOk result (IsStateOf (es ++ closed_on cell es) state.new) }
+    ensures more { OnOk result (length out.old ≤ length out.new) }
+    ensures place { partition_of state.new ≡ partition_of state.old }
+    ensures reached { OnOk result (IsReached state.new) }
+{
+    put_canceled(alloc, state, cell, out)?;
     let event = resolved(state, cell);
     put_any(alloc, state, event, out)
 }

@@ -76,7 +76,7 @@ fn put_one_by_one(
     ensures place { partition_of state.new ≡ partition_of state.old }
 {
     match command {
-        Command::ProcessInstanceCancel(key) => cancel::put_own(alloc, state, *key, out),
+        Command::ProcessInstanceCancel(key) => cancel::put_own(alloc, state, moment, *key, out),
         Command::VariableDocumentUpdate(made) => update::put_own(alloc, state, made, out),
         Command::JobBatchActivate(asked) => activate::put_own(alloc, state, moment, asked, out),
         Command::JobComplete(done) => complete::put_own(alloc, state, done, out),

@@ -20,6 +20,8 @@ mod reasons;
 mod rejection;
 mod resolve;
 mod settling;
+mod timers;
+mod trigger;
 mod turning;
 mod update;
 

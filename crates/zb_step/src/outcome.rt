@@ -53,6 +53,6 @@ fn run(
 {
     let mut out = Out::new(alloc)?;
     emit(alloc, state, moment, command, &mut out)?;
-    settle(alloc, state, &mut out)?;
+    settle(alloc, state, moment, &mut out)?;
     Ok(Outcome::Accepted(out.events()))
 }

@@ -3,14 +3,16 @@ ghost use Rattle.zb_model.specs.declared.record.Event.{Event};
 ghost use Rattle.zb_rules.specs.Reason.{reason_for};
 ghost use Rattle.zb_state.specs.State.{IsStateOf};
 
-use crate::{activate, cancel, create, deploy, expire, go_on, jobs, publish, resolve, update};
+use crate::{
+    activate, cancel, create, deploy, expire, go_on, jobs, publish, resolve, trigger, update,
+};
 use std::alloc::{AllocError, Global};
 use zb_model::{Command, Moment, Rejection};
 use zb_state::State;
 
 /// Why a command is rejected at this moment, if there is a reason. A model costs its check, an instance a walk
-/// over the definitions, an expiry or a message with an id one over those that are buffered, and a command to go on what
-/// `State::quiet` does.
+/// over the definitions, an expiry or a message with an id one over those that are buffered, a timer what `State::timer`
+/// and `State::waits_for` do, and a command to go on what `State::quiet` does.
 pub fn reason(
     alloc: Global,
     state: &State,
@@ -30,6 +32,7 @@ pub fn reason(
         Command::JobThrowError(error) => jobs::reason_to_end(alloc, state, error.key),
         Command::JobUpdateRetries(update) => jobs::reason_to_retry(alloc, state, update),
         Command::JobTimeOut(key) => jobs::reason_to_time_out(alloc, state, moment, *key),
+        Command::TimerTrigger(key) => trigger::reason(alloc, state, moment, *key),
         Command::IncidentResolve(key) => resolve::reason(alloc, state, *key),
         Command::MessagePublish(message) => publish::reason(alloc, state, message),
         Command::MessageExpire(key) => expire::reason(alloc, state, moment, *key),

@@ -10,19 +10,25 @@ ghost use Rattle.zb_step.specs.Settled.{IsTurn, SettlesTo};
 
 use crate::turning::put_turn;
 use std::alloc::{AllocError, Global};
+use zb_model::Moment;
 use zb_state::{Out, State, Turn};
 use zb_tokens::Mover;
 
 // A batch is full with so many events.
 const FULL: usize = 1024;
 
-/// Makes the forced moves behind the events that a command has made so far, one after the other, until the
-/// game is quiet or the batch is full. Tells whether the game is quiet. Each move costs what
+/// Makes the forced moves behind the events that a command has made so far at a moment, one after the other, until
+/// the game is quiet or the batch is full. Tells whether the game is quiet. Each move costs what
 /// `State::next_mover` and `State::take_in` do. Where no key is left it is answered as want of memory.
 /// After a refusal the state and the events are only dropped.
-pub fn settle(alloc: Global, state: &mut State, out: &mut Out) -> Result<bool, AllocError>
+pub fn settle(
+    alloc: Global,
+    state: &mut State,
+    moment: Moment,
+    out: &mut Out,
+) -> Result<bool, AllocError>
     requires { IsReached state.old }
-    ensures settled { (n moment : ℕ) (before : List Event) → IsStateOf (before ++ out.old) state.old
+    ensures settled { (n : ℕ) (before : List Event) → IsStateOf (before ++ out.old) state.old
         → OnOk result (SettlesTo (partition_of state.old) n moment before out.old out.new) }
     ensures state { (before : List Event) → IsStateOf (before ++ out.old) state.old → OnOk result (IsStateOf (before ++ out.new) state.new) }
     ensures quiet { (before : List Event) → IsStateOf (before ++ out.old) state.old
@@ -34,8 +40,8 @@ pub fn settle(alloc: Global, state: &mut State, out: &mut Out) -> Result<bool, A
         match state.next_mover(alloc)? {
             None => return Ok(true),
             Some(mover) => {
-                let turn = next_turn(alloc, state, mover)?;
-                put_turn(alloc, state, turn, out)?;
+                let turn = next_turn(alloc, state, moment, mover)?;
+                put_turn(alloc, state, moment, turn, out)?;
             }
         }
     }
@@ -43,15 +49,15 @@ pub fn settle(alloc: Global, state: &mut State, out: &mut Out) -> Result<bool, A
 }
 
 // What who is forced to move next does: that is the next turn.
-fn next_turn(alloc: Global, state: &State, mover: Mover) -> Result<Turn, AllocError>
+fn next_turn(alloc: Global, state: &State, moment: Moment, mover: Mover) -> Result<Turn, AllocError>
     requires reached { IsReached state.now }
     requires next { (es : List Event) (board : Board) → IsStateOf es state.now → board_of es ≡ Some board → next_mover board ≡ Some mover }
-    ensures { (n moment : ℕ) (es : List Event) → IsStateOf es state.now → IfOk result (λ turn. IsTurn (partition_of state.now) n moment es (turn_with (partition_of state.now) n moment turn.assignments turn.event es)) }
+    ensures { (n : ℕ) (es : List Event) → IsStateOf es state.now → IfOk result (λ turn. IsTurn (partition_of state.now) n moment es (turn_with (partition_of state.now) n moment turn.assignments turn.event es)) }
 {
     if !state.has_keys(1) {
         return Err(AllocError);
     }
-    match state.turn_of(alloc, mover)? {
+    match state.turn_of(alloc, moment, mover)? {
         Some(turn) => Ok(turn),
         None => unreachable!(),
     }

@@ -9,6 +9,7 @@ ghost use Rattle.zb_state.specs.State.{partition_of, IsStateOf, IsReached, Admit
 use crate::assigning::put_each;
 use crate::behind::put_with_behind;
 use std::alloc::{AllocError, Global};
+use zb_model::Moment;
 use zb_state::{Out, State, Turn};
 use zb_tokens::Assignments;
 
@@ -17,13 +18,14 @@ use zb_tokens::Assignments;
 pub fn put_turn(
     alloc: Global,
     state: &mut State,
+    moment: Moment,
     turn: Turn,
     out: &mut Out,
 ) -> Result<(), AllocError>
-    requires { (n moment : ℕ) → AdmitsMade state.old (turn_with (partition_of state.old) n moment turn.assignments turn.event) }
-    ensures put { (n moment : ℕ) (es : List Event) → IsStateOf es state.old
+    requires { (n : ℕ) → AdmitsMade state.old (turn_with (partition_of state.old) n moment turn.assignments turn.event) }
+    ensures put { (n : ℕ) (es : List Event) → IsStateOf es state.old
         → OnOk result (out.new ≡ out.old ++ turn_with (partition_of state.old) n moment turn.assignments turn.event es) }
-    ensures state { (n moment : ℕ) (es : List Event) → IsStateOf es state.old
+    ensures state { (n : ℕ) (es : List Event) → IsStateOf es state.old
         → OnOk result (IsStateOf (es ++ turn_with (partition_of state.old) n moment turn.assignments turn.event es) state.new) }
     ensures more { OnOk result (length out.old < length out.new) }
     ensures place { partition_of state.new ≡ partition_of state.old }
@@ -31,7 +33,7 @@ pub fn put_turn(
 {
     let Turn { assignments, event } = turn;
     put_assignments(alloc, state, &assignments, out)?;
-    put_with_behind(alloc, state, event, out)
+    put_with_behind(alloc, state, moment, event, out)
 }
 
 // Sets the variables in front of an event, if there are any.

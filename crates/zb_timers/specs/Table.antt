@@ -12,8 +12,8 @@ has_place ts None = true
 has_place ts (Some t) = are_below (λ x. x.key) t.key ts
 
 -- an event can be taken into a table of timers: where it makes one, that has a greater key than all (own)
-abbrev pub comes_behind : List Timer → Event → Bool
-comes_behind ts e = has_place ts (timer_told e)
+abbrev pub has_place_for_timer : List Timer → Event → Bool
+has_place_for_timer ts e = has_place ts (timer_told e)
 
 -- the keys of the timers of a cell, in the order of the list (own)
 abbrev pub keys_on : ℕ → List Timer → List ℕ

@@ -1,12 +1,28 @@
 // Each public call with ample memory.
-ghost use Rattle.std.specs.Prelude.{◌≡◌};
+ghost use Rattle.std.specs.Prelude.{◌≡◌, ◌==◌, not};
 
 use crate::Timers;
 use std::alloc::Global;
 use std::process::Abort;
 use zb_model::{Event, Key, Moment, Text, TimerCreated};
+use zb_table::Query;
+use zb_views::Timer;
 
 const CELL: u64 = 1;
+
+// Whether a timer has another key.
+#[derive(Drop)]
+struct Other {
+    key: Key,
+}
+
+impl Query<Timer> for Other {
+    ghost passes = { λ other t. not (t.key == other.key) };
+
+    fn passes(&self, timer: &Timer) -> bool {
+        timer.key != self.key
+    }
+}
 
 // A timer with this key is made on the cell, and is due at this moment.
 fn created(rt: &impl Abort, alloc: Global, key: u64, due: u64) -> TimerCreated
@@ -41,6 +57,15 @@ fn the_first_by_moment_is_due_first(rt: HostRuntime) {
     let timers = two_timers(&rt, rt.alloc());
     assert!(rt; timers.first_due(Moment::new(499)).is_none());
     assert!(rt; timers.first_due(Moment::new(1_000)) == Some((Moment::new(500), Key::new(3))));
+}
+
+#[test]
+fn one_that_does_not_pass_is_passed_over(rt: HostRuntime) {
+    let timers = two_timers(&rt, rt.alloc());
+    let other = Other { key: Key::new(3) };
+    let due = timers.first_due_that(Moment::new(1_000), &other);
+    assert!(rt; due == Some((Moment::new(1_000), Key::new(2))));
+    assert!(rt; timers.first_due_that(Moment::new(999), &other).is_none());
 }
 
 #[test]

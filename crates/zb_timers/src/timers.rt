@@ -1,10 +1,10 @@
-ghost use Rattle.std.specs.Prelude.{◌≡◌, ◌==◌, ◌++◌, ◌∷◌, [], IsTrue, OnOk, IfOk, option_map};
+ghost use Rattle.std.specs.Prelude.{◌≡◌, ◌==◌, ◌++◌, ◌∷◌, [], IsTrue, OnOk, IfOk, filter, option_map};
 ghost use Rattle.std.specs.List.{find};
 ghost use Rattle.std.specs.Option.{option_copied};
 ghost use Rattle.zb_table.specs.Rows.{Ascend, are_below, without};
 ghost use Rattle.zb_views.specs.Timers.{timer_of};
 ghost use Rattle.zb_views.specs.TimerLaws.{timers_by};
-ghost use Rattle.zb_timers.specs.Table.{comes_behind, keys_on, place_of_timer, due_timer};
+ghost use Rattle.zb_timers.specs.Table.{has_place_for_timer, keys_on, place_of_timer, due_timer};
 
 use crate::cells::keys_under;
 use crate::change::{made, says_nothing_of_timers};
@@ -13,6 +13,7 @@ use std::collections::BTreeSet;
 use std::marker::Model;
 use std::mem;
 use zb_model::{Event, Key, List, Moment, TimerCreated};
+use zb_table::Query;
 use zb_views::Timer;
 use zb_waits::Waits;
 
@@ -72,10 +73,18 @@ impl Timers {
         self.rows.first_due(now)
     }
 
+    /// The same of those timers alone that pass the question. It goes through the timers that are due, in their order,
+    /// up to the first that passes, and takes for each the logarithm of how many timers there are.
+    pub fn first_due_that<Q: Query<Timer>>(&self, now: Moment, query: &Q) -> Option<(Moment, Key)>
+        ensures { result ≡ option_map place_of_timer (due_timer now (filter (Q.passes query.now) self.now)) }
+    {
+        self.rows.first_due_that(now, query)
+    }
+
     /// Takes in what an event says of timers. After a refusal the timers are only dropped. It takes the logarithm of
     /// how many timers there are, on average.
     pub fn apply(&mut self, alloc: Global, event: &Event) -> Result<(), AllocError>
-        requires { IsTrue (comes_behind self.old event.now) }
+        requires { IsTrue (has_place_for_timer self.old event.now) }
         ensures { OnOk result (self.new ≡ timers_by event.now self.old) }
     {
         if says_nothing_of_timers(event) {

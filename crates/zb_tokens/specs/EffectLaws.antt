@@ -347,6 +347,7 @@ others_stay b after (moves.Assign a) other game is = edit_stays b after a.scope 
 others_stay b after (moves.Update a) other game is = edit_stays b after a.scope (with_variable a.name a.value) (λ c. refl) is
 others_stay b after (moves.Done key) other game is = edit_stays b after key (with_mark marks.Done) (λ c. refl) is
 others_stay b after (moves.Throw t) other game is = edit_stays b after t.cell (with_mark (marks.Thrown t.code)) (λ c. refl) is
+others_stay b after (moves.Trigger t) other game is = edit_stays b after t.cell (with_mark marks.Done) (λ c. refl) is
 others_stay b after (moves.Incident i) other game is = absurd (cc)
 others_stay b after (moves.Repair key) other game is = absurd (cc)
 

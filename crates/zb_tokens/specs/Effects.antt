@@ -36,6 +36,7 @@ names_cell b (moves.Assign a) c = c.key == a.scope
 names_cell b (moves.Update a) c = c.key == a.scope
 names_cell b (moves.Done key) c = c.key == key
 names_cell b (moves.Throw t) c = c.key == t.cell
+names_cell b (moves.Trigger t) c = c.key == t.cell
 names_cell b (moves.Incident i) c = false
 names_cell b (moves.Repair key) c = false
 

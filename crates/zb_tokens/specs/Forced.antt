@@ -23,7 +23,7 @@ use Rattle.zb_tokens.specs.MoveOpen.{opens}
 use Rattle.zb_tokens.specs.MoveFinish.{is_done}
 use Rattle.zb_tokens.specs.Incidents.{Hindrance, error_hindrance, is_stuck}
 use Rattle.zb_tokens.specs.Marks.{error_of}
-use Rattle.zb_tokens.specs.Mappings.{inputs_of}
+use Rattle.zb_tokens.specs.Catches.{opened_with}
 use Rattle.zb_tokens.specs.MoveLeave.{completion_of}
 
 -- in a phase a cell that isn't stuck goes on by itself; with an error that was thrown in it, to its incident (BPMN 2.0.2, 13)
@@ -98,13 +98,13 @@ abbrev pub finish_by : ℕ → Cell → Option (List ℕ) → Move
 finish_by key c None = moves.Finish c.key
 finish_by key c (Some code) = stop_by key c (error_hindrance code)
 
--- what a cell does by itself in a phase, where an incident gets this key (BPMN 2.0.2, 13)
-abbrev pub move_in : Board → ℕ → Cell → Phase → Option Move
-move_in b key c phases.Activating = Some (open_by key c (inputs_of b c))
-move_in b key c phases.Active = Some (finish_by key c (error_of c.mark))
-move_in b key c phases.Completing = Some (leave_by key c (completion_of b c))
-move_in b key c phases.Leaving = take_first c.key c.owed
-move_in b key c phases.Terminating = Some (moves.Gone c.key)
+-- what a cell does by itself in a phase at a moment, where an incident gets this key (BPMN 2.0.2, 13)
+abbrev pub move_in : Board → (moment key : ℕ) → Cell → Phase → Option Move
+move_in b moment key c phases.Activating = Some (open_by key c (opened_with b moment c))
+move_in b moment key c phases.Active = Some (finish_by key c (error_of c.mark))
+move_in b moment key c phases.Completing = Some (leave_by key c (completion_of b c))
+move_in b moment key c phases.Leaving = take_first c.key c.owed
+move_in b moment key c phases.Terminating = Some (moves.Gone c.key)
 
 -- how a doomed cell ends in a phase (BPMN 2.0.2, 13.3.2)
 abbrev pub end_in : Cell → Phase → Option Move
@@ -113,8 +113,8 @@ end_in c phases.Terminating = Some (moves.Gone c.key)
 end_in c phase = Some (moves.Halt c.key)
 
 -- what a cell does by itself, or how it ends where it is doomed (BPMN 2.0.2, 13)
-abbrev pub move_at : Board → ℕ → Cell → Option Move
-move_at b key c = if is_doomed b c then end_in c c.phase else move_in b key c c.phase
+abbrev pub move_at : Board → (moment key : ℕ) → Cell → Option Move
+move_at b moment key c = if is_doomed b c then end_in c c.phase else move_in b moment key c c.phase
 
 -- a move by which a cell ends, or none (BPMN 2.0.2, 13.3.2)
 abbrev pub IsEnd : Cell → Option Move → Type 0
@@ -126,5 +126,5 @@ entry_of b key t = option_map (λ way. moves.Enter (record { key = key; scope = 
 
 -- the move of a mover on a board at a moment, where a new cell or an incident gets this key (BPMN 2.0.2, 13)
 abbrev pub move_of : Board → ℕ → ℕ → Mover → Option Move
-move_of b moment key (movers.Cell cell) = option_and_then (move_at b key) (cell_at b cell)
+move_of b moment key (movers.Cell cell) = option_and_then (move_at b moment key) (cell_at b cell)
 move_of b moment key (movers.Token t) = entry_of b key t

@@ -22,7 +22,7 @@ use Rattle.zb_tokens.specs.Doom.{is_doomed}
 use Rattle.zb_tokens.specs.MoveHalt.{is_alive}
 use Rattle.zb_tokens.specs.MoveEnter.{may_enter}
 use Rattle.zb_tokens.specs.Incidents.{Hindrance, error_hindrance, is_stuck}
-use Rattle.zb_tokens.specs.Mappings.{inputs_of}
+use Rattle.zb_tokens.specs.Catches.{opened_with}
 use Rattle.zb_tokens.specs.MoveOpen.{opens}
 use Rattle.zb_tokens.specs.MoveLeave.{completion_of}
 use Rattle.zb_tokens.specs.MoveIncident.{may_stop, hindrance_in}
@@ -102,12 +102,12 @@ first_some key [] some = absurd (cc)
 first_some key (flow ∷ owed) some = refl
 
 -- a cell that goes on by itself in a phase has a move there (BPMN 2.0.2, 13)
-goes_on_somehow : (b : Board) (key : ℕ) (c : Cell) (phase : Phase) → goes_on_in b c phase ≡ true → IsTrue (is_some (move_in b key c phase))
-goes_on_somehow b key c phases.Activating goes = refl
-goes_on_somehow b key c phases.Active goes = refl
-goes_on_somehow b key c phases.Completing goes = refl
-goes_on_somehow b key c phases.Leaving goes = first_some c.key c.owed goes
-goes_on_somehow b key c phases.Terminating goes = refl
+goes_on_somehow : (b : Board) (moment key : ℕ) (c : Cell) (phase : Phase) → goes_on_in b c phase ≡ true → IsTrue (is_some (move_in b moment key c phase))
+goes_on_somehow b moment key c phases.Activating goes = refl
+goes_on_somehow b moment key c phases.Active goes = refl
+goes_on_somehow b moment key c phases.Completing goes = refl
+goes_on_somehow b moment key c phases.Leaving goes = first_some c.key c.owed goes
+goes_on_somehow b moment key c phases.Terminating goes = refl
 
 -- and so has a doomed one that ends (BPMN 2.0.2, 13.3.2)
 ends_somehow : (b : Board) (c : Cell) (phase : Phase) → ends_in b c phase ≡ true → IsTrue (is_some (end_in c phase))
@@ -117,13 +117,13 @@ ends_somehow b c phases.Completing ends = refl
 ends_somehow b c phases.Leaving ends = absurd (cc)
 ends_somehow b c phases.Terminating ends = refl
 
-has_move_by : (b : Board) (key : ℕ) (c : Cell) (doomed : Bool) → (if doomed then ends_in b c c.phase else not (is_stuck b c) && goes_on_in b c c.phase) ≡ true → IsTrue (is_some (if doomed then end_in c c.phase else move_in b key c c.phase))
-has_move_by b key c true ends = ends_somehow b c c.phase ends
-has_move_by b key c false goes = goes_on_somehow b key c c.phase (both_right (not (is_stuck b c)) (goes_on_in b c c.phase) goes)
+has_move_by : (b : Board) (moment key : ℕ) (c : Cell) (doomed : Bool) → (if doomed then ends_in b c c.phase else not (is_stuck b c) && goes_on_in b c c.phase) ≡ true → IsTrue (is_some (if doomed then end_in c c.phase else move_in b moment key c c.phase))
+has_move_by b moment key c true ends = ends_somehow b c c.phase ends
+has_move_by b moment key c false goes = goes_on_somehow b moment key c c.phase (both_right (not (is_stuck b c)) (goes_on_in b c c.phase) goes)
 
 -- a cell that is forced has a move (BPMN 2.0.2, 13)
-pub cell_has_move : (b : Board) (key : ℕ) (c : Cell) → is_forced b c ≡ true → IsTrue (is_some (move_at b key c))
-cell_has_move b key c forced = has_move_by b key c (is_doomed b c) forced
+pub cell_has_move : (b : Board) (moment key : ℕ) (c : Cell) → is_forced b c ≡ true → IsTrue (is_some (move_at b moment key c))
+cell_has_move b moment key c forced = has_move_by b moment key c (is_doomed b c) forced
 
 -- a token that can enter has a move
 way_some : {W : Type 0} (enters : W → Bool) (way : Option W) → option_map_or enters way false ≡ true → IsTrue (is_some way)
@@ -132,7 +132,7 @@ way_some enters (Some way) is = refl
 
 -- who is forced has a move
 pub mover_has_move : (b : Board) (moment key : ℕ) (mover : Mover) → IsMover b mover → IsTrue (is_some (move_of b moment key mover))
-mover_has_move b moment key (movers.Cell cell) known = rw known.1 (cell_has_move b key known.0 known.3)
+mover_has_move b moment key (movers.Cell cell) known = rw known.1 (cell_has_move b moment key known.0 known.3)
 mover_has_move b moment key (movers.Token t) known = mapped_some _ (way_of b t) (way_some _ (way_of b t) known.1)
 
 -- who is forced has a move, where the cells ascend (BPMN 2.0.2, 13)
@@ -147,13 +147,13 @@ some_move : (a b : Move) → Some a ≡ Some b → a ≡ b
 some_move a b e = cc
 
 -- an incident tells of what keeps a cell from going on (Zeebe, incidents)
-stop_suits : (b : Board) (moment key : ℕ) (c : Cell) (hindrance : Hindrance) → may_stop c ≡ true → cell_at b c.key ≡ Some c → is_stuck b c ≡ false → hindrance_in b c c.phase ≡ Some hindrance → Suits b moment (stop_by key c hindrance)
+stop_suits : (b : Board) (moment key : ℕ) (c : Cell) (hindrance : Hindrance) → may_stop c ≡ true → cell_at b c.key ≡ Some c → is_stuck b c ≡ false → hindrance_in b moment c c.phase ≡ Some hindrance → Suits b moment (stop_by key c hindrance)
 stop_suits b moment key c hindrance at found free stops =
     let kind : (incident_byte hindrance.kind == incident_byte hindrance.kind) ≡ true = grind (arith, nat_tests) in
     (rw (found, at, free) refl, rw (found, stops, kind, same_bytes hindrance.text) refl)
 
 -- a cell becomes active, or an incident tells why it can't (BPMN 2.0.2, 13.3.2; Zeebe, incidents)
-open_suits : (b : Board) (moment key : ℕ) (c : Cell) (inputs : Result (List Variable) Hindrance) (move : Move) → c.phase ≡ phases.Activating → cell_at b c.key ≡ Some c → is_stuck b c ≡ false → opens b c ≡ true → inputs_of b c ≡ inputs → open_by key c inputs ≡ move
+open_suits : (b : Board) (moment key : ℕ) (c : Cell) (inputs : Result (List Variable) Hindrance) (move : Move) → c.phase ≡ phases.Activating → cell_at b c.key ≡ Some c → is_stuck b c ≡ false → opens b c ≡ true → opened_with b moment c ≡ inputs → open_by key c inputs ≡ move
     → Suits b moment move
 open_suits b moment key c (Ok vs) move at found free opens gives is = subst (Suits b moment) is (rw (found, at, opens) refl, rw (found, gives) refl)
 open_suits b moment key c (Err hindrance) move at found free opens gives is = subst (Suits b moment) is (stop_suits b moment key c hindrance (rw at refl) found free (rw (at, gives) refl))
@@ -174,8 +174,8 @@ finish_suits b moment key c (Some code) move at found free goes gives is =
     subst (Suits b moment) is (stop_suits b moment key c (error_hindrance code) (rw (at, gives) refl) found free (rw (at, gives) refl))
 
 -- by the phase of the cell
-pub cell_suits : (b : Board) (moment key : ℕ) (c : Cell) (phase : Phase) (move : Move) → c.phase ≡ phase → cell_at b c.key ≡ Some c → is_stuck b c ≡ false → goes_on_in b c phase ≡ true → move_in b key c phase ≡ Some move → Suits b moment move
-cell_suits b moment key c phases.Activating move at found free goes is = open_suits b moment key c (inputs_of b c) move at found free goes refl (some_move (open_by key c (inputs_of b c)) move is)
+pub cell_suits : (b : Board) (moment key : ℕ) (c : Cell) (phase : Phase) (move : Move) → c.phase ≡ phase → cell_at b c.key ≡ Some c → is_stuck b c ≡ false → goes_on_in b c phase ≡ true → move_in b moment key c phase ≡ Some move → Suits b moment move
+cell_suits b moment key c phases.Activating move at found free goes is = open_suits b moment key c (opened_with b moment c) move at found free goes refl (some_move (open_by key c (opened_with b moment c)) move is)
 cell_suits b moment key c phases.Active move at found free goes is = finish_suits b moment key c (error_of c.mark) move at found free goes refl (some_move (finish_by key c (error_of c.mark)) move is)
 cell_suits b moment key c phases.Completing move at found free goes is = leave_suits b moment key c (completion_of b c) move at found free refl (some_move (leave_by key c (completion_of b c)) move is)
 cell_suits b moment key c phases.Leaving move at found free goes is = by_owed c.owed refl is
@@ -206,7 +206,7 @@ end_suits b moment c phases.Terminating move at found doomed ends is =
     subst (Suits b moment) (some_move (moves.Gone c.key) move is) (rw (found, at, ends) refl, refl)
 
 forced_suits : (b : Board) (moment key : ℕ) (c : Cell) (move : Move) (doomed : Bool) → cell_at b c.key ≡ Some c → is_doomed b c ≡ doomed
-    → (if doomed then ends_in b c c.phase else not (is_stuck b c) && goes_on_in b c c.phase) ≡ true → (if doomed then end_in c c.phase else move_in b key c c.phase) ≡ Some move → Suits b moment move
+    → (if doomed then ends_in b c c.phase else not (is_stuck b c) && goes_on_in b c c.phase) ≡ true → (if doomed then end_in c c.phase else move_in b moment key c c.phase) ≡ Some move → Suits b moment move
 forced_suits b moment key c move true found doomed ends is = end_suits b moment c c.phase move refl found doomed ends is
 forced_suits b moment key c move false found alive goes is =
     let it = and_parts (not (is_stuck b c)) (goes_on_in b c c.phase) goes in
@@ -223,7 +223,7 @@ pub mover_suits : (b : Board) (moment key : ℕ) (mover : Mover) (move : Move) �
 mover_suits b moment key (movers.Cell cell) move known is =
     let c = known.0 in
     let found : cell_at b c.key ≡ Some c = subst (λ (k : ℕ). cell_at b k ≡ Some c) (sym known.2) known.1 in
-    let its_move : move_at b key c ≡ Some move = sym (ap (option_and_then (move_at b key)) known.1) ∙ is in
+    let its_move : move_at b moment key c ≡ Some move = sym (ap (option_and_then (move_at b moment key)) known.1) ∙ is in
     forced_suits b moment key c move (is_doomed b c) found refl known.3 its_move
 mover_suits b moment key (movers.Token t) move known is = entry_suits b moment key t (way_of b t) move known.1 is
 
@@ -243,8 +243,8 @@ ends_by c phases.Leaving = inl refl
 ends_by c phases.Terminating = inr (inr refl)
 
 -- a doomed cell does nothing but end (BPMN 2.0.2, 13.3.2)
-pub doomed_ends : (b : Board) (key : ℕ) (c : Cell) → IsTrue (is_doomed b c) → IsEnd c (move_at b key c)
-doomed_ends b key c is = rw is (ends_by c c.phase)
+pub doomed_ends : (b : Board) (moment key : ℕ) (c : Cell) → IsTrue (is_doomed b c) → IsEnd c (move_at b moment key c)
+doomed_ends b moment key c is = rw is (ends_by c c.phase)
 
 -- a cell on which an incident stands is forced to nothing where it isn't doomed (Zeebe, incidents)
 pub stuck_waits : (b : Board) (i : Incident) (c : Cell) → Contains b.incidents i → i.cell ≡ c.key → IsFalse (is_doomed b c) → IsFalse (is_forced b c)

@@ -16,6 +16,7 @@ use Rattle.zb_tokens.specs.MoveAssign.{fits_assign, fits_update, play_assign}
 use Rattle.zb_tokens.specs.MoveIncident.{fits_incident, agrees_incident, play_incident}
 use Rattle.zb_tokens.specs.MoveDone.{fits_done, play_done}
 use Rattle.zb_tokens.specs.MoveThrow.{fits_throw, play_throw}
+use Rattle.zb_tokens.specs.MoveTrigger.{fits_trigger, play_trigger}
 use Rattle.zb_tokens.specs.MoveRepair.{fits_repair, play_repair}
 
 -- nothing on the board
@@ -37,14 +38,15 @@ fits b (moves.Assign a) = fits_assign b a
 fits b (moves.Update a) = fits_update b a
 fits b (moves.Done key) = fits_done b key
 fits b (moves.Throw t) = fits_throw b t
+fits b (moves.Trigger t) = fits_trigger b t
 fits b (moves.Incident i) = fits_incident b i
 fits b (moves.Repair key) = fits_repair b key
 
 -- a move agrees with what it evaluates on a board at a moment (BPMN 2.0.2, 13)
 abbrev pub agrees : Board → ℕ → Move → Bool
-agrees b moment (moves.Open key) = agrees_open b key
+agrees b moment (moves.Open key) = agrees_open b moment key
 agrees b moment (moves.Leave l) = agrees_leave b l
-agrees b moment (moves.Incident i) = agrees_incident b i
+agrees b moment (moves.Incident i) = agrees_incident b moment i
 agrees b moment move = true
 
 -- the board after a move; None where it needs a cell, a token, a model or an incident that isn't there (BPMN 2.0.2, 13)
@@ -62,6 +64,7 @@ played b (moves.Assign a) = play_assign b a
 played b (moves.Update a) = play_assign b a
 played b (moves.Done key) = play_done b key
 played b (moves.Throw t) = play_throw b t
+played b (moves.Trigger t) = play_trigger b t
 played b (moves.Incident i) = play_incident b i
 played b (moves.Repair key) = play_repair b key
 

@@ -191,6 +191,8 @@ fitting_is_played b (moves.Done key) is =
     mapped_some _ (edited (λ c. c.key == key) (with_mark marks.Done) b.cells) (cells_edited (with_mark marks.Done) key b (holds_some _ (cell_at b key) is))
 fitting_is_played b (moves.Throw t) is =
     mapped_some _ (edited (λ c. c.key == t.cell) (with_mark (marks.Thrown t.code)) b.cells) (cells_edited (with_mark (marks.Thrown t.code)) t.cell b (holds_some _ (cell_at b t.cell) is))
+fitting_is_played b (moves.Trigger t) is =
+    mapped_some _ (edited (λ c. c.key == t.cell) (with_mark marks.Done) b.cells) (cells_edited (with_mark marks.Done) t.cell b (holds_some _ (cell_at b t.cell) is))
 fitting_is_played b (moves.Incident i) is = refl
 fitting_is_played b (moves.Repair key) is = mapped_some _ (removed (λ i. i.key == key) b.incidents) (removed_some (λ i. i.key == key) b.incidents (any_found (λ i. i.key == key) b.incidents is))
 

@@ -20,7 +20,9 @@ pub mod MoveGone
 pub mod MoveIncident
 pub mod MoveRepair
 pub mod MoveDone
+pub mod Catches
 pub mod MoveThrow
+pub mod MoveTrigger
 pub mod Game
 pub mod Forced
 pub mod Effects

@@ -9,7 +9,7 @@ use Rattle.zb_tokens.specs.declared.board.Token.{Token}
 use Rattle.zb_tokens.specs.declared.board.Spot.TheVariants as spots
 use Rattle.zb_tokens.specs.declared.board.Phase.TheVariants as phases
 use Rattle.zb_tokens.specs.Board.{Board, cell_at, model_under, start_in, is_phase, is_scope_in, scope_id, in_phase}
-use Rattle.zb_tokens.specs.Mappings.{inputs_of}
+use Rattle.zb_tokens.specs.Catches.{opened_with}
 
 -- the token before the start event of a scope; any other cell gets none (BPMN 2.0.2, 13.2 and 13.3.4)
 abbrev pub start_tokens : Cell → Model → List Token
@@ -27,9 +27,9 @@ opens b c = is_some (model_under b c.definition)
 abbrev pub fits_open : Board → ℕ → Bool
 fits_open b key = option_map_or (λ c. is_phase c.phase phases.Activating && opens b c) (cell_at b key) false
 
--- what is evaluated: its inputs have values (BPMN 2.0.2, 10.4.2 and 13.3.2)
-abbrev pub agrees_open : Board → ℕ → Bool
-agrees_open b key = option_map_or (λ c. is_ok (inputs_of b c)) (cell_at b key) false
+-- what is evaluated: its inputs have values, and its timers can open at this moment (BPMN 2.0.2, 10.4.2, 13.3.2 and 13.5.3)
+abbrev pub agrees_open : Board → (moment key : ℕ) → Bool
+agrees_open b moment key = option_map_or (λ c. is_ok (opened_with b moment c)) (cell_at b key) false
 
 -- effect: it is active (BPMN 2.0.2, 13.3.2; a process: 13.2)
 abbrev pub play_open : Board → ℕ → Option Board

@@ -1,4 +1,4 @@
-use zb_base::{Key, List, Text, Value, Variable, Vars};
+use zb_base::{Key, List, Moment, Text, Value, Variable, Vars};
 use zb_graph::BoxedGraph;
 use zb_instance_records::{IncidentKind, Role};
 
@@ -129,6 +129,8 @@ pub enum Move {
     Done(Key),
     /// An error is thrown in a cell.
     Throw(Thrown),
+    /// An event comes about that a cell waits for.
+    Trigger(Triggered),
     /// An incident stands on a cell.
     Incident(Incident),
     /// An incident is gone.
@@ -170,6 +172,22 @@ pub struct Take {
 pub struct Thrown {
     pub cell: Key,
     pub code: Text,
+}
+
+/// An event comes about that a cell waits for.
+#[derive(Drop)]
+pub struct Triggered {
+    pub cell: Key,
+    /// The node of the event: that of the cell.
+    pub node: Text,
+}
+
+/// A timer that opens for a cell.
+#[derive(Drop)]
+pub struct Opening {
+    /// The node of the timer: that of the cell.
+    pub node: Text,
+    pub due: Moment,
 }
 
 /// Who makes a forced move.

@@ -52,8 +52,8 @@ pub fn moves_of_movers_fit()
 
 /// A cell that is called off does nothing but end: it begins to terminate, or is gone, or waits for what runs in it.
 pub fn doomed_cells_end()
-    ensures { (board : Board) (key : ℕ) (cell : Cell) → IsTrue (is_doomed board cell)
-        → IsEnd cell (move_at board key cell) }
+    ensures { (board : Board) (moment key : ℕ) (cell : Cell) → IsTrue (is_doomed board cell)
+        → IsEnd cell (move_at board moment key cell) }
 {}
 
 /// A cell on which an incident stands is forced to nothing, unless it is doomed.

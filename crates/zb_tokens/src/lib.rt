@@ -8,8 +8,8 @@ mod keys;
 mod laws;
 
 pub use board::{
-    Assigned, Assignments, Cell, Deployed, Enter, Incident, Leave, Mark, Move, Mover, Phase, Spot,
-    Start, Take, Thrown, Token,
+    Assigned, Assignments, Cell, Deployed, Enter, Incident, Leave, Mark, Move, Mover, Opening,
+    Phase, Spot, Start, Take, Thrown, Token, Triggered,
 };
 pub use laws::{
     doomed_cells_end, ended_scopes_are_emptied, entries_take_first_tokens,

@@ -20,13 +20,13 @@ both true false is = absurd (cc)
 both false b is = absurd (cc)
 
 -- the key of the timer that an event makes, if it does
-abbrev key_made : Option Timer → List ℕ
-key_made told = option_map_or (λ t. t.key ∷ []) told []
+abbrev pub keys_told : Option Timer → List ℕ
+keys_told told = option_map_or (λ t. t.key ∷ []) told []
 
 -- the keys of all timers that were made
-made_more : (es : List Event) (e : Event) → timers_made (es ++ e ∷ []) ≡ timers_made es ++ key_made (timer_told e)
-made_more [] e = append-nil (key_made (timer_told e))
-made_more (x ∷ es) e = ap (λ (ks : List ℕ). key_made (timer_told x) ++ ks) (made_more es e) ∙ sym (append_assoc (key_made (timer_told x)) (timers_made es) (key_made (timer_told e)))
+pub made_more : (es : List Event) (e : Event) → timers_made (es ++ e ∷ []) ≡ timers_made es ++ keys_told (timer_told e)
+made_more [] e = append-nil (keys_told (timer_told e))
+made_more (x ∷ es) e = ap (λ (ks : List ℕ). keys_told (timer_told x) ++ ks) (made_more es e) ∙ sym (append_assoc (keys_told (timer_told x)) (timers_made es) (keys_told (timer_told e)))
 
 -- how many pass, with one more in front
 count_front : {A : Type 0} (p : A → Bool) (x : A) (xs : List A) → count_by p (x ∷ xs) ≡ cond (p x) 1 0 + count_by p xs
@@ -71,7 +71,7 @@ none_made : (key high : ℕ) (es : List Event) → are_below (λ k. k) high (tim
 none_made key high [] below least = refl
 none_made key high (x ∷ es) below least = rw (count_front (makes_timer key) x es) (by_told (timer_told x) below (none_made key high es))
   where
-    by_told : (told : Option Timer) → are_below (λ k. k) high (key_made told ++ timers_made es) ≡ true → (are_below (λ k. k) high (timers_made es) ≡ true → high ≤ key → times_timer_made key es ≡ 0)
+    by_told : (told : Option Timer) → are_below (λ k. k) high (keys_told told ++ timers_made es) ≡ true → (are_below (λ k. k) high (timers_made es) ≡ true → high ≤ key → times_timer_made key es ≡ 0)
         → cond (option_map_or (λ t. t.key == key) told false) 1 0 + times_timer_made key es ≡ 0
     by_told None below later = let none = later below least in omega (arith, none)
     by_told (Some t) below later =
@@ -114,7 +114,7 @@ module _ (before : List Event) (e : Event) (s : IsSettled before) where
       let keeps : Timer → Bool = λ x. not (ends_timer x.key e) in
       ascend_more (λ (x : Timer). x.key) 0 (timers_left e (timers before)) t (omega arith) (ascend_kept (λ (t : Timer). t.key) keeps 0 (timers before) s.ascend) (below_left t.key keeps (timers before) (s.below t.key later))
 
-  below_by : (told : Option Timer) (high : ℕ) → are_below (λ k. k) high (timers_made before ++ key_made told) ≡ true → are_below (λ (t : Timer). t.key) high (timers_left e (timers before) ++ timer_made told) ≡ true
+  below_by : (told : Option Timer) (high : ℕ) → are_below (λ k. k) high (timers_made before ++ keys_told told) ≡ true → are_below (λ (t : Timer). t.key) high (timers_left e (timers before) ++ timer_made told) ≡ true
   below_by None high below =
       let all : are_below (λ k. k) high (timers_made before) ≡ true = ap (are_below (λ (k : ℕ). k) high) (sym (append-nil (timers_made before))) ∙ below in
       ap (are_below (λ (t : Timer). t.key) high) (append-nil (timers_left e (timers before))) ∙ below_left high (λ (t : Timer). not (ends_timer t.key e)) (timers before) (s.below high all)
@@ -164,6 +164,13 @@ module _ (before : List Event) (e : Event) (s : IsSettled before) where
             ∙ rw (sum_by_push (λ (x : Event). cond (ends_timer key x) 1 0) before e, timers_more before e, count_by_told key (timer_told e)) refl);
         once = λ key. rw (sum_by_push (λ (x : Event). cond (makes_timer key x) 1 0) before e) (new_by key (timer_told e) its.0);
       }
+
+-- events that all fit, and one more that fits
+pub all_fit_more : (front es : List Event) (e : Event) → IsTrue (all_fit_timers front es) → IsTrue (fits_timers (front ++ es) e) → IsTrue (all_fit_timers front (es ++ e ∷ []))
+all_fit_more front [] e all fits = let here : fits_timers front e ≡ true = ap (λ (es : List Event). fits_timers es e) (sym (append-nil front)) ∙ fits in rw here refl
+all_fit_more front (x ∷ es) e all fits =
+    let its = both (fits_timers front x) (all_fit_timers (front ++ x ∷ []) es) all in
+    rw its.0 (all_fit_more (front ++ x ∷ []) es e its.1 (ap (λ (before : List Event). fits_timers before e) (append_assoc front (x ∷ []) es) ∙ fits))
 
 settled_from : (before es : List Event) → IsSettled before → IsTrue (all_fit_timers before es) → IsSettled (before ++ es)
 settled_from before [] s fit = subst IsSettled (sym (append-nil before)) s

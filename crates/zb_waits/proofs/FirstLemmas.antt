@@ -8,8 +8,11 @@ use Rattle.zb_table.specs.Rows.{Ascend}
 use Rattle.zb_table.specs.Earliest.{is_earlier, earliest, place_in_time, is_due, first_due}
 use Rattle.zb_table.specs.EarliestLaws.{any_of, any_kept, earliest_found, earlier_of, earliest_more}
 use Rattle.zb_waits.specs.Pairs.{has_pair, is_row_under, IsIndex}
-use Rattle.zb_waits.specs.Waits.{IsFirstPair}
 use Rattle.zb_waits.proofs.FoundLemmas.{found_above, found_passes}
+
+-- a pair is kept, and none comes before it
+abbrev pub IsFirstPair : BTreeSet (ℕ × ℕ) → (ℕ × ℕ) → Type 0
+IsFirstPair pairs first = (has_pair pairs first.0 first.1 ≡ true) × ((n k : ℕ) → has_pair pairs n k ≡ true → is_earlier (n, k) first ≡ false)
 
 -- what is found passes another test, so one does
 any_found : {A : Type 0} (p q : A → Bool) (xs : List A) (x : A) → find p xs ≡ Some x → q x ≡ true → list_any q xs ≡ true
@@ -121,28 +124,17 @@ module _ {A : Type 0} (key : A → ℕ) (moment : A → Option ℕ) (now : ℕ) 
   due_any : (q : A → Bool) → list_any q (filter due rows) ≡ list_any (λ r. due r && q r) rows
   due_any q = any_kept q due rows
 
-  -- where none is due
-  none_due : ((r : A) → find (λ x. key x == key r) rows ≡ Some r → due r ≡ false) → first_due key moment now rows ≡ None
-  none_due fails =
-      let none = any_none key (λ r. due r && true) 0 rows up (λ r at. let isnt = fails r at in grind (arith, isnt)) in
+  -- where no moment that is kept has come
+  pub due_none : ((n k : ℕ) → has_pair pairs n k ≡ true → nat_le n now ≡ false) → first_due key moment now rows ≡ None
+  due_none late =
+      let none = any_none key (λ r. due r && true) 0 rows up (λ r at. let isnt = by_moment r at (moment r) refl in grind (arith, isnt)) in
       ap (earliest place) (none_at_all (filter due rows) (due_any (λ r. true) ∙ none))
-
-  pub due_none : ((n k : ℕ) → has_pair pairs n k ≡ false) → first_due key moment now rows ≡ None
-  due_none empty = none_due (λ r at. by_moment r at (moment r) refl)
     where
       by_moment : (r : A) → find (λ x. key x == key r) rows ≡ Some r → (m : Option ℕ) → moment r ≡ m → option_map_or (λ m. nat_le m now) m false ≡ false
       by_moment r at None is = refl
-      by_moment r at (Some m) is = absurd (let has = kept r m at is in let isnt = empty m (key r) in cc)
+      by_moment r at (Some m) is = late m (key r) (kept r m at is)
 
-  pub due_later : (first : ℕ × ℕ) → IsFirstPair pairs first → nat_le first.0 now ≡ false → first_due key moment now rows ≡ None
-  due_later first is late = none_due (λ r at. by_moment r at (moment r) refl)
-    where
-      by_moment : (r : A) → find (λ x. key x == key r) rows ≡ Some r → (m : Option ℕ) → moment r ≡ m → option_map_or (λ m. nat_le m now) m false ≡ false
-      by_moment r at None waits = refl
-      by_moment r at (Some m) waits =
-          let later = is.1 m (key r) (kept r m at waits) in
-          grind (arith, nat_tests, later, late)
-
+  -- where the moment of the first has come
   pub due_first : (first : ℕ × ℕ) → IsFirstPair pairs first → nat_le first.0 now ≡ true → option_map place (first_due key moment now rows) ≡ Some first
   due_first first is come = by_found (find (λ r. key r == first.1) rows) refl
     where

@@ -1,3 +1,4 @@
 pub mod FoundLemmas
 pub mod PairLemmas
 pub mod FirstLemmas
+pub mod PassingLemmas

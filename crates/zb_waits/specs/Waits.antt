@@ -1,15 +1,10 @@
 -- What is kept beside rows that wait for a moment.
-use Rattle.std.specs.Prelude.{◌≡◌, ℕ, List, true, false, Option}
+use Rattle.std.specs.Prelude.{ℕ, List, Option}
 use Rattle.std.specs.BTreeSet.{BTreeSet}
 use Rattle.zb_table.specs.Rows.{Ascend}
-use Rattle.zb_table.specs.Earliest.{is_earlier}
-use Rattle.zb_waits.specs.Pairs.{has_pair, IsIndex}
+use Rattle.zb_waits.specs.Pairs.{IsIndex}
 
 -- what is kept is right: the keys ascend, and each row that waits is found by its moment (own)
 pub record IsTimed {A : Type 0} (key : A → ℕ) (moment : A → Option ℕ) (rows : List A) (pairs : BTreeSet (ℕ × ℕ)) : Type 0 where
   pub ascend : Ascend key 0 rows
   pub due : IsIndex key moment rows pairs
-
--- a pair is kept, and none comes before it (own)
-abbrev pub IsFirstPair : BTreeSet (ℕ × ℕ) → (ℕ × ℕ) → Type 0
-IsFirstPair pairs first = (has_pair pairs first.0 first.1 ≡ true) × ((n k : ℕ) → has_pair pairs n k ≡ true → is_earlier (n, k) first ≡ false)

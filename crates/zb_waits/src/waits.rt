@@ -1,17 +1,17 @@
-ghost use Rattle.std.specs.Prelude.{◌≡◌, ℕ, ◌==◌, ◌&&◌, [], None, Some, true, false, OnOk, IfOk, IfSome, IfNone, nat_le, option_map, if◌then◌else◌};
+ghost use Rattle.std.specs.Prelude.{◌≡◌, ℕ, ◌==◌, ◌&&◌, [], None, true, false, OnOk, IfOk, filter, option_map, if◌then◌else◌};
 ghost use Rattle.std.specs.List.{find};
-ghost use Rattle.std.specs.Option.{option_copied};
+ghost use Rattle.std.specs.Option.{option_copied, option_map_or};
 ghost use Rattle.zb_table.specs.Earliest.{first_due, place_in_time};
 ghost use Rattle.zb_table.specs.Rows.{Ascend, with_row, without};
 ghost use Rattle.zb_waits.specs.Pairs.{has_pair, is_number};
-ghost use Rattle.zb_waits.specs.Waits.{IsFirstPair};
+ghost use Rattle.zb_waits.specs.Waits.{IsTimed};
 
 use std::alloc::{AllocError, Global};
 use std::collections::BTreeSet;
 use std::marker::Model;
 use std::mem;
 use zb_base::{Key, Moment};
-use zb_table::{Table, Timed};
+use zb_table::{Query, Table, Timed};
 
 /// Rows in the order of their keys, each of which may wait for a moment. Contracts see the list of them.
 #[derive(Drop)]
@@ -52,14 +52,19 @@ impl<R: Timed> Waits<R> {
     }
 
     /// When the row is due that is due first, and its key, if one is due now: the one with the earliest moment, and of
-    /// those with the same one the one with the least key. It takes the logarithm of how many rows wait.
+    /// those with the same one the one with the least key. It takes the logarithm of how many rows there are.
     pub fn first_due(&self, now: Moment) -> Option<(Moment, Key)>
         ensures { result ≡ option_map (place_in_time R.key_in R.moment_in) (first_due R.key_in R.moment_in now self.now) }
     {
-        match first(&self.due) {
-            Some(first) => if_come(first, now),
-            None => None,
-        }
+        self.first_due_that(now, &Every)
+    }
+
+    /// The same of those alone that pass the question. It goes through the rows that are due, in their order, up to
+    /// the first that passes, and takes for each the logarithm of how many rows there are.
+    pub fn first_due_that<Q: Query<R>>(&self, now: Moment, query: &Q) -> Option<(Moment, Key)>
+        ensures { result ≡ option_map (place_in_time R.key_in R.moment_in) (first_due R.key_in R.moment_in now (filter (Q.passes query.now) self.now)) }
+    {
+        first_passing(now, query, &self.rows, &self.due)
     }
 
     /// Adds a row whose key none has. After a refusal the rows are only dropped. It takes the logarithm of how many
@@ -128,20 +133,44 @@ fn remove(due: &mut BTreeSet<(Moment, Key)>, moment: Option<Moment>, key: Key)
     }
 }
 
-// The pair that comes first, by its moment and then by its key.
-fn first(due: &BTreeSet<(Moment, Key)>) -> Option<(Moment, Key)>
-    ensures first { IfSome result (IsFirstPair due.now) }
-    ensures none { IfNone result ((n k : ℕ) → has_pair due.now n k ≡ false) }
+// The first pair whose row passes, if its moment has come.
+fn first_passing<R: Timed, Q: Query<R>>(
+    now: Moment,
+    query: &Q,
+    rows: &Table<R>,
+    due: &BTreeSet<(Moment, Key)>,
+) -> Option<(Moment, Key)>
+    requires { IsTimed R.key_in R.moment_in rows.now due.now }
+    ensures { result ≡ option_map (place_in_time R.key_in R.moment_in) (first_due R.key_in R.moment_in now (filter (Q.passes query.now) rows.now)) }
 {
-    match due.first() {
-        Some(first) => Some(*first),
-        None => None,
+    for pair in due {
+        if pair.0 > now {
+            return None;
+        }
+        if passes(pair.1, query, rows) {
+            return Some(*pair);
+        }
+    }
+    None
+}
+
+// Whether there is a row with this key, and it passes.
+fn passes<R: Timed, Q: Query<R>>(key: Key, query: &Q, rows: &Table<R>) -> bool
+    ensures { result ≡ option_map_or (Q.passes query.now) (find (λ r. R.key_in r == key) rows.now) false }
+{
+    match rows.get(key) {
+        Some(row) => query.passes(row),
+        None => false,
     }
 }
 
-// What is first, if its moment has come.
-fn if_come(first: (Moment, Key), now: Moment) -> Option<(Moment, Key)>
-    ensures { result ≡ (if nat_le first.0 now then Some first else None) }
-{
-    if first.0 <= now { Some(first) } else { None }
+// The question that every row passes.
+struct Every;
+
+impl<R> Query<R> for Every {
+    ghost passes = { λ _ _. true };
+
+    fn passes(&self, _row: &R) -> bool {
+        true
+    }
 }

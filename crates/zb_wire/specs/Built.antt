@@ -18,6 +18,8 @@ is_built_kind (Some kinds.ServiceTask) = true
 is_built_kind (Some kinds.SubProcess) = true
 is_built_kind (Some kinds.ExclusiveGateway) = true
 is_built_kind (Some kinds.ParallelGateway) = true
+is_built_kind (Some kinds.DateCatchEvent) = true
+is_built_kind (Some kinds.DurationCatchEvent) = true
 is_built_kind (Some kinds.ThrowEvent) = true
 is_built_kind kind = false
 

@@ -58,6 +58,8 @@ fn is_built_kind(kind: Option<NodeKind>) -> bool
                 | NodeKind::SubProcess
                 | NodeKind::ExclusiveGateway
                 | NodeKind::ParallelGateway
+                | NodeKind::DateCatchEvent
+                | NodeKind::DurationCatchEvent
                 | NodeKind::ThrowEvent
         )
     )

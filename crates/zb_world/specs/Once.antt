@@ -6,6 +6,7 @@ use Rattle.zb_model.specs.declared.record.Event.{Event}
 use Rattle.zb_model.specs.declared.record.Event.TheVariants as events
 use Rattle.zb_views.specs.declared.definition.Definition.{Definition}
 use Rattle.zb_views.specs.Definitions.{definitions}
+use Rattle.zb_views.specs.Timers.{times_timer_ended}
 use Rattle.zb_rules.specs.JobEnds.{times_ended}
 use Rattle.zb_world.specs.Entries.{Entry, happenings, AtMostOne}
 
@@ -24,7 +25,8 @@ correlates all message process (events.ProcessMessageSubscriptionCorrelated e) =
 correlates all message process (events.MessageStartEventSubscriptionCorrelated e) = (e.message == message) && list_any (defines e.definition process) (definitions all)
 correlates all message process _ = false
 
--- a message is correlated with a process at most once, and a job is over at most once, whatever the partitions are at which that happens (Zeebe; the exact form own)
+-- a message is correlated with a process at most once, a job is over at most once, and a timer ends at most once, whatever the partitions are at which that happens (Zeebe; the exact form own)
 pub record HappensOnce (h : List Entry) : Type 0 where
   pub messages : (message : ℕ) (process : List ℕ) → AtMostOne (correlates (happenings h) message process) (happenings h)
   pub jobs : (job : ℕ) → times_ended job (happenings h) ≤ 1
+  pub timers : (timer : ℕ) → times_timer_ended timer (happenings h) ≤ 1

@@ -1,6 +1,6 @@
 // How a cell that completes is left: by the flows out of its node, or at an exclusive gateway by the one that is
 // chosen.
-ghost use Rattle.std.specs.Prelude.{◌≡◌, [], Some, IfOk, filter, slice_get};
+ghost use Rattle.std.specs.Prelude.{◌≡◌, ◌∷◌, [], Some, IfOk, filter, slice_get};
 ghost use Rattle.std.specs.Str.{bytes_eq};
 ghost use Rattle.zb_tokens.specs.declared.board.Move.TheVariants as moves;
 ghost use Rattle.zb_tokens.specs.Board.{flows_out};
@@ -12,9 +12,9 @@ ghost use Rattle.zb_game.specs.Exits.{decided_by, exit_at, exit_in};
 use crate::Game;
 use crate::flows::{default_of, flows_out, is_default};
 use crate::game::conditions::truth_at;
-use crate::game::hindrances::{at_fault, left_by, undecided};
+use crate::game::hindrances::{given, stop_by, undecided};
 use std::alloc::{AllocError, Global};
-use zb_base::{Key, List};
+use zb_base::{Key, List, TryCopy};
 use zb_faults::is_exclusive_gateway;
 use zb_graph::Graph;
 use zb_process::{Flow, Node};
@@ -74,7 +74,7 @@ impl Game {
         }
         match default_of(model, node, cell.node.as_str()) {
             Some(flow) => left_by(alloc, cell.key, flow),
-            None => undecided(alloc, key, cell.key, node),
+            None => undecided(alloc, key, cell, node),
         }
     }
 
@@ -95,10 +95,10 @@ impl Game {
         if is_default(node, flow) {
             return Ok(None);
         }
-        match truth_at(alloc, self, cell.key, model, number) {
+        match given(alloc, truth_at(alloc, self, cell.key, model, number))? {
             Ok(true) => Ok(Some(left_by(alloc, cell.key, flow)?)),
             Ok(false) => Ok(None),
-            Err(fault) => Ok(Some(at_fault(alloc, key, cell.key, fault)?)),
+            Err(hindrance) => Ok(Some(stop_by(key, cell, hindrance))),
         }
     }
 }
@@ -111,6 +111,15 @@ fn left_by_none(alloc: Global, cell: Key) -> Move
         key: cell,
         owed: List::empty(alloc),
     })
+}
+
+// The cell with a key is left by one flow.
+fn left_by(alloc: Global, cell: Key, flow: &Flow) -> Result<Move, AllocError>
+    ensures { IfOk result (λ move. move ≡ moves.Leave (record { key = cell; owed = flow.now.id ∷ [] })) }
+{
+    let mut owed = List::empty(alloc);
+    owed.push(flow.id.copy(alloc)?)?;
+    Ok(Move::Leave(Leave { key: cell, owed }))
 }
 
 // A cell is left by all flows out of its node.

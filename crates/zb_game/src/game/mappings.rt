@@ -7,13 +7,13 @@ ghost use Rattle.zb_tokens.specs.declared.board.Move.TheVariants as moves;
 ghost use Rattle.zb_tokens.specs.declared.board.Leave.{Leave};
 ghost use Rattle.zb_tokens.specs.Board.{node_with};
 ghost use Rattle.zb_tokens.specs.Names.{value_seen};
-ghost use Rattle.zb_tokens.specs.Mappings.{assignments_of, inputs_of, mapped, node_of, variables_by};
+ghost use Rattle.zb_tokens.specs.Mappings.{assignments_of, mapped, node_of, variables_by};
 ghost use Rattle.zb_tokens.specs.MoveLeave.{completion_of};
-ghost use Rattle.zb_tokens.specs.Forced.{leave_by, open_by};
+ghost use Rattle.zb_tokens.specs.Forced.{leave_by};
 ghost use Rattle.zb_game.specs.Mapped.{mappings_at, mappings_on};
 
 use crate::Game;
-use crate::game::hindrances::at_fault;
+use crate::game::hindrances::{Hindrance, given, stop_by};
 use crate::game::seen::value_at;
 use std::alloc::{AllocError, Global};
 use zb_base::{Key, List, TryCopy, Value, Variable};
@@ -30,16 +30,6 @@ pub enum Side {
 }
 
 impl Game {
-    // How a cell becomes active, or the incident under this key that tells why it can't.
-    pub(super) fn open_by(&self, alloc: Global, key: Key, cell: &Cell) -> Result<Move, AllocError>
-        ensures { IfOk result (λ move. move ≡ open_by key cell.now (inputs_of self.now cell.now)) }
-    {
-        match self.mapped_at(alloc, cell, Side::Inputs) {
-            Ok(_inputs) => Ok(Move::Open(cell.key)),
-            Err(fault) => at_fault(alloc, key, cell.key, fault),
-        }
-    }
-
     // How a cell that has completed is left, or the incident under this key that tells why it can't be: its outputs come
     // first.
     pub(super) fn complete_by(
@@ -50,9 +40,9 @@ impl Game {
     ) -> Result<Move, AllocError>
         ensures { IfOk result (λ move. move ≡ leave_by key cell.now (completion_of self.now cell.now)) }
     {
-        match self.mapped_at(alloc, cell, Side::Outputs) {
+        match self.variables_by(alloc, cell, Side::Outputs)? {
             Ok(_outputs) => self.leave_by(alloc, key, cell),
-            Err(fault) => at_fault(alloc, key, cell.key, fault),
+            Err(hindrance) => Ok(stop_by(key, cell, hindrance)),
         }
     }
 
@@ -111,11 +101,22 @@ impl Game {
     ) -> Result<List<Variable>, AllocError>
         ensures { IfOk result (λ variables. variables ≡ result_unwrap_or (variables_by self.now cell.now (option_map_or (mappings_on side) (node_of self.now cell.now) [])) []) }
     {
-        match self.mapped_at(alloc, cell, side) {
+        match self.variables_by(alloc, cell, side)? {
             Ok(variables) => Ok(variables),
-            Err(EvalFault::Memory) => Err(AllocError),
             Err(_) => Ok(List::empty(alloc)),
         }
+    }
+
+    // The variables that the mappings of a cell's node make, or why the cell can't go on with them.
+    pub(super) fn variables_by(
+        &self,
+        alloc: Global,
+        cell: &Cell,
+        side: Side,
+    ) -> Result<Result<List<Variable>, Hindrance>, AllocError>
+        ensures { IfOk result (λ variables. variables ≡ variables_by self.now cell.now (option_map_or (mappings_on side) (node_of self.now cell.now) [])) }
+    {
+        given(alloc, self.mapped_at(alloc, cell, side))
     }
 
     // The variables that the mappings of a cell's node make, or the first fault of their sources; a root is at no node.

@@ -1,4 +1,4 @@
-ghost use Rattle.std.specs.Prelude.{◌≡◌, ℕ, IfOk};
+ghost use Rattle.std.specs.Prelude.{◌≡◌, IfOk};
 ghost use Rattle.zb_tokens.specs.Marks.{error_of};
 ghost use Rattle.zb_tokens.specs.Forced.{end_in, entry_at, entry_of, finish_by, move_at, move_in, move_of, take_first};
 ghost use Rattle.zb_game.specs.Searches.{entry_by};
@@ -7,7 +7,7 @@ use crate::Game;
 use crate::game::hindrances::uncaught;
 use crate::marks::error_of;
 use std::alloc::{AllocError, Global};
-use zb_base::{Key, Text, TryCopy};
+use zb_base::{Key, Moment, Text, TryCopy};
 use zb_graph::Graph;
 use zb_places::way_by;
 use zb_tokens::{Cell, Enter, Move, Mover, Phase, Spot, Take, Token};
@@ -16,14 +16,21 @@ impl Game {
     /// The move of a mover, where a cell that begins, or an incident, gets this key; `None` where the mover isn't there
     /// or does nothing. A cell or a model is found as in `fits`; it goes up the scopes where a cell is terminating or
     /// ended, and through the flows out of a node, and the texts of the move are copied. The inputs of
-    /// a cell that becomes active are evaluated, and the outputs of one that has completed; at an exclusive gateway the
-    /// conditions of the flows are, up to the one that decides. For each name in them it goes up the scopes.
-    pub fn move_of(&self, alloc: Global, key: Key, mover: Mover) -> Result<Option<Move>, AllocError>
-        ensures { (moment : ℕ) → IfOk result (λ move. move ≡ move_of self.now moment key mover) }
+    /// a cell that becomes active are evaluated, and then when its timer is due that opens at this moment; so are the
+    /// outputs of one that has completed, and at an exclusive gateway the conditions of the flows, up to the one that
+    /// decides. For each name in them it goes up the scopes, for one in the text of a timer also through the inputs.
+    pub fn move_of(
+        &self,
+        alloc: Global,
+        moment: Moment,
+        key: Key,
+        mover: Mover,
+    ) -> Result<Option<Move>, AllocError>
+        ensures { IfOk result (λ move. move ≡ move_of self.now moment key mover) }
     {
         match mover {
             Mover::Cell(cell) => match self.cell(cell) {
-                Some(cell) => self.move_at(alloc, key, cell),
+                Some(cell) => self.move_at(alloc, moment, key, cell),
                 None => Ok(None),
             },
             Mover::Token(token) => self.entry_of(alloc, key, &token),
@@ -31,21 +38,33 @@ impl Game {
     }
 
     // What a cell does by itself, or how it ends where it is doomed.
-    fn move_at(&self, alloc: Global, key: Key, cell: &Cell) -> Result<Option<Move>, AllocError>
-        ensures { IfOk result (λ move. move ≡ move_at self.now key cell.now) }
+    fn move_at(
+        &self,
+        alloc: Global,
+        moment: Moment,
+        key: Key,
+        cell: &Cell,
+    ) -> Result<Option<Move>, AllocError>
+        ensures { IfOk result (λ move. move ≡ move_at self.now moment key cell.now) }
     {
         if self.is_doomed(cell) {
             return Ok(end_of(cell));
         }
-        self.move_in(alloc, key, cell)
+        self.move_in(alloc, moment, key, cell)
     }
 
     // What a cell does by itself in its phase.
-    fn move_in(&self, alloc: Global, key: Key, cell: &Cell) -> Result<Option<Move>, AllocError>
-        ensures { IfOk result (λ move. move ≡ move_in self.now key cell.now cell.now.phase) }
+    fn move_in(
+        &self,
+        alloc: Global,
+        moment: Moment,
+        key: Key,
+        cell: &Cell,
+    ) -> Result<Option<Move>, AllocError>
+        ensures { IfOk result (λ move. move ≡ move_in self.now moment key cell.now cell.now.phase) }
     {
         match cell.phase {
-            Phase::Activating => Ok(Some(self.open_by(alloc, key, cell)?)),
+            Phase::Activating => Ok(Some(self.open_by(alloc, moment, key, cell)?)),
             Phase::Active => Ok(Some(finish_by(alloc, key, cell)?)),
             Phase::Completing => Ok(Some(self.complete_by(alloc, key, cell)?)),
             Phase::Leaving => take_first(alloc, cell.key, cell.owed.as_slice()),
@@ -72,7 +91,7 @@ fn finish_by(alloc: Global, key: Key, cell: &Cell) -> Result<Move, AllocError>
     ensures { IfOk result (λ move. move ≡ finish_by key cell.now (error_of cell.now.mark)) }
 {
     match error_of(&cell.mark) {
-        Some(code) => uncaught(alloc, key, cell.key, code.as_str()),
+        Some(code) => uncaught(alloc, key, cell, code.as_str()),
         None => Ok(Move::Finish(cell.key)),
     }
 }

@@ -1,19 +1,21 @@
-// The values of expressions, as a cell sees the names in them.
+// What cells see, and the values of expressions, as a cell sees the names in them.
 ghost use Rattle.std.specs.Option.{option_copied};
 ghost use Rattle.zb_process.specs.Expr.{value_of};
 ghost use Rattle.zb_expr.specs.Outcome.{Evaluates};
+ghost use Rattle.zb_tokens.specs.Catches.{seen_with};
 ghost use Rattle.zb_tokens.specs.Names.{value_seen};
 
 use crate::Game;
+use crate::lasts::last_value;
 use std::alloc::Global;
-use zb_base::{Key, Value};
+use zb_base::{Key, Value, Variable};
 use zb_expr::{Code, Env, EvalFault, run};
 
-// What a cell of a game sees.
+/// What a cell of a game sees.
 #[derive(Drop)]
-struct Seen<'a> {
-    game: &'a Game,
-    cell: Key,
+pub struct Seen<'a> {
+    pub game: &'a Game,
+    pub cell: Key,
 }
 
 impl<'a> Env for Seen<'a> {
@@ -22,6 +24,26 @@ impl<'a> Env for Seen<'a> {
     fn look(&self, name: &str) -> Option<&Value> {
         let game = self.game;
         game.value_seen(self.cell, name)
+    }
+}
+
+/// What a cell of a game sees once these variables are set in it.
+#[derive(Drop)]
+pub struct SeenWith<'a> {
+    pub variables: &'a [Variable],
+    pub game: &'a Game,
+    pub cell: Key,
+}
+
+impl<'a> Env for SeenWith<'a> {
+    ghost values = { λ seen name. seen_with seen.variables.now (value_seen seen.game.now seen.cell) name };
+
+    fn look(&self, name: &str) -> Option<&Value> {
+        let game = self.game;
+        match last_value(self.variables, name) {
+            Some(value) => Some(value),
+            None => game.value_seen(self.cell, name),
+        }
     }
 }
 

@@ -3,59 +3,120 @@ ghost use Rattle.std.specs.Prelude.{◌≡◌, List, Some, option_map};
 ghost use Rattle.zb_model.specs.declared.record.Event.{Event};
 ghost use Rattle.zb_jobs.specs.EarlierLaws.{earlier_option};
 ghost use Rattle.zb_table.specs.Earliest.{is_earlier};
+ghost use Rattle.zb_table.specs.EarliestLaws.{earlier_of};
 ghost use Rattle.zb_rules.specs.Due.{place_of_alarm, due_command};
+ghost use Rattle.zb_rules.specs.Trigger.{waits_for};
 ghost use Rattle.zb_state.specs.State.{IsStateOf};
-ghost use Rattle.zb_state.specs.Alarms.{expiry_at, time_out_at};
+ghost use Rattle.zb_state.specs.Alarms.{expiry_at, time_out_at, trigger_at};
 
 use crate::State;
+use zb_game::Game;
 use zb_model::{Command, Key, Moment};
+use zb_rules::Alarm;
+use zb_table::Query;
+use zb_views::Timer;
 
 impl State {
     /// The command that is due first, if one is due now: by the moment at which it is due, and of those at one moment
-    /// by the key of what it is for. It goes once through the buffered messages, and takes the logarithm of how many
-    /// jobs there are.
+    /// by the key of what it is for. It goes once through the buffered messages, takes the logarithm of how many jobs
+    /// there are, and that of how many timers there are for each that is due in front of the first whose cell waits.
     pub fn due(&self, now: Moment) -> Option<Command>
         ensures { (es : List Event) → IsStateOf es self.now → result ≡ due_command now es }
     {
-        first_of(self.messages.first_due(now), self.jobs.first_due(now))
+        let awaited = Awaited { game: &self.game };
+        let expiry = expiry_of(self.messages.first_due(now));
+        let time_out = time_out_of(self.jobs.first_due(now));
+        let trigger = trigger_of(self.timers.first_due_that(now, &awaited));
+        command_of(earlier(expiry, earlier(time_out, trigger)))
     }
 }
 
-// The command of a message and of a job that are due, each with the moment and its key, that is due first.
-fn first_of(message: Option<(Moment, Key)>, job: Option<(Moment, Key)>) -> Option<Command>
-    ensures { result ≡ option_map (λ a. a.command) (earlier_option place_of_alarm (option_map expiry_at message) (option_map time_out_at job)) }
-{
-    match message {
-        Some((due, key)) => Some(first_from(due, key, job)),
-        None => time_out_of(job),
+// Whether the cell of a timer waits for it.
+#[derive(Drop)]
+struct Awaited<'a> {
+    game: &'a Game,
+}
+
+impl<'a> Query<Timer> for Awaited<'a> {
+    ghost passes = { λ awaited t. waits_for t awaited.game.now };
+
+    fn passes(&self, timer: &Timer) -> bool {
+        self.game.waits_at(timer.cell, timer.node.as_str())
     }
 }
 
-// The command of a message that is due at this moment, or of a job that is due before it.
-fn first_from(due: Moment, key: Key, job: Option<(Moment, Key)>) -> Command
-    ensures { Some result ≡ option_map (λ a. a.command) (earlier_option place_of_alarm (Some (expiry_at (due, key))) (option_map time_out_at job)) }
+// The expiry of a message at its deadline.
+fn expiry_of(due: Option<(Moment, Key)>) -> Option<Alarm>
+    ensures { result ≡ option_map expiry_at due }
 {
-    match job {
-        Some((moment, other)) if comes_before((moment, other), (due, key)) => {
-            Command::JobTimeOut(other)
-        }
-        _ => Command::MessageExpire(key),
+    let (moment, key) = due?;
+    let command = Command::MessageExpire(key);
+    Some(Alarm {
+        moment,
+        key,
+        command,
+    })
+}
+
+// The time-out of a job at its deadline.
+fn time_out_of(due: Option<(Moment, Key)>) -> Option<Alarm>
+    ensures { result ≡ option_map time_out_at due }
+{
+    let (moment, key) = due?;
+    let command = Command::JobTimeOut(key);
+    Some(Alarm {
+        moment,
+        key,
+        command,
+    })
+}
+
+// The trigger of a timer once it is due.
+fn trigger_of(due: Option<(Moment, Key)>) -> Option<Alarm>
+    ensures { result ≡ option_map trigger_at due }
+{
+    let (moment, key) = due?;
+    let command = Command::TimerTrigger(key);
+    Some(Alarm {
+        moment,
+        key,
+        command,
+    })
+}
+
+// Of two, if they are there, the earlier one: by the moment, and at one moment by the key.
+fn earlier(one: Option<Alarm>, other: Option<Alarm>) -> Option<Alarm>
+    ensures { result ≡ earlier_option place_of_alarm one other }
+{
+    match (one, other) {
+        (None, other) => other,
+        (Some(one), None) => Some(one),
+        (Some(one), Some(other)) => Some(earlier_of(one, other)),
     }
 }
 
-// The time-out of a job that is due.
-fn time_out_of(job: Option<(Moment, Key)>) -> Option<Command>
-    ensures { result ≡ option_map (λ a. a.command) (option_map time_out_at job) }
+// Of two the earlier one; the first where neither comes before the other.
+fn earlier_of(one: Alarm, other: Alarm) -> Alarm
+    ensures { Some result ≡ earlier_of place_of_alarm one (Some other) }
 {
-    match job {
-        Some((_, key)) => Some(Command::JobTimeOut(key)),
-        None => None,
+    if comes_before(&other, &one) {
+        other
+    } else {
+        one
     }
 }
 
-// Whether one is due before another: by the moment, and at one moment by the key.
-fn comes_before(one: (Moment, Key), other: (Moment, Key)) -> bool
-    ensures { result ≡ is_earlier one other }
+// Whether one is due before another.
+fn comes_before(one: &Alarm, other: &Alarm) -> bool
+    ensures { result ≡ is_earlier (place_of_alarm one.now) (place_of_alarm other.now) }
 {
-    one.0 < other.0 || (one.0 == other.0 && one.1 < other.1)
+    one.moment < other.moment || (one.moment == other.moment && one.key < other.key)
+}
+
+// The command of an alarm.
+fn command_of(alarm: Option<Alarm>) -> Option<Command>
+    ensures { result ≡ option_map (λ a. a.command) alarm }
+{
+    let alarm = alarm?;
+    Some(alarm.command)
 }

@@ -5,7 +5,7 @@ use Rattle.zb_step.specs.AtOnce.{made_one_by_one}
 use Rattle.zb_step.proofs.emitting.put_one_by_one.Goals as goal
 
 pub put_own-requires : goal.put_own-requires
-put_own-requires c = λ n moment.
+put_own-requires c = λ n.
     let Admits : Command → Type 0 = λ x. AdmitsMade c.args.state.now (made_one_by_one (partition_of c.args.state.now) n c.args.moment x) in
     subst Admits c.in-ProcessInstanceCancel.is (c.requires n)
 
@@ -32,9 +32,9 @@ put_own-requires-in-JobFail c =
 pub returns-in-ProcessInstanceCancel-clause-put : goal.returns-in-ProcessInstanceCancel-clause-put
 returns-in-ProcessInstanceCancel-clause-put c = λ n es is.
     let Is : Command → Type 0 = λ x. OnOk c.put_own.result (c.put_own.new.out ≡ c.args.out.now ++ made_one_by_one (partition_of c.args.state.now) n c.args.moment x es) in
-    subst Is (sym c.in-ProcessInstanceCancel.is) (c.put_own.ensures.put n c.args.moment es is)
+    subst Is (sym c.in-ProcessInstanceCancel.is) (c.put_own.ensures.put n es is)
 
 pub returns-in-ProcessInstanceCancel-clause-state : goal.returns-in-ProcessInstanceCancel-clause-state
 returns-in-ProcessInstanceCancel-clause-state c = λ n es is.
     let Is : Command → Type 0 = λ x. OnOk c.put_own.result (IsStateOf (es ++ made_one_by_one (partition_of c.args.state.now) n c.args.moment x es) c.put_own.new.state) in
-    subst Is (sym c.in-ProcessInstanceCancel.is) (c.put_own.ensures.state n c.args.moment es is)
+    subst Is (sym c.in-ProcessInstanceCancel.is) (c.put_own.ensures.state n es is)

@@ -20,7 +20,7 @@ returns-clause-acceptance c = λ n es was.
     let Settles : ℕ → Type 0 = λ q. SettlesTo q n c.args.moment es own made in
     let Applies : ℕ → Type 0 = λ q. IsTrue (all_apply q [] (es ++ own)) in
     let Accepts : List Event → Type 0 = λ l. IsAcceptance p n c.args.moment es c.args.command.now (outcomes.Accepted l) in
-    let settled = subst Settles c.emit.ensures.place (c.in_ok-settle.ensures.settled n c.args.moment es is) in
+    let settled = subst Settles c.emit.ensures.place (c.in_ok-settle.ensures.settled n es is) in
     let applied = behind_apply p es own (subst Applies c.emit.ensures.place is.applied) in
     let is_own = told.own n es was in
     subst Accepts (sym c.events.ensures) (acceptance_of p n c.args.moment es own made c.args.command.now is_own applied (own_legal p n es c.args.moment c.args.command.now own applied is_own) settled)

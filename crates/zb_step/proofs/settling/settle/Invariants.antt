@@ -9,7 +9,7 @@ abbrev pub invariant-loop-alloc : goal.invariant-loop-alloc
 invariant-loop-alloc l = record {
   place : partition_of l.state ≡ partition_of l.initial.state;
   reached : IsReached l.state;
-  goes_on : (n moment : ℕ) (before : List Event) → IsStateOf (before ++ l.initial.out) l.initial.state → GoesOn (partition_of l.initial.state) n moment before l.initial.out l.out;
+  goes_on : (n : ℕ) (before : List Event) → IsStateOf (before ++ l.initial.out) l.initial.state → GoesOn (partition_of l.initial.state) n l.moment before l.initial.out l.out;
   comes_to : (before : List Event) → IsStateOf (before ++ l.initial.out) l.initial.state → IsStateOf (before ++ l.out) l.state;
 }
 

@@ -12,7 +12,8 @@ returns-clause-reached c = ∣ (
     definitions = sym c.new.ensures.items;
     begun = refl;
     jobs = sym c.empty-2.ensures;
+    timers = sym c.empty-3.ensures;
     called_off = refl;
-    game = ap (λ (b : Board). Some b) (sym c.empty-3.ensures);
+    game = ap (λ (b : Board). Some b) (sym c.empty-4.ensures);
   },
 ) ∣₁

@@ -1,0 +1,98 @@
+-- The events that cells wait for: a timer at a catch event, which is due by a date or a duration (BPMN 2.0.2, 10.5.5 and 13.5.3).
+use Rattle.std.specs.Prelude.{ℕ, List, [], ◌∷◌, codes, Bool, false, ◌&&◌, ◌||◌, not, is_some, Option, Some, None, option_map, option_and_then, Result, Ok, Err}
+use Rattle.std.specs.Option.{option_map_or, option_or}
+use Rattle.std.specs.Result.{result_map_both, result_unwrap_or}
+use Rattle.std.specs.Str.{bytes_eq}
+use Rattle.zb_base.specs.Results.{◌>>=◌}
+use Rattle.zb_base.specs.Vars.{value_named, with_value}
+use Rattle.zb_base.specs.declared.value.Value.{Value}
+use Rattle.zb_base.specs.declared.value.Value.TheVariants as datums
+use Rattle.zb_base.specs.declared.vars.Variable.{Variable}
+use Rattle.zb_process.specs.declared.model.Node.{Node}
+use Rattle.zb_process.specs.declared.model.NodeKind.{NodeKind}
+use Rattle.zb_process.specs.declared.model.NodeKind.TheVariants as kinds
+use Rattle.zb_process.specs.Expr.{ValueFault, Kind, value_of}
+use Rattle.zb_process.specs.Tree.{Tree}
+use Rattle.zb_duration.specs.Due.{due_of}
+use Rattle.zb_duration.specs.declared.fault.DueFault.{DueFault}
+use Rattle.zb_duration.specs.declared.form.TimeForm.{TimeForm}
+use Rattle.zb_duration.specs.declared.form.TimeForm.TheVariants as forms
+use Rattle.zb_instance_records.specs.declared.happening.IncidentKind.TheVariants as incidents
+use Rattle.zb_tokens.specs.declared.board.Cell.{Cell}
+use Rattle.zb_tokens.specs.declared.board.Opening.{Opening}
+use Rattle.zb_tokens.specs.declared.board.Phase.TheVariants as phases
+use Rattle.zb_tokens.specs.Board.{Board, cell_at, is_phase}
+use Rattle.zb_tokens.specs.Doom.{is_doomed}
+use Rattle.zb_tokens.specs.Incidents.{Hindrance, hindrance_of}
+use Rattle.zb_tokens.specs.Mappings.{inputs_of, node_of}
+use Rattle.zb_tokens.specs.Marks.{error_of, is_unset}
+use Rattle.zb_tokens.specs.Names.{value_seen}
+
+-- the form of the time at a catch event with a timer (BPMN 2.0.2, 10.5.5)
+abbrev pub time_form : NodeKind → Option TimeForm
+time_form kinds.DateCatchEvent = Some forms.Date
+time_form kinds.DurationCatchEvent = Some forms.Duration
+time_form kind = None
+
+-- the text that a value is; another value is of the wrong kind
+abbrev pub text_told : Value → Result (List ℕ) ValueFault
+text_told (datums.Text text) = Ok text
+text_told value = Err Kind
+
+-- a text that is no time of its form, or names a moment out of range, keeps a cell from going on (Zeebe, incidents)
+abbrev pub time_hindrance : DueFault → Hindrance
+time_hindrance fault = record { kind = incidents.ExtractValueError; text = codes "TIMER" }
+
+-- when a timer is due that opens at a moment, where names have these values, or why that can't be told (BPMN 2.0.2, 10.5.5)
+abbrev pub due_by : (List ℕ → Option Value) → ℕ → TimeForm → Tree → Result ℕ Hindrance
+due_by names moment form time =
+    result_map_both (λ text. text) hindrance_of (value_of names time >>= text_told) >>= (λ text. result_map_both (λ due. due) time_hindrance (due_of form text moment))
+
+-- the time that a node has, with its form
+abbrev pub time_of : Node → Option (TimeForm × Tree)
+time_of n = option_and_then (λ form. option_map (λ time. (form, time)) n.expr) (time_form n.kind)
+
+-- the time that a cell waits for at its own node (BPMN 2.0.2, 13.5.3)
+abbrev pub own_time : Board → Cell → Option (TimeForm × Tree)
+own_time b c = option_and_then time_of (node_of b c)
+
+-- the timer that opens for a cell at a time, where names have these values
+abbrev pub opening_by : (List ℕ → Option Value) → ℕ → Cell → TimeForm × Tree → Result (List Opening) Hindrance
+opening_by names moment c time = due_by names moment time.0 time.1 >>= (λ due. Ok (record { node = c.node; due = due } ∷ []))
+
+-- the timers that open for a cell as it becomes active at a moment, where names have these values, or why they can't (BPMN 2.0.2, 13.5.3)
+abbrev pub openings_by : (List ℕ → Option Value) → Board → ℕ → Cell → Result (List Opening) Hindrance
+openings_by names b moment c = option_map_or (opening_by names moment c) (own_time b c) (Ok [])
+
+-- variables set one after another: of one name the last counts (BPMN 2.0.2, 10.4.2)
+abbrev pub set_over : List Variable → List Variable → List Variable
+set_over [] vars = vars
+set_over (v ∷ vs) vars = set_over vs (with_value v.name v.value vars)
+
+-- what a cell sees once these variables are set in it
+abbrev pub seen_with : List Variable → (List ℕ → Option Value) → List ℕ → Option Value
+seen_with vs names name = option_or (value_named name (set_over vs [])) (names name)
+
+-- what a cell takes in as it becomes active, where behind it the timers can open too, or what keeps it from that: its inputs first (BPMN 2.0.2, 13.3.2 and 13.5.3)
+abbrev pub opened_with : Board → ℕ → Cell → Result (List Variable) Hindrance
+opened_with b moment c = inputs_of b c >>= (λ vs. openings_by (seen_with vs (value_seen b c.key)) b moment c >>= (λ openings. Ok vs))
+
+-- the timers that open for a cell that has become active, on a board on which its inputs are set (BPMN 2.0.2, 13.5.3)
+abbrev pub openings_of : Board → ℕ → Cell → Result (List Opening) Hindrance
+openings_of b moment c = openings_by (value_seen b c.key) b moment c
+
+-- the same for the cell with a key; none where it isn't there, or where they can't open
+abbrev pub openings_at : Board → (moment cell : ℕ) → List Opening
+openings_at b moment cell = option_map_or (λ c. result_unwrap_or (openings_of b moment c) []) (cell_at b cell) []
+
+-- the cell waits, or is about to, for a time at this node: it is active, and that is its own one, which has a time (BPMN 2.0.2, 13.5.3)
+abbrev pub is_timed_at : List ℕ → Board → Cell → Bool
+is_timed_at node b c = is_phase c.phase phases.Active && (bytes_eq c.node node && is_some (own_time b c))
+
+-- the same of the cell with a key
+abbrev pub may_open_at : (cell : ℕ) → List ℕ → Board → Bool
+may_open_at cell node b = option_map_or (is_timed_at node b) (cell_at b cell) false
+
+-- a cell waits for an event: it is active, not called off, and was told nothing so far, or of an error (BPMN 2.0.2, 13.5.3)
+abbrev pub may_be_told : Board → Cell → Bool
+may_be_told b c = is_phase c.phase phases.Active && not (is_doomed b c) && (is_unset c.mark || is_some (error_of c.mark))
