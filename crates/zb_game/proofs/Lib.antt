@@ -14,3 +14,5 @@ pub mod ReadyLemmas
 pub mod ExitLemmas
 pub mod MappingLemmas
 pub mod LastLemmas
+pub mod AwaitedLemmas
+pub mod OpeningLemmas

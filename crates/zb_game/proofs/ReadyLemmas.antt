@@ -1,7 +1,8 @@
 -- The greatest key of the forced cells is the last one of the ready keys that is one of a forced cell.
-use Rattle.std.proofs.Common.{◌≡◌, ℕ, ◌+◌, ◌≤◌, ◌==◌, max, List, [], ◌∷◌, map, filter, get_or, All, Bool, true, false, not, ◌&&◌, ◌||◌, cond, if◌then◌else◌, Option, Some, None, is_some, refl, sym, ap, ◌∙◌, subst, arith}
+use Rattle.std.proofs.Common.{◌≡◌, ℕ, ◌+◌, ◌≤◌, ◌==◌, max, List, [], ◌∷◌, map, filter, get_or, All, Bool, true, false, not, ◌&&◌, ◌||◌, cond, if◌then◌else◌, Option, Some, None, is_some, option_and_then, refl, sym, ap, ◌∙◌, subst, arith}
 use Rattle.std.specs.Option.{option_map_or, option_or}
-use Rattle.std.specs.List.{find}
+use Rattle.std.specs.List.{find, list_any}
+use Rattle.std.proofs.lemmas.Bool.{or_left, or_right}
 use Rattle.std.proofs.lemmas.Bool.Decides.{nat_tests}
 use Rattle.std.proofs.lemmas.List.Elements.{All-filter, All-map, All-head, All-tail, filter_passes}
 use Rattle.zb_table.specs.Rows.{Ascend, last_passing}
@@ -11,7 +12,11 @@ use Rattle.zb_tokens.specs.declared.board.Token.{Token}
 use Rattle.zb_tokens.specs.declared.board.Phase.{Phase}
 use Rattle.zb_tokens.specs.declared.board.Phase.TheVariants as phases
 use Rattle.zb_tokens.specs.Edits.{is_none_of}
-use Rattle.zb_tokens.specs.Board.{Board, cell_at, model_under, has_child}
+use Rattle.zb_tokens.specs.declared.board.Triggered.{Triggered}
+use Rattle.zb_tokens.specs.Errors.{catcher, is_same_event}
+use Rattle.zb_tokens.specs.GameLaws.{any_where}
+use Rattle.zb_tokens.specs.MoveTrigger.{comes_about_by}
+use Rattle.zb_tokens.specs.Board.{Board, cell_at, model_under, has_child, is_phase}
 use Rattle.zb_tokens.specs.Doom.{is_doomed}
 use Rattle.zb_tokens.specs.Incidents.{is_stuck}
 use Rattle.zb_tokens.specs.Marks.{error_of}
@@ -20,7 +25,7 @@ use Rattle.zb_tokens.specs.Forced.{ends_in, goes_on_in, is_forced, greatest}
 use Rattle.zb_process.specs.declared.model.Model.{Model}
 use Rattle.zb_game.specs.declared.tallies.Tally.{Tally}
 use Rattle.zb_game.specs.Indexed.{IsIndexed, is_done_in, rests_in, is_resting, is_kept}
-use Rattle.zb_game.specs.Searches.{is_forced_at, newest_key}
+use Rattle.zb_game.specs.Searches.{comes_about_at, is_forced_at, newest_key}
 use Rattle.zb_table.proofs.Ascending.{finds_own}
 
 is_not : (t : Bool) → not t ≡ true → t ≡ false
@@ -188,3 +193,72 @@ module _ (b : Board) (rows : List (Held Token)) (inside stuck : List Tally) (rea
   -- the last of the ready keys that is one of a forced cell, where nobody is called off
   pub newest_ready : Ascend (λ (k : ℕ). k) 0 ready → last_passing (is_forced_at b) ready ≡ newest_key b
   newest_ready up = by_last (last_passing (is_forced_at b) ready) up refl
+
+-- where an error comes about, its cell is among the ready ones
+module _ (b : Board) (t : Triggered) where
+  -- a key that is one of such a cell
+  there_by : (key : ℕ) (found : Option Cell) → find (λ x. x.key == key) b.cells ≡ found → option_map_or (comes_about_by b t) found false ≡ true → list_any (comes_about_by b t) b.cells ≡ true
+  there_by key None at comes = absurd (cc)
+  there_by key (Some c) at comes = any_where (λ (x : Cell). x.key == key) (comes_about_by b t) b.cells c at comes
+
+  from_keys : (keys : List ℕ) → list_any (comes_about_at b t) keys ≡ true → list_any (comes_about_by b t) b.cells ≡ true
+  from_keys [] some = absurd (cc)
+  from_keys (key ∷ keys) some = by_test (comes_about_at b t key) refl some (λ later. from_keys keys later)
+    where
+      by_test : (s : Bool) → comes_about_at b t key ≡ s → (s || list_any (comes_about_at b t) keys) ≡ true → (list_any (comes_about_at b t) keys ≡ true → list_any (comes_about_by b t) b.cells ≡ true) → list_any (comes_about_by b t) b.cells ≡ true
+      by_test true at some later = there_by key (cell_at b key) refl at
+      by_test false at some later = later some
+
+  kept_any : (keys : List ℕ) (key : ℕ) → is_kept keys key ≡ true → comes_about_at b t key ≡ true → list_any (comes_about_at b t) keys ≡ true
+  kept_any [] key in_it comes = absurd (cc)
+  kept_any (k ∷ keys) key in_it comes = by_test (k == key) refl in_it (λ there. kept_any keys key there comes)
+    where
+      by_test : (s : Bool) → (k == key) ≡ s → (s || is_kept keys key) ≡ true → (is_kept keys key ≡ true → list_any (comes_about_at b t) keys ≡ true) → (comes_about_at b t k || list_any (comes_about_at b t) keys) ≡ true
+      by_test true same there later =
+          let one : k ≡ key = grind (arith, nat_tests) in
+          or_left (comes_about_at b t k) (list_any (comes_about_at b t) keys) (subst (λ (n : ℕ). comes_about_at b t n ≡ true) (sym one) comes)
+      by_test false other there later = or_right (comes_about_at b t k) (list_any (comes_about_at b t) keys) (later there)
+
+  module _ (rows : List (Held Token)) (inside stuck : List Tally) (ready calling coming : List ℕ) (kept : IsIndexed b rows inside stuck ready calling coming) where
+    -- its cell doesn't rest
+    awake_by : (c : Cell) → comes_about_by b t c ≡ true → is_resting b c ≡ false
+    awake_by c comes =
+        let active = one_of (is_phase c.phase phases.Active) _ comes in
+        let rest = both (is_phase c.phase phases.Active) _ comes in
+        let inner = both (not (is_doomed b c)) _ rest in
+        let free = is_not (is_stuck b c) (one_of (not (is_stuck b c)) _ inner) in
+        let some = thrown (error_of c.mark) (both (not (is_stuck b c)) _ inner) in
+        rw free (by_phase c.phase active some)
+      where
+        thrown : (error : Option (List ℕ)) → option_map_or (is_same_event t) (option_and_then (λ code. catcher b code c.key) error) false ≡ true → is_some error ≡ true
+        thrown None is = absurd (cc)
+        thrown (Some code) is = refl
+
+        by_phase : (phase : Phase) → is_phase phase phases.Active ≡ true → is_some (error_of c.mark) ≡ true → rests_in b c phase ≡ false
+        by_phase phases.Active is some = rw some refl
+        by_phase phase is some = absurd (cc)
+
+    all_kept : All (λ c. comes_about_by b t c ≡ true → list_any (comes_about_at b t) ready ≡ true) b.cells
+    all_kept k d within comes =
+        let c = get_or b.cells k d in
+        let found : cell_at b c.key ≡ Some c = finds_own (λ (x : Cell). x.key) 0 b.cells k d within kept.cells_ascend in
+        kept_any ready c.key (kept.awake k d within (awake_by c comes)) (rw found comes)
+
+    from_cells : (cells : List Cell) → All (λ c. comes_about_by b t c ≡ true → list_any (comes_about_at b t) ready ≡ true) cells → list_any (comes_about_by b t) cells ≡ true → list_any (comes_about_at b t) ready ≡ true
+    from_cells [] all some = absurd (cc)
+    from_cells (c ∷ cells) all some = by_test (comes_about_by b t c) refl some
+        (λ later. from_cells cells (All-tail (λ (x : Cell). comes_about_by b t x ≡ true → list_any (comes_about_at b t) ready ≡ true) c cells all) later)
+      where
+        by_test : (s : Bool) → comes_about_by b t c ≡ s → (s || list_any (comes_about_by b t) cells) ≡ true → (list_any (comes_about_by b t) cells ≡ true → list_any (comes_about_at b t) ready ≡ true) → list_any (comes_about_at b t) ready ≡ true
+        by_test true it some later = All-head (λ (x : Cell). comes_about_by b t x ≡ true → list_any (comes_about_at b t) ready ≡ true) c cells all it
+        by_test false it some later = later some
+
+    -- so one comes about of the ready cells where one does of all
+    pub any_ready : list_any (comes_about_at b t) ready ≡ list_any (comes_about_by b t) b.cells
+    any_ready = by_tests (list_any (comes_about_at b t) ready) (list_any (comes_about_by b t) b.cells) refl refl
+      where
+        by_tests : (s u : Bool) → list_any (comes_about_at b t) ready ≡ s → list_any (comes_about_by b t) b.cells ≡ u → s ≡ u
+        by_tests true true one other = refl
+        by_tests false false one other = refl
+        by_tests true false one other = absurd (let is = from_keys ready one in cc)
+        by_tests false true one other = absurd (let is = from_cells b.cells all_kept other in cc)

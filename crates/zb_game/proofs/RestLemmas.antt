@@ -10,7 +10,7 @@ use Rattle.zb_tokens.specs.Board.{Board, model_under, is_phase, is_scope_in, is_
 use Rattle.zb_tokens.specs.Doom.{calls_off}
 use Rattle.zb_tokens.specs.Incidents.{is_stuck}
 use Rattle.zb_tokens.specs.Marks.{error_of, has_come_about}
-use Rattle.zb_tokens.specs.MoveFinish.{waits_for_nothing}
+use Rattle.zb_tokens.specs.MoveFinish.{rests_at}
 use Rattle.zb_game.specs.Tallies.{cells_in, tokens_in}
 use Rattle.zb_game.specs.Indexed.{is_done_in, rests_in, is_resting, is_kept}
 use Rattle.zb_game.proofs.TallyLemmas.{child_counted, token_counted}
@@ -60,7 +60,7 @@ rests_on b b' c phases.Active models full is = by_error (is_some (error_of c.mar
     by_full true t f is = absurd (cc)
     by_full false t f is = ap not (f refl)
 
-    by_scope : (m : Model) (t : Bool) → not (if t then is_empty b c.key else has_come_about c.mark || is_at m c.node waits_for_nothing) ≡ true → not (if t then is_empty b' c.key else has_come_about c.mark || is_at m c.node waits_for_nothing) ≡ true
+    by_scope : (m : Model) (t : Bool) → not (if t then is_empty b c.key else has_come_about c.mark || is_at m c.node (rests_at c)) ≡ true → not (if t then is_empty b' c.key else has_come_about c.mark || is_at m c.node (rests_at c)) ≡ true
     by_scope m true is = by_full (is_empty b c.key) (is_empty b' c.key) full.0 is
     by_scope m false is = is
 

@@ -7,6 +7,8 @@ use Rattle.std.proofs.lemmas.List.{at_drop_all, at_drop_more}
 use Rattle.zb_tokens.specs.declared.board.Cell.{Cell}
 use Rattle.zb_tokens.specs.Board.{Board, cell_at, is_root}
 use Rattle.zb_tokens.specs.Doom.{calls_off, is_called_off}
+use Rattle.zb_process.specs.declared.model.Node.{Node}
+use Rattle.zb_tokens.specs.Errors.{catcher_from, error_event_of}
 use Rattle.zb_tokens.specs.MoveAssign.{has_name}
 use Rattle.zb_tokens.specs.Names.{holder_from, root_from, value_from}
 use Rattle.zb_base.specs.Vars.{value_named}
@@ -114,3 +116,18 @@ none_calling [] cells none called = λ k d within. not_true (calls_off (get_or c
     not_true true is = sym (is refl)
     not_true false is = refl
 none_calling (key ∷ calling) cells none called = absurd (cc)
+
+-- the same for where an error is caught
+module _ (b : Board) (code : List ℕ) (key : ℕ) where
+  catcher_nowhere : (cells : List Cell) → cell_at b key ≡ None → catcher_from cells b code key ≡ None
+  catcher_nowhere [] none = refl
+  catcher_nowhere (more ∷ cells) none = rw none refl
+
+  pub catcher-none : (i : ℕ) → cell_at b key ≡ None → catcher_from (drop i b.cells) b code key ≡ None
+  catcher-none i none = catcher_nowhere (drop i b.cells) none
+
+  pub catcher-at : (i : ℕ) (c : Cell) (n : Node) → i < length b.cells → cell_at b key ≡ Some c → error_event_of b code c ≡ Some n → catcher_from (drop i b.cells) b code key ≡ Some (record { cell = key; node = n.id })
+  catcher-at i c n within at is = at_drop_more (λ cells. catcher_from cells b code key) b.cells i c within ∙ rw (at, is) refl
+
+  pub catcher-above : (i : ℕ) (c : Cell) → i < length b.cells → cell_at b key ≡ Some c → error_event_of b code c ≡ None → catcher_from (drop i b.cells) b code key ≡ catcher_from (drop (i + 1) b.cells) b code c.scope
+  catcher-above i c within at is = at_drop_more (λ cells. catcher_from cells b code key) b.cells i c within ∙ rw (at, is) refl

@@ -10,10 +10,11 @@ use Rattle.zb_process.specs.Expr.{ValueFault, value_of}
 use Rattle.zb_process.specs.Tree.{Tree}
 use Rattle.zb_tokens.specs.declared.board.Cell.{Cell}
 use Rattle.zb_tokens.specs.declared.board.Move.{Move}
-use Rattle.zb_tokens.specs.Board.{Board, flows_out}
+use Rattle.zb_tokens.specs.Board.{Board}
 use Rattle.zb_tokens.specs.Names.{value_seen}
 use Rattle.zb_tokens.specs.Incidents.{Hindrance}
 use Rattle.zb_tokens.specs.Choice.{gateway_in, choice_at, decided, decides, truth_at, truth_of}
+use Rattle.zb_tokens.specs.MoveLeave.{flows_on}
 use Rattle.zb_tokens.specs.Forced.{leave_by}
 
 -- the truth of a condition, where names have these values
@@ -30,7 +31,7 @@ exit_at names n outs = owed_for (choice_at names (record { node = n; outs = outs
 
 -- the flows by which a cell is left in its model, or why it can't be
 abbrev pub exit_in : Model → Board → Cell → Result (List (List ℕ)) Hindrance
-exit_in m b c = option_map_or (λ g. owed_for (choice_at (value_seen b c.key) g)) (gateway_in m c.node) (Ok (flows_out m c.node))
+exit_in m b c = option_map_or (λ g. owed_for (choice_at (value_seen b c.key) g)) (gateway_in m c.node) (Ok (flows_on m c))
 
 -- how a cell is left, where an incident gets this key, if a flow decides it
 abbrev pub decided_by : (List ℕ → Option Value) → Node → Flow → ℕ → Cell → Option Move

@@ -14,14 +14,14 @@ use Rattle.zb_tokens.specs.Board.{Board, cell_at, model_under, is_at, is_scope_i
 use Rattle.zb_tokens.specs.Doom.{calls_off}
 use Rattle.zb_tokens.specs.Incidents.{is_stuck}
 use Rattle.zb_tokens.specs.Marks.{error_of, has_come_about}
-use Rattle.zb_tokens.specs.MoveFinish.{waits_for_nothing}
+use Rattle.zb_tokens.specs.MoveFinish.{rests_at}
 use Rattle.zb_places.specs.Places.{comes_in}
 use Rattle.zb_game.specs.Tallies.{tally_of, cells_in, incidents_on}
 use Rattle.zb_game.specs.declared.tallies.Tally.{Tally}
 
 -- in a model nothing is left that an active cell waits for (BPMN 2.0.2, 13.2, 13.3.3 and 13.3.4)
 abbrev pub is_done_in : Model → Board → Cell → Bool
-is_done_in m b c = if is_scope_in m c then is_empty b c.key else has_come_about c.mark || is_at m c.node waits_for_nothing
+is_done_in m b c = if is_scope_in m c then is_empty b c.key else has_come_about c.mark || is_at m c.node (rests_at c)
 
 -- an active cell rests, whatever models come: no error was thrown in it, its model is there, and it waits for something (own)
 abbrev pub stays_active : Board → Cell → Bool

@@ -4,21 +4,33 @@ ghost use Rattle.std.specs.List.{find};
 ghost use Rattle.std.specs.Option.{option_copied};
 ghost use Rattle.std.specs.Str.{bytes_eq};
 ghost use Rattle.zb_process.specs.declared.model.Flow.{Flow};
-ghost use Rattle.zb_tokens.specs.Board.{flows_in, flows_out};
+ghost use Rattle.zb_tokens.specs.Board.{flows_in};
 ghost use Rattle.zb_tokens.specs.Choice.{is_default};
-ghost use Rattle.zb_tokens.specs.MoveLeave.{are_among};
+ghost use Rattle.zb_tokens.specs.MoveLeave.{are_among, flows_on, leads_to_chosen, may_take};
 ghost use Rattle.zb_game.specs.Searches.{left_after};
 
+use crate::kinds::chooses_by_event;
 use std::alloc::{AllocError, Global};
 use zb_base::{List, Text, TryCopy};
 use zb_graph::Graph;
 use zb_process::{Flow, Node};
+use zb_tokens::{Cell, Mark};
 
-/// The ids of the flows out of a node, in the order of the model. It goes through these.
-pub fn flows_out(alloc: Global, model: &Graph, node: &str) -> Result<List<Text>, AllocError>
-    ensures { IfOk result (λ ids. ids ≡ flows_out model.now node.now) }
+/// The ids of the flows that may be taken out of the node of a cell, in the order of the model. It goes through the flows
+/// out of it.
+pub fn flows_on(alloc: Global, model: &Graph, cell: &Cell) -> Result<List<Text>, AllocError>
+    ensures { IfOk result (λ ids. ids ≡ flows_on model.now cell.now) }
 {
-    ids_of(alloc, model, model.outs_of(node))
+    let node = cell.node.as_str();
+    let at_event_gateway = chooses_by_event(model, node);
+    let mut ids = List::empty(alloc);
+    for number in model.outs_of(node) {
+        let flow = model.flow(*number);
+        if may_take(at_event_gateway, cell, flow) {
+            ids.push(flow.id.copy(alloc)?)?;
+        }
+    }
+    Ok(ids)
 }
 
 /// The ids of the flows into a node, in the order of the model. It goes through these.
@@ -41,15 +53,39 @@ fn ids_of(alloc: Global, model: &Graph, numbers: &[u32]) -> Result<List<Text>, A
     Ok(ids)
 }
 
-/// Whether these are ids of flows out of a node, in the order of the model. It goes through the flows out of it.
-pub fn are_among_flows(ids: &[Text], model: &Graph, node: &str) -> bool
-    ensures { result ≡ are_among ids.now (flows_out model.now node.now) }
+/// Whether these are ids of flows that may be taken out of the node of a cell, in the order of the model. It goes through
+/// the flows out of it.
+pub fn are_among_flows(ids: &[Text], model: &Graph, cell: &Cell) -> bool
+    ensures { result ≡ are_among ids.now (flows_on model.now cell.now) }
 {
+    let node = cell.node.as_str();
+    let at_event_gateway = chooses_by_event(model, node);
     let mut rest = ids;
     for number in model.outs_of(node) {
-        rest = left_after(rest, model.flow(*number).id.as_str());
+        let flow = model.flow(*number);
+        if may_take(at_event_gateway, cell, flow) {
+            rest = left_after(rest, flow.id.as_str());
+        }
     }
     rest.is_empty()
+}
+
+// Whether a flow out of the node of a cell may be taken: at an event gateway the one to the node whose event has come, at
+// any other node each.
+fn may_take(at_event_gateway: bool, cell: &Cell, flow: &Flow) -> bool
+    ensures { result ≡ may_take at_event_gateway cell.now flow.now }
+{
+    !at_event_gateway || leads_to_chosen(&cell.mark, flow)
+}
+
+// Whether a flow leads to the node at which the event of an event gateway has come.
+fn leads_to_chosen(mark: &Mark, flow: &Flow) -> bool
+    ensures { result ≡ leads_to_chosen mark.now flow.now }
+{
+    match mark {
+        Mark::Chosen(node) => flow.to.as_str() == node.as_str(),
+        Mark::Unset | Mark::Done | Mark::Thrown(_) => false,
+    }
 }
 
 /// The first flow out of a node that is its default. It goes through the flows out of it.

@@ -6,6 +6,7 @@ ghost use Rattle.zb_tokens.specs.Game.{empty_board, fits, played};
 ghost use Rattle.zb_game.specs.declared.game.GameFault.TheVariants as faults;
 
 mod assign;
+mod awaited;
 mod catches;
 mod changes;
 mod conditions;
@@ -14,6 +15,7 @@ mod done;
 mod doom;
 mod enter;
 mod entering;
+mod errors;
 mod exit;
 mod finish;
 mod forced;
@@ -221,7 +223,7 @@ impl Game {
             Move::Update(a) => self.assign(a),
             Move::Done(key) => self.done(key),
             Move::Throw(t) => self.throw(t),
-            Move::Trigger(t) => self.trigger(t),
+            Move::Trigger(t) => self.trigger(alloc, t),
             Move::Incident(i) => self.raise(i),
             Move::Repair(key) => self.repair(key),
         }

@@ -1,12 +1,15 @@
 // What kinds of nodes stand in a model.
 ghost use Rattle.std.specs.Prelude.{◌≡◌, is_some};
-ghost use Rattle.zb_faults.specs.Elements.{is_at, is_service_task, is_terminate_end};
+ghost use Rattle.zb_faults.specs.Elements.{is_at, is_event_gateway, is_service_task, is_terminate_end};
 ghost use Rattle.zb_tokens.specs.Board.{is_scope_in};
 ghost use Rattle.zb_tokens.specs.Choice.{gateway_in};
-ghost use Rattle.zb_tokens.specs.MoveFinish.{waits_for_nothing};
+ghost use Rattle.zb_tokens.specs.MoveFinish.{rests_at, waits_for_nothing};
 
 use zb_base::Key;
-use zb_faults::{is_exclusive_gateway, is_service_task, is_subprocess, is_terminate_end};
+use zb_faults::{
+    is_catch, is_event_gateway, is_exclusive_gateway, is_service_task, is_subprocess,
+    is_terminate_end,
+};
 use zb_graph::Graph;
 use zb_process::NodeKind;
 use zb_tokens::Cell;
@@ -54,14 +57,32 @@ pub fn is_service_at(model: &Graph, id: &str) -> bool
     }
 }
 
-/// Whether the node with an id is there, and waits for nothing.
-pub fn goes_on_at(model: &Graph, id: &str) -> bool
-    ensures { result ≡ is_at model.now id.now waits_for_nothing }
+/// Whether the node with an id is an event gateway.
+pub fn chooses_by_event(model: &Graph, id: &str) -> bool
+    ensures { result ≡ is_at model.now id.now is_event_gateway }
 {
     match model.node_with(id) {
-        Some(node) => waits_for_nothing(node.kind),
+        Some(node) => is_event_gateway(node.kind),
         None => false,
     }
+}
+
+/// Whether the node of a cell is there, and the cell waits for nothing at it.
+pub fn goes_on(model: &Graph, cell: &Cell) -> bool
+    ensures { result ≡ is_at model.now cell.now.node (rests_at cell.now) }
+{
+    match model.node_with(cell.node.as_str()) {
+        Some(node) => rests_at(cell, node.kind),
+        None => false,
+    }
+}
+
+// Whether a cell waits for nothing at a node of this kind: none does, or its event has come at an event gateway in front
+// of it.
+fn rests_at(cell: &Cell, kind: NodeKind) -> bool
+    ensures { result ≡ rests_at cell.now kind }
+{
+    waits_for_nothing(kind) || is_catch(kind) && cell.before
 }
 
 // Whether a node of this kind waits for nothing once a token has entered it.

@@ -103,6 +103,13 @@ impl Graph {
         &self.model
     }
 
+    /// How many nodes there are: each number below is that of one.
+    pub fn node_count(&self) -> u32
+        ensures { result ≡ length self.now.nodes }
+    {
+        self.model.nodes.as_slice().len() as u32
+    }
+
     /// The number of the node with an id: the place of the first one. It takes constant time on average.
     pub fn number(&self, id: &str) -> Option<u32>
         ensures { result ≡ position (λ n. bytes_eq n.id id.now) self.now.nodes }
@@ -148,7 +155,7 @@ impl Graph {
         requires { n < length self.now.nodes }
         ensures { result.now ≡ bounds_of self.now (id_at self.now n) }
     {
-        self.bounds.at(self.node(n).id.as_str())
+        self.bounds_of(self.node(n).id.as_str())
     }
 
     /// The node with an id. It takes constant time on average, as do the other questions by a name.
@@ -179,6 +186,14 @@ impl Graph {
         ensures flows { map (slice_get self.now.flows) result.now ≡ map Some (filter (λ f. bytes_eq f.to id.now) self.now.flows) }
     {
         self.ins.at(id)
+    }
+
+    /// The numbers of the boundary events at the activity with an id, in the order of the model.
+    pub fn bounds_of(&self, id: &str) -> &[u32]
+        ensures places { result.now ≡ bounds_of self.now id.now }
+        ensures nodes { map (slice_get self.now.nodes) result.now ≡ map Some (filter (λ n. bytes_eq n.attached id.now) self.now.nodes) }
+    {
+        self.bounds.at(id)
     }
 
     /// The start event of a scope: the id of a subprocess, or the empty text at the top.

@@ -222,7 +222,12 @@ const BUILT: &[u8] =
     br#"{"op":"deploy","model":{"process":"p","nodes":[{"id":"s","kind":"startEvent"},
     {"id":"u","kind":"subProcess","inputs":[{"source":"=a","target":"b"}],"outputs":[]},{"id":"g","kind":"parallelGateway","parent":"u"},{"id":"t","kind":"intermediateThrowEvent"},
     {"id":"x","kind":"exclusiveGateway","default":"f"},{"id":"e","kind":"endEvent"},
-    {"id":"k","kind":"endEvent","terminateEventDefinition":{}},{"id":"j","kind":"serviceTask","type":"pay","isForCompensation":false}],
+    {"id":"k","kind":"endEvent","terminateEventDefinition":{}},{"id":"j","kind":"serviceTask","type":"pay","isForCompensation":false},
+    {"id":"w","kind":"eventBasedGateway"},{"id":"d","kind":"intermediateCatchEvent","timerEventDefinition":{"timeDate":"=a"}},
+    {"id":"c","kind":"intermediateCatchEvent","timerEventDefinition":{"timeDuration":"PT1S"}},
+    {"id":"l","kind":"boundaryEvent","attachedToRef":"j","timerEventDefinition":{"timeDate":"=a"}},
+    {"id":"m","kind":"boundaryEvent","attachedToRef":"j","cancelActivity":false,"timerEventDefinition":{"timeDuration":"PT1S"}},
+    {"id":"n","kind":"boundaryEvent","attachedToRef":"j","errorEventDefinition":{"errorCode":"E"}}],
     "flows":[{"id":"f","sourceRef":"s","targetRef":"e","conditionExpression":"=a"}]}}"#;
 
 #[test]

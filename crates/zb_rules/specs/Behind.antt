@@ -1,5 +1,5 @@
 -- The events behind one by which a cell becomes active or begins to end: what it waits for begins, and ends with it (Zeebe, the records).
-use Rattle.std.specs.Prelude.{ℕ, [], ◌∷◌, map, option_and_then}
+use Rattle.std.specs.Prelude.{ℕ, List, [], ◌∷◌, map, if◌then◌else◌, option_and_then}
 use Rattle.std.specs.Option.{option_map_or}
 use Rattle.zb_process.specs.declared.model.Node.{Node}
 use Rattle.zb_model.specs.declared.record.Event.{Event}
@@ -13,7 +13,8 @@ use Rattle.zb_tokens.specs.Catches.{openings_at}
 use Rattle.zb_tokens.specs.Incidents.{incident_on}
 use Rattle.zb_tokens.specs.Work.{work_at}
 use Rattle.zb_rules.specs.Making.{Making, just, and_then, each_made}
-use Rattle.zb_rules.specs.Shown.{board_of}
+use Rattle.zb_tokens.specs.MoveTrigger.{is_interrupting}
+use Rattle.zb_rules.specs.Shown.{board_of, holds_of_game}
 
 -- the event by which an incident is resolved, with the job that is its cause; 0 where none is
 abbrev pub repair_event : Incident → Event
@@ -51,12 +52,21 @@ timers_canceled_on cell before = map (λ t. events.TimerCanceled t.key) (timers_
 abbrev pub ended_on : ℕ → Making
 ended_on cell = and_then canceled (and_then (timers_canceled_on cell) (resolved_on cell))
 
--- the events behind an event: a cell that becomes active has its job or its timers made, one that begins to complete has its timers canceled, and one
--- that begins to terminate has what waits for it ended; so far there are no others (Zeebe, the records)
+-- a cell begins to terminate, and what waits for it ends (BPMN 2.0.2, 13.3.2; Zeebe, the records)
+abbrev pub halted_on : ℕ → Making
+halted_on cell = and_then (just (events.ElementTerminating cell)) (ended_on cell)
+
+-- a cell begins to terminate where a boundary event that interrupts it has come about at this node (BPMN 2.0.2, 10.5.4 and 13.5.3)
+abbrev pub interrupted_on : (cell : ℕ) → List ℕ → Making
+interrupted_on cell node before = if holds_of_game (is_interrupting cell node) before then halted_on cell before else []
+
+-- the events behind an event: a cell that becomes active has its job and its timers made, one that begins to complete has its timers canceled, and one
+-- that begins to terminate has what waits for it ended; a boundary event that interrupts ends its cell. So far there are no others (Zeebe, the records)
 abbrev pub events_behind : (p n moment : ℕ) → Event → Making
 events_behind p n moment (events.ElementActivated e) before = and_then (job_made_on p e.key) (timers_made_on p moment e.key) before
 events_behind p n moment (events.ElementCompleting key) before = timers_canceled_on key before
 events_behind p n moment (events.ElementTerminating key) before = ended_on key before
+events_behind p n moment (events.ProcessEventTriggered e) before = interrupted_on e.cell e.node before
 events_behind p n moment e before = []
 
 -- an event, and those behind it (Zeebe, the records)

@@ -131,7 +131,7 @@ module _ (low high : ℕ) (b : Board) (is : Between low high b.cells) where
     between_made (moves.Update a) new = with_edit a.scope (with_variable a.name a.value) (λ c. refl)
     between_made (moves.Done key) new = with_edit key (with_mark marks.Done) (λ c. refl)
     between_made (moves.Throw t) new = with_edit t.cell (with_mark (marks.Thrown t.code)) (λ c. refl)
-    between_made (moves.Trigger t) new = with_edit t.cell (with_mark marks.Done) (λ c. refl)
+    between_made (moves.Trigger t) new = λ c found. (λ mark at. with_edit t.cell (with_mark mark) (λ x. refl), λ at. between_higher low high top b.cells more is)
     between_made (moves.Incident i) new = between_higher low high top b.cells more is
     between_made (moves.Repair key) new = λ incidents gone. between_higher low high top b.cells more is
 

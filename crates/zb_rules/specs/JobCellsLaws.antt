@@ -1,5 +1,5 @@
 -- Laws of the cells that wait for their work as a move is made, and of those that begin: these were told nothing.
-use Rattle.std.proofs.Common.{◌≡◌, ℕ, ◌==◌, List, [], ◌∷◌, ◌++◌, Bool, true, false, ◌&&◌, ◌||◌, not, if◌then◌else◌, IsTrue, Option, Some, None, All, refl, sym, subst}
+use Rattle.std.proofs.Common.{◌≡◌, ℕ, ◌==◌, List, [], ◌∷◌, ◌++◌, Bool, true, false, ◌&&◌, ◌||◌, not, if◌then◌else◌, IsTrue, Option, Some, None, All, refl, sym, ◌∙◌, subst}
 use Rattle.std.specs.Option.{option_map_or}
 use Rattle.std.proofs.lemmas.Bool.{and_parts, and_right, not-true}
 use Rattle.zb_process.specs.declared.model.Model.{Model}
@@ -19,13 +19,14 @@ use Rattle.zb_tokens.specs.Board.{Board, cell_at, model_under, node_with, is_at,
 use Rattle.zb_tokens.specs.Marks.{is_unset, has_come_about, awaits_work, with_mark}
 use Rattle.zb_tokens.specs.MoveEnter.{entering}
 use Rattle.zb_tokens.specs.MoveOpen.{opens}
-use Rattle.zb_tokens.specs.MoveFinish.{waits_for_nothing, is_done}
+use Rattle.zb_tokens.specs.MoveFinish.{rests_at, is_done}
 use Rattle.zb_tokens.specs.MoveLeave.{may_owe, leaving, ends_scope, with_end}
 use Rattle.zb_tokens.specs.MoveTake.{is_first, rest_of}
 use Rattle.zb_tokens.specs.MoveAssign.{with_variable}
 use Rattle.zb_tokens.specs.declared.board.Triggered.{Triggered}
-use Rattle.zb_tokens.specs.MoveTrigger.{awaits_event, fits_trigger}
-use Rattle.zb_rules.specs.TimedLaws.{told_active}
+use Rattle.zb_tokens.specs.MoveTrigger.{fits_trigger, mark_by}
+use Rattle.zb_rules.specs.TimedLaws.{awaits_active}
+use Rattle.zb_rules.specs.CatchLaws.{marked_awaits, work_unmarked}
 use Rattle.zb_tokens.specs.Edits.{edited}
 use Rattle.zb_tokens.specs.Game.{fits}
 use Rattle.zb_tokens.specs.GameLaws.{both_left, both_right}
@@ -49,7 +50,6 @@ abbrev pub ends_wait : Move → ℕ → Bool
 ends_wait (moves.Halt key) cell = cell == key
 ends_wait (moves.Done key) cell = cell == key
 ends_wait (moves.Throw t) cell = cell == t.cell
-ends_wait (moves.Trigger t) cell = cell == t.cell
 ends_wait move cell = false
 
 -- what is in another phase isn't active
@@ -78,26 +78,26 @@ not_waiting : (b : Board) (c : Cell) (phase : Phase) → IsTrue (is_phase c.phas
 not_waiting b c phase is apart = rw (inactive c.phase phase is apart) refl
 
 -- a service task is no scope, and waits
-service_waits : (kind : NodeKind) → IsTrue (is_service_task kind) → (is_subprocess kind ≡ false) × (waits_for_nothing kind ≡ false)
-service_waits kinds.ServiceTask is = (refl, refl)
-service_waits kind is = absurd (cc)
+service_waits : (c : Cell) (kind : NodeKind) → IsTrue (is_service_task kind) → (is_subprocess kind ≡ false) × (rests_at c kind ≡ false)
+service_waits c kinds.ServiceTask is = (refl, refl)
+service_waits c kind is = absurd (cc)
 
 -- a cell that was told nothing is not told that its work is done
 unset_waits : (mark : Mark) → IsTrue (is_unset mark) → has_come_about mark ≡ false
 unset_waits marks.Unset is = refl
 unset_waits mark is = absurd (cc)
 
-node_waits : (root empty come : Bool) (found : Option Node) → root ≡ false → come ≡ false → IsTrue (option_map_or (λ (n : Node). is_service_task n.kind) found false)
-    → (if root || option_map_or (λ (n : Node). is_subprocess n.kind) found false then empty else come || option_map_or (λ (n : Node). waits_for_nothing n.kind) found false) ≡ false
-node_waits root empty come None no_root not_come is = absurd (cc)
-node_waits root empty come (Some n) no_root not_come is = let k = service_waits n.kind is in rw (no_root, k.0, not_come, k.1) refl
+node_waits : (c : Cell) (root empty come : Bool) (found : Option Node) → root ≡ false → come ≡ false → IsTrue (option_map_or (λ (n : Node). is_service_task n.kind) found false)
+    → (if root || option_map_or (λ (n : Node). is_subprocess n.kind) found false then empty else come || option_map_or (λ (n : Node). rests_at c n.kind) found false) ≡ false
+node_waits c root empty come None no_root not_come is = absurd (cc)
+node_waits c root empty come (Some n) no_root not_come is = let k = service_waits c n.kind is in rw (no_root, k.0, not_come, k.1) refl
 
 model_waits : (b : Board) (c : Cell) (found : Option Model) → IsTrue (is_unset c.mark) → IsTrue (not (is_root c) && option_map_or (λ (m : Model). is_at m c.node is_service_task) found false)
-    → option_map_or (λ (m : Model). if is_scope_in m c then is_empty b c.key else has_come_about c.mark || is_at m c.node waits_for_nothing) found false ≡ false
+    → option_map_or (λ (m : Model). if is_scope_in m c then is_empty b c.key else has_come_about c.mark || is_at m c.node (rests_at c)) found false ≡ false
 model_waits b c None unset is = absurd (let none = (and_parts (not (is_root c)) false is).1 in cc)
 model_waits b c (Some m) unset is =
     let parts = and_parts (not (is_root c)) (is_at m c.node is_service_task) is in
-    node_waits (is_root c) (is_empty b c.key) (has_come_about c.mark) (node_with m c.node) (not-true (is_root c) parts.0) (unset_waits c.mark unset) parts.1
+    node_waits c (is_root c) (is_empty b c.key) (has_come_about c.mark) (node_with m c.node) (not-true (is_root c) parts.0) (unset_waits c.mark unset) parts.1
 
 -- so a cell that waits for its work isn't done
 not_done : (b : Board) (c : Cell) → IsTrue (awaits_work b c) → is_done b c ≡ false
@@ -174,7 +174,12 @@ module _ (b : Board) where
   waits_made (moves.Update a) fit = λ cells made q out is. kept_edited (awaits_work b) a.scope (with_variable a.name a.value) b.cells cells (λ x. refl) (λ x there h. h) made q is
   waits_made (moves.Done key) fit = λ cells made q out is. others_edited (awaits_work b) key (with_mark marks.Done) b.cells cells (λ x. refl) made q out is
   waits_made (moves.Throw t) fit = λ cells made q out is. others_edited (awaits_work b) t.cell (with_mark (marks.Thrown t.code)) b.cells cells (λ x. refl) made q out is
-  waits_made (moves.Trigger t) fit = λ cells made q out is. others_edited (awaits_work b) t.cell (with_mark marks.Done) b.cells cells (λ x. refl) made q out is
+  waits_made (moves.Trigger t) fit = λ c found. (
+    λ mark at cells made q out is.
+        kept_edited (awaits_work b) t.cell (with_mark mark) b.cells cells (λ x. refl)
+        (λ x there works. absurd (let none = work_unmarked b t x works in let same : Some c ≡ Some x = sym found ∙ there in let its : mark_by b t x ≡ Some mark = (let one : c ≡ x = cc in subst (λ (y : Cell). mark_by b t y ≡ Some mark) one at) in cc)) made q is,
+    λ at q out is. is,
+  )
   waits_made (moves.Incident i) fit = λ q out is. is
   waits_made (moves.Repair key) fit = λ incidents gone q out is. is
 
@@ -199,9 +204,9 @@ untold_at b key mark fit c found is begins =
     absurd (let none = active_alone c.phase phases.Activating active refl in cc)
 
 -- a cell that is told of an event doesn't begin
-told_untold : (b : Board) (t : Triggered) → IsTrue (fits_trigger b t) → (c : Cell) → cell_at b t.cell ≡ Some c → IsUntold c → IsUntold (with_mark marks.Done c)
-told_untold b t fit c found is begins =
-    let active : IsTrue (is_phase c.phase phases.Active) = told_active b t c (at_cell (awaits_event b t) (cell_at b t.cell) c found fit) in
+told_untold : (b : Board) (t : Triggered) → IsTrue (fits_trigger b t) → (c : Cell) → cell_at b t.cell ≡ Some c → (mark : Mark) → mark_by b t c ≡ Some mark → IsUntold c → IsUntold (with_mark mark c)
+told_untold b t fit c found mark at is begins =
+    let active : IsTrue (is_phase c.phase phases.Active) = awaits_active b t c (marked_awaits b t c mark found fit at) in
     absurd (let none = active_alone c.phase phases.Activating active refl in cc)
 
 untold_kept : (b : Board) (move : Move) → IsTrue (fits b move) → CellKept b IsUntold move

@@ -40,7 +40,6 @@ use Rattle.zb_rules.specs.Shown.{shown, after_shown, holds_of_game}
 use Rattle.zb_rules.specs.JobEvents.{is_job_in, tells_of_job, has_cause}
 use Rattle.zb_rules.specs.Applies.{is_fresh, holds_own}
 use Rattle.zb_rules.specs.Applies.{may_fit}
-use Rattle.zb_rules.specs.TimedLaws.{job_not_told}
 use Rattle.zb_rules.specs.Sound.{StandApart, AreApartJobs, IsAwaited, HasNoIncident, HasJobOfCell, HasSoundJobs}
 use Rattle.zb_rules.specs.AppliedLaws.{Advances, some_of, game_holds}
 use Rattle.zb_rules.specs.KeysLaws.{next_key_more, fresh_is, fresh_below, first_named}
@@ -174,7 +173,6 @@ module _ (p : ℕ) (before : List Event) (b : Board) (s : HasSoundJobs p before 
   wait_lasts : (e : Event) (j : Job) → Contains (jobs before) j → ends_job j.key j.cell e ≡ false → IsTrue (may_fit (shown before e) b) → option_map_or (λ (m : Move). ends_wait m j.cell) (shown before e) false ≡ false
   wait_lasts (events.ElementActivating a) j among out fit = begun_ends j.cell (a.scope == 0) (moves.Start (record { key = a.key; definition = a.definition })) (moves.Enter (record { key = a.key; scope = a.scope; node = a.node; via = a.via })) refl refl
   wait_lasts (events.ElementTerminating key) j among out fit = out
-  wait_lasts (events.ProcessEventTriggered t) j among out fit = job_not_told b (record { cell = t.cell; node = t.node }) j.cell (All-contains (IsAwaited b) (jobs before) j s.awaited among) fit
   wait_lasts (events.JobCompleted key) j among out fit = done_ends (λ k. moves.Done k.cell) j.cell (job_at key before) (λ k. refl) (other_cell key j (job_at key before) among out refl)
   wait_lasts (events.JobErrorThrown t) j among out fit = done_ends (λ k. moves.Throw (record { cell = k.cell; code = t.code })) j.cell (job_at t.key before) (λ k. refl) (other_cell t.key j (job_at t.key before) among out refl)
   wait_lasts e j among out fit = refl

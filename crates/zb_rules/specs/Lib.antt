@@ -44,8 +44,13 @@ pub mod ModelsLaws
 pub mod PlayedLaws
 pub mod ScopesLaws
 pub mod OwesLaws
+pub mod NodesLaws
+pub mod OpeningsLaws
 pub mod TimedLaws
+pub mod CatchLaws
 pub mod TriggerLaws
+pub mod OnTimeLaws
+pub mod GatewayLaws
 pub mod JobCellsLaws
 pub mod JobListLaws
 pub mod JobSoundLaws

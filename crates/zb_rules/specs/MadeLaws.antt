@@ -5,17 +5,21 @@ use Rattle.zb_process.specs.declared.model.Model.{Model}
 use Rattle.zb_tokens.specs.declared.board.Cell.{Cell}
 use Rattle.zb_tokens.specs.declared.board.Token.{Token}
 use Rattle.zb_tokens.specs.declared.board.Incident.{Incident}
+use Rattle.zb_tokens.specs.declared.board.Mark.{Mark}
 use Rattle.zb_tokens.specs.declared.board.Mark.TheVariants as marks
+use Rattle.zb_tokens.specs.declared.board.Spot.TheVariants as spots
+use Rattle.zb_tokens.specs.declared.board.Triggered.{Triggered}
 use Rattle.zb_tokens.specs.Marks.{with_mark}
 use Rattle.zb_tokens.specs.declared.board.Move.{Move}
 use Rattle.zb_tokens.specs.declared.board.Move.TheVariants as moves
 use Rattle.zb_tokens.specs.declared.board.Phase.TheVariants as phases
 use Rattle.zb_tokens.specs.Edits.{edited, removed}
-use Rattle.zb_tokens.specs.Board.{Board, cell_at, model_under, new_cell, in_phase, leaves_in, emptied}
+use Rattle.zb_tokens.specs.Board.{Board, cell_at, model_under, new_cell, in_phase, leaves_in, emptied, with_token}
 use Rattle.zb_tokens.specs.MoveEnter.{spots_of, stand_at_each, entered}
 use Rattle.zb_tokens.specs.MoveOpen.{start_tokens, first_tokens}
 use Rattle.zb_tokens.specs.MoveLeave.{leaving, ends_scope, with_end, scope_ended}
-use Rattle.zb_tokens.specs.MoveTake.{rest_of, with_token}
+use Rattle.zb_tokens.specs.MoveTake.{rest_of, spot_behind}
+use Rattle.zb_tokens.specs.MoveTrigger.{mark_by, told}
 use Rattle.zb_tokens.specs.MoveAssign.{with_variable}
 use Rattle.zb_tokens.specs.Game.{played}
 
@@ -57,14 +61,15 @@ HoldsMade b Q (moves.Open key) = (c : Cell) (m : Model) → cell_at b key ≡ So
     → HoldsEdited b (λ x. Q (record x { tokens = b.tokens ++ start_tokens c m })) key (in_phase phases.Active [])
 HoldsMade b Q (moves.Finish key) = HoldsEdited b Q key (in_phase phases.Completing [])
 HoldsMade b Q (moves.Leave l) = (c : Cell) → cell_at b l.key ≡ Some c → (left : Board) → leaving l.owed l.key b ≡ Some left → Q (if ends_scope b c then scope_ended c.scope left else left)
-HoldsMade b Q (moves.Take t) = (c : Cell) → cell_at b t.key ≡ Some c → (left : Board) → leaving (rest_of c.owed) t.key b ≡ Some left → Q (with_token c.scope t.flow left)
+HoldsMade b Q (moves.Take t) = (c : Cell) → cell_at b t.key ≡ Some c → (left : Board) → leaving (rest_of c.owed) t.key b ≡ Some left → Q (with_token c.scope (spot_behind b c t.flow) left)
 HoldsMade b Q (moves.Halt key) = HoldsEdited b (λ x. Q (emptied key x)) key (in_phase phases.Terminating [])
 HoldsMade b Q (moves.Gone key) = HoldsWithout b (λ x. Q (record x { tokens = filter (λ t. not (t.scope == key)) b.tokens })) key
 HoldsMade b Q (moves.Assign a) = HoldsEdited b Q a.scope (with_variable a.name a.value)
 HoldsMade b Q (moves.Update a) = HoldsEdited b Q a.scope (with_variable a.name a.value)
 HoldsMade b Q (moves.Done key) = HoldsEdited b Q key (with_mark marks.Done)
 HoldsMade b Q (moves.Throw t) = HoldsEdited b Q t.cell (with_mark (marks.Thrown t.code))
-HoldsMade b Q (moves.Trigger t) = HoldsEdited b Q t.cell (with_mark marks.Done)
+HoldsMade b Q (moves.Trigger t) = (c : Cell) → cell_at b t.cell ≡ Some c
+    → ((mark : Mark) → mark_by b t c ≡ Some mark → HoldsEdited b Q t.cell (with_mark mark)) × (mark_by b t c ≡ None → Q (with_token c.scope (spots.BeforeNode t.node) b))
 HoldsMade b Q (moves.Incident i) = Q (record b { incidents = b.incidents ++ i ∷ [] })
 HoldsMade b Q (moves.Repair key) = (incidents : List Incident) → removed (λ i. i.key == key) b.incidents ≡ Some incidents → Q (record b { incidents = incidents })
 
@@ -86,6 +91,12 @@ module _ (b : Board) (Q : Board → Type 0) where
   left_holds after [] key without edited_is made = mapped_holds Q _ (removed (is_keyed key) b.cells) after without made
   left_holds after (flow ∷ owed) key without edited_is made = mapped_holds Q _ (edited (is_keyed key) (in_phase phases.Leaving (flow ∷ owed)) b.cells) after (edited_is flow owed refl) made
 
+  -- a cell is told of an event, or a token stands before the boundary event
+  told_holds : (t : Triggered) (c : Cell) (after : Board) (told_by : Option Mark) → ((mark : Mark) → told_by ≡ Some mark → HoldsEdited b Q t.cell (with_mark mark)) → (told_by ≡ None → Q (with_token c.scope (spots.BeforeNode t.node) b))
+      → told b t c told_by ≡ Some after → Q after
+  told_holds t c after (Some mark) marked placed made = mapped_holds Q _ (edited (is_keyed t.cell) (with_mark mark) b.cells) after (marked mark refl) made
+  told_holds t c after None marked placed made = subst Q (let same : with_token c.scope (spots.BeforeNode t.node) b ≡ after = cc in same) (placed refl)
+
   -- what holds of all that a move may make holds behind it
   pub made_holds : (after : Board) (move : Move) → HoldsMade b Q move → played b move ≡ Some after → Q after
   made_holds after (moves.Stand d) holds made = subst Q (let same : record b { models = b.models ++ d ∷ [] } ≡ after = cc in same) holds
@@ -101,13 +112,13 @@ module _ (b : Board) (Q : Board → Type 0) where
   made_holds after (moves.Leave l) holds made = chained_holds Q _ (cell_at b l.key) after (λ c found z led.
       mapped_holds Q _ (leaving l.owed l.key b) z (holds c found) led) made
   made_holds after (moves.Take t) holds made = chained_holds Q _ (cell_at b t.key) after (λ c found z led.
-      mapped_holds Q (with_token c.scope t.flow) (leaving (rest_of c.owed) t.key b) z (holds c found) led) made
+      mapped_holds Q (with_token c.scope (spot_behind b c t.flow)) (leaving (rest_of c.owed) t.key b) z (holds c found) led) made
   made_holds after (moves.Halt key) holds made = mapped_holds Q _ (edited (is_keyed key) (in_phase phases.Terminating []) b.cells) after holds made
   made_holds after (moves.Gone key) holds made = mapped_holds Q _ (removed (is_keyed key) b.cells) after holds made
   made_holds after (moves.Assign a) holds made = mapped_holds Q _ (edited (is_keyed a.scope) (with_variable a.name a.value) b.cells) after holds made
   made_holds after (moves.Update a) holds made = mapped_holds Q _ (edited (is_keyed a.scope) (with_variable a.name a.value) b.cells) after holds made
   made_holds after (moves.Done key) holds made = mapped_holds Q _ (edited (is_keyed key) (with_mark marks.Done) b.cells) after holds made
   made_holds after (moves.Throw t) holds made = mapped_holds Q _ (edited (is_keyed t.cell) (with_mark (marks.Thrown t.code)) b.cells) after holds made
-  made_holds after (moves.Trigger t) holds made = mapped_holds Q _ (edited (is_keyed t.cell) (with_mark marks.Done) b.cells) after holds made
+  made_holds after (moves.Trigger t) holds made = chained_holds Q _ (cell_at b t.cell) after (λ c found z led. told_holds t c z (mark_by b t c) (holds c found).0 (holds c found).1 led) made
   made_holds after (moves.Incident i) holds made = subst Q (let same : record b { incidents = b.incidents ++ i ∷ [] } ≡ after = cc in same) holds
   made_holds after (moves.Repair key) holds made = mapped_holds Q _ (removed (λ i. i.key == key) b.incidents) after holds made

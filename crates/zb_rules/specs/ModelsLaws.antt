@@ -24,7 +24,10 @@ use Rattle.zb_tokens.specs.MoveTake.{rest_of}
 use Rattle.zb_tokens.specs.Game.{empty_board}
 use Rattle.zb_tokens.specs.LeaveLaws.{same_bytes}
 use Rattle.zb_rules.specs.Shown.{shown, after_shown, board_of}
-use Rattle.zb_rules.specs.Applies.{all_apply, has_definition, is_process_of}
+use Rattle.zb_faults.specs.Faults.{is_well_formed}
+use Rattle.zb_tokens.specs.GameLaws.{found_holds}
+use Rattle.zb_tokens.specs.EffectLaws.{mapped_from}
+use Rattle.zb_rules.specs.Applies.{all_apply, has_definition, holds_own, is_process_of}
 use Rattle.zb_rules.specs.MadeLaws.{HoldsMade, left_holds, made_holds}
 use Rattle.zb_rules.specs.GrowthLaws.{job_shows}
 use Rattle.zb_rules.specs.AppliedLaws.{Advances, holds_of_all}
@@ -61,7 +64,7 @@ module _ (b : Board) where
   by_move (moves.Update a) = λ cells made. none_more
   by_move (moves.Done key) = λ cells made. none_more
   by_move (moves.Throw t) = λ cells made. none_more
-  by_move (moves.Trigger t) = λ cells made. none_more
+  by_move (moves.Trigger t) = λ c found. (λ mark at cells made. none_more, λ at. none_more)
   by_move (moves.Incident i) = none_more
   by_move (moves.Repair key) = λ incidents gone. none_more
 
@@ -157,6 +160,26 @@ knows_first p = record {
 -- the board of a log whose events apply
 pub board_knows : (p : ℕ) (es : List Event) (b : Board) → IsTrue (all_apply p [] es) → board_of es ≡ Some b → Knows p es b
 board_knows p es b apply is = holds_of_all p (Knows p) (knows_on p) es b (knows_first p) apply is
+
+-- each model that stands on a board is without faults
+abbrev pub HasFormedModels : Board → Type 0
+HasFormedModels b = All (λ (d : Deployed). IsTrue (is_well_formed d.model)) b.models
+
+told_formed : (p : ℕ) (before : List Event) (e : Event) → IsTrue (holds_own p before e) → All (λ (d : Deployed). IsTrue (is_well_formed d.model)) (models_told e)
+told_formed p before (events.ProcessCreated e) own = All-cons (λ (d : Deployed). IsTrue (is_well_formed d.model)) (record { key = e.key; model = e.model }) [] own (All-nil (λ (d : Deployed). IsTrue (is_well_formed d.model)))
+told_formed p before e own = All-nil (λ (d : Deployed). IsTrue (is_well_formed d.model))
+
+-- an event that applies keeps them so
+pub formed_on : (p : ℕ) (before : List Event) (b : Board) (e : Event) (after : Board) → Advances p before b e after → HasFormedModels b → HasFormedModels after
+formed_on p before b e after h formed =
+    let Formed : Deployed → Type 0 = λ d. IsTrue (is_well_formed d.model) in
+    subst (All Formed) (sym (models_more p before b e after h)) (All-append Formed b.models (models_told e) formed (told_formed p before e h.own))
+
+-- so the model of a definition is
+pub formed_under : (b : Board) (key : ℕ) (m : Model) → HasFormedModels b → model_under b key ≡ Some m → IsTrue (is_well_formed m)
+formed_under b key m formed is =
+    let r = mapped_from (λ (d : Deployed). d.model) (find (λ (d : Deployed). d.key == key) b.models) m is in
+    subst (λ (x : Model). IsTrue (is_well_formed x)) r.2 (found_holds (λ (d : Deployed). d.key == key) (λ (d : Deployed). IsTrue (is_well_formed d.model)) b.models r.0 formed r.1).0
 
 -- the models stand under the keys of the definitions, in their order
 abbrev HasSameKeys : List Event → Board → Type 0

@@ -8,12 +8,15 @@ use Rattle.zb_base.specs.Results.{◌>>=◌}
 use Rattle.zb_base.specs.declared.value.Value.{Value}
 use Rattle.zb_base.specs.declared.vars.Variable.{Variable}
 use Rattle.zb_process.specs.declared.model.Flow.{Flow}
+use Rattle.zb_process.specs.declared.model.Model.{Model}
+use Rattle.zb_process.specs.declared.model.Node.{Node}
+use Rattle.zb_tokens.specs.declared.board.Opening.{Opening}
 use Rattle.zb_process.specs.Expr.{ValueFault, value_of}
 use Rattle.zb_process.specs.Tree.{Tree}
 use Rattle.zb_duration.specs.Due.{due_of}
 use Rattle.zb_duration.specs.declared.fault.DueFault.{DueFault}
 use Rattle.zb_duration.specs.declared.form.TimeForm.{TimeForm}
-use Rattle.zb_tokens.specs.Catches.{text_told, time_hindrance, due_by, own_time, opening_by, openings_by, seen_with, opened_with}
+use Rattle.zb_tokens.specs.Catches.{text_told, time_hindrance, time_of, due_by, awaited, opening_by, openings_in, openings_by, seen_with, opened_with}
 use Rattle.zb_instance_records.specs.declared.happening.IncidentKind.TheVariants as kinds
 use Rattle.zb_tokens.specs.declared.board.Cell.{Cell}
 use Rattle.zb_tokens.specs.declared.board.Token.{Token}
@@ -23,17 +26,19 @@ use Rattle.zb_tokens.specs.declared.board.Mover.{Mover}
 use Rattle.zb_tokens.specs.declared.board.Mover.TheVariants as movers
 use Rattle.zb_tokens.specs.declared.board.Phase.{Phase}
 use Rattle.zb_tokens.specs.declared.board.Phase.TheVariants as phases
-use Rattle.zb_tokens.specs.Board.{Board, CellsAscend, cell_at}
+use Rattle.zb_tokens.specs.Board.{Board, CellsAscend, cell_at, model_under}
 use Rattle.zb_tokens.specs.Doom.{is_doomed}
 use Rattle.zb_tokens.specs.Game.{fits}
 use Rattle.zb_tokens.specs.GameLaws.{holds_some, mapped_some}
 use Rattle.zb_tokens.specs.Incidents.{Hindrance, hindrance_of}
+use Rattle.zb_tokens.specs.declared.board.Triggered.{Triggered}
+use Rattle.zb_tokens.specs.Errors.{caught}
 use Rattle.zb_tokens.specs.Marks.{error_of}
 use Rattle.zb_tokens.specs.Names.{value_seen}
 use Rattle.zb_tokens.specs.Choice.{Gateway, gateway_of, truth_at, is_default, decides, decided, by_default, choice_at}
-use Rattle.zb_tokens.specs.Mappings.{inputs_of, outputs_of}
+use Rattle.zb_tokens.specs.Mappings.{inputs_of, node_of, outputs_of}
 use Rattle.zb_tokens.specs.MoveLeave.{flows_of, exit_of, completion_of}
-use Rattle.zb_tokens.specs.Forced.{open_by, leave_by, finish_by, move_in, end_in, move_at, take_first, move_of, way_of}
+use Rattle.zb_tokens.specs.Forced.{open_by, leave_by, catch_by, finish_by, move_in, end_in, move_at, take_first, move_of, way_of}
 use Rattle.zb_rules.specs.Shown.{event_of}
 use Rattle.zb_rules.specs.JobEvents.{tells_of_job}
 
@@ -45,7 +50,6 @@ IsMade key (moves.Assign a) = ⊥
 IsMade key (moves.Update a) = ⊥
 IsMade key (moves.Done cell) = ⊥
 IsMade key (moves.Throw t) = ⊥
-IsMade key (moves.Trigger t) = ⊥
 IsMade key (moves.Repair other) = ⊥
 IsMade key (moves.Enter e) = e.key ≡ key
 IsMade key (moves.Incident i) = (i.key ≡ key) × (i.job ≡ 0) × (tells_of_job i.kind ≡ false)
@@ -94,26 +98,44 @@ due_tells_none : (r : Result ℕ DueFault) → TellsOfNone (result_map_both (λ 
 due_tells_none (Ok due) = tt
 due_tells_none (Err fault) = refl
 
-opening_tells_none : (names : List ℕ → Option Value) (moment : ℕ) (c : Cell) (time : TimeForm × Tree) → TellsOfNone (opening_by names moment c time)
-opening_tells_none names moment c time = then_tells_none (due_by names moment time.0 time.1) (λ due. Ok (record { node = c.node; due = due } ∷ []))
+opening_tells_none : (names : List ℕ → Option Value) (moment : ℕ) (node : List ℕ) (time : TimeForm × Tree) → TellsOfNone (opening_by names moment node time)
+opening_tells_none names moment node time = then_tells_none (due_by names moment time.0 time.1) (λ due. Ok (record { node = node; due = due }))
     (then_tells_none (result_map_both (λ text. text) hindrance_of (value_of names time.1 >>= text_told)) (λ text. result_map_both (λ due. due) time_hindrance (due_of time.0 text moment)) (fault_tells_none _)
     (λ text. due_tells_none (due_of time.0 text moment))) (λ due. tt)
 
-openings_tell_none : (names : List ℕ → Option Value) (moment : ℕ) (c : Cell) (time : Option (TimeForm × Tree)) → TellsOfNone (option_map_or (opening_by names moment c) time (Ok []))
-openings_tell_none names moment c None = tt
-openings_tell_none names moment c (Some time) = opening_tells_none names moment c time
+time_tells_none : (names : List ℕ → Option Value) (moment : ℕ) (n : Node) (time : Option (TimeForm × Tree)) (rest : Result (List Opening) Hindrance) → TellsOfNone rest
+    → TellsOfNone (option_map_or (λ (x : TimeForm × Tree). opening_by names moment n.id x >>= (λ (o : Opening). rest >>= (λ os. Ok (o ∷ os)))) time rest)
+time_tells_none names moment n None rest none = none
+time_tells_none names moment n (Some time) rest none = then_tells_none (opening_by names moment n.id time) (λ (o : Opening). rest >>= (λ os. Ok (o ∷ os))) (opening_tells_none names moment n.id time)
+    (λ o. then_tells_none rest (λ os. Ok (o ∷ os)) none (λ os. tt))
+
+each_tells_none : (names : List ℕ → Option Value) (moment : ℕ) (ns : List Node) → TellsOfNone (openings_in names moment ns)
+each_tells_none names moment [] = tt
+each_tells_none names moment (n ∷ ns) = time_tells_none names moment n (time_of n) (openings_in names moment ns) (each_tells_none names moment ns)
+
+node_tells_none : (names : List ℕ → Option Value) (moment : ℕ) (m : Model) (c : Cell) (found : Option Node) → TellsOfNone (option_map_or (λ n. openings_in names moment (awaited m c n)) found (Ok []))
+node_tells_none names moment m c None = tt
+node_tells_none names moment m c (Some n) = each_tells_none names moment (awaited m c n)
+
+openings_tell_none : (names : List ℕ → Option Value) (b : Board) (moment : ℕ) (c : Cell) (found : Option Model) → TellsOfNone (option_map_or (λ m. option_map_or (λ n. openings_in names moment (awaited m c n)) (node_of b c) (Ok [])) found (Ok []))
+openings_tell_none names b moment c None = tt
+openings_tell_none names b moment c (Some m) = node_tells_none names moment m c (node_of b c)
 
 opened_tells_none : (b : Board) (moment : ℕ) (c : Cell) → TellsOfNone (opened_with b moment c)
 opened_tells_none b moment c = then_tells_none (inputs_of b c) (λ vs. openings_by (seen_with vs (value_seen b c.key)) b moment c >>= (λ openings. Ok vs)) (fault_tells_none _)
-    (λ vs. then_tells_none (openings_by (seen_with vs (value_seen b c.key)) b moment c) (λ openings. Ok vs) (openings_tell_none (seen_with vs (value_seen b c.key)) moment c (own_time b c)) (λ openings. tt))
+    (λ vs. then_tells_none (openings_by (seen_with vs (value_seen b c.key)) b moment c) (λ openings. Ok vs) (openings_tell_none (seen_with vs (value_seen b c.key)) b moment c (model_under b c.definition)) (λ openings. tt))
 
 open_made : (key : ℕ) (c : Cell) (inputs : Result (List Variable) Hindrance) → TellsOfNone inputs → IsMade key (open_by key c inputs)
 open_made key c (Ok vs) none = tt
 open_made key c (Err hindrance) none = (refl, refl, none)
 
-finish_made : (key : ℕ) (c : Cell) (error : Option (List ℕ)) → IsMade key (finish_by key c error)
-finish_made key c None = tt
-finish_made key c (Some code) = (refl, refl, refl)
+catch_made : (key : ℕ) (c : Cell) (code : List ℕ) (caught_at : Option Triggered) → IsMade key (catch_by key c code caught_at)
+catch_made key c code None = (refl, refl, refl)
+catch_made key c code (Some t) = tt
+
+finish_made : (key : ℕ) (c : Cell) (caught_at : Option Triggered) (error : Option (List ℕ)) → IsMade key (finish_by key c caught_at error)
+finish_made key c caught_at None = tt
+finish_made key c caught_at (Some code) = catch_made key c code caught_at
 
 leave_made : (key : ℕ) (c : Cell) (exit : Result (List (List ℕ)) Hindrance) → TellsOfNone exit → IsMade key (leave_by key c exit)
 leave_made key c (Ok owed) none = tt
@@ -121,7 +143,7 @@ leave_made key c (Err hindrance) none = (refl, refl, none)
 
 phase_made : (b : Board) (moment key : ℕ) (c : Cell) (phase : Phase) (move : Move) → move_in b moment key c phase ≡ Some move → IsMade key move
 phase_made b moment key c phases.Activating move is = some_made key (open_by key c (opened_with b moment c)) move (open_made key c (opened_with b moment c) (opened_tells_none b moment c)) is
-phase_made b moment key c phases.Active move is = some_made key (finish_by key c (error_of c.mark)) move (finish_made key c (error_of c.mark)) is
+phase_made b moment key c phases.Active move is = some_made key (finish_by key c (caught b c) (error_of c.mark)) move (finish_made key c (caught b c) (error_of c.mark)) is
 phase_made b moment key c phases.Completing move is = some_made key (leave_by key c (completion_of b c)) move (leave_made key c (completion_of b c) (completion_tells_none b c)) is
 phase_made b moment key c phases.Leaving move is = first_made key c.key c.owed move is
 phase_made b moment key c phases.Terminating move is = some_made key (moves.Gone c.key) move tt is
@@ -182,6 +204,6 @@ event_there b key (moves.Assign a) made fit = absurd made
 event_there b key (moves.Update a) made fit = absurd made
 event_there b key (moves.Done cell) made fit = absurd made
 event_there b key (moves.Throw t) made fit = absurd made
-event_there b key (moves.Trigger t) made fit = absurd made
+event_there b key (moves.Trigger t) made fit = refl
 event_there b key (moves.Incident i) made fit = refl
 event_there b key (moves.Repair other) made fit = absurd made

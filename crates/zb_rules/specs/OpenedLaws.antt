@@ -24,7 +24,11 @@ use Rattle.zb_tokens.specs.declared.board.Mover.TheVariants as movers
 use Rattle.zb_tokens.specs.declared.board.Phase.{Phase}
 use Rattle.zb_tokens.specs.declared.board.Phase.TheVariants as phases
 use Rattle.zb_tokens.specs.declared.board.Token.{Token}
-use Rattle.zb_tokens.specs.Board.{Board, CellsAscend, cell_at, is_phase, in_phase}
+use Rattle.zb_process.specs.declared.model.Model.{Model}
+use Rattle.zb_faults.specs.Faults.{is_well_formed}
+use Rattle.zb_views.specs.ViewLaws.{greatest_counter_more}
+use Rattle.zb_rules.specs.ModelsLaws.{formed_under}
+use Rattle.zb_tokens.specs.Board.{Board, CellsAscend, cell_at, model_under, is_phase, in_phase}
 use Rattle.zb_tokens.specs.Doom.{is_doomed}
 use Rattle.zb_tokens.specs.EffectLaws.{incidents_stay}
 use Rattle.zb_tokens.specs.Forced.{end_in, finish_by, goes_on_in, ends_in, leave_by, move_at, move_in, move_of, next_mover, open_by, take_first, way_of}
@@ -33,6 +37,8 @@ use Rattle.zb_tokens.specs.Game.{fits, played}
 use Rattle.zb_tokens.specs.GameLaws.{both_left, both_right, holds_some, found_holds}
 use Rattle.zb_tokens.specs.Incidents.{Hindrance, incident_on, is_stuck}
 use Rattle.zb_tokens.specs.Mappings.{assignments_of}
+use Rattle.zb_tokens.specs.declared.board.Triggered.{Triggered}
+use Rattle.zb_tokens.specs.Errors.{caught}
 use Rattle.zb_tokens.specs.Catches.{opened_with}
 use Rattle.zb_tokens.specs.Marks.{is_unset, awaits_work, is_service_cell}
 use Rattle.zb_tokens.specs.MoveLeave.{completion_of}
@@ -44,14 +50,14 @@ use Rattle.zb_rules.specs.Applies.{holds_of_game, applies, all_apply}
 use Rattle.zb_rules.specs.Create.{variable_event}
 use Rattle.zb_rules.specs.Update.{is_named_in, set_in, place_of, set_by, set_each}
 use Rattle.zb_rules.specs.InFront.{set_all, events_in_front}
-use Rattle.zb_rules.specs.Sound.{HasKeys, IsAwaited, HasSoundJobs, HasSoundTimers}
+use Rattle.zb_rules.specs.Sound.{HasKeys, keys_of_turn, IsAwaited, HasSoundJobs, HasSoundTimers}
 use Rattle.zb_rules.specs.MadeLaws.{is_keyed, made_holds, mapped_holds}
 use Rattle.zb_rules.specs.AppliedLaws.{Advances, some_of, applied_board, board_behind}
 use Rattle.zb_rules.specs.ScopesLaws.{at_cell, edited_found}
 use Rattle.zb_rules.specs.PlacedLaws.{key_found}
 use Rattle.zb_rules.specs.SoundLaws.{BoardKeeps, keeps_on}
 use Rattle.zb_rules.specs.NamedLaws.{counted_below, keys_left, found_below}
-use Rattle.zb_rules.specs.BehindLaws.{MayHaveWork, MayFollow}
+use Rattle.zb_rules.specs.BehindLaws.{MayHaveWork, MayInterrupt, MayFollow}
 
 -- these events set variables, and do nothing else
 abbrev pub AreVariables : List Event → Type 0
@@ -69,13 +75,15 @@ place_are : (place : Option ℕ) (v : Variable) (es rest : List Event) → AreVa
 place_are None v es rest are = are
 place_are (Some cell) v es rest are = set_are (holds_of_game (is_named_in cell v.name) es) cell v rest are
 
-each_are : (local : Bool) (scope : ℕ) (vs : List Variable) (es : List Event) → AreVariables (set_each local scope vs es)
+-- the events by which variables are set one by one set variables
+pub each_are : (local : Bool) (scope : ℕ) (vs : List Variable) (es : List Event) → AreVariables (set_each local scope vs es)
 each_are local scope [] es = tt
 each_are local scope (v ∷ vs) es =
     let made = set_by local scope v es in
     place_are (place_of local scope v.name es) v es (set_each local scope vs (es ++ made)) (each_are local scope vs (es ++ made))
 
-all_are : (assignments : Option Assignments) (es : List Event) → AreVariables (option_map_or (λ s. set_all s es) assignments [])
+-- and so do those by which some are set, if any are
+pub all_are : (assignments : Option Assignments) (es : List Event) → AreVariables (option_map_or (λ s. set_all s es) assignments [])
 all_are None es = tt
 all_are (Some s) es = each_are s.local s.scope s.variables es
 
@@ -83,12 +91,12 @@ all_are (Some s) es = each_are s.local s.scope s.variables es
 pub front_are : (b : Board) (move : Move) (es : List Event) → AreVariables (events_in_front b move es)
 front_are b move es = all_are (assignments_of b move) es
 
--- behind events that set variables and apply a key is left still, and the incidents are as they were
+-- behind events that set variables and apply as many keys are left, and the incidents are as they were
 pub record IsSetBehind (p : ℕ) (es : List Event) (b : Board) (made : List Event) : Type 0 where
   pub after : Board
   pub is : board_of (es ++ made) ≡ Some after
   pub keeps : BoardKeeps p (es ++ made) after
-  pub keys : HasKeys p (es ++ made) 1
+  pub keys : HasKeys p (es ++ made) keys_of_turn
   pub incidents : after.incidents ≡ b.incidents
 
 -- a cell that is there has a key that was drawn
@@ -98,27 +106,27 @@ cell_counted p key es b k keys there =
     let below = found_below 1 (next_key p es) key b.cells found.0 k.stands.between found.1 in
     omega (arith, counted_below p key es keys below)
 
-one_set : (p : ℕ) (es : List Event) (b : Board) (e : Event) (made : List Event) (move : Move) (key : ℕ) → board_of es ≡ Some b → BoardKeeps p es b → HasKeys p es 1
+one_set : (p : ℕ) (es : List Event) (b : Board) (e : Event) (made : List Event) (move : Move) (key : ℕ) → board_of es ≡ Some b → BoardKeeps p es b → HasKeys p es keys_of_turn
     → IsTrue (applies p es e) → shown es e ≡ Some move → ((after : Board) → played b move ≡ Some after → after.incidents ≡ b.incidents) → keys_in e ≡ key ∷ [] → (IsTrue (fits b move) → IsTrue (is_some (cell_at b key)))
-    → ((after : Board) → board_of (es ++ e ∷ []) ≡ Some after → BoardKeeps p (es ++ e ∷ []) after → HasKeys p (es ++ e ∷ []) 1 → IsSetBehind p (es ++ e ∷ []) after made)
+    → ((after : Board) → board_of (es ++ e ∷ []) ≡ Some after → BoardKeeps p (es ++ e ∷ []) after → HasKeys p (es ++ e ∷ []) keys_of_turn → IsSetBehind p (es ++ e ∷ []) after made)
     → IsSetBehind p es b (e ∷ made)
 one_set p es b e made move key is k keys first shows stay named there rest =
     let r = applied_board p es b e is first in
     let fit : IsTrue (fits b move) = (let h = r.1.fit in rw shows at h) in
     let led : played b move ≡ Some r.0 = (let h = r.1.leads in rw shows at h) in
-    let counted : greatest_among p (keys_in e) ≤ greatest_counter p es = rw named (cell_counted p key es b k keys (there fit)) in
-    let s = rest r.0 (board_behind p es b e r.0 r.1) (keeps_on p es b e r.0 r.1 k) (keys_left p 1 es e keys counted) in
+    let counted : greatest_among p (keys_in e) ≤ greatest_counter p es = rw named (cell_counted p key es b k (omega (arith, keys)) (there fit)) in
+    let s = rest r.0 (board_behind p es b e r.0 r.1) (keeps_on p es b e r.0 r.1 k) (keys_left p keys_of_turn es e keys counted) in
     let line = append_assoc es (e ∷ []) made in
     record {
       after = s.after;
       is = subst (λ (l : List Event). board_of l ≡ Some s.after) line s.is;
       keeps = subst (λ (l : List Event). BoardKeeps p l s.after) line s.keeps;
-      keys = subst (λ (l : List Event). HasKeys p l 1) line s.keys;
+      keys = subst (λ (l : List Event). HasKeys p l keys_of_turn) line s.keys;
       incidents = s.incidents ∙ stay r.0 led;
     }
 
 -- where variables were set in front, the board is as it was but for them
-pub set_behind : (p : ℕ) (made es : List Event) (b : Board) → AreVariables made → board_of es ≡ Some b → BoardKeeps p es b → HasKeys p es 1 → IsTrue (all_apply p es made) → IsSetBehind p es b made
+pub set_behind : (p : ℕ) (made es : List Event) (b : Board) → AreVariables made → board_of es ≡ Some b → BoardKeeps p es b → HasKeys p es keys_of_turn → IsTrue (all_apply p es made) → IsSetBehind p es b made
 set_behind p [] es b are is k keys apply = record {
   after = b;
   is = rw (append-nil es) is;
@@ -141,9 +149,10 @@ open_of : (k key : ℕ) (c : Cell) (inputs : Result (List Variable) Hindrance) �
 open_of k key c (Ok vs) is = let same : moves.Open c.key ≡ moves.Open key = cc in cc
 open_of k key c (Err hindrance) is = absurd (cc)
 
-finish_opens_none : (k key : ℕ) (c : Cell) (error : Option (List ℕ)) → Some (finish_by k c error) ≡ Some (moves.Open key) → ⊥
-finish_opens_none k key c None is = cc
-finish_opens_none k key c (Some code) is = cc
+finish_opens_none : (k key : ℕ) (c : Cell) (caught_at : Option Triggered) (error : Option (List ℕ)) → Some (finish_by k c caught_at error) ≡ Some (moves.Open key) → ⊥
+finish_opens_none k key c caught_at None is = cc
+finish_opens_none k key c None (Some code) is = cc
+finish_opens_none k key c (Some t) (Some code) is = cc
 
 leave_opens_none : (k key : ℕ) (c : Cell) (exit : Result (List (List ℕ)) Hindrance) → Some (leave_by k c exit) ≡ Some (moves.Open key) → ⊥
 leave_opens_none k key c (Ok owed) is = cc
@@ -155,7 +164,7 @@ take_opens_none key cell (flow ∷ owed) is = cc
 
 opens_in : (b : Board) (moment k key : ℕ) (c : Cell) (phase : Phase) → move_in b moment k c phase ≡ Some (moves.Open key) → c.key ≡ key
 opens_in b moment k key c phases.Activating is = open_of k key c (opened_with b moment c) is
-opens_in b moment k key c phases.Active is = absurd (finish_opens_none k key c (error_of c.mark) is)
+opens_in b moment k key c phases.Active is = absurd (finish_opens_none k key c (caught b c) (error_of c.mark) is)
 opens_in b moment k key c phases.Completing is = absurd (leave_opens_none k key c (completion_of b c) is)
 opens_in b moment k key c phases.Leaving is = absurd (take_opens_none key c.key c.owed is)
 opens_in b moment k key c phases.Terminating is = absurd (cc)
@@ -233,7 +242,7 @@ no_job_begins p es b key c sound found begins =
     none_of (λ j. j.cell == key) (jobs es) (All-weaker (IsAwaited b) (λ (j : Job). (j.cell == key) ≡ false) (λ j awaited. apart_by b j key c (j.cell == key) found begins awaited refl) (jobs es) sound.awaited)
 
 -- behind the event by which a cell becomes active
-module _ (p : ℕ) (es : List Event) (b : Board) (is : board_of es ≡ Some b) (k : BoardKeeps p es b) (keys : HasKeys p es 1) (key : ℕ) (free : incident_on b key ≡ None) where
+module _ (p : ℕ) (es : List Event) (b : Board) (is : board_of es ≡ Some b) (k : BoardKeeps p es b) (keys : HasKeys p es keys_of_turn) (key : ℕ) (free : incident_on b key ≡ None) where
   abbrev active : Event
   active = events.ElementActivated (record { key = key; items = [] })
 
@@ -241,18 +250,20 @@ module _ (p : ℕ) (es : List Event) (b : Board) (is : board_of es ≡ Some b) (
   opened_by c after found begins h =
       let unset = (found_holds (is_keyed key) (λ (x : Cell). IsTrue (is_phase x.phase phases.Activating) → IsTrue (is_unset x.mark)) b.cells c k.unset found).0 begins in
       let there : IsTrue (is_some (cell_at b key)) = rw found refl in
+      let counted_now : greatest_among p (key ∷ []) ≤ greatest_counter p es = cell_counted p key es b k (omega (arith, keys)) there in
       record {
-        keys = keys_left p 1 es active keys (cell_counted p key es b k keys there);
+        keys = keys_left p keys_of_turn es active keys counted_now;
+        counted = (let grown = greatest_counter_more p es (active ∷ []) in omega (arith, counted_now, grown));
         waits = made_holds b (λ (x : Board). IsTrue (is_some (work_at x key)) → IsTrue (may_have_job key x)) after (moves.Open key)
             (λ c2 m found2 stands cells opened.
             let same : c2 ≡ c = (let both : Some c2 ≡ Some c = sym found2 ∙ found in cc) in
             waits_at (record b { cells = cells; tokens = b.tokens ++ start_tokens c2 m }) key c2 (edited_found key (in_phase phases.Active []) c2 b.cells cells (λ x. refl) found2 opened) (subst (λ (x : Cell). IsTrue (is_unset x.mark)) (sym same) unset) free) h.leads;
         none = ap (find (λ j. j.cell == key)) (jobs_kept es active refl) ∙ no_job_begins p es b key c k.jobs found begins;
-        active = made_holds b (λ (x : Board). (c2 : Cell) → cell_at x key ≡ Some c2 → IsTrue (is_phase c2.phase phases.Active)) after (moves.Open key)
+        runs = made_holds b (λ (x : Board). (c2 : Cell) → cell_at x key ≡ Some c2 → IsTrue (is_phase c2.phase phases.Active) × ((m : Model) → model_under x c2.definition ≡ Some m → IsTrue (is_well_formed m))) after (moves.Open key)
             (λ c2 m found2 stands cells opened c3 found3.
             let now : cell_at (record b { cells = cells; tokens = b.tokens ++ start_tokens c2 m }) key ≡ Some (in_phase phases.Active [] c2) = edited_found key (in_phase phases.Active []) c2 b.cells cells (λ x. refl) found2 opened in
             let same : in_phase phases.Active [] c2 ≡ c3 = (let both : Some (in_phase phases.Active [] c2) ≡ Some c3 = sym now ∙ found3 in cc) in
-            subst (λ (x : Cell). IsTrue (is_phase x.phase phases.Active)) same refl) h.leads;
+            (subst (λ (x : Cell). IsTrue (is_phase x.phase phases.Active)) same refl, λ m2 stands2. formed_under b c3.definition m2 k.formed stands2)) h.leads;
       }
 
   -- a cell that has become active may have its job
@@ -265,21 +276,21 @@ module _ (p : ℕ) (es : List Event) (b : Board) (is : board_of es ≡ Some b) (
 -- what the event of a move asks of those before it, and of their board, where one of each kind may follow
 pub follows_by : (p : ℕ) (es : List Event) (b : Board) (before : Board) (move : Move) (e : Event) → event_of before move ≡ Some e
     → ((key : ℕ) → move ≡ moves.Open key → MayFollow p es b (events.ElementActivated (record { key = key; items = [] })))
-    → ((key : ℕ) → MayFollow p es b (events.ElementTerminating key)) → HasSoundTimers p es → MayFollow p es b e
-follows_by p es b before (moves.Stand d) e told opens ends timed = absurd (cc)
-follows_by p es b before (moves.Start s) e told opens ends timed = absurd (cc)
-follows_by p es b before (moves.Enter x) e told opens ends timed = mapped_holds (MayFollow p es b) _ (cell_at before x.scope) e (λ c found. tt) told
-follows_by p es b before (moves.Open key) e told opens ends timed = subst (MayFollow p es b) (let same : events.ElementActivated (record { key = key; items = [] }) ≡ e = cc in same) (opens key refl)
-follows_by p es b before (moves.Finish key) e told opens ends timed = subst (MayFollow p es b) (let same : events.ElementCompleting key ≡ e = cc in same) timed
-follows_by p es b before (moves.Leave l) e told opens ends timed = subst (MayFollow p es b) (let same : events.ElementCompleted (record { key = l.key; owed = l.owed }) ≡ e = cc in same) tt
-follows_by p es b before (moves.Take t) e told opens ends timed = subst (MayFollow p es b) (let same : events.SequenceFlowTaken (record { key = t.key; flow = t.flow }) ≡ e = cc in same) tt
-follows_by p es b before (moves.Halt key) e told opens ends timed = subst (MayFollow p es b) (let same : events.ElementTerminating key ≡ e = cc in same) (ends key)
-follows_by p es b before (moves.Gone key) e told opens ends timed = subst (MayFollow p es b) (let same : events.ElementTerminated key ≡ e = cc in same) tt
-follows_by p es b before (moves.Assign a) e told opens ends timed = absurd (cc)
-follows_by p es b before (moves.Update a) e told opens ends timed = absurd (cc)
-follows_by p es b before (moves.Done key) e told opens ends timed = absurd (cc)
-follows_by p es b before (moves.Throw t) e told opens ends timed = absurd (cc)
-follows_by p es b before (moves.Trigger t) e told opens ends timed = absurd (cc)
-follows_by p es b before (moves.Incident i) e told opens ends timed =
+    → ((key : ℕ) → MayFollow p es b (events.ElementTerminating key)) → ((t : Triggered) → move ≡ moves.Trigger t → MayInterrupt p es b t.cell t.node) → HasSoundTimers p es → MayFollow p es b e
+follows_by p es b before (moves.Stand d) e told opens ends tells timed = absurd (cc)
+follows_by p es b before (moves.Start s) e told opens ends tells timed = absurd (cc)
+follows_by p es b before (moves.Enter x) e told opens ends tells timed = mapped_holds (MayFollow p es b) _ (cell_at before x.scope) e (λ c found. tt) told
+follows_by p es b before (moves.Open key) e told opens ends tells timed = subst (MayFollow p es b) (let same : events.ElementActivated (record { key = key; items = [] }) ≡ e = cc in same) (opens key refl)
+follows_by p es b before (moves.Finish key) e told opens ends tells timed = subst (MayFollow p es b) (let same : events.ElementCompleting key ≡ e = cc in same) timed
+follows_by p es b before (moves.Leave l) e told opens ends tells timed = subst (MayFollow p es b) (let same : events.ElementCompleted (record { key = l.key; owed = l.owed }) ≡ e = cc in same) tt
+follows_by p es b before (moves.Take t) e told opens ends tells timed = subst (MayFollow p es b) (let same : events.SequenceFlowTaken (record { key = t.key; flow = t.flow }) ≡ e = cc in same) tt
+follows_by p es b before (moves.Halt key) e told opens ends tells timed = subst (MayFollow p es b) (let same : events.ElementTerminating key ≡ e = cc in same) (ends key)
+follows_by p es b before (moves.Gone key) e told opens ends tells timed = subst (MayFollow p es b) (let same : events.ElementTerminated key ≡ e = cc in same) tt
+follows_by p es b before (moves.Assign a) e told opens ends tells timed = absurd (cc)
+follows_by p es b before (moves.Update a) e told opens ends tells timed = absurd (cc)
+follows_by p es b before (moves.Done key) e told opens ends tells timed = absurd (cc)
+follows_by p es b before (moves.Throw t) e told opens ends tells timed = absurd (cc)
+follows_by p es b before (moves.Trigger t) e told opens ends tells timed = subst (MayFollow p es b) (let same : events.ProcessEventTriggered (record { cell = t.cell; node = t.node }) ≡ e = cc in same) (tells t refl)
+follows_by p es b before (moves.Incident i) e told opens ends tells timed =
     subst (MayFollow p es b) (let same : events.IncidentCreated (record { key = i.key; kind = i.kind; cell = i.cell; job = i.job; text = i.text }) ≡ e = cc in same) tt
-follows_by p es b before (moves.Repair key) e told opens ends timed = absurd (cc)
+follows_by p es b before (moves.Repair key) e told opens ends tells timed = absurd (cc)

@@ -49,7 +49,7 @@ model_kept b after (moves.Assign a) still all = λ c found has. has
 model_kept b after (moves.Update a) still all = λ c found has. has
 model_kept b after (moves.Done key) still all = λ c found has. has
 model_kept b after (moves.Throw t) still all = λ c found has. has
-model_kept b after (moves.Trigger t) still all = λ c found has. has
+model_kept b after (moves.Trigger t) still all = λ c found mark at has. has
 model_kept b after (moves.Incident i) still all = tt
 model_kept b after (moves.Repair key) still all = tt
 
@@ -95,7 +95,7 @@ owes_kept b (moves.Assign a) fit = λ c found has. has
 owes_kept b (moves.Update a) fit = λ c found has. has
 owes_kept b (moves.Done key) fit = λ c found has. has
 owes_kept b (moves.Throw t) fit = λ c found has. has
-owes_kept b (moves.Trigger t) fit = λ c found has. has
+owes_kept b (moves.Trigger t) fit = λ c found mark at has. has
 owes_kept b (moves.Incident i) fit = tt
 owes_kept b (moves.Repair key) fit = tt
 

@@ -51,7 +51,7 @@ pub board_after : (es : List Event) (b after : Board) (e : Event) → board_of e
 board_after es b after e is led = board_of_more es e ∙ (ap (option_and_then (λ (x : Board). after_shown x (shown es e))) is ∙ led)
 
 -- the next key counts one more than all before
-next_counted : (p : ℕ) (es : List Event) → HasKeys p es 1 → counter_at p (next_key p es) ≡ greatest_counter p es + 1
+pub next_counted : (p : ℕ) (es : List Event) → HasKeys p es 1 → counter_at p (next_key p es) ≡ greatest_counter p es + 1
 next_counted p es keys = counter_at-key_of p (greatest_counter p es + 1) keys
 
 -- no model stands under it
@@ -73,7 +73,7 @@ none_there : (p : ℕ) (es : List Event) (b : Board) → Knows p es b → HasKey
 none_there p es b knows keys = ap (option_map (λ (d : Deployed). d.model)) (unnamed p (next_key p es) (greatest_counter p es) b.models (next_counted p es keys) knows.counted)
 
 -- one more key named
-one_more : (p : ℕ) (es : List Event) (e : Event) (n : ℕ) → HasKeys p es (n + 1) → greatest_counter p (e ∷ []) ≤ greatest_counter p es + 1 → HasKeys p (es ++ e ∷ []) n
+pub one_more : (p : ℕ) (es : List Event) (e : Event) (n : ℕ) → HasKeys p es (n + 1) → greatest_counter p (e ∷ []) ≤ greatest_counter p es + 1 → HasKeys p (es ++ e ∷ []) n
 one_more p es e n keys named = omega (arith, greatest_counter_more p es (e ∷ []))
 
 -- a deployment

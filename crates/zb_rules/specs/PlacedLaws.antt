@@ -20,15 +20,18 @@ use Rattle.zb_tokens.specs.declared.board.Move.{Move}
 use Rattle.zb_tokens.specs.declared.board.Move.TheVariants as moves
 use Rattle.zb_tokens.specs.declared.board.Phase.TheVariants as phases
 use Rattle.zb_tokens.specs.Edits.{edited, removed, without_first}
-use Rattle.zb_tokens.specs.Board.{Board, cell_at, model_under, new_cell, in_phase, start_in, is_phase, is_root, is_scope_in, scope_id, is_at, has_child, is_empty, leaves_in, emptied}
+use Rattle.zb_tokens.specs.Board.{Board, cell_at, model_under, new_cell, in_phase, start_in, is_phase, is_root, is_scope_in, scope_id, is_at, has_child, is_empty, leaves_in, emptied, with_token}
 use Rattle.zb_tokens.specs.MoveEnter.{spots_of, stands_at, stand_at_each, without_each, entering}
 use Rattle.zb_tokens.specs.MoveOpen.{start_tokens}
-use Rattle.zb_tokens.specs.MoveFinish.{is_done, waits_for_nothing}
+use Rattle.zb_tokens.specs.MoveFinish.{is_done, rests_at}
 use Rattle.zb_tokens.specs.MoveLeave.{leaving, may_owe, ends_scope, with_end, scope_ended}
-use Rattle.zb_tokens.specs.MoveTake.{is_first, rest_of}
+use Rattle.zb_tokens.specs.MoveTake.{is_first, rest_of, spot_behind}
 use Rattle.zb_tokens.specs.MoveAssign.{with_variable}
 use Rattle.zb_tokens.specs.Game.{fits}
 use Rattle.zb_tokens.specs.GameLaws.{both_left, both_right, holds_some, found_holds}
+use Rattle.zb_tokens.specs.declared.board.Triggered.{Triggered}
+use Rattle.zb_rules.specs.TimedLaws.{awaits_inner}
+use Rattle.zb_rules.specs.CatchLaws.{told_inner}
 use Rattle.zb_rules.specs.Shown.{after_shown}
 use Rattle.zb_rules.specs.Applies.{may_fit}
 use Rattle.zb_rules.specs.Sound.{holds_others, is_scope}
@@ -74,7 +77,8 @@ cells_but b after key kept apart placed = λ k d within. still_in b after (get_o
 tokens_but : (b after : Board) (key : ℕ) (tokens : List Token) → ScopesKeptBut b key after → All (λ (t : Token). (t.scope == key) ≡ false) tokens → All (IsIn b) tokens → All (IsIn after) tokens
 tokens_but b after key tokens kept apart all = λ k d within. kept (get_or tokens k d).scope (apart k d within) (all k d within)
 
-none_passes : {A : Type 0} (passes : A → Bool) (xs : List A) → list_any passes xs ≡ false → All (λ x. passes x ≡ false) xs
+-- where none of some items passes each one fails
+pub none_passes : {A : Type 0} (passes : A → Bool) (xs : List A) → list_any passes xs ≡ false → All (λ x. passes x ≡ false) xs
 none_passes passes [] none = All-nil (λ x. passes x ≡ false)
 none_passes passes (x ∷ xs) none =
     let parts = or_parts (passes x) (list_any passes xs) none in
@@ -163,7 +167,7 @@ finish_placed b key fit placed =
     let done : IsTrue (is_done b c) = both_right (is_phase c.phase phases.Active) _ (at_cell (λ (x : Cell). is_phase x.phase phases.Active && is_done b x) (cell_at b key) c found.1 fit) in
     let model = some_of (model_under b c.definition) (holds_some _ (model_under b c.definition) done) in
     let m = model.0 in
-    let rests : IsTrue (if is_scope_in m c then is_empty b c.key else has_come_about c.mark || is_at m c.node waits_for_nothing) = rw model.1 at done in
+    let rests : IsTrue (if is_scope_in m c then is_empty b c.key else has_come_about c.mark || is_at m c.node (rests_at c)) = rw model.1 at done in
     finish_by b key c m (is_scope_in m c) _ found.1 model.1 refl rests placed
 
 -- a cell in which nothing runs is gone, with the tokens in it
@@ -275,8 +279,16 @@ take_placed b t fit owes placed c found left made =
     let r = left_placed b (rest_of c.owed) t.key left (λ x there. no_scope_in b x phases.Leaving (leaves x there) refl) placed made in
     let its = (found_holds (is_keyed t.key) Owes b.cells c owes found).0 (leaves c found) in
     let scope = inner_scope b c (found_holds (is_keyed t.key) (InScope b) b.cells c placed.scopes found).0 its.1 in
-    let token : Token = record { scope = c.scope; spot = spots.OnFlow t.flow } in
+    let token : Token = record { scope = c.scope; spot = spot_behind b c t.flow } in
     more_tokens left (token ∷ []) r.1 (All-cons (IsIn left) token [] (r.0 c.scope scope.0) (All-nil (IsIn left)))
+
+-- a token before a boundary event stands in the scope of the event's cell, which is no root
+told_placed : (b : Board) (t : Triggered) → IsTrue (fits b (moves.Trigger t)) → Placed b → (c : Cell) → cell_at b t.cell ≡ Some c → Placed (with_token c.scope (spots.BeforeNode t.node) b)
+told_placed b t fit placed c found =
+    let inner = told_inner b t c found fit (awaits_inner b t c) in
+    let scope = inner_scope b c (found_holds (is_keyed t.cell) (InScope b) b.cells c placed.scopes found).0 inner in
+    let token : Token = record { scope = c.scope; spot = spots.BeforeNode t.node } in
+    more_tokens b (token ∷ []) placed (All-cons (IsIn b) token [] scope.0 (All-nil (IsIn b)))
 
 made_placed : (b : Board) (move : Move) → IsTrue (fits b move) → IsNewIn b move → All Owes b.cells → Placed b → HoldsMade b Placed move
 made_placed b (moves.Stand d) fit new owes placed =
@@ -295,7 +307,7 @@ made_placed b (moves.Assign a) fit new owes placed = scope_edited b a.scope (wit
 made_placed b (moves.Update a) fit new owes placed = scope_edited b a.scope (with_variable a.name a.value) (λ c. refl) (λ x c is. is) (λ c found is. is) placed
 made_placed b (moves.Done key) fit new owes placed = scope_edited b key (with_mark marks.Done) (λ c. refl) (λ x c is. is) (λ c found is. is) placed
 made_placed b (moves.Throw t) fit new owes placed = scope_edited b t.cell (with_mark (marks.Thrown t.code)) (λ c. refl) (λ x c is. is) (λ c found is. is) placed
-made_placed b (moves.Trigger t) fit new owes placed = scope_edited b t.cell (with_mark marks.Done) (λ c. refl) (λ x c is. is) (λ c found is. is) placed
+made_placed b (moves.Trigger t) fit new owes placed = λ c found. (λ mark at. scope_edited b t.cell (with_mark mark) (λ x. refl) (λ x y is. is) (λ x there is. is) placed, λ at. told_placed b t fit placed c found)
 made_placed b (moves.Incident i) fit new owes placed = record { scopes = placed.scopes; tokens = placed.tokens }
 made_placed b (moves.Repair key) fit new owes placed = λ incidents gone. record { scopes = placed.scopes; tokens = placed.tokens }
 

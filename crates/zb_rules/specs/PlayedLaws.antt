@@ -1,10 +1,11 @@
 -- What holds of each cell after a move, and of each member of a list that is edited.
-use Rattle.std.proofs.Common.{◌≡◌, ℕ, zero, suc, List, [], ◌∷◌, Bool, true, false, not, if◌then◌else◌, IsTrue, is_some, Option, Some, None, option_map, All, refl, subst, arith}
+use Rattle.std.proofs.Common.{◌≡◌, ℕ, zero, suc, List, [], ◌∷◌, Bool, true, false, not, if◌then◌else◌, IsTrue, is_some, Option, Some, None, option_map, All, refl, subst, arith, sym, ◌∙◌}
 use Rattle.std.specs.List.{find, AllPairs}
 use Rattle.std.proofs.lemmas.List.Elements.{All-cons, All-head, All-tail, All-push, All-filter}
 use Rattle.std.proofs.lemmas.List.Kept.{AllPairs-cons}
 use Rattle.zb_process.specs.declared.model.Model.{Model}
 use Rattle.zb_tokens.specs.declared.board.Cell.{Cell}
+use Rattle.zb_tokens.specs.declared.board.Mark.{Mark}
 use Rattle.zb_tokens.specs.declared.board.Mark.TheVariants as marks
 use Rattle.zb_tokens.specs.Marks.{with_mark}
 use Rattle.zb_tokens.specs.declared.board.Move.{Move}
@@ -14,6 +15,7 @@ use Rattle.zb_tokens.specs.Edits.{edited, removed}
 use Rattle.zb_tokens.specs.Board.{Board, cell_at, model_under, new_cell, in_phase, leaves_in}
 use Rattle.zb_tokens.specs.MoveEnter.{entering}
 use Rattle.zb_tokens.specs.MoveLeave.{leaving, ends_scope, with_end}
+use Rattle.zb_tokens.specs.MoveTrigger.{mark_by}
 use Rattle.zb_tokens.specs.MoveTake.{rest_of}
 use Rattle.zb_tokens.specs.MoveAssign.{with_variable}
 use Rattle.zb_tokens.specs.Game.{played}
@@ -83,7 +85,7 @@ CellKept b P (moves.Assign a) = EditKept b P a.scope (with_variable a.name a.val
 CellKept b P (moves.Update a) = EditKept b P a.scope (with_variable a.name a.value)
 CellKept b P (moves.Done key) = EditKept b P key (with_mark marks.Done)
 CellKept b P (moves.Throw t) = EditKept b P t.cell (with_mark (marks.Thrown t.code))
-CellKept b P (moves.Trigger t) = EditKept b P t.cell (with_mark marks.Done)
+CellKept b P (moves.Trigger t) = (c : Cell) → cell_at b t.cell ≡ Some c → (mark : Mark) → mark_by b t c ≡ Some mark → P c → P (with_mark mark c)
 CellKept b P (moves.Incident i) = Unit {0}
 CellKept b P (moves.Repair key) = Unit {0}
 
@@ -113,7 +115,7 @@ module _ (b : Board) (P : Cell → Type 0) (all : All P b.cells) where
   made_all (moves.Update a) kept = edit_all a.scope (with_variable a.name a.value) kept
   made_all (moves.Done key) kept = edit_all key (with_mark marks.Done) kept
   made_all (moves.Throw t) kept = edit_all t.cell (with_mark (marks.Thrown t.code)) kept
-  made_all (moves.Trigger t) kept = edit_all t.cell (with_mark marks.Done) kept
+  made_all (moves.Trigger t) kept = λ c found. (λ mark at. edit_all t.cell (with_mark mark) (λ x there. let same : Some c ≡ Some x = sym found ∙ there in let one : c ≡ x = cc in kept x there mark (subst (λ (y : Cell). mark_by b t y ≡ Some mark) one at)), λ at. all)
   made_all (moves.Incident i) kept = all
   made_all (moves.Repair key) kept = λ incidents gone. all
 

@@ -23,7 +23,7 @@ use Rattle.zb_tokens.specs.declared.board.Move.TheVariants as moves
 use Rattle.zb_tokens.specs.declared.board.Mover.{Mover}
 use Rattle.zb_tokens.specs.Board.{Board, CellsAscend, cell_at}
 use Rattle.zb_tokens.specs.Incidents.{incident_on}
-use Rattle.zb_tokens.specs.Game.{fits, agrees}
+use Rattle.zb_tokens.specs.Game.{fits, agrees, played}
 use Rattle.zb_tokens.specs.GameLaws.{both_left, holds_some, mapped_some}
 use Rattle.zb_tokens.specs.Forced.{next_mover, move_of}
 use Rattle.zb_tokens.specs.ForcedLaws.{movers_move, movers_fit, movers_agree}
@@ -62,14 +62,14 @@ use Rattle.zb_rules.specs.OwnLaws.{deploy_applies, publish_applies, expire_appli
 use Rattle.zb_rules.specs.CreateLaws.{create_applies}
 use Rattle.zb_rules.specs.CancelLaws.{cancel_applies}
 use Rattle.zb_rules.specs.UpdateLaws.{update_applies}
-use Rattle.zb_rules.specs.Sound.{HasKeys, HasOrderedNames, IsForcedEvent}
+use Rattle.zb_rules.specs.Sound.{HasKeys, keys_of_turn, HasOrderedNames, IsForcedEvent}
 use Rattle.zb_rules.specs.MoversLaws.{IsMade, mover_made, found_key, from_none, event_there}
 use Rattle.zb_rules.specs.AppliedLaws.{Advances, applied_from, some_of, game_holds_from, applied_board, board_behind}
 use Rattle.zb_rules.specs.SoundLaws.{BoardKeeps, board_is_there, cells_ascend, keeps_on, board_keeps}
 use Rattle.zb_rules.specs.IncidentsLaws.{none_behind}
 use Rattle.zb_views.specs.Jobs.{called_off}
 use Rattle.zb_rules.specs.Trigger.{triggered}
-use Rattle.zb_rules.specs.TriggerLaws.{trigger_applies, triggered_never}
+use Rattle.zb_rules.specs.TriggerLaws.{told_halts, trigger_applies, triggered_never}
 use Rattle.zb_rules.specs.TimerSoundLaws.{canceled_on_apply}
 
 module _ (p moment : ℕ) (es : List Event) (b : Board) (mover : Mover) (is : board_of es ≡ Some b) (k : BoardKeeps p es b) where
@@ -117,7 +117,7 @@ module _ (p moment : ℕ) (es : List Event) (b : Board) (mover : Mover) (is : bo
   forced_by (moves.Update a) up keys from made fit agreed = absurd from
   forced_by (moves.Done key) up keys from made fit agreed = absurd from
   forced_by (moves.Throw t) up keys from made fit agreed = absurd from
-  forced_by (moves.Trigger t) up keys from made fit agreed = absurd from
+  forced_by (moves.Trigger t) up keys from made fit agreed = event_by (moves.Trigger t) (events.ProcessEventTriggered (record { cell = t.cell; node = t.node })) made fit agreed refl refl refl
   forced_by (moves.Incident i) up keys from made fit agreed =
       let fresh : IsTrue (is_fresh p es i.key) = (let key = from.0 in grind (arith, nat_tests)) in
       event_by (moves.Incident i) (events.IncidentCreated (record { key = i.key; kind = i.kind; cell = i.cell; job = i.job; text = i.text })) made fit agreed refl (rw (append-nil es, fresh, from.2, from.1) refl) refl
@@ -166,7 +166,7 @@ no_turn_is_quiet p n moment es apply =
     (quiet_by p n moment es found.0 (next_mover found.0) found.1 refl (from_none found.0.cells (cells_ascend p es found.0 apply found.1)), no_turn p n moment es)
 
 -- a forced event, those in front of it and those behind it apply, and each of their moves is legal
-module _ (p n moment : ℕ) (es : List Event) (b : Board) (mover : Mover) (is : board_of es ≡ Some b) (k : BoardKeeps p es b) (keys : HasKeys p es 1) (next : next_mover b ≡ Some mover) (f : IsForcedEvent p moment es b mover) where
+module _ (p n moment : ℕ) (es : List Event) (b : Board) (mover : Mover) (is : board_of es ≡ Some b) (k : BoardKeeps p es b) (keys : HasKeys p es keys_of_turn) (next : next_mover b ≡ Some mover) (f : IsForcedEvent p moment es b mover) where
   abbrev front : List Event
   front = events_in_front b f.move es
 
@@ -201,32 +201,37 @@ module _ (p n moment : ℕ) (es : List Event) (b : Board) (mover : Mover) (is : 
       (λ key its.
       let told : events.ElementActivated (record { key = key; items = [] }) ≡ f.event = (let e : event_of b (moves.Open key) ≡ Some f.event = subst (λ (m : Move). event_of b m ≡ Some f.event) its f.is_event in cc) in
       subst (λ (x : Event). MayHaveWork p ((es ++ front) ++ x ∷ []) r.0 key) told (open_follows key its f.event r.0 told r.1))
-      (λ key. (keeps.incidents.apart, keeps.timers)) keeps.timers in
+      (λ key. (keeps.incidents.apart, keeps.timers))
+      (λ t its.
+      let shows : shown (es ++ front) f.event ≡ Some (moves.Trigger t) = f.shows ∙ ap Some its in
+      let fit : IsTrue (fits s.after (moves.Trigger t)) = (let h = r.1.fit in rw shows at h) in
+      let led : played s.after (moves.Trigger t) ≡ Some r.0 = (let h = r.1.leads in rw shows at h) in
+      record { halts = told_halts p (es ++ front) s.after r.0 t s.keeps fit led; apart = keeps.incidents.apart; timed = keeps.timers }) keeps.timers in
       let second = behind_apply p ((es ++ front) ++ f.event ∷ []) r.0 after_is n moment f.event may in (
         rw (all_apply_on p es front (f.event ∷ behind), ahead, first) second,
         all_legal_on moment es es front (f.event ∷ behind) (legal_by p moment es b is es front (front_never b f.move es) ahead)
             (made_legally p moment es b is (es ++ front) f.event first agrees_there, legal_by p moment es b is ((es ++ front) ++ f.event ∷ []) behind (behind_never p n moment f.event ((es ++ front) ++ f.event ∷ [])) second),
       )
 
-turn_by : (p n moment : ℕ) (es : List Event) (b : Board) (next : Option Mover) (made : List Event) → IsTrue (all_apply p [] es) → HasKeys p es 1 → board_of es ≡ Some b → next_mover b ≡ next → turn p n moment es ≡ Some made
+turn_by : (p n moment : ℕ) (es : List Event) (b : Board) (next : Option Mover) (made : List Event) → IsTrue (all_apply p [] es) → HasKeys p es keys_of_turn → board_of es ≡ Some b → next_mover b ≡ next → turn p n moment es ≡ Some made
     → IsTrue (all_apply p es made) × AllLegal moment es es made
 unfolding turn
 turn_by p n moment es b None made apply keys is nobody told = let none : None ≡ Some made = rw (is, nobody) at told in absurd (cc)
 turn_by p n moment es b (Some mover) made apply keys is next told =
-    let f = forced_event p moment es b mover apply keys is next in
+    let f = forced_event p moment es b mover apply (omega (arith, keys)) is next in
     let its : turn_of p n moment es b mover ≡ Some made = rw (is, next) at told in
     let k = board_keeps p es b apply is in
     let same : front p n moment es b mover is k keys next f ++ f.event ∷ behind p n moment es b mover is k keys next f ≡ made = (let e = sym (turn_made p n moment es b mover f.move f.event f.is_move f.is_event) ∙ its in cc) in
     subst (λ (x : List Event). IsTrue (all_apply p es x) × AllLegal moment es es x) same (forced_apply p n moment es b mover is k keys next f)
 
--- each event of a turn applies, where a key is left
-pub turn_applies : (p n moment : ℕ) (es made : List Event) → IsTrue (all_apply p [] es) → HasKeys p es 1 → turn p n moment es ≡ Some made → IsTrue (all_apply p es made)
+-- each event of a turn applies, where there are keys for it
+pub turn_applies : (p n moment : ℕ) (es made : List Event) → IsTrue (all_apply p [] es) → HasKeys p es keys_of_turn → turn p n moment es ≡ Some made → IsTrue (all_apply p es made)
 turn_applies p n moment es made apply keys told =
     let found = some_of (board_of es) (board_is_there p es apply) in
     (turn_by p n moment es found.0 (next_mover found.0) made apply keys found.1 refl told).0
 
 -- and each of its moves is legal
-pub turn_legal : (p n moment : ℕ) (es made : List Event) → IsTrue (all_apply p [] es) → HasKeys p es 1 → turn p n moment es ≡ Some made → AllLegal moment es es made
+pub turn_legal : (p n moment : ℕ) (es made : List Event) → IsTrue (all_apply p [] es) → HasKeys p es keys_of_turn → turn p n moment es ≡ Some made → AllLegal moment es es made
 turn_legal p n moment es made apply keys told =
     let found = some_of (board_of es) (board_is_there p es apply) in
     (turn_by p n moment es found.0 (next_mover found.0) made apply keys found.1 refl told).1
@@ -361,7 +366,7 @@ own_never p n es moment (commands.JobFail c) own apply is = failure_never p c es
 own_never p n es moment (commands.JobThrowError c) own apply is = some_never (thrown c) own (thrown_never c) is
 own_never p n es moment (commands.JobUpdateRetries c) own apply is = some_never (retried c) own (λ before b moment move is. shows_none b moment move is, tt) is
 own_never p n es moment (commands.JobTimeOut key) own apply is = some_never (timed_out key) own (λ before b moment move is. shows_none b moment move is, tt) is
-own_never p n es moment (commands.TimerTrigger key) own apply is = some_never (triggered key es) own (triggered_never key es) is
+own_never p n es moment (commands.TimerTrigger key) own apply is = some_never (triggered p n moment key es) own (triggered_never p n moment key es) is
 own_never p n es moment (commands.IncidentResolve key) own apply is = some_never (resolved key es) own (resolved_never key es) is
 own_never p n es moment (commands.MessagePublish c) own apply is = some_never (published_under (next_key p es) moment c) own (published_never (next_key p es) moment c) is
 own_never p n es moment (commands.MessageExpire key) own apply is = some_never (expired key) own (λ before b moment move is. shows_none b moment move is, tt) is
@@ -395,7 +400,7 @@ own_apply_by p n es b moment (commands.JobUpdateRetries c) own is k knows keys o
 own_apply_by p n es b moment (commands.JobTimeOut key) own is k knows keys ordered supported none made =
     subst (λ (x : List Event). IsTrue (all_apply p es x)) (let same : timed_out key ≡ own = cc in same) (time_out_applies p es b is k moment key none)
 own_apply_by p n es b moment (commands.TimerTrigger key) own is k knows keys ordered supported none made =
-    subst (λ (x : List Event). IsTrue (all_apply p es x)) (let same : triggered key es ≡ own = cc in same) (trigger_applies p es b is moment key none)
+    subst (λ (x : List Event). IsTrue (all_apply p es x)) (let same : triggered p n moment key es ≡ own = cc in same) (trigger_applies p n moment es b is k key none)
 own_apply_by p n es b moment (commands.IncidentResolve key) own is k knows keys ordered supported none made =
     subst (λ (x : List Event). IsTrue (all_apply p es x)) (let same : resolved key es ≡ own = cc in same) (resolve_applies p es b is key none)
 own_apply_by p n es b moment (commands.MessagePublish c) own is k knows keys ordered supported none made =

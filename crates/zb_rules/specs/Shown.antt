@@ -63,6 +63,6 @@ event_of b (moves.Assign a) = None
 event_of b (moves.Update a) = None
 event_of b (moves.Done key) = None
 event_of b (moves.Throw t) = None
-event_of b (moves.Trigger t) = None
+event_of b (moves.Trigger t) = Some (events.ProcessEventTriggered (record { cell = t.cell; node = t.node }))
 event_of b (moves.Incident i) = Some (events.IncidentCreated (record { key = i.key; kind = i.kind; cell = i.cell; job = i.job; text = i.text }))
 event_of b (moves.Repair key) = None

@@ -6,6 +6,7 @@ use Rattle.zb_base.specs.Vars.{is_ascending}
 use Rattle.zb_model.specs.declared.record.Event.{Event}
 use Rattle.zb_model.specs.declared.record.Command.{Command}
 use Rattle.zb_model.specs.declared.record.Command.TheVariants as commands
+use Rattle.zb_faults.specs.Faults.{most_nodes}
 use Rattle.zb_table.specs.Rows.{Ascend}
 use Rattle.zb_views.specs.declared.job.Job.{Job}
 use Rattle.zb_views.specs.declared.timer.Timer.{Timer}
@@ -108,6 +109,11 @@ pub record IsHolder (b : Board) (name : List ℕ) (found : Option ℕ) : Type 0 
 -- partition p has so many keys left behind these events
 abbrev pub HasKeys : ℕ → List Event → ℕ → Type 0
 HasKeys p es count = greatest_counter p es + count < 2 ^ 51
+
+-- no turn draws more keys than these: one for a cell, an incident or a job, and one for each timer that opens, of which there is at most one more
+-- than a model has nodes (own)
+abbrev pub keys_of_turn : ℕ
+keys_of_turn = most_nodes + 2
 
 -- the names of a command's variables ascend
 abbrev pub HasOrderedNames : Command → Type 0

@@ -12,6 +12,9 @@ use Rattle.zb_tokens.specs.declared.board.Move.TheVariants as moves
 use Rattle.zb_tokens.specs.Board.{Board, CellsAscend}
 use Rattle.zb_tokens.specs.Game.{empty_board}
 use Rattle.zb_tokens.specs.GameLaws.{both_left}
+use Rattle.zb_faults.specs.Faults.{is_well_formed}
+use Rattle.zb_tokens.specs.declared.board.Deployed.{Deployed}
+use Rattle.zb_rules.specs.ModelsLaws.{HasFormedModels, formed_on}
 use Rattle.zb_rules.specs.Shown.{shown, board_of}
 use Rattle.zb_rules.specs.Applies.{is_fresh, begins_instance, begins_cell, all_apply}
 use Rattle.zb_rules.specs.Sound.{IsSound, HasSoundJobs, HasSoundTimers}
@@ -61,6 +64,7 @@ pub record BoardKeeps (p : ℕ) (es : List Event) (b : Board) : Type 0 where
   pub timers : HasSoundTimers p es
   pub drawn : All (IsDrawn p es) b.incidents
   pub unset : All IsUntold b.cells
+  pub formed : HasFormedModels b
 
 -- an event that applies keeps it
 pub keeps_on : (p : ℕ) (before : List Event) (b : Board) (e : Event) (after : Board) → Advances p before b e after → BoardKeeps p before b → BoardKeeps p (before ++ e ∷ []) after
@@ -74,6 +78,7 @@ keeps_on p before b e after h k = record {
   timers = timers_sound_on p before b e after h k.timers;
   drawn = drawn_on p before b e after h k.jobs k.drawn;
   unset = untold_on b after (shown before e) h.fit h.leads k.unset;
+  formed = formed_on p before b e after h k.formed;
 }
 
 -- the empty board keeps what a board keeps behind no event
@@ -88,6 +93,7 @@ keeps_first p = record {
   timers = timers_sound_first p;
   drawn = All-nil (IsDrawn p []);
   unset = All-nil IsUntold;
+  formed = All-nil (λ (d : Deployed). IsTrue (is_well_formed d.model));
 }
 
 -- the board of a log whose events apply has it

@@ -1,5 +1,5 @@
--- A timer is triggered: what its cell waits for has come (BPMN 2.0.2, 13.5.3; Zeebe, timers).
-use Rattle.std.specs.Prelude.{ℕ, nat_le, List, [], ◌∷◌, ◌++◌, codes, Bool, not, if◌then◌else◌, Option, Some, None}
+-- A timer is triggered: the event comes about that its cell waits for (BPMN 2.0.2, 13.5.3; Zeebe, timers).
+use Rattle.std.specs.Prelude.{ℕ, nat_le, List, [], ◌++◌, codes, Bool, not, if◌then◌else◌, Option, Some, None}
 use Rattle.std.specs.Option.{option_map_or}
 use Rattle.std.specs.Fmt.{decimal}
 use Rattle.zb_model.specs.declared.record.Event.{Event}
@@ -9,8 +9,10 @@ use Rattle.zb_model.specs.declared.record.RejectionKind.TheVariants as kinds
 use Rattle.zb_views.specs.declared.timer.Timer.{Timer}
 use Rattle.zb_views.specs.Timers.{timer_at}
 use Rattle.zb_tokens.specs.Board.{Board}
-use Rattle.zb_tokens.specs.MoveTrigger.{fits_trigger}
+use Rattle.zb_tokens.specs.MoveTrigger.{is_awaited}
 use Rattle.zb_rules.specs.Shown.{holds_of_game}
+use Rattle.zb_rules.specs.Making.{Making, just, and_then}
+use Rattle.zb_rules.specs.Behind.{with_events_behind}
 
 -- what is told where no timer has this key
 abbrev pub no_timer : ℕ → List ℕ
@@ -26,7 +28,7 @@ cell_not_waiting cell = codes "element " ++ (decimal cell ++ codes " doesn't wai
 
 -- on a board the cell of a timer waits for it (BPMN 2.0.2, 13.5.3)
 abbrev pub waits_for : Timer → Board → Bool
-waits_for t b = fits_trigger b (record { cell = t.cell; node = t.node })
+waits_for t b = is_awaited b (record { cell = t.cell; node = t.node })
 
 -- a rejection by the state that a timer is in, with this text
 abbrev pub timer_in_wrong_state : List ℕ → Rejection
@@ -42,10 +44,14 @@ reason_to_hold before moment t = if not (nat_le t.due moment) then Some (timer_i
 abbrev pub reason_to_trigger : List Event → ℕ → ℕ → Option Rejection
 reason_to_trigger before moment key = option_map_or (reason_to_hold before moment) (timer_at key before) (Some (record { kind = kinds.NotFound; reason = no_timer key }))
 
--- the timer ends, and its cell is told (Zeebe, the records)
-abbrev pub trigger_events : Timer → List Event
-trigger_events t = events.TimerTriggered t.key ∷ events.ProcessEventTriggered (record { cell = t.cell; node = t.node }) ∷ []
+-- the event of a timer's node comes about for its cell
+abbrev pub event_of_timer : Timer → Event
+event_of_timer t = events.ProcessEventTriggered (record { cell = t.cell; node = t.node })
+
+-- the timer ends, and its event comes about, with the events behind that (Zeebe, the records)
+abbrev pub trigger_events : (p n moment : ℕ) → Timer → Making
+trigger_events p n moment t = and_then (just (events.TimerTriggered t.key)) (with_events_behind p n moment (event_of_timer t))
 
 -- the same for the timer with a key
-abbrev pub triggered : ℕ → List Event → List Event
-triggered key before = option_map_or trigger_events (timer_at key before) []
+abbrev pub triggered : (p n moment key : ℕ) → Making
+triggered p n moment key before = option_map_or (λ t. trigger_events p n moment t before) (timer_at key before) []

@@ -1,9 +1,17 @@
-ghost use Rattle.std.specs.Prelude.{◌≡◌, ◌≤◌, ◌<◌, ◌+◌, ◌/◌, ◌^◌, ◌++◌, ◌↔◌, ℕ, length, List, [], ◌∷◌, Option, Some, None, All, IsTrue, is_some};
+ghost use Rattle.std.specs.Prelude.{◌≡◌, ◌≤◌, ◌<◌, ◌+◌, ◌/◌, ◌^◌, ◌++◌, ◌↔◌, ℕ, length, List, [], ◌∷◌, Option, Some, None, All, IsTrue, IsFalse, is_some};
+ghost use Rattle.std.specs.List.{list_any};
 ghost use Rattle.std.specs.Option.{IfSome};
 ghost use Rattle.zb_instance_records.specs.declared.happening.VariableDocumentUpdate.{VariableDocumentUpdate};
 ghost use Rattle.zb_model.specs.declared.record.Command.{Command};
 ghost use Rattle.zb_model.specs.declared.record.Event.{Event};
+ghost use Rattle.zb_model.specs.declared.record.Outcome.{Outcome};
 ghost use Rattle.zb_model.specs.declared.record.Event.TheVariants as events;
+ghost use Rattle.zb_tokens.specs.declared.board.Cell.{Cell};
+ghost use Rattle.zb_tokens.specs.declared.board.Leave.{Leave};
+ghost use Rattle.zb_tokens.specs.declared.board.Triggered.{Triggered};
+ghost use Rattle.zb_tokens.specs.declared.board.Move.TheVariants as moves;
+ghost use Rattle.zb_tokens.specs.Marks.{has_come_about};
+ghost use Rattle.zb_tokens.specs.MoveTrigger.{fits_trigger, is_gateway_cell};
 ghost use Rattle.zb_tokens.specs.declared.board.Move.{Move};
 ghost use Rattle.zb_tokens.specs.declared.board.Mover.{Mover};
 ghost use Rattle.zb_tokens.specs.Board.{Board, cell_at};
@@ -12,17 +20,20 @@ ghost use Rattle.zb_tokens.specs.Incidents.{incident_on};
 ghost use Rattle.zb_tokens.specs.Game.{agrees, fits};
 ghost use Rattle.zb_tokens.specs.Forced.{next_mover};
 ghost use Rattle.zb_views.specs.Timers.{times_timer_ended};
+ghost use Rattle.zb_views.specs.View.{events_in};
 ghost use Rattle.zb_rules.specs.Shown.{shown, board_of};
 ghost use Rattle.zb_rules.specs.Applies.{applies, all_apply};
 ghost use Rattle.zb_rules.specs.Legal.{IsMadeLegally, AllLegal, EachLegal};
 ghost use Rattle.zb_rules.specs.InFront.{count_in_front, events_in_front};
 ghost use Rattle.zb_rules.specs.Settling.{turn, HasQuietGame};
 ghost use Rattle.zb_rules.specs.JobEnds.{times_ended};
-ghost use Rattle.zb_rules.specs.Sound.{IsSound, HasSoundJobs, HasKeys, HasOrderedNames, IsForcedEvent, IsHolder};
+ghost use Rattle.zb_rules.specs.Sound.{IsSound, HasSoundJobs, HasKeys, keys_of_turn, HasOrderedNames, IsForcedEvent, IsHolder};
 ghost use Rattle.zb_rules.specs.Cancel.{reason_to_cancel, cancelled};
 ghost use Rattle.zb_rules.specs.Update.{reason_to_update, updated};
 ghost use Rattle.zb_rules.specs.Reason.{reason_for};
 ghost use Rattle.zb_rules.specs.Own.{IsSupported, own_events};
+ghost use Rattle.zb_rules.specs.Step.{IsOutcomeOf};
+ghost use Rattle.zb_rules.specs.TimerEvents.{triggers, IsDueBy};
 ghost use Rattle.zb_rules.specs.declared.alarm.Alarm.{Alarm};
 ghost use Rattle.zb_rules.specs.Due.{alarms, due_command, IsFirstDue};
 
@@ -73,6 +84,21 @@ pub fn timers_end_once()
     ensures home { (p : ℕ) (es : List Event) (timer : ℕ) → IsTrue (all_apply p [] es) → 1 ≤ times_timer_ended timer es → timer / 2 ^ 51 ≡ p }
 {}
 
+/// A step triggers no timer before its moment: what a command leads to triggers none but one that is there, and due.
+pub fn timers_fire_on_time()
+    ensures { (p n moment : ℕ) (es : List Event) (command : Command) (outcome : Outcome) → IsOutcomeOf p n moment es command outcome
+        → (timer : ℕ) → IsTrue (list_any (triggers timer) (events_in outcome)) → IsDueBy es timer moment }
+{}
+
+/// A cell at an event gateway takes one way: behind a log whose events apply it completes with one flow at most, the one
+/// to the node whose event has come, and once it was told of an event it is told of no other.
+pub fn event_gateways_take_one_way()
+    ensures way { (p : ℕ) (es : List Event) (board : Board) (leave : Leave) (cell : Cell) → IsTrue (all_apply p [] es) → board_of es ≡ Some board
+        → cell_at board leave.key ≡ Some cell → IsTrue (is_gateway_cell board cell) → IsTrue (fits board (moves.Leave leave)) → length leave.owed ≤ 1 }
+    ensures chosen { (board : Board) (told : Triggered) (cell : Cell) → cell_at board told.cell ≡ Some cell
+        → IsTrue (is_gateway_cell board cell) → IsTrue (has_come_about cell.mark) → IsFalse (fits_trigger board told) }
+{}
+
 /// Who is forced behind a log whose events apply has an event, where a key is left: those in front of it apply,
 /// and behind them it does, and shows the move of the mover, which agrees with what it evaluates on the board
 /// before them.
@@ -94,13 +120,13 @@ pub fn no_turn_is_quiet()
         → (turn p n moment es ≡ None) ↔ HasQuietGame es }
 {}
 
-/// Behind a log whose events apply, and where a key is left, each event of a turn applies, and each
+/// Behind a log whose events apply, and where the keys of a turn are left, each event of a turn applies, and each
 /// move that one of them shows is legal, where what they evaluate is asked of the board before the turn.
 pub fn turns_apply()
     ensures apply { (p n moment : ℕ) (es made : List Event) → IsTrue (all_apply p [] es)
-        → HasKeys p es 1 → turn p n moment es ≡ Some made → IsTrue (all_apply p es made) }
+        → HasKeys p es keys_of_turn → turn p n moment es ≡ Some made → IsTrue (all_apply p es made) }
     ensures legal { (p n moment : ℕ) (es made : List Event) → IsTrue (all_apply p [] es)
-        → HasKeys p es 1 → turn p n moment es ≡ Some made → AllLegal moment es es made }
+        → HasKeys p es keys_of_turn → turn p n moment es ≡ Some made → AllLegal moment es es made }
 {}
 
 /// Behind a log whose events apply: where a turn or a cancel begins to end a cell, no incident

@@ -1,5 +1,5 @@
 -- How a run of one session and one partition ends.
-use Rattle.std.proofs.Common.{◌≡◌, ◌⊎◌, ℕ, zero, suc, ◌+◌, ◌-◌, ◌<◌, ◌≤◌, List, [], ◌∷◌, ◌++◌, length, take, nat_lt, Bool, true, false, All, IsTrue, IsFalse, Option, Some, None, option_map, Ok, refl, sym, ◌∙◌, ap, subst, inl, inr, ⊎_elim, arith}
+use Rattle.std.proofs.Common.{◌≡◌, ◌⊎◌, ℕ, zero, suc, ◌+◌, ◌-◌, ◌<◌, ◌≤◌, List, [], ◌∷◌, ◌++◌, length, nat_lt, Bool, true, false, All, IsTrue, IsFalse, Option, Some, None, option_map, Ok, refl, sym, ◌∙◌, ap, subst, inl, inr, ⊎_elim, arith}
 use Rattle.std.proofs.lemmas.Bool.{false≢true}
 use Rattle.std.proofs.lemmas.Bool.Decides.{nat_tests}
 use Rattle.std.proofs.lemmas.List.Elements.{All-nil, All-cons}
@@ -8,20 +8,18 @@ use Rattle.zb_disk.specs.Cause.{Rose}
 use Rattle.zb_model.specs.declared.record.Batch.{Batch}
 use Rattle.zb_rules.specs.Step.{IsStep, AreStepsOn}
 use Rattle.zb_world.specs.Entries.{Entry, IsPartitionOf, as_entry, entries_of, part_of}
-use Rattle.zb_lines.specs.Taken.{TakesBytes}
 use Rattle.zb_world.specs.EntryLaws.{part_of_entries, places_of_entries}
 use Rattle.zb_store.specs.Calls.{IsByFirstCall}
 use Rattle.zb_store.specs.Log.{extent}
 use Rattle.zb_store.specs.Stands.{Stands}
 use Rattle.zb_partition.specs.Log.{bodies_of, AreBatches, IsApplied}
 use Rattle.zb_partition.specs.Stopping.{frame_of, HasRoomFor}
-use Rattle.zb_desk.specs.Numbered.{OfNumber, EachFrom}
+use Rattle.zb_desk.specs.Numbered.{OfNumber}
 use Rattle.zb_desk.specs.Serial.{Basis, basis_of, place_behind, IsNextEntry, AreMadeFor, IsNextUnit, AreUnits}
 use Rattle.zb_session.specs.Hours.{IsReadingOf}
-use Rattle.zb_session.specs.Answer.{Answer, found_in, entries_made, AreSerial}
-use Rattle.zb_session.specs.Session.{Streams, SessionEnds, SessionRun, AreWritten, CutsOff, IsFirstCut, IsLeftUndone, IsEndOf, HasServed, most_taken}
+use Rattle.zb_session.specs.Answer.{Answer, found_in, entries_made}
+use Rattle.zb_session.specs.Session.{SessionEnds, SessionRun, CutsOff, IsLeftUndone, most_taken}
 use Rattle.zb_session.specs.declared.session.End.{End}
-use Rattle.zb_session.specs.declared.session.End.TheVariants as endings
 use Rattle.zb_engine.specs.Ledger.{AreMadeBatches, IsLeftOver, IsFront}
 use Rattle.zb_serve.specs.Setting.{RunSetting}
 use Rattle.zb_serve.specs.Ends.{Told, LogEnds}
@@ -30,12 +28,10 @@ use Rattle.zb_serve.specs.History.{stamps_of}
 use Rattle.zb_serve.specs.Served.{MayEnd, IsWhyUndone, IsUndone, AreClosing, answers_of}
 use Rattle.zb_serve.specs.Cause.{rank_of, comes_before}
 use Rattle.zb_serve.specs.Order.{HasFailed, WasMet}
-use Rattle.zb_serve.specs.Session.{IsSent}
 use Rattle.zb_serve.specs.Running.{ends_alone, crashes_alone}
 use Rattle.zb_serve.specs.declared.run.Cause.{Cause}
 use Rattle.zb_serve.specs.declared.run.Cause.TheVariants as causes
 use Rattle.zb_serve.proofs.ListLemmas.{append_none}
-use Rattle.zb_serve.proofs.HistoryLemmas.{run_goes_on, cut_at_end}
 
 -- the one log has as many frames as it has batches, so this is the first place behind it
 place_none : (opened : List Batch) → place_behind (opened ∷ []) [] ≡ length opened

@@ -1,5 +1,5 @@
 -- How a run is told that ends by itself, or by a stop of the partition.
-use Rattle.std.proofs.Common.{◌≡◌, ◌⊎◌, ℕ, ◌<◌, ◌≤◌, List, [], ◌∷◌, ◌++◌, length, Bool, IsTrue, IsFalse, IsSome, Option, Some, None, option_map, refl, sym, ap, ◌∙◌, subst, inl, inr, ⊎_elim, arith}
+use Rattle.std.proofs.Common.{◌≡◌, ℕ, ◌≤◌, List, [], ◌∷◌, ◌++◌, length, IsTrue, IsFalse, IsSome, Option, Some, None, option_map, refl, sym, ap, ◌∙◌, subst, inl, inr, ⊎_elim, arith}
 use Rattle.zb_disk.specs.declared.disk.Disk.{Ghosts}
 use Rattle.zb_model.specs.declared.record.Batch.{Batch}
 use Rattle.zb_model.specs.declared.stop.Stop.{Stop}
@@ -31,7 +31,7 @@ use Rattle.zb_serve.proofs.ListLemmas.{append_none}
 use Rattle.zb_serve.specs.Running.{told_by, log_ends, ends_alone, crashes_alone, stop_cause_of, cause_of}
 use Rattle.zb_serve.specs.declared.run.Cause.{Cause}
 use Rattle.zb_serve.specs.declared.run.Cause.TheVariants as causes
-use Rattle.zb_serve.proofs.EndLemmas.{IsHeld, held_stands, IsNamed, undone_of, undone_work, closing_of}
+use Rattle.zb_serve.proofs.EndLemmas.{held_stands, IsNamed, undone_of, undone_work, closing_of}
 use Rattle.zb_serve.proofs.OverLemmas.{over}
 
 -- a run whose session ended by itself, or for want of memory

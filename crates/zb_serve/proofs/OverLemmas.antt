@@ -1,35 +1,22 @@
 -- A run of one session and one partition that is over.
-use Rattle.std.proofs.Common.{◌≡◌, ◌⊎◌, ℕ, zero, suc, ◌+◌, ◌-◌, ◌<◌, ◌≤◌, List, [], ◌∷◌, ◌++◌, length, take, nat_lt, Bool, true, false, All, IsTrue, IsFalse, Option, Some, None, option_map, Ok, refl, sym, ◌∙◌, ap, subst, inl, inr, ⊎_elim, arith}
-use Rattle.std.proofs.lemmas.Bool.{false≢true}
-use Rattle.std.proofs.lemmas.Bool.Decides.{nat_tests}
-use Rattle.std.proofs.lemmas.List.Elements.{All-nil, All-cons}
-use Rattle.std.specs.List.{sum_by, range_with_len, slice_get}
-use Rattle.zb_disk.specs.Cause.{Rose}
+use Rattle.std.proofs.Common.{◌≡◌, ◌⊎◌, ℕ, List, [], ◌∷◌, ◌++◌, length, Bool, IsTrue, IsFalse, Option, Some, None, option_map, sym, ◌∙◌, ap, subst, inl, inr}
 use Rattle.zb_model.specs.declared.record.Batch.{Batch}
-use Rattle.zb_rules.specs.Step.{IsStep, AreStepsOn}
-use Rattle.zb_world.specs.Entries.{Entry, IsPartitionOf, as_entry, entries_of, part_of}
+use Rattle.zb_world.specs.Entries.{Entry, as_entry, entries_of}
 use Rattle.zb_lines.specs.Taken.{TakesBytes}
-use Rattle.zb_world.specs.EntryLaws.{part_of_entries, places_of_entries}
 use Rattle.zb_store.specs.Calls.{IsByFirstCall}
-use Rattle.zb_store.specs.Log.{extent}
 use Rattle.zb_store.specs.Stands.{Stands}
-use Rattle.zb_partition.specs.Log.{bodies_of, AreBatches, IsApplied}
-use Rattle.zb_partition.specs.Stopping.{frame_of, HasRoomFor}
-use Rattle.zb_desk.specs.Numbered.{OfNumber, EachFrom}
-use Rattle.zb_desk.specs.Serial.{Basis, basis_of, place_behind, next_unit}
-use Rattle.zb_session.specs.Hours.{IsReadingOf}
-use Rattle.zb_session.specs.Answer.{Answer, found_in, entries_made, AreSerial}
-use Rattle.zb_session.specs.Session.{Streams, SessionEnds, SessionRun, AreWritten, CutsOff, IsFirstCut, IsLeftUndone, IsEndOf, HasServed, most_taken}
+use Rattle.zb_partition.specs.Log.{bodies_of, IsApplied}
+use Rattle.zb_desk.specs.Serial.{basis_of, next_unit}
+use Rattle.zb_session.specs.Answer.{Answer, entries_made, AreSerial}
+use Rattle.zb_session.specs.Session.{Streams, SessionEnds, SessionRun, AreWritten, HasServed}
 use Rattle.zb_session.specs.declared.session.End.{End}
 use Rattle.zb_session.specs.declared.session.End.TheVariants as endings
 use Rattle.zb_engine.specs.Ledger.{AreMadeBatches, IsLeftOver, IsFront}
 use Rattle.zb_serve.specs.Setting.{RunSetting}
 use Rattle.zb_serve.specs.Ends.{Told, LogEnds}
-use Rattle.zb_serve.specs.Log.{Course, course_of, OpenedLog, log_in, batch_of, IsKept, IsLeftOf, IsLog}
-use Rattle.zb_serve.specs.History.{stamps_of}
-use Rattle.zb_serve.specs.Served.{answer_of_run, HasRun, MayEnd, IsWhyUndone, IsUndone, AreClosing, cuts_off, answers_of}
-use Rattle.zb_serve.specs.Cause.{rank_of, comes_before}
-use Rattle.zb_serve.specs.Order.{HasFailed, WasMet}
+use Rattle.zb_serve.specs.Log.{course_of, IsKept}
+use Rattle.zb_serve.specs.Served.{answer_of_run, HasRun, IsUndone, AreClosing, cuts_off, answers_of}
+use Rattle.zb_serve.specs.Cause.{comes_before}
 use Rattle.zb_serve.specs.Session.{IsSent}
 use Rattle.zb_serve.specs.Running.{ends_alone, crashes_alone}
 use Rattle.zb_serve.specs.declared.run.Cause.{Cause}

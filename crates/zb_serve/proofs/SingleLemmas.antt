@@ -1,5 +1,5 @@
 -- A run of one session and one volume, as a run of lists of them.
-use Rattle.std.proofs.Common.{◌≡◌, ℕ, suc, List, [], ◌∷◌, ◌++◌, length, get_or, refl, sym, ap, subst, inl, inr, ⊎_elim, arith, length-append}
+use Rattle.std.proofs.Common.{◌≡◌, ℕ, suc, List, [], ◌∷◌, ◌++◌, length, get_or, refl, sym, ap, inl, inr, ⊎_elim, arith, length-append}
 use Rattle.std.proofs.Math.ListN.{set}
 use Rattle.std.specs.List.{AllZip}
 use Rattle.zb_disk.specs.declared.disk.Disk.{Ghosts}
@@ -8,15 +8,14 @@ use Rattle.zb_desk.specs.Numbered.{EachFrom}
 use Rattle.zb_session.specs.Session.{SessionEnds}
 use Rattle.zb_session.specs.declared.session.Session.{Session}
 use Rattle.zb_engine.specs.Solo.{slots_in}
-use Rattle.zb_serve.specs.Ends.{Devices, Told, told_of, LogEnds, RunEnds, ends_of, Crashes, crashes_of, IsSafe}
+use Rattle.zb_serve.specs.Ends.{Devices, Told, told_of, LogEnds, ends_of, Crashes, crashes_of, IsSafe}
 use Rattle.zb_serve.specs.Setting.{RunSetting}
 use Rattle.zb_serve.specs.Log.{Course, course_of, OpenedLog, IsLog}
-use Rattle.zb_serve.specs.Served.{Serves, MayEnd, FailsToOpen, answer_of_run, IsRun, slots_of_all}
+use Rattle.zb_serve.specs.Served.{Serves, answer_of_run, IsRun, slots_of_all}
 use Rattle.zb_session.specs.Session.{session_ends}
 use Rattle.zb_serve.specs.Running.{log_ends, ends_alone, crashes_alone}
 use Rattle.zb_serve.proofs.EndLemmas.{of_one}
 use Rattle.zb_serve.specs.declared.run.Cause.{Cause}
-use Rattle.zb_serve.specs.declared.run.Cause.TheVariants as causes
 
 -- a list of one member
 pub one_member : {A : Type 0} (xs : List A) (x : A) → length xs ≡ 1 → x ≡ get_or xs 0 x → xs ≡ x ∷ []

@@ -1,5 +1,5 @@
 -- Whether units of work are done behind a session that ended so.
-use Rattle.std.proofs.Common.{◌≡◌, List, Bool, true, false, IsTrue, IsFalse, Option, None, refl, sym, ◌∙◌}
+use Rattle.std.proofs.Common.{◌≡◌, List, Bool, IsTrue, IsFalse, Option, None, refl, sym, ◌∙◌}
 use Rattle.std.proofs.lemmas.Bool.{false≢true}
 use Rattle.zb_world.specs.Entries.{Entry}
 use Rattle.zb_session.specs.Session.{CutsOff, Facts, LeavesDesk}

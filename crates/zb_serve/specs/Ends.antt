@@ -6,7 +6,7 @@ use Rattle.zb_outside.specs.declared.source.Source as source_trait
 use Rattle.zb_outside.specs.declared.sink.Sink as sink_trait
 use Rattle.zb_store.specs.Calls.{LeftByOpening}
 use Rattle.zb_desk.specs.Numbered.{OfNumber}
-use Rattle.zb_session.specs.Session.{SessionEnds, Streams}
+use Rattle.zb_session.specs.Session.{SessionEnds}
 use Rattle.zb_session.specs.declared.session.Session.{Session}
 use Rattle.zb_store.specs.declared.volume.Volume.{Volume}
 
@@ -45,9 +45,9 @@ abbrev pub devices_of : {S K D : Type 0} → source_trait.Ghosts S → sink_trai
 devices_of source sink disk = record { source = source; sink = sink; disk = disk }
 
 -- what a sink and a disk tell, beside a source that tells and counts so
-abbrev pub told : {K D : Type 0} → (source_tells source_counts : Bool) → sink_trait.Ghosts K
+abbrev pub all_told : {K D : Type 0} → (source_tells source_counts : Bool) → sink_trait.Ghosts K
     → disk_trait.Ghosts D → Told
-told source_tells source_counts sink disk = record {
+all_told source_tells source_counts sink disk = record {
   source = source_tells;
   sink = sink.tells;
   disk = disk.tells;
@@ -61,7 +61,7 @@ told source_tells source_counts sink disk = record {
 
 -- what the devices of a run tell
 abbrev pub told_of : {S K D : Type 0} → Devices S K D → Told
-told_of devices = told devices.source.tells devices.source.counts_failures devices.sink devices.disk
+told_of devices = all_told devices.source.tells devices.source.counts_failures devices.sink devices.disk
 
 -- the ends of each session
 abbrev pub sessions_ends : {S K D : Type 0} → Devices S K D → List (Session S K)

@@ -10,7 +10,7 @@ ghost use Rattle.zb_session.specs.Serving.{AreAt, began_of, clocks_of, service_o
 ghost use Rattle.zb_engine.specs.Ledger.{Opening, basis_in};
 ghost use Rattle.zb_engine.specs.Solo.{IsOpenedAs, HasMade, slots_in};
 ghost use Rattle.zb_serve.specs.Setting.{setting_of};
-ghost use Rattle.zb_serve.specs.Ends.{told, IsSafe};
+ghost use Rattle.zb_serve.specs.Ends.{all_told, IsSafe};
 ghost use Rattle.zb_serve.specs.Served.{answer_of_run, IsRun};
 ghost use Rattle.zb_serve.specs.WorkOff.{facts_in, behind_of, IsWorkedOff};
 ghost use Rattle.zb_serve.specs.Running.{log_ends, ends_alone, crashes_alone, cause_of, is_cut};
@@ -53,7 +53,7 @@ pub fn run<S: Source, K: Sink, D: Disk, C: Clock>(
     ensures spared { result.stamps.items ≡ [] → IsTrue D.tells_images
         → IsSafe D.Disk volume result.volume }
     ensures run { IsRun
-        (told S.tells S.counts_failures K.Sink D.Disk)
+        (all_told S.tells S.counts_failures K.Sink D.Disk)
         (setting_of plan C.tells (C.moments clock.old))
         (ends_alone
         (session_ends (S.view session.old.source) (S.view session.new.source)
@@ -106,7 +106,7 @@ fn serve_partition<S: Source, K: Sink, D: Disk, C: Clock>(
         → opening.units ≡ plan.units → slots_in result.volume ≡ slots_in opening.volume }
     ensures run { (opening : Opening D) → IsOpenedAs opening partition → opening.limit ≡ plan.limit
         → opening.units ≡ plan.units → IsRun
-        (told S.tells S.counts_failures K.Sink D.Disk)
+        (all_told S.tells S.counts_failures K.Sink D.Disk)
         (setting_of plan C.tells (C.moments clock.old))
         (ends_alone
         (session_ends (S.view session.old.source) (S.view session.new.source)

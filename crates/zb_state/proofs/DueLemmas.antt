@@ -1,7 +1,5 @@
 -- What is due first, by the tables of the messages, of the jobs and of the timers.
-use Rattle.std.proofs.Common.{◌≡◌, ℕ, ◌==◌, ◌<◌, List, [], ◌∷◌, ◌++◌, map, filter, get_or, length, nat_le, Bool, true, false, not, if◌then◌else◌, cond, is_none, Option, Some, None, option_map, All, refl, sym, ap, ◌∙◌, arith}
-use Rattle.std.specs.List.{find}
-use Rattle.std.specs.Option.{option_map_or}
+use Rattle.std.proofs.Common.{◌≡◌, ℕ, List, [], ◌∷◌, ◌++◌, map, filter, get_or, nat_le, Bool, true, false, not, if◌then◌else◌, cond, is_none, Option, Some, None, option_map, All, refl, sym, ap, ◌∙◌, arith}
 use Rattle.std.proofs.lemmas.Bool.Decides.{nat_tests}
 use Rattle.std.proofs.lemmas.List.Elements.{filter-append, All-head, All-tail}
 use Rattle.zb_exchange_records.specs.declared.message.MessagePublished.{MessagePublished}
@@ -22,7 +20,7 @@ use Rattle.zb_tokens.specs.Board.{Board}
 use Rattle.zb_rules.specs.declared.alarm.Alarm.{Alarm}
 use Rattle.zb_rules.specs.Shown.{board_of}
 use Rattle.zb_rules.specs.Trigger.{waits_for, reason_to_trigger, timer_in_wrong_state, cell_not_waiting}
-use Rattle.zb_rules.specs.Due.{alarm_of_message, alarm_of_job, alarm_of_timer, jobs_given, timers_awaited, place_of_alarm, has_come_due, due_first, due_command}
+use Rattle.zb_rules.specs.Due.{alarm_of_message, alarm_of_job, alarm_of_timer, jobs_given, timers_awaited, place_of_alarm, has_come_due, due_command}
 use Rattle.zb_state.specs.Alarms.{expiry_at, time_out_at, trigger_at}
 
 -- lists by two questions that have the same answer for each of their things

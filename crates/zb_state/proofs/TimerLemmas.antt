@@ -1,5 +1,5 @@
 -- The table of timers, as events are taken in.
-use Rattle.std.proofs.Common.{◌≡◌, ℕ, ◌+◌, ◌<◌, ◌≤◌, max, Option, Some, None, Bool, true, false, not, if◌then◌else◌, List, [], ◌∷◌, ◌++◌, filter, IsTrue, refl, sym, ap, subst, ◌∙◌, arith, append-nil}
+use Rattle.std.proofs.Common.{◌≡◌, ℕ, ◌+◌, ◌<◌, ◌≤◌, max, Option, Some, None, Bool, true, false, not, if◌then◌else◌, List, [], ◌∷◌, ◌++◌, filter, IsTrue, refl, subst, arith, append-nil}
 use Rattle.std.proofs.lemmas.Bool.Decides.{nat_tests}
 use Rattle.zb_base.specs.Key.{key_of}
 use Rattle.zb_model.specs.declared.record.Event.{Event}

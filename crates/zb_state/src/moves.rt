@@ -239,6 +239,10 @@ pub fn event_of(alloc: Global, shown: Move, game: &Game) -> Option<Event>
             key: take.key,
             flow: take.flow,
         })),
+        Move::Trigger(told) => Some(Event::ProcessEventTriggered(ProcessEventTriggered {
+            cell: told.cell,
+            node: told.node,
+        })),
         Move::Incident(incident) => Some(Event::IncidentCreated(IncidentCreated {
             key: incident.key,
             kind: incident.kind,

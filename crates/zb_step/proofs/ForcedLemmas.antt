@@ -7,7 +7,7 @@ use Rattle.zb_tokens.specs.Forced.{next_mover, IsQuiet}
 use Rattle.zb_rules.specs.Shown.{board_of}
 use Rattle.zb_rules.specs.Applies.{all_apply}
 use Rattle.zb_rules.specs.Settling.{turn, turn_of}
-use Rattle.zb_rules.specs.Sound.{HasKeys}
+use Rattle.zb_rules.specs.Sound.{HasKeys, keys_of_turn}
 use Rattle.zb_rules.specs.ProgressLaws.{no_turn_is_quiet, turn_applies, turn_legal}
 use Rattle.zb_step.specs.Settled.{IsTurn}
 
@@ -18,7 +18,7 @@ module _ (p n moment : ℕ) (es : List Event) (b : Board) (mover : Mover) where
   turn_from at next = rw (at, next) refl
 
   -- the events that the next mover makes are the next turn
-  pub is_turn : (made : List Event) → IsTrue (all_apply p [] es) → HasKeys p es 1 → board_of es ≡ Some b → next_mover b ≡ Some mover → turn_of p n moment es b mover ≡ Some made → IsTurn p n moment es made
+  pub is_turn : (made : List Event) → IsTrue (all_apply p [] es) → HasKeys p es keys_of_turn → board_of es ≡ Some b → next_mover b ≡ Some mover → turn_of p n moment es b mover ≡ Some made → IsTurn p n moment es made
   is_turn made applied keys at next is =
       let forced : turn p n moment es ≡ Some made = turn_from at next ∙ is in
       record { forced = forced; applied = turn_applies p n moment es made applied keys forced; legal = turn_legal p n moment es made applied keys forced }

@@ -1,3 +1,4 @@
 pub mod AtOnce
 pub mod Behind
 pub mod Settled
+pub mod Told

@@ -1,17 +1,18 @@
 // An event, and those behind it.
 ghost use Rattle.std.specs.Prelude.{◌≡◌, ◌++◌, ◌<◌, ◌≤◌, ℕ, List, length, IfOk, OnOk};
 ghost use Rattle.zb_model.specs.declared.record.Event.{Event};
-ghost use Rattle.zb_rules.specs.Behind.{job_made_on, canceled, resolved_on, ended_on, events_behind, with_events_behind};
+ghost use Rattle.zb_rules.specs.Behind.{job_made_on, canceled, resolved_on, ended_on, halted_on, interrupted_on, events_behind, with_events_behind};
 ghost use Rattle.zb_state.specs.State.{partition_of, IsStateOf, IsReached, AdmitsMade};
-ghost use Rattle.zb_step.specs.Behind.{opened_on, closed_on, made_behind, any_event};
+ghost use Rattle.zb_step.specs.Behind.{opened_on, closed_on, halted_if, made_behind, any_event};
 
 use crate::timers::{put_canceled, put_made};
 use std::alloc::{AllocError, Global};
 use zb_model::{Event, IncidentResolved, JobCreated, Key, Moment, TryCopy};
 use zb_state::{Out, State};
+use zb_tokens::Triggered;
 
 /// What comes behind an event.
-#[derive(Clone, Copy)]
+#[derive(Drop)]
 pub enum Behind {
     Nothing,
     /// The cell that becomes active may have a job or timers.
@@ -20,11 +21,14 @@ pub enum Behind {
     Close(Key),
     /// The cell begins to terminate, and what waits for it ends.
     End(Key),
+    /// The event of a node has come about for a cell, which it may interrupt.
+    Interrupt(Triggered),
 }
 
 /// Puts an event and those behind it, at a moment. It costs what `Out::put` does for each; where a cell becomes active what
 /// `State::work_at` and `State::openings_at` do, where it begins to complete what `State::timers_on` does, and where it
-/// begins to terminate what that and `State::incident_on` do. After a refusal the state and the events are only dropped.
+/// begins to terminate what that and `State::incident_on` do; where a node's event has come about what
+/// `State::is_interrupting` does too. After a refusal the state and the events are only dropped.
 pub fn put_with_behind(
     alloc: Global,
     state: &mut State,
@@ -41,20 +45,24 @@ pub fn put_with_behind(
     ensures place { partition_of state.new ≡ partition_of state.old }
     ensures reached { OnOk result (IsReached state.new) }
 {
-    let behind = behind_of(&event);
+    let behind = behind_of(alloc, &event)?;
     out.put(alloc, state, event)?;
     put_behind(alloc, state, moment, behind, out)
 }
 
 // What comes behind this event.
-fn behind_of(event: &Event) -> Behind
-    ensures { (p n moment : ℕ) (es : List Event) → events_behind p n moment event.now es ≡ made_behind p moment result es }
+fn behind_of(alloc: Global, event: &Event) -> Result<Behind, AllocError>
+    ensures { IfOk result (λ behind. (p n moment : ℕ) (es : List Event) → events_behind p n moment event.now es ≡ made_behind p moment behind es) }
 {
     match event {
-        Event::ElementActivated(element) => Behind::Work(element.key),
-        Event::ElementCompleting(cell) => Behind::Close(*cell),
-        Event::ElementTerminating(cell) => Behind::End(*cell),
-        _ => Behind::Nothing,
+        Event::ElementActivated(element) => Ok(Behind::Work(element.key)),
+        Event::ElementCompleting(cell) => Ok(Behind::Close(*cell)),
+        Event::ElementTerminating(cell) => Ok(Behind::End(*cell)),
+        Event::ProcessEventTriggered(told) => Ok(Behind::Interrupt(Triggered {
+            cell: told.cell,
+            node: told.node.copy(alloc)?,
+        })),
+        _ => Ok(Behind::Nothing),
     }
 }
 
@@ -79,7 +87,62 @@ fn put_behind(
         Behind::Work(cell) => put_opened(alloc, state, moment, cell, out),
         Behind::Close(cell) => put_canceled(alloc, state, cell, out),
         Behind::End(cell) => put_ended(alloc, state, cell, out),
+        Behind::Interrupt(told) => put_interrupted(alloc, state, &told, out),
     }
+}
+
+// Puts the events by which a cell is interrupted, if the event of a node that has come about for it does that.
+fn put_interrupted(
+    alloc: Global,
+    state: &mut State,
+    told: &Triggered,
+    out: &mut Out,
+) -> Result<(), AllocError>
+    requires { AdmitsMade state.old (interrupted_on told.now.cell told.now.node) }
+    ensures put { (es : List Event) → IsStateOf es state.old → OnOk result (out.new ≡ out.old ++ interrupted_on told.now.cell told.now.node es) }
+    ensures state { (es : List Event) → IsStateOf es state.old
+        → OnOk result (IsStateOf (es ++ interrupted_on told.now.cell told.now.node es) state.new) }
+    ensures more { OnOk result (length out.old ≤ length out.new) }
+    ensures place { partition_of state.new ≡ partition_of state.old }
+    ensures reached { OnOk result (IsReached state.new) }
+{
+    let interrupts = state.is_interrupting(told.cell, told.node.as_str());
+    put_halted_if(alloc, state, interrupts, told.cell, out)
+}
+
+// Puts the events by which a cell begins to terminate, if it does.
+fn put_halted_if(
+    alloc: Global,
+    state: &mut State,
+    interrupts: bool,
+    cell: Key,
+    out: &mut Out,
+) -> Result<(), AllocError>
+    requires { AdmitsMade state.old (halted_if interrupts cell) }
+    ensures put { (es : List Event) → IsStateOf es state.old → OnOk result (out.new ≡ out.old ++ halted_if interrupts cell es) }
+    ensures state { (es : List Event) → IsStateOf es state.old → OnOk result (IsStateOf (es ++ halted_if interrupts cell es) state.new) }
+    ensures more { OnOk result (length out.old ≤ length out.new) }
+    ensures place { partition_of state.new ≡ partition_of state.old }
+    ensures reached { OnOk result (IsReached state.new) }
+{
+    if interrupts {
+        put_halted(alloc, state, cell, out)
+    } else {
+        Ok(())
+    }
+}
+
+// Puts the events by which a cell begins to terminate, and what waits for it ends.
+fn put_halted(alloc: Global, state: &mut State, cell: Key, out: &mut Out) -> Result<(), AllocError>
+    requires { AdmitsMade state.old (halted_on cell) }
+    ensures put { (es : List Event) → IsStateOf es state.old → OnOk result (out.new ≡ out.old ++ halted_on cell es) }
+    ensures state { (es : List Event) → IsStateOf es state.old → OnOk result (IsStateOf (es ++ halted_on cell es) state.new) }
+    ensures more { OnOk result (length out.old ≤ length out.new) }
+    ensures place { partition_of state.new ≡ partition_of state.old }
+    ensures reached { OnOk result (IsReached state.new) }
+{
+    out.put(alloc, state, Event::ElementTerminating(cell))?;
+    put_ended(alloc, state, cell, out)
 }
 
 // Puts the events by which what a cell waits for begins: its job is made, and then its timers are.

@@ -8,7 +8,7 @@ ghost use Rattle.zb_state.specs.State.{partition_of, IsStateOf, IsReached, Admit
 ghost use Rattle.zb_step.specs.AtOnce.{IsMadeAtOnce, made_one_by_one};
 
 use crate::own::own_events;
-use crate::{activate, cancel, complete, fail, update};
+use crate::{activate, cancel, complete, fail, trigger, update};
 use std::alloc::{AllocError, Global};
 use zb_model::{Command, Event, List, Moment};
 use zb_state::{Out, State};
@@ -57,6 +57,7 @@ fn is_made_one_by_one(command: &Command) -> bool
             | Command::JobBatchActivate(_)
             | Command::JobComplete(_)
             | Command::JobFail(_)
+            | Command::TimerTrigger(_)
     )
 }
 
@@ -81,6 +82,7 @@ fn put_one_by_one(
         Command::JobBatchActivate(asked) => activate::put_own(alloc, state, moment, asked, out),
         Command::JobComplete(done) => complete::put_own(alloc, state, done, out),
         Command::JobFail(failed) => fail::put_own(alloc, state, failed, out),
+        Command::TimerTrigger(key) => trigger::put_own(alloc, state, moment, *key, out),
         _ => Ok(()),
     }
 }

@@ -7,7 +7,7 @@ ghost use Rattle.zb_rules.specs.Sound.{HasKeys};
 ghost use Rattle.zb_state.specs.State.{partition_of, IsStateOf, IsReached};
 ghost use Rattle.zb_step.specs.AtOnce.{IsMadeAtOnce};
 
-use crate::{create, deploy, expire, jobs, publish, resolve, trigger};
+use crate::{create, deploy, expire, jobs, publish, resolve};
 use std::alloc::{AllocError, Global};
 use zb_model::{Command, Event, List, Moment};
 use zb_state::State;
@@ -34,7 +34,6 @@ pub fn own_events(
         Command::JobThrowError(error) => jobs::throw(alloc, error),
         Command::JobUpdateRetries(update) => jobs::retry(alloc, update),
         Command::JobTimeOut(key) => jobs::time_out(alloc, *key),
-        Command::TimerTrigger(key) => trigger::own(alloc, state, *key),
         Command::IncidentResolve(key) => resolve::own(alloc, state, *key),
         Command::MessagePublish(message) => publish::own(alloc, state, moment, message),
         Command::MessageExpire(key) => expire::own(alloc, *key),

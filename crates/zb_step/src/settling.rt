@@ -17,9 +17,12 @@ use zb_tokens::Mover;
 // A batch is full with so many events.
 const FULL: usize = 1024;
 
+// No turn draws more keys.
+const KEYS_OF_TURN: u64 = 1002;
+
 /// Makes the forced moves behind the events that a command has made so far at a moment, one after the other, until
 /// the game is quiet or the batch is full. Tells whether the game is quiet. Each move costs what
-/// `State::next_mover` and `State::take_in` do. Where no key is left it is answered as want of memory.
+/// `State::next_mover` and `State::take_in` do. Where the keys of a turn aren't left it is answered as want of memory.
 /// After a refusal the state and the events are only dropped.
 pub fn settle(
     alloc: Global,
@@ -54,7 +57,7 @@ fn next_turn(alloc: Global, state: &State, moment: Moment, mover: Mover) -> Resu
     requires next { (es : List Event) (board : Board) → IsStateOf es state.now → board_of es ≡ Some board → next_mover board ≡ Some mover }
     ensures { (n : ℕ) (es : List Event) → IsStateOf es state.now → IfOk result (λ turn. IsTurn (partition_of state.now) n moment es (turn_with (partition_of state.now) n moment turn.assignments turn.event es)) }
 {
-    if !state.has_keys(1) {
+    if !state.has_keys(KEYS_OF_TURN) {
         return Err(AllocError);
     }
     match state.turn_of(alloc, moment, mover)? {

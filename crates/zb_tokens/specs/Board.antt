@@ -1,5 +1,5 @@
 -- What stands on a board (BPMN 2.0.2, 13.1: tokens).
-use Rattle.std.specs.Prelude.{ℕ, ◌==◌, List, [], ◌∷◌, map, filter, Bool, true, false, ◌&&◌, ◌||◌, not, if◌then◌else◌, Option, option_map, ◌+◌, ◌≤◌}
+use Rattle.std.specs.Prelude.{ℕ, ◌==◌, List, [], ◌∷◌, ◌++◌, map, filter, Bool, true, false, ◌&&◌, ◌||◌, not, if◌then◌else◌, Option, option_map, ◌+◌, ◌≤◌}
 use Rattle.std.specs.Option.{option_map_or}
 use Rattle.std.specs.List.{find, list_any}
 use Rattle.std.specs.Str.{bytes_eq}
@@ -112,6 +112,10 @@ new_cell key scope definition node before = record {
 -- the cell in another phase, owing these flows
 abbrev pub in_phase : Phase → List (List ℕ) → Cell → Cell
 in_phase phase owed c = record c { phase = phase; owed = owed }
+
+-- the board with a token more, in a scope at a spot
+abbrev pub with_token : ℕ → Spot → Board → Board
+with_token scope spot b = record b { tokens = b.tokens ++ record { scope = scope; spot = spot } ∷ [] }
 
 -- the cell leaves, and is in this scope
 abbrev pub leaves_in : ℕ → Cell → Bool

@@ -1,6 +1,7 @@
--- The events that cells wait for: a timer at a catch event, which is due by a date or a duration (BPMN 2.0.2, 10.5.5 and 13.5.3).
-use Rattle.std.specs.Prelude.{ℕ, List, [], ◌∷◌, codes, Bool, false, ◌&&◌, ◌||◌, not, is_some, Option, Some, None, option_map, option_and_then, Result, Ok, Err}
+-- The events that cells wait for: timers at catch events, behind event gateways and at the boundary of activities, which are due by a date or a duration (BPMN 2.0.2, 10.5.4, 10.5.5, 10.6.6 and 13.5.3).
+use Rattle.std.specs.Prelude.{ℕ, List, [], ◌∷◌, ◌++◌, filter, codes, Bool, false, ◌&&◌, ◌||◌, not, is_some, if◌then◌else◌, Option, Some, None, option_map, option_and_then, Result, Ok, Err}
 use Rattle.std.specs.Option.{option_map_or, option_or}
+use Rattle.std.specs.List.{list_any}
 use Rattle.std.specs.Result.{result_map_both, result_unwrap_or}
 use Rattle.std.specs.Str.{bytes_eq}
 use Rattle.zb_base.specs.Results.{◌>>=◌}
@@ -8,11 +9,13 @@ use Rattle.zb_base.specs.Vars.{value_named, with_value}
 use Rattle.zb_base.specs.declared.value.Value.{Value}
 use Rattle.zb_base.specs.declared.value.Value.TheVariants as datums
 use Rattle.zb_base.specs.declared.vars.Variable.{Variable}
+use Rattle.zb_process.specs.declared.model.Model.{Model}
 use Rattle.zb_process.specs.declared.model.Node.{Node}
 use Rattle.zb_process.specs.declared.model.NodeKind.{NodeKind}
 use Rattle.zb_process.specs.declared.model.NodeKind.TheVariants as kinds
 use Rattle.zb_process.specs.Expr.{ValueFault, Kind, value_of}
 use Rattle.zb_process.specs.Tree.{Tree}
+use Rattle.zb_faults.specs.Elements.{is_catch, is_event_gateway}
 use Rattle.zb_duration.specs.Due.{due_of}
 use Rattle.zb_duration.specs.declared.fault.DueFault.{DueFault}
 use Rattle.zb_duration.specs.declared.form.TimeForm.{TimeForm}
@@ -21,17 +24,19 @@ use Rattle.zb_instance_records.specs.declared.happening.IncidentKind.TheVariants
 use Rattle.zb_tokens.specs.declared.board.Cell.{Cell}
 use Rattle.zb_tokens.specs.declared.board.Opening.{Opening}
 use Rattle.zb_tokens.specs.declared.board.Phase.TheVariants as phases
-use Rattle.zb_tokens.specs.Board.{Board, cell_at, is_phase}
+use Rattle.zb_tokens.specs.Board.{Board, cell_at, model_under, node_with, is_phase}
 use Rattle.zb_tokens.specs.Doom.{is_doomed}
 use Rattle.zb_tokens.specs.Incidents.{Hindrance, hindrance_of}
 use Rattle.zb_tokens.specs.Mappings.{inputs_of, node_of}
 use Rattle.zb_tokens.specs.Marks.{error_of, is_unset}
 use Rattle.zb_tokens.specs.Names.{value_seen}
 
--- the form of the time at a catch event with a timer (BPMN 2.0.2, 10.5.5)
+-- the form of the time at an event with a timer: one in the flow, or at the boundary of an activity (BPMN 2.0.2, 10.5.5)
 abbrev pub time_form : NodeKind → Option TimeForm
 time_form kinds.DateCatchEvent = Some forms.Date
 time_form kinds.DurationCatchEvent = Some forms.Duration
+time_form kinds.DateBoundaryEvent = Some forms.Date
+time_form kinds.DurationBoundaryEvent = Some forms.Duration
 time_form kind = None
 
 -- the text that a value is; another value is of the wrong kind
@@ -52,17 +57,34 @@ due_by names moment form time =
 abbrev pub time_of : Node → Option (TimeForm × Tree)
 time_of n = option_and_then (λ form. option_map (λ time. (form, time)) n.expr) (time_form n.kind)
 
--- the time that a cell waits for at its own node (BPMN 2.0.2, 13.5.3)
-abbrev pub own_time : Board → Cell → Option (TimeForm × Tree)
-own_time b c = option_and_then time_of (node_of b c)
+-- a flow leads from one node to another (BPMN 2.0.2, 8.4.13)
+abbrev pub leads_from : Model → (origin target : List ℕ) → Bool
+leads_from m origin target = list_any (λ f. bytes_eq f.from origin && bytes_eq f.to target) m.flows
 
--- the timer that opens for a cell at a time, where names have these values
-abbrev pub opening_by : (List ℕ → Option Value) → ℕ → Cell → TimeForm × Tree → Result (List Opening) Hindrance
-opening_by names moment c time = due_by names moment time.0 time.1 >>= (λ due. Ok (record { node = c.node; due = due } ∷ []))
+-- at a node a cell waits for the node's own event: at a catch event, where no event gateway in front of it has waited for that (BPMN 2.0.2, 10.6.6 and 13.5.3)
+abbrev pub waits_itself : Cell → Node → Bool
+waits_itself c n = is_catch n.kind && not c.before
+
+-- at a node a cell waits for the event of another one: of one behind an event gateway, or at the boundary of an activity (BPMN 2.0.2, 10.5.4 and 10.6.6)
+abbrev pub waits_beside : Model → (at other : Node) → Bool
+waits_beside m at other = if is_event_gateway at.kind then leads_from m at.id other.id else bytes_eq other.attached at.id
+
+-- the nodes for whose events a cell at a node waits: its own one first, the others in the order of the model (BPMN 2.0.2, 13.5.3)
+abbrev pub awaited : Model → Cell → Node → List Node
+awaited m c n = (if waits_itself c n then n ∷ [] else []) ++ filter (waits_beside m n) m.nodes
+
+-- the timer that opens at a node with a time, where names have these values
+abbrev pub opening_by : (List ℕ → Option Value) → ℕ → List ℕ → TimeForm × Tree → Result Opening Hindrance
+opening_by names moment node time = due_by names moment time.0 time.1 >>= (λ due. Ok (record { node = node; due = due }))
+
+-- the timers that open at those of some nodes that have a time, in their order, or why the first one that can't doesn't
+abbrev pub openings_in : (List ℕ → Option Value) → ℕ → List Node → Result (List Opening) Hindrance
+openings_in names moment [] = Ok []
+openings_in names moment (n ∷ ns) = option_map_or (λ time. opening_by names moment n.id time >>= (λ o. openings_in names moment ns >>= (λ os. Ok (o ∷ os)))) (time_of n) (openings_in names moment ns)
 
 -- the timers that open for a cell as it becomes active at a moment, where names have these values, or why they can't (BPMN 2.0.2, 13.5.3)
 abbrev pub openings_by : (List ℕ → Option Value) → Board → ℕ → Cell → Result (List Opening) Hindrance
-openings_by names b moment c = option_map_or (opening_by names moment c) (own_time b c) (Ok [])
+openings_by names b moment c = option_map_or (λ m. option_map_or (λ n. openings_in names moment (awaited m c n)) (node_of b c) (Ok [])) (model_under b c.definition) (Ok [])
 
 -- variables set one after another: of one name the last counts (BPMN 2.0.2, 10.4.2)
 abbrev pub set_over : List Variable → List Variable → List Variable
@@ -85,13 +107,21 @@ openings_of b moment c = openings_by (value_seen b c.key) b moment c
 abbrev pub openings_at : Board → (moment cell : ℕ) → List Opening
 openings_at b moment cell = option_map_or (λ c. result_unwrap_or (openings_of b moment c) []) (cell_at b cell) []
 
--- the cell waits, or is about to, for a time at this node: it is active, and that is its own one, which has a time (BPMN 2.0.2, 13.5.3)
-abbrev pub is_timed_at : List ℕ → Board → Cell → Bool
-is_timed_at node b c = is_phase c.phase phases.Active && (bytes_eq c.node node && is_some (own_time b c))
+-- at a node a cell waits for the time of the node with an id: it is the cell's own one, or another one for whose event it waits (BPMN 2.0.2, 13.5.3)
+abbrev pub is_timed_at : Model → Cell → Node → List ℕ → Bool
+is_timed_at m c n id = option_map_or (λ x. ((bytes_eq c.node id && waits_itself c n) || waits_beside m n x) && is_some (time_of x)) (node_with m id) false
+
+-- a cell waits, or is about to, for the time of the node with an id (BPMN 2.0.2, 13.5.3)
+abbrev pub awaits_time : Board → Cell → List ℕ → Bool
+awaits_time b c id = option_map_or (λ m. option_map_or (λ n. is_timed_at m c n id) (node_of b c) false) (model_under b c.definition) false
+
+-- a timer may open for a cell at the node with an id: it is active, and waits for the time of that (BPMN 2.0.2, 13.5.3)
+abbrev pub opens_at : List ℕ → Board → Cell → Bool
+opens_at id b c = is_phase c.phase phases.Active && awaits_time b c id
 
 -- the same of the cell with a key
 abbrev pub may_open_at : (cell : ℕ) → List ℕ → Board → Bool
-may_open_at cell node b = option_map_or (is_timed_at node b) (cell_at b cell) false
+may_open_at cell id b = option_map_or (opens_at id b) (cell_at b cell) false
 
 -- a cell waits for an event: it is active, not called off, and was told nothing so far, or of an error (BPMN 2.0.2, 13.5.3)
 abbrev pub may_be_told : Board → Cell → Bool

@@ -19,16 +19,19 @@ use Rattle.zb_tokens.specs.declared.board.Spot.TheVariants as spots
 use Rattle.zb_tokens.specs.declared.board.Enter.{Enter}
 use Rattle.zb_tokens.specs.declared.board.Leave.{Leave}
 use Rattle.zb_tokens.specs.declared.board.Start.{Start}
+use Rattle.zb_tokens.specs.declared.board.Triggered.{Triggered}
+use Rattle.zb_tokens.specs.declared.board.Mark.{Mark}
 use Rattle.zb_tokens.specs.declared.board.Phase.TheVariants as phases
 use Rattle.zb_tokens.specs.declared.board.Move.{Move}
 use Rattle.zb_tokens.specs.declared.board.Move.TheVariants as moves
 use Rattle.zb_tokens.specs.Edits.{edited, removed, without_first}
-use Rattle.zb_tokens.specs.Board.{Board, cell_at, model_under, start_in, scope_id, is_scope_in, in_phase, new_cell, is_spot, leaves_in, emptied}
+use Rattle.zb_tokens.specs.Board.{Board, cell_at, model_under, start_in, scope_id, is_scope_in, in_phase, new_cell, is_spot, leaves_in, emptied, with_token}
 use Rattle.zb_tokens.specs.MoveStart.{play_start}
 use Rattle.zb_tokens.specs.MoveEnter.{spots_of, stands_at, stand_at_each, without_each, entering, entered, play_enter}
 use Rattle.zb_tokens.specs.MoveOpen.{start_tokens, first_tokens, play_open}
 use Rattle.zb_tokens.specs.MoveLeave.{leaving, ends_scope, with_end, scope_ended, play_leave}
-use Rattle.zb_tokens.specs.MoveTake.{rest_of, with_token, play_take}
+use Rattle.zb_tokens.specs.MoveTake.{rest_of, spot_behind, play_take}
+use Rattle.zb_tokens.specs.MoveTrigger.{mark_by, told, play_trigger}
 use Rattle.zb_tokens.specs.MoveHalt.{play_halt}
 use Rattle.zb_tokens.specs.MoveGone.{play_gone}
 use Rattle.zb_tokens.specs.Marks.{with_mark}
@@ -258,17 +261,31 @@ module _ (keep : Cell → Bool) (stay : Token → Bool) where
         })
 
     -- a flow is taken
-    same_taken : (b after : Board) (flow : List ℕ) → ((c : Cell) → cell_at b key ≡ Some c → stay (record { scope = c.scope; spot = spots.OnFlow flow }) ≡ false) → play_take b (record { key = key; flow = flow }) ≡ Some after → IsSameIn keep stay b after
+    same_taken : (b after : Board) (flow : List ℕ) → ((c : Cell) → cell_at b key ≡ Some c → stay (record { scope = c.scope; spot = spot_behind b c flow }) ≡ false) → play_take b (record { key = key; flow = flow }) ≡ Some after → IsSameIn keep stay b after
     same_taken b after flow away is =
-        let r = chained_from (λ (c : Cell). option_map (with_token c.scope flow) (leaving (rest_of c.owed) key b)) (cell_at b key) after is in
-        let s = mapped_from (with_token r.0.scope flow) (leaving (rest_of r.0.owed) key b) after r.2 in
+        let r = chained_from (λ (c : Cell). option_map (with_token c.scope (spot_behind b c flow)) (leaving (rest_of c.owed) key b)) (cell_at b key) after is in
+        let s = mapped_from (with_token r.0.scope (spot_behind b r.0 flow)) (leaving (rest_of r.0.owed) key b) after r.2 in
         let left = same_leaving b s.0 (rest_of r.0.owed) s.1 in
         subst (IsSameIn keep stay b) s.2 (record {
           same_cells = left.same_cells;
-          same_tokens = kept_with_one stay s.0.tokens (record { scope = r.0.scope; spot = spots.OnFlow flow }) (away r.0 r.1) ∙ left.same_tokens;
+          same_tokens = kept_with_one stay s.0.tokens (record { scope = r.0.scope; spot = spot_behind b r.0 flow }) (away r.0 r.1) ∙ left.same_tokens;
           same_models = left.same_models;
           same_incidents = left.same_incidents;
         })
+
+    -- a cell is told of an event, or a token stands before the boundary event
+    same_told : (b after : Board) (node : List ℕ) (c : Cell) (mark : Option Mark) → stay (record { scope = c.scope; spot = spots.BeforeNode node }) ≡ false → told b (record { cell = key; node = node }) c mark ≡ Some after → IsSameIn keep stay b after
+    same_told b after node c (Some mark) away is = same_edited b after (with_mark mark) (λ x. refl) is
+    same_told b after node c None away is =
+        let e : with_token c.scope (spots.BeforeNode node) b ≡ after = cc in
+        subst (IsSameIn keep stay b) e (record { same_cells = refl; same_tokens = kept_with_one stay b.tokens (record { scope = c.scope; spot = spots.BeforeNode node }) away; same_models = refl; same_incidents = refl })
+
+    -- an event comes about
+    same_triggered : (b after : Board) (node : List ℕ) → ((c : Cell) → cell_at b key ≡ Some c → stay (record { scope = c.scope; spot = spots.BeforeNode node }) ≡ false) → play_trigger b (record { cell = key; node = node }) ≡ Some after → IsSameIn keep stay b after
+    same_triggered b after node away is =
+        let t : Triggered = record { cell = key; node = node } in
+        let r = chained_from (λ (c : Cell). told b t c (mark_by b t c)) (cell_at b key) after is in
+        same_told b after node r.0 (mark_by b t r.0) (away r.0 r.1) r.2
 
     -- a cell has terminated
     same_gone : (b after : Board) → ((t : Token) → (t.scope == key) ≡ true → stay t ≡ false) → play_gone b key ≡ Some after → IsSameIn keep stay b after
@@ -347,7 +364,8 @@ others_stay b after (moves.Assign a) other game is = edit_stays b after a.scope 
 others_stay b after (moves.Update a) other game is = edit_stays b after a.scope (with_variable a.name a.value) (λ c. refl) is
 others_stay b after (moves.Done key) other game is = edit_stays b after key (with_mark marks.Done) (λ c. refl) is
 others_stay b after (moves.Throw t) other game is = edit_stays b after t.cell (with_mark (marks.Thrown t.code)) (λ c. refl) is
-others_stay b after (moves.Trigger t) other game is = edit_stays b after t.cell (with_mark marks.Done) (λ c. refl) is
+others_stay b after (moves.Trigger t) other game is = same_triggered (λ c. not (c.key == t.cell)) (λ x. not (names_scope b (moves.Trigger t) x.scope)) t.cell (λ c it. ap not it) b after t.node
+    (λ c found. ap not (ap (λ (o : Option Cell). option_map_or (λ x. c.scope == x.scope) o false) found ∙ same_key c.scope)) is
 others_stay b after (moves.Incident i) other game is = absurd (cc)
 others_stay b after (moves.Repair key) other game is = absurd (cc)
 

@@ -46,6 +46,7 @@ names_scope b (moves.Enter e) scope = scope == e.scope
 names_scope b (moves.Open key) scope = scope == key
 names_scope b (moves.Leave l) scope = option_map_or (λ one. scope == one) (scope_ended_by b l.key) false
 names_scope b (moves.Take t) scope = option_map_or (λ c. scope == c.scope) (cell_at b t.key) false
+names_scope b (moves.Trigger t) scope = option_map_or (λ c. scope == c.scope) (cell_at b t.cell) false
 names_scope b (moves.Halt key) scope = scope == key
 names_scope b (moves.Gone key) scope = scope == key
 names_scope b move scope = false

@@ -22,11 +22,13 @@ use Rattle.zb_tokens.specs.MoveEnter.{joins, may_enter}
 use Rattle.zb_tokens.specs.MoveOpen.{opens}
 use Rattle.zb_tokens.specs.MoveFinish.{is_done}
 use Rattle.zb_tokens.specs.Incidents.{Hindrance, error_hindrance, is_stuck}
+use Rattle.zb_tokens.specs.declared.board.Triggered.{Triggered}
+use Rattle.zb_tokens.specs.Errors.{caught}
 use Rattle.zb_tokens.specs.Marks.{error_of}
 use Rattle.zb_tokens.specs.Catches.{opened_with}
 use Rattle.zb_tokens.specs.MoveLeave.{completion_of}
 
--- in a phase a cell that isn't stuck goes on by itself; with an error that was thrown in it, to its incident (BPMN 2.0.2, 13)
+-- in a phase a cell that isn't stuck goes on by itself; with an error that was thrown in it, to where that is caught, or to its incident (BPMN 2.0.2, 13)
 abbrev pub goes_on_in : Board → Cell → Phase → Bool
 goes_on_in b c phases.Activating = opens b c
 goes_on_in b c phases.Active = is_some (error_of c.mark) || is_done b c
@@ -93,15 +95,20 @@ abbrev pub leave_by : ℕ → Cell → Result (List (List ℕ)) Hindrance → Mo
 leave_by key c (Ok owed) = moves.Leave (record { key = c.key; owed = owed })
 leave_by key c (Err hindrance) = stop_by key c hindrance
 
--- an active cell begins to complete, or an incident under this key tells of the error that was thrown in it (BPMN 2.0.2, 10.5.7 and 13.3.2; Zeebe, incidents)
-abbrev pub finish_by : ℕ → Cell → Option (List ℕ) → Move
-finish_by key c None = moves.Finish c.key
-finish_by key c (Some code) = stop_by key c (error_hindrance code)
+-- an error that was thrown in a cell comes about where it is caught, or an incident under this key tells of it (BPMN 2.0.2, 10.5.7; Zeebe, incidents)
+abbrev pub catch_by : ℕ → Cell → (code : List ℕ) → Option Triggered → Move
+catch_by key c code None = stop_by key c (error_hindrance code)
+catch_by key c code (Some t) = moves.Trigger t
+
+-- an active cell begins to complete, or an error that was thrown in it is caught or stops it (BPMN 2.0.2, 10.5.7 and 13.3.2)
+abbrev pub finish_by : ℕ → Cell → Option Triggered → Option (List ℕ) → Move
+finish_by key c caught_at None = moves.Finish c.key
+finish_by key c caught_at (Some code) = catch_by key c code caught_at
 
 -- what a cell does by itself in a phase at a moment, where an incident gets this key (BPMN 2.0.2, 13)
 abbrev pub move_in : Board → (moment key : ℕ) → Cell → Phase → Option Move
 move_in b moment key c phases.Activating = Some (open_by key c (opened_with b moment c))
-move_in b moment key c phases.Active = Some (finish_by key c (error_of c.mark))
+move_in b moment key c phases.Active = Some (finish_by key c (caught b c) (error_of c.mark))
 move_in b moment key c phases.Completing = Some (leave_by key c (completion_of b c))
 move_in b moment key c phases.Leaving = take_first c.key c.owed
 move_in b moment key c phases.Terminating = Some (moves.Gone c.key)

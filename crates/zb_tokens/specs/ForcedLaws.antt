@@ -1,8 +1,8 @@
 -- Laws of forced moves, in the subject's own words.
 use Rattle.std.proofs.Common.{◌≡◌, ◌⊎◌, ℕ, ◌+◌, ◌≤◌, ◌==◌, max, List, [], ◌∷◌, map, filter, All, Contains, Bool, true, false, ◌&&◌, ◌||◌, not, cond, if◌then◌else◌, IsTrue, IsFalse, Option, Some, None, is_some, option_map, option_and_then, Result, Ok, Err, refl, inl, inr, ⊎_elim, ap, sym, ◌∙◌, subst, arith}
 use Rattle.std.specs.Option.{option_map_or, option_or}
-use Rattle.std.specs.List.{find}
-use Rattle.std.proofs.lemmas.Bool.{and_parts, not-true}
+use Rattle.std.specs.List.{find, list_any}
+use Rattle.std.proofs.lemmas.Bool.{and_parts, not-true, or_right}
 use Rattle.std.proofs.lemmas.Bool.Decides.{nat_tests}
 use Rattle.std.proofs.lemmas.List.Elements.{All-nil, All-cons, All-contains_itself}
 use Rattle.zb_base.specs.declared.vars.Variable.{Variable}
@@ -19,7 +19,7 @@ use Rattle.zb_tokens.specs.declared.board.Phase.TheVariants as phases
 use Rattle.zb_tokens.specs.Edits.{is_none_of}
 use Rattle.zb_tokens.specs.Board.{Board, cell_at, is_root, CellsAscend}
 use Rattle.zb_tokens.specs.Doom.{is_doomed}
-use Rattle.zb_tokens.specs.MoveHalt.{is_alive}
+use Rattle.zb_tokens.specs.MoveHalt.{is_alive, is_interrupted}
 use Rattle.zb_tokens.specs.MoveEnter.{may_enter}
 use Rattle.zb_tokens.specs.Incidents.{Hindrance, error_hindrance, is_stuck}
 use Rattle.zb_tokens.specs.Catches.{opened_with}
@@ -28,11 +28,14 @@ use Rattle.zb_tokens.specs.MoveLeave.{completion_of}
 use Rattle.zb_tokens.specs.MoveIncident.{may_stop, hindrance_in}
 use Rattle.zb_tokens.specs.MoveFinish.{is_done}
 use Rattle.zb_tokens.specs.Marks.{error_of}
+use Rattle.zb_tokens.specs.declared.board.Triggered.{Triggered}
+use Rattle.zb_tokens.specs.Errors.{caught}
+use Rattle.zb_tokens.specs.MoveTrigger.{comes_about_by, is_awaited}
 use Rattle.zb_tokens.specs.Game.{fits, agrees}
-use Rattle.zb_tokens.specs.GameLaws.{mapped_some, both_right, found_where, found_holds, none_found}
+use Rattle.zb_tokens.specs.GameLaws.{any_where, mapped_some, both_right, found_where, found_holds, none_found}
 use Rattle.zb_tokens.specs.LeaveLaws.{same_bytes, ids_same, exit_may_be_owed}
 use Rattle.zb_tokens.specs.MappingLaws.{completed_with}
-use Rattle.zb_tokens.specs.Forced.{finish_by, goes_on_in, ends_in, is_forced, way_of, can_enter, greatest, next_mover, IsQuiet, take_first, stop_by, open_by, leave_by, move_in, end_in, move_at, move_of, IsEnd}
+use Rattle.zb_tokens.specs.Forced.{catch_by, finish_by, goes_on_in, ends_in, is_forced, way_of, can_enter, greatest, next_mover, IsQuiet, take_first, stop_by, open_by, leave_by, move_in, end_in, move_at, move_of, IsEnd}
 
 -- a cell with this key that passes is the one that is found with it, and its key is not below `low`
 abbrev pub IsKeyOfCell : (Cell → Bool) → ℕ → List Cell → ℕ → Type 0
@@ -164,37 +167,48 @@ leave_suits b moment key c (Ok owed) move at found free exits is =
     subst (Suits b moment) is (rw (found, at, exit_may_be_owed b c owed (completed_with b c owed exits).1) refl, rw (found, exits, ids_same owed) refl)
 leave_suits b moment key c (Err hindrance) move at found free exits is = subst (Suits b moment) is (stop_suits b moment key c hindrance (rw at refl) found free (rw (at, exits) refl))
 
--- an active cell begins to complete, or an incident tells of the error that was thrown in it (BPMN 2.0.2, 10.5.7 and 13.3.2; Zeebe, incidents)
-finish_suits : (b : Board) (moment key : ℕ) (c : Cell) (error : Option (List ℕ)) (move : Move) → c.phase ≡ phases.Active → cell_at b c.key ≡ Some c → is_stuck b c ≡ false → goes_on_in b c phases.Active ≡ true → error_of c.mark ≡ error → finish_by key c error ≡ move
+-- an error that was thrown in a cell comes about where it is caught, or an incident tells of it (BPMN 2.0.2, 10.5.7; Zeebe, incidents)
+catch_suits : (b : Board) (moment key : ℕ) (c : Cell) (code : List ℕ) (at_event : Option Triggered) (move : Move) → c.phase ≡ phases.Active → cell_at b c.key ≡ Some c → is_doomed b c ≡ false → is_stuck b c ≡ false → error_of c.mark ≡ Some code → caught b c ≡ at_event → catch_by key c code at_event ≡ move
     → Suits b moment move
-finish_suits b moment key c None move at found free goes gives is =
+catch_suits b moment key c code None move at found alive free thrown catches is =
+    subst (Suits b moment) is (stop_suits b moment key c (error_hindrance code) (rw (at, thrown) refl) found free (rw (at, catches, thrown) refl))
+catch_suits b moment key c code (Some t) move at found alive free thrown catches is =
+    let same : (t.cell == t.cell) ≡ true = grind (arith, nat_tests) in
+    let comes : comes_about_by b t c ≡ true = rw (at, alive, free, catches, same, same_bytes t.node) refl in
+    let any = any_where (λ (x : Cell). x.key == c.key) (comes_about_by b t) b.cells c found comes in
+    subst (Suits b moment) is (or_right (is_awaited b t) (list_any (comes_about_by b t) b.cells) any, refl)
+
+-- an active cell begins to complete, or an error that was thrown in it is caught or stops it (BPMN 2.0.2, 10.5.7 and 13.3.2)
+finish_suits : (b : Board) (moment key : ℕ) (c : Cell) (error : Option (List ℕ)) (move : Move) → c.phase ≡ phases.Active → cell_at b c.key ≡ Some c → is_doomed b c ≡ false → is_stuck b c ≡ false → goes_on_in b c phases.Active ≡ true → error_of c.mark ≡ error → finish_by key c (caught b c) error ≡ move
+    → Suits b moment move
+finish_suits b moment key c None move at found alive free goes gives is =
     let done : is_done b c ≡ true = subst (λ (o : Option (List ℕ)). (is_some o || is_done b c) ≡ true) gives goes in
     subst (Suits b moment) is (rw (found, at, done) refl, refl)
-finish_suits b moment key c (Some code) move at found free goes gives is =
-    subst (Suits b moment) is (stop_suits b moment key c (error_hindrance code) (rw (at, gives) refl) found free (rw (at, gives) refl))
+finish_suits b moment key c (Some code) move at found alive free goes gives is = catch_suits b moment key c code (caught b c) move at found alive free gives refl is
 
 -- by the phase of the cell
-pub cell_suits : (b : Board) (moment key : ℕ) (c : Cell) (phase : Phase) (move : Move) → c.phase ≡ phase → cell_at b c.key ≡ Some c → is_stuck b c ≡ false → goes_on_in b c phase ≡ true → move_in b moment key c phase ≡ Some move → Suits b moment move
-cell_suits b moment key c phases.Activating move at found free goes is = open_suits b moment key c (opened_with b moment c) move at found free goes refl (some_move (open_by key c (opened_with b moment c)) move is)
-cell_suits b moment key c phases.Active move at found free goes is = finish_suits b moment key c (error_of c.mark) move at found free goes refl (some_move (finish_by key c (error_of c.mark)) move is)
-cell_suits b moment key c phases.Completing move at found free goes is = leave_suits b moment key c (completion_of b c) move at found free refl (some_move (leave_by key c (completion_of b c)) move is)
-cell_suits b moment key c phases.Leaving move at found free goes is = by_owed c.owed refl is
+pub cell_suits : (b : Board) (moment key : ℕ) (c : Cell) (phase : Phase) (move : Move) → c.phase ≡ phase → cell_at b c.key ≡ Some c → is_doomed b c ≡ false → is_stuck b c ≡ false → goes_on_in b c phase ≡ true → move_in b moment key c phase ≡ Some move → Suits b moment move
+cell_suits b moment key c phases.Activating move at found alive free goes is = open_suits b moment key c (opened_with b moment c) move at found free goes refl (some_move (open_by key c (opened_with b moment c)) move is)
+cell_suits b moment key c phases.Active move at found alive free goes is = finish_suits b moment key c (error_of c.mark) move at found alive free goes refl (some_move (finish_by key c (caught b c) (error_of c.mark)) move is)
+cell_suits b moment key c phases.Completing move at found alive free goes is = leave_suits b moment key c (completion_of b c) move at found free refl (some_move (leave_by key c (completion_of b c)) move is)
+cell_suits b moment key c phases.Leaving move at found alive free goes is = by_owed c.owed refl is
   where
     by_owed : (owed : List (List ℕ)) → c.owed ≡ owed → take_first c.key owed ≡ Some move → Suits b moment move
     by_owed [] owes is = absurd (cc)
     by_owed (flow ∷ owed) owes is =
         subst (Suits b moment) (some_move (moves.Take (record { key = c.key; flow = flow })) move is) (rw (found, at, owes, same_bytes flow) refl, refl)
-cell_suits b moment key c phases.Terminating move at found free goes is =
+cell_suits b moment key c phases.Terminating move at found alive free goes is =
     subst (Suits b moment) (some_move (moves.Gone c.key) move is) (rw (found, at, goes) refl, refl)
 
 -- a doomed cell, by its phase
-doomed_or : (root doomed : Bool) → doomed ≡ true → (root || doomed) ≡ true
-doomed_or true doomed is = refl
-doomed_or false doomed is = is
+doomed_or : (root doomed interrupted : Bool) → doomed ≡ true → (root || doomed || interrupted) ≡ true
+doomed_or true doomed interrupted is = refl
+doomed_or false true interrupted is = refl
+doomed_or false false interrupted is = absurd (cc)
 
 halt_suits : (b : Board) (moment : ℕ) (c : Cell) (move : Move) → is_alive c ≡ true → cell_at b c.key ≡ Some c → is_doomed b c ≡ true → Some (moves.Halt c.key) ≡ Some move → Suits b moment move
 halt_suits b moment c move alive found doomed is =
-    let called : (is_root c || is_doomed b c) ≡ true = doomed_or (is_root c) (is_doomed b c) doomed in
+    let called : (is_root c || is_doomed b c || is_interrupted b c) ≡ true = doomed_or (is_root c) (is_doomed b c) (is_interrupted b c) doomed in
     subst (Suits b moment) (some_move (moves.Halt c.key) move is) (rw (found, alive, called) refl, refl)
 
 end_suits : (b : Board) (moment : ℕ) (c : Cell) (phase : Phase) (move : Move) → c.phase ≡ phase → cell_at b c.key ≡ Some c → is_doomed b c ≡ true → ends_in b c phase ≡ true → end_in c phase ≡ Some move → Suits b moment move
@@ -210,7 +224,7 @@ forced_suits : (b : Board) (moment key : ℕ) (c : Cell) (move : Move) (doomed :
 forced_suits b moment key c move true found doomed ends is = end_suits b moment c c.phase move refl found doomed ends is
 forced_suits b moment key c move false found alive goes is =
     let it = and_parts (not (is_stuck b c)) (goes_on_in b c c.phase) goes in
-    cell_suits b moment key c c.phase move refl found (not-true (is_stuck b c) it.0) it.1 is
+    cell_suits b moment key c c.phase move refl found alive (not-true (is_stuck b c) it.0) it.1 is
 
 entry_suits : (b : Board) (moment key : ℕ) (t : Token) (way : Option (List ℕ × List ℕ)) (move : Move) → option_map_or (λ (w : List ℕ × List ℕ). may_enter b t.scope w.0 w.1) way false ≡ true
     → option_map (λ (w : List ℕ × List ℕ). moves.Enter (record { key = key; scope = t.scope; node = w.0; via = w.1 })) way ≡ Some move → Suits b moment move

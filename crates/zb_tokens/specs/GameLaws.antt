@@ -1,12 +1,15 @@
 -- Laws of the game, in the subject's own words.
-use Rattle.std.proofs.Common.{◌≡◌, ℕ, ◌==◌, List, [], ◌∷◌, ◌++◌, filter, All, Contains, cond, option_map, option_and_then, is_some, Bool, true, false, not, ◌&&◌, ◌||◌, if◌then◌else◌, IsTrue, Option, Some, None, refl, sym, ap, ◌∙◌, subst}
+use Rattle.std.proofs.Common.{◌≡◌, ℕ, ◌==◌, List, [], ◌∷◌, ◌++◌, filter, All, Contains, cond, option_map, option_and_then, is_some, Bool, true, false, not, ◌&&◌, ◌||◌, if◌then◌else◌, IsTrue, Option, Some, None, refl, sym, ap, ◌∙◌, subst, arith}
 use Rattle.std.specs.Option.{option_map_or}
 use Rattle.std.specs.List.{find, list_any}
+use Rattle.std.proofs.lemmas.Bool.{or_left, or_right}
 use Rattle.std.proofs.lemmas.List.Elements.{All-nil, All-cons, All-head, All-tail, All-contains}
 use Rattle.zb_tokens.specs.Edits.{edited, removed}
 use Rattle.zb_tokens.specs.declared.board.Cell.{Cell}
 use Rattle.zb_tokens.specs.declared.board.Token.{Token}
-use Rattle.zb_tokens.specs.declared.board.Spot.TheVariants as spots
+use Rattle.zb_tokens.specs.declared.board.Spot.{Spot}
+use Rattle.zb_tokens.specs.declared.board.Mark.{Mark}
+use Rattle.zb_tokens.specs.declared.board.Triggered.{Triggered}
 use Rattle.zb_tokens.specs.declared.board.Phase.TheVariants as phases
 use Rattle.zb_tokens.specs.declared.board.Mark.TheVariants as marks
 use Rattle.zb_tokens.specs.declared.board.Move.{Move}
@@ -14,12 +17,17 @@ use Rattle.zb_tokens.specs.declared.board.Move.TheVariants as moves
 use Rattle.zb_tokens.specs.declared.board.Enter.{Enter}
 use Rattle.zb_tokens.specs.declared.board.Take.{Take}
 use Rattle.zb_process.specs.declared.model.Model.{Model}
-use Rattle.zb_tokens.specs.Board.{Board, cell_at, model_under, node_with, is_phase, in_phase}
-use Rattle.zb_tokens.specs.Doom.{is_called_off}
+use Rattle.zb_tokens.specs.Board.{Board, cell_at, model_under, node_with, is_phase, in_phase, with_token}
 use Rattle.zb_tokens.specs.MoveEnter.{spots_of, stand_at_each, arrives, has_come, entered}
 use Rattle.zb_tokens.specs.MoveOpen.{start_tokens, first_tokens, opens}
 use Rattle.zb_tokens.specs.MoveLeave.{leaving}
-use Rattle.zb_tokens.specs.MoveTake.{rest_of, with_token, play_take}
+use Rattle.zb_tokens.specs.MoveTake.{rest_of, spot_behind, play_take}
+use Rattle.zb_tokens.specs.MoveTrigger.{awaits_event, comes_about_by, is_awaited, mark_by, told}
+use Rattle.zb_tokens.specs.Errors.{caught, is_same_event}
+use Rattle.zb_tokens.specs.ErrorLaws.{caught_there, any_there}
+use Rattle.zb_tokens.specs.Doom.{is_called_off, is_doomed}
+use Rattle.zb_tokens.specs.Incidents.{is_stuck}
+use Rattle.std.proofs.lemmas.Bool.Decides.{nat_tests}
 use Rattle.zb_tokens.specs.Marks.{with_mark}
 use Rattle.zb_tokens.specs.MoveAssign.{with_variable}
 use Rattle.zb_tokens.specs.Game.{fits, played}
@@ -115,6 +123,17 @@ module _ {A : Type 0} (passes : A → Bool) where
   pub found_where : (xs : List A) (x : A) → Contains xs x → passes x ≡ true → is_some (find passes xs) ≡ true
   found_where xs x among it = where_by xs x (find passes xs) refl among it
 
+-- where one that is found passes another test, one passes that
+module _ {A : Type 0} (named passes : A → Bool) where
+  any_named : (t : Bool) (x y : A) (xs : List A) → passes y ≡ true → (find named xs ≡ Some y → list_any passes xs ≡ true) → cond t (Some x) (find named xs) ≡ Some y → (passes x || list_any passes xs) ≡ true
+  any_named true x y xs it later is = let same : x ≡ y = cc in or_left (passes x) (list_any passes xs) (subst (λ (z : A). passes z ≡ true) (sym same) it)
+  any_named false x y xs it later is = or_right (passes x) (list_any passes xs) (later is)
+
+  -- where an item that was found passes some item does
+  pub any_where : (xs : List A) (y : A) → find named xs ≡ Some y → passes y ≡ true → list_any passes xs ≡ true
+  any_where [] y is it = absurd (cc)
+  any_where (x ∷ xs) y is it = any_named (named x) x y xs it (λ later. any_where xs y later it) is
+
 -- what is said of a thing that may not be there holds only where it is
 pub holds_some : {A : Type 0} (holds : A → Bool) (o : Option A) → IsTrue (option_map_or holds o false) → IsTrue (is_some o)
 holds_some holds None is = absurd (cc)
@@ -164,6 +183,25 @@ opened_by : (b : Board) (found : Option Cell) (cells : Option (List Cell)) → I
 opened_by b None cells some is = absurd (cc)
 opened_by b (Some c) cells some is = chained_some _ (first_tokens b c) (tokens_some b c (both_right (is_phase c.phase phases.Activating) (opens b c) is)) (λ tokens. mapped_some _ cells some)
 
+-- the cell of an event that may come about is there
+told_there : (b : Board) (t : Triggered) (waits : Bool) → is_awaited b t ≡ waits → IsTrue (waits || list_any (comes_about_by b t) b.cells) → IsTrue (is_some (cell_at b t.cell))
+told_there b t true at is = holds_some (awaits_event b t) (cell_at b t.cell) at
+told_there b t false at is =
+    let one = any_there (comes_about_by b t) (λ (c : Cell). Unit {0}) b.cells (λ k d within. tt) is in
+    by_caught one.0 (caught b one.0) refl (both_right (not (is_stuck b one.0)) _ (both_right (not (is_doomed b one.0)) _ (both_right (is_phase one.0.phase phases.Active) _ one.2)))
+  where
+    by_caught : (c : Cell) (at : Option Triggered) → caught b c ≡ at → IsTrue (option_map_or (is_same_event t) at false) → IsTrue (is_some (cell_at b t.cell))
+    by_caught c None at same = absurd (cc)
+    by_caught c (Some u) at same =
+        let its = (caught_there b c u at).2 in
+        let one : u.cell ≡ t.cell = (let key = both_left (u.cell == t.cell) _ same in grind (arith, nat_tests)) in
+        ap is_some (ap (cell_at b) (sym one) ∙ its.there)
+
+-- a cell that is there can be told of an event
+told_some : (b : Board) (t : Triggered) (c : Cell) → IsTrue (is_some (cell_at b t.cell)) → (mark : Option Mark) → IsTrue (is_some (told b t c mark))
+told_some b t c there (Some mark) = mapped_some _ (edited (λ x. x.key == t.cell) (with_mark mark) b.cells) (cells_edited (with_mark mark) t.cell b there)
+told_some b t c there None = refl
+
 -- a move that fits can be played
 pub fitting_is_played : (b : Board) (move : Move) → IsTrue (fits b move) → IsTrue (is_some (played b move))
 fitting_is_played b (moves.Stand d) is = refl
@@ -178,7 +216,7 @@ fitting_is_played b (moves.Leave l) is =
     chained_some _ (cell_at b l.key) there (λ c. mapped_some _ (leaving l.owed l.key b) (leaving_some l.owed l.key b there))
 fitting_is_played b (moves.Take t) is =
     let there = holds_some _ (cell_at b t.key) is in
-    chained_some _ (cell_at b t.key) there (λ c. mapped_some (with_token c.scope t.flow) (leaving (rest_of c.owed) t.key b) (leaving_some (rest_of c.owed) t.key b there))
+    chained_some _ (cell_at b t.key) there (λ c. mapped_some (with_token c.scope (spot_behind b c t.flow)) (leaving (rest_of c.owed) t.key b) (leaving_some (rest_of c.owed) t.key b there))
 fitting_is_played b (moves.Halt key) is =
     mapped_some _ (edited (λ c. c.key == key) (in_phase phases.Terminating []) b.cells) (cells_edited (in_phase phases.Terminating []) key b (holds_some _ (cell_at b key) is))
 fitting_is_played b (moves.Gone key) is =
@@ -192,7 +230,8 @@ fitting_is_played b (moves.Done key) is =
 fitting_is_played b (moves.Throw t) is =
     mapped_some _ (edited (λ c. c.key == t.cell) (with_mark (marks.Thrown t.code)) b.cells) (cells_edited (with_mark (marks.Thrown t.code)) t.cell b (holds_some _ (cell_at b t.cell) is))
 fitting_is_played b (moves.Trigger t) is =
-    mapped_some _ (edited (λ c. c.key == t.cell) (with_mark marks.Done) b.cells) (cells_edited (with_mark marks.Done) t.cell b (holds_some _ (cell_at b t.cell) is))
+    let there = told_there b t (is_awaited b t) refl is in
+    chained_some _ (cell_at b t.cell) there (λ c. told_some b t c there (mark_by b t c))
 fitting_is_played b (moves.Incident i) is = refl
 fitting_is_played b (moves.Repair key) is = mapped_some _ (removed (λ i. i.key == key) b.incidents) (removed_some (λ i. i.key == key) b.incidents (any_found (λ i. i.key == key) b.incidents is))
 
@@ -205,17 +244,17 @@ leaving_keeps : (b after : Board) (owed : List (List ℕ)) (key : ℕ) → leavi
 leaving_keeps b after [] key is = cells_alone b after (removed (λ c. c.key == key) b.cells) is
 leaving_keeps b after (flow ∷ owed) key is = cells_alone b after (edited (λ c. c.key == key) (in_phase phases.Leaving (flow ∷ owed)) b.cells) is
 
-token_by : (b after : Board) (scope : ℕ) (flow : List ℕ) (left : Option Board) → ((l : Board) → left ≡ Some l → l.tokens ≡ b.tokens) → option_map (with_token scope flow) left ≡ Some after
-    → after.tokens ≡ b.tokens ++ record { scope = scope; spot = spots.OnFlow flow } ∷ []
-token_by b after scope flow None kept is = absurd (cc)
-token_by b after scope flow (Some l) kept is =
-    ap (λ (x : Board). x.tokens) (sym (let e : with_token scope flow l ≡ after = cc in e)) ∙ ap (λ (ts : List Token). ts ++ record { scope = scope; spot = spots.OnFlow flow } ∷ []) (kept l refl)
+token_by : (b after : Board) (scope : ℕ) (spot : Spot) (left : Option Board) → ((l : Board) → left ≡ Some l → l.tokens ≡ b.tokens) → option_map (with_token scope spot) left ≡ Some after
+    → after.tokens ≡ b.tokens ++ record { scope = scope; spot = spot } ∷ []
+token_by b after scope spot None kept is = absurd (cc)
+token_by b after scope spot (Some l) kept is =
+    ap (λ (x : Board). x.tokens) (sym (let e : with_token scope spot l ≡ after = cc in e)) ∙ ap (λ (ts : List Token). ts ++ record { scope = scope; spot = spot } ∷ []) (kept l refl)
 
-take_by : (b after : Board) (t : Take) (found : Option Cell) → option_and_then (λ (c : Cell). option_map (with_token c.scope t.flow) (leaving (rest_of c.owed) t.key b)) found ≡ Some after
-    → (c : Cell) × (found ≡ Some c) × (after.tokens ≡ b.tokens ++ record { scope = c.scope; spot = spots.OnFlow t.flow } ∷ [])
+take_by : (b after : Board) (t : Take) (found : Option Cell) → option_and_then (λ (c : Cell). option_map (with_token c.scope (spot_behind b c t.flow)) (leaving (rest_of c.owed) t.key b)) found ≡ Some after
+    → (c : Cell) × (found ≡ Some c) × (after.tokens ≡ b.tokens ++ record { scope = c.scope; spot = spot_behind b c t.flow } ∷ [])
 take_by b after t None is = absurd (cc)
-take_by b after t (Some c) is = (c, refl, token_by b after c.scope t.flow (leaving (rest_of c.owed) t.key b) (λ l left. leaving_keeps b l (rest_of c.owed) t.key left) is)
+take_by b after t (Some c) is = (c, refl, token_by b after c.scope (spot_behind b c t.flow) (leaving (rest_of c.owed) t.key b) (λ l left. leaving_keeps b l (rest_of c.owed) t.key left) is)
 
--- a flow that is taken makes exactly one token, on that flow (BPMN 2.0.2, 13.3.1)
-pub take_makes_one : (b after : Board) (t : Take) → play_take b t ≡ Some after → (c : Cell) × (cell_at b t.key ≡ Some c) × (after.tokens ≡ b.tokens ++ record { scope = c.scope; spot = spots.OnFlow t.flow } ∷ [])
+-- a flow that is taken makes exactly one token, on that flow, or before its target at an event gateway (BPMN 2.0.2, 10.6.6 and 13.3.1)
+pub take_makes_one : (b after : Board) (t : Take) → play_take b t ≡ Some after → (c : Cell) × (cell_at b t.key ≡ Some c) × (after.tokens ≡ b.tokens ++ record { scope = c.scope; spot = spot_behind b c t.flow } ∷ [])
 take_makes_one b after t is = take_by b after t (cell_at b t.key) is

@@ -10,14 +10,16 @@ use Rattle.zb_base.specs.Results.{◌>>=◌}
 use Rattle.zb_process.specs.declared.model.Model.{Model}
 use Rattle.zb_process.specs.declared.model.Node.{Node}
 use Rattle.zb_process.specs.declared.model.Flow.{Flow}
-use Rattle.zb_faults.specs.Elements.{is_exclusive_gateway}
+use Rattle.zb_process.specs.declared.model.NodeKind.{NodeKind}
+use Rattle.zb_process.specs.declared.model.NodeKind.TheVariants as kinds
+use Rattle.zb_faults.specs.Elements.{is_exclusive_gateway, is_event_gateway}
 use Rattle.zb_tokens.specs.declared.board.Cell.{Cell}
 use Rattle.zb_tokens.specs.Board.{Board, model_under, node_with, is_at, is_root}
 use Rattle.zb_tokens.specs.Names.{value_seen}
 use Rattle.zb_tokens.specs.Incidents.{Hindrance}
 use Rattle.zb_tokens.specs.Choice.{Gateway, gateway_in, gateway_of, choice_at}
 use Rattle.zb_tokens.specs.Chosen.{IsAtGateway, IsChosen, IsUndecided}
-use Rattle.zb_tokens.specs.MoveLeave.{flows_of, are_among, ids_eq, is_single, may_owe, exit_of}
+use Rattle.zb_tokens.specs.MoveLeave.{may_take, flows_of, are_among, ids_eq, is_single, may_owe, exit_of}
 use Rattle.zb_tokens.specs.EffectLaws.{chained_from}
 use Rattle.zb_tokens.specs.ChoiceLaws.{is_choice, chosen_out, is_undecided}
 
@@ -100,14 +102,31 @@ outs_leave b c g at =
     let all = filter_passes (λ (f : Flow). bytes_eq f.from c.node) at.model.flows in
     subst (λ (fs : List Flow). All (λ (f : Flow). f.from ≡ c.node) fs) (sym at.outs) (λ k d within. (bytes_eq-Decides _ c.node).0 (all k d within))
 
+-- an exclusive gateway is no event gateway
+kinds_apart : (kind : NodeKind) → is_exclusive_gateway kind ≡ true → is_event_gateway kind ≡ false
+kinds_apart kinds.ExclusiveGateway is = refl
+kinds_apart kind is = absurd (cc)
+
+-- nothing goes where each is kept
+each_kept : {A : Type 0} (keep : A → Bool) → ((x : A) → keep x ≡ true) → (xs : List A) → filter keep xs ≡ xs
+each_kept keep each [] = refl
+each_kept keep each (x ∷ xs) = let it = each x in rw it (ap (λ ys. x ∷ ys) (each_kept keep each xs))
+
+-- so all flows out of the gateway of a cell may be taken
+all_go_out : (b : Board) (c : Cell) (g : Gateway) → IsAtGateway b c g → flows_of b c ≡ map (λ (x : Flow). x.id) g.outs
+all_go_out b c g at =
+    let inner = at.inner in
+    let stands = at.stands in
+    let there = at.there in
+    let other = kinds_apart g.node.kind at.exclusive in
+    let outs : List Flow = filter (λ (x : Flow). bytes_eq x.from c.node) at.model.flows in
+    let its : flows_of b c ≡ map (λ (x : Flow). x.id) (filter (may_take false c) outs) = rw (inner, stands, there, other) refl in
+    its ∙ ap (map (λ (x : Flow). x.id)) (each_kept (may_take false c) (λ f. refl) outs ∙ sym at.outs)
+
 module _ (b : Board) (c : Cell) where
   one_of_outs : (g : Gateway) (f : Flow) → gateway_of b c ≡ Some g → choice_at (value_seen b c.key) g ≡ Ok f → are_among (f.id ∷ []) (flows_of b c) ≡ true
   one_of_outs g f at is =
-      let r = at_gateway b c g at in
-      let inner = r.inner in
-      let stands = r.stands in
-      let its : flows_of b c ≡ map (λ (x : Flow). x.id) (filter (λ (x : Flow). bytes_eq x.from c.node) r.model.flows) = rw (inner, stands) refl in
-      let all : flows_of b c ≡ map (λ (x : Flow). x.id) g.outs = its ∙ ap (map (λ (x : Flow). x.id)) (sym r.outs) in
+      let all = all_go_out b c g (at_gateway b c g at) in
       let among = All-contains (λ (x : Flow). are_among (x.id ∷ []) (map (λ (y : Flow). y.id) g.outs) ≡ true) g.outs f (each_among g.outs) (chosen_out (value_seen b c.key) g f (is_choice (value_seen b c.key) g f is)) in
       subst (λ (ids : List (List ℕ)). are_among (f.id ∷ []) ids ≡ true) (sym all) among
 

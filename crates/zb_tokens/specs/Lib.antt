@@ -22,11 +22,13 @@ pub mod MoveRepair
 pub mod MoveDone
 pub mod Catches
 pub mod MoveThrow
+pub mod Errors
 pub mod MoveTrigger
 pub mod Game
 pub mod Forced
 pub mod Effects
 pub mod Chosen
+pub mod ErrorLaws
 pub mod GameLaws
 pub mod EffectLaws
 pub mod ChoiceLaws
@@ -34,4 +36,5 @@ pub mod LeaveLaws
 pub mod Mapped
 pub mod MappingLaws
 pub mod VisibleLaws
+pub mod CatcherLaws
 pub mod ForcedLaws

@@ -3,6 +3,7 @@ use Rattle.std.specs.Prelude.{ℕ, ◌==◌, [], Bool, true, false, ◌&&◌, �
 use Rattle.std.specs.Option.{option_map_or}
 use Rattle.zb_process.specs.declared.model.NodeKind.{NodeKind}
 use Rattle.zb_process.specs.declared.model.NodeKind.TheVariants as kinds
+use Rattle.zb_faults.specs.Elements.{is_catch}
 use Rattle.zb_tokens.specs.Edits.{edited}
 use Rattle.zb_tokens.specs.declared.board.Cell.{Cell}
 use Rattle.zb_tokens.specs.declared.board.Phase.TheVariants as phases
@@ -25,9 +26,13 @@ waits_for_nothing kinds.ErrorBoundaryEvent = true
 waits_for_nothing kinds.CompensationBoundaryEvent = true
 waits_for_nothing kind = false
 
+-- a cell waits for nothing at a node of this kind: none does, or its event has come at an event gateway in front of it (BPMN 2.0.2, 10.6.6)
+abbrev pub rests_at : Cell → NodeKind → Bool
+rests_at c kind = waits_for_nothing kind || (is_catch kind && c.before)
+
 -- nothing is left that a cell waits for: it has come; a scope waits for what is in it (BPMN 2.0.2, 13.2, 13.3.3 and 13.3.4)
 abbrev pub is_done : Board → Cell → Bool
-is_done b c = option_map_or (λ m. if is_scope_in m c then is_empty b c.key else has_come_about c.mark || is_at m c.node waits_for_nothing) (model_under b c.definition) false
+is_done b c = option_map_or (λ m. if is_scope_in m c then is_empty b c.key else has_come_about c.mark || is_at m c.node (rests_at c)) (model_under b c.definition) false
 
 -- when: it is active, and waits for nothing (BPMN 2.0.2, 13.3.2; a process: 13.2)
 abbrev pub fits_finish : Board → ℕ → Bool

@@ -1,19 +1,32 @@
 -- A cell is called off, and begins to terminate (BPMN 2.0.2, 13.3.2).
-use Rattle.std.specs.Prelude.{ℕ, ◌==◌, [], Bool, false, ◌&&◌, ◌||◌, not, Option, option_map}
+use Rattle.std.specs.Prelude.{ℕ, ◌==◌, [], filter, Bool, false, ◌&&◌, ◌||◌, not, Option, option_map}
 use Rattle.std.specs.Option.{option_map_or}
+use Rattle.std.specs.List.{list_any}
+use Rattle.std.specs.Str.{bytes_eq}
+use Rattle.zb_process.specs.declared.model.Node.{Node}
 use Rattle.zb_tokens.specs.Edits.{edited}
 use Rattle.zb_tokens.specs.declared.board.Cell.{Cell}
 use Rattle.zb_tokens.specs.declared.board.Phase.TheVariants as phases
-use Rattle.zb_tokens.specs.Board.{Board, cell_at, is_phase, is_root, in_phase, emptied}
+use Rattle.zb_tokens.specs.declared.board.Spot.TheVariants as spots
+use Rattle.zb_tokens.specs.Board.{Board, cell_at, model_under, is_phase, is_root, in_phase, emptied}
 use Rattle.zb_tokens.specs.Doom.{is_doomed}
+use Rattle.zb_tokens.specs.MoveEnter.{stands_at}
 
 -- a cell that has neither completed nor begun to terminate
 abbrev pub is_alive : Cell → Bool
 is_alive c = not (is_phase c.phase phases.Leaving) && not (is_phase c.phase phases.Terminating)
 
--- when: it is alive, and is a root or doomed (BPMN 2.0.2, 13.3.2)
+-- a boundary event at the node of a cell interrupts it: it is one that does, and a token stands before it in the scope of the cell (BPMN 2.0.2, 10.5.4 and 13.5.3)
+abbrev pub interrupts : Board → Cell → Node → Bool
+interrupts b c n = n.cancel && list_any (stands_at c.scope (spots.BeforeNode n.id)) b.tokens
+
+-- a boundary event interrupts a cell (BPMN 2.0.2, 10.5.4)
+abbrev pub is_interrupted : Board → Cell → Bool
+is_interrupted b c = option_map_or (λ m. list_any (interrupts b c) (filter (λ n. bytes_eq n.attached c.node) m.nodes)) (model_under b c.definition) false
+
+-- when: it is alive, and is a root or doomed, or a boundary event interrupts it (BPMN 2.0.2, 13.3.2 and 13.5.3)
 abbrev pub fits_halt : Board → ℕ → Bool
-fits_halt b key = option_map_or (λ c. is_alive c && (is_root c || is_doomed b c)) (cell_at b key) false
+fits_halt b key = option_map_or (λ c. is_alive c && (is_root c || is_doomed b c || is_interrupted b c)) (cell_at b key) false
 
 -- effect: it is terminating; the tokens in it go, and so do the cells that leave in it (BPMN 2.0.2, 13.3.2)
 abbrev pub play_halt : Board → ℕ → Option Board

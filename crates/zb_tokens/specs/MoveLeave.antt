@@ -1,22 +1,39 @@
 -- A cell has completed, and a token is to go out on each of the flows that it owes (BPMN 2.0.2, 13.3.1 and 13.4.2).
-use Rattle.std.specs.Prelude.{ℕ, ◌==◌, List, [], ◌∷◌, Bool, true, false, ◌&&◌, not, is_some, if◌then◌else◌, Option, option_map, option_and_then, Result, Ok, Err}
+use Rattle.std.specs.Prelude.{ℕ, ◌==◌, List, [], ◌∷◌, map, filter, Bool, true, false, ◌&&◌, ◌||◌, not, is_some, if◌then◌else◌, Option, option_map, option_and_then, Result, Ok, Err}
 use Rattle.std.specs.Option.{option_map_or}
 use Rattle.std.specs.Str.{bytes_eq}
 use Rattle.zb_base.specs.Results.{◌>>=◌}
-use Rattle.zb_faults.specs.Elements.{is_terminate_end}
+use Rattle.zb_process.specs.declared.model.Model.{Model}
+use Rattle.zb_process.specs.declared.model.Flow.{Flow}
+use Rattle.zb_faults.specs.Elements.{is_event_gateway, is_terminate_end}
 use Rattle.zb_tokens.specs.Edits.{edited, removed}
 use Rattle.zb_tokens.specs.declared.board.Cell.{Cell}
 use Rattle.zb_tokens.specs.declared.board.Leave.{Leave}
+use Rattle.zb_tokens.specs.declared.board.Mark.{Mark}
+use Rattle.zb_tokens.specs.declared.board.Mark.TheVariants as marks
 use Rattle.zb_tokens.specs.declared.board.Phase.TheVariants as phases
-use Rattle.zb_tokens.specs.Board.{Board, cell_at, model_under, is_at, flows_out, is_phase, is_root, in_phase, emptied}
+use Rattle.zb_tokens.specs.Board.{Board, cell_at, model_under, is_at, is_phase, is_root, in_phase, emptied}
 use Rattle.zb_tokens.specs.Names.{value_seen}
 use Rattle.zb_tokens.specs.Incidents.{Hindrance}
 use Rattle.zb_tokens.specs.Choice.{gateway_of, choice_at}
 use Rattle.zb_tokens.specs.Mappings.{outputs_of}
 
--- the flows out of the node of a cell; a root has none
+-- a flow leads to the node at which the event of an event gateway has come (BPMN 2.0.2, 10.6.6)
+abbrev pub leads_to_chosen : Mark → Flow → Bool
+leads_to_chosen (marks.Chosen node) f = bytes_eq f.to node
+leads_to_chosen mark f = false
+
+-- a flow out of the node of a cell may be taken: at an event gateway the one to the node whose event has come, at any other node each (BPMN 2.0.2, 13.3.1 and 13.4.3)
+abbrev pub may_take : (at_event_gateway : Bool) → Cell → Flow → Bool
+may_take at_event_gateway c f = not at_event_gateway || leads_to_chosen c.mark f
+
+-- the flows that may be taken out of the node of a cell, in the order of the model (BPMN 2.0.2, 13.3.1 and 13.4.3)
+abbrev pub flows_on : Model → Cell → List (List ℕ)
+flows_on m c = map (λ f. f.id) (filter (may_take (is_at m c.node is_event_gateway) c) (filter (λ f. bytes_eq f.from c.node) m.flows))
+
+-- the same by its model; a root has none
 abbrev pub flows_of : Board → Cell → List (List ℕ)
-flows_of b c = if is_root c then [] else option_map_or (λ m. flows_out m c.node) (model_under b c.definition) []
+flows_of b c = if is_root c then [] else option_map_or (λ m. flows_on m c) (model_under b c.definition) []
 
 -- these ids are among those, in the same order
 abbrev pub are_among : List (List ℕ) → List (List ℕ) → Bool
@@ -35,12 +52,12 @@ abbrev pub is_single : List (List ℕ) → Bool
 is_single (x ∷ []) = true
 is_single xs = false
 
--- a cell may owe these flows: they go out of its node, and are one at an exclusive gateway (BPMN 2.0.2, 13.3.1 and 13.4.2)
+-- a cell may owe these flows: they may go out of its node, and are one at an exclusive gateway (BPMN 2.0.2, 13.3.1 and 13.4.2)
 abbrev pub may_owe : Board → Cell → List (List ℕ) → Bool
 may_owe b c owed = are_among owed (flows_of b c) && (if is_some (gateway_of b c) then is_single owed else true)
 
--- the flows by which a cell is left, or why it can't be: the chosen one at an exclusive gateway, or else all that go out
--- of its node (BPMN 2.0.2, 13.3.1 and 13.4.2)
+-- the flows by which a cell is left, or why it can't be: the chosen one at an exclusive gateway, or else all that may go out
+-- of its node (BPMN 2.0.2, 13.3.1, 13.4.2 and 13.4.3)
 abbrev pub exit_of : Board → Cell → Result (List (List ℕ)) Hindrance
 exit_of b c = option_map_or (λ g. choice_at (value_seen b c.key) g >>= (λ f. Ok (f.id ∷ []))) (gateway_of b c) (Ok (flows_of b c))
 

@@ -1,4 +1,5 @@
-ghost use Rattle.std.specs.Prelude.{◌≡◌, ℕ, ◌==◌, IsTrue, IsFalse, is_some, List, Option, Some, Ok, Err, option_map, [], ◌∷◌, ◌++◌, All, Contains, not, ◌||◌};
+ghost use Rattle.std.specs.Prelude.{◌≡◌, ℕ, ◌==◌, IsTrue, IsFalse, is_some, List, Option, Some, None, Ok, Err, ◌⊎◌, option_map, [], ◌∷◌, ◌++◌, All, Contains, not, ◌||◌};
+ghost use Rattle.std.specs.List.{find};
 ghost use Rattle.std.specs.Result.{is_ok};
 ghost use Rattle.zb_base.specs.declared.value.Value.{Value};
 ghost use Rattle.zb_base.specs.declared.vars.Variable.{Variable};
@@ -6,18 +7,21 @@ ghost use Rattle.zb_base.specs.Vars.{is_ascending, value_named};
 ghost use Rattle.zb_process.specs.declared.model.Mapping.{Mapping};
 ghost use Rattle.zb_process.specs.Expr.{ValueFault};
 ghost use Rattle.zb_process.specs.declared.model.Model.{Model};
+ghost use Rattle.zb_process.specs.declared.model.Node.{Node};
 ghost use Rattle.zb_faults.specs.Elements.{is_exclusive_gateway};
 ghost use Rattle.zb_tokens.specs.declared.board.Cell.{Cell};
 ghost use Rattle.zb_tokens.specs.declared.board.Token.{Token};
 ghost use Rattle.zb_tokens.specs.declared.board.Incident.{Incident};
 ghost use Rattle.zb_tokens.specs.declared.board.Move.{Move};
 ghost use Rattle.zb_tokens.specs.declared.board.Mover.{Mover};
-ghost use Rattle.zb_tokens.specs.declared.board.Spot.TheVariants as spots;
 ghost use Rattle.zb_tokens.specs.declared.board.Phase.TheVariants as phases;
 ghost use Rattle.zb_tokens.specs.declared.board.Enter.{Enter};
 ghost use Rattle.zb_tokens.specs.declared.board.Leave.{Leave};
 ghost use Rattle.zb_tokens.specs.declared.board.Take.{Take};
 ghost use Rattle.zb_tokens.specs.Board.{Board, cell_at, model_under, is_at, is_root, in_phase, CellsAscend};
+ghost use Rattle.zb_tokens.specs.declared.board.Triggered.{Triggered};
+ghost use Rattle.zb_tokens.specs.Errors.{catcher, first_for, is_for};
+ghost use Rattle.zb_tokens.specs.ErrorLaws.{IsCaughtAt};
 ghost use Rattle.zb_tokens.specs.Game.{fits, agrees, played};
 ghost use Rattle.zb_tokens.specs.Effects.{is_stand, is_of_incident, other_cells, other_tokens, scope_ended_by, is_emptied, IsEntered};
 ghost use Rattle.zb_tokens.specs.MoveEnter.{play_enter};
@@ -28,7 +32,7 @@ ghost use Rattle.zb_tokens.specs.Mappings.{mapped, outputs_of};
 ghost use Rattle.zb_tokens.specs.Mapped.{AreMapped, IsFirstFault, IsKeptBy};
 ghost use Rattle.zb_tokens.specs.Chosen.{IsAtGateway, IsChosen, IsUndecided};
 ghost use Rattle.zb_tokens.specs.MoveLeave.{flows_of, exit_of, completion_of, play_leave, with_end};
-ghost use Rattle.zb_tokens.specs.MoveTake.{play_take};
+ghost use Rattle.zb_tokens.specs.MoveTake.{play_take, spot_behind};
 ghost use Rattle.zb_tokens.specs.MoveHalt.{play_halt};
 ghost use Rattle.zb_tokens.specs.Doom.{is_doomed};
 ghost use Rattle.zb_tokens.specs.Forced.{is_forced, can_enter, next_mover, move_at, move_of, IsQuiet, IsEnd};
@@ -66,7 +70,7 @@ pub fn stuck_cells_wait()
 /// At an exclusive gateway a cell owes one flow out of it: the first whose condition is true or that
 /// has none, where each in front of it but the default is false, or the default where each other one
 /// is false. It is hindered where the first flow that isn't false has a fault, or where there is
-/// neither such a flow nor a default. At any other node it owes all flows out of it.
+/// neither such a flow nor a default. At any other node it owes all flows that may go out of it.
 pub fn gateways_choose_one_flow()
     ensures chosen { (board : Board) (cell : Cell) (gateway : Gateway) (owed : List (List ℕ))
         → IsAtGateway board cell gateway → exit_of board cell ≡ Ok owed
@@ -119,11 +123,12 @@ pub fn fitting_moves_are_played()
     ensures { (board : Board) (move : Move) → IsTrue (fits board move) → IsTrue (is_some (played board move)) }
 {}
 
-/// A flow that is taken makes exactly one token, on that flow, in the scope of the cell that is left.
+/// A flow that is taken makes exactly one token, on that flow, in the scope of the cell that is left; before the
+/// target of the flow where that cell is at an event gateway.
 pub fn taken_flows_make_one_token()
     ensures { (board after : Board) (take : Take) → play_take board take ≡ Some after
         → (cell : Cell) × (cell_at board take.key ≡ Some cell)
-        × (after.tokens ≡ board.tokens ++ record { scope = cell.scope; spot = spots.OnFlow take.flow } ∷ []) }
+        × (after.tokens ≡ board.tokens ++ record { scope = cell.scope; spot = spot_behind board cell take.flow } ∷ []) }
 {}
 
 /// An entry makes exactly one cell, in the scope, and takes exactly the first token at each spot where
@@ -175,4 +180,12 @@ pub fn ended_scopes_are_emptied()
         → cell_at after scope ≡ option_map with_end (cell_at board scope) }
     ensures inside { (board after : Board) (leave : Leave) (scope : ℕ) → scope_ended_by board leave.key ≡ Some scope
         → play_leave board leave ≡ Some after → IsTrue (is_emptied scope after) }
+{}
+
+/// An error is caught at a boundary event of an activity that is there; of those at one activity it is one for its code, or
+/// one for any where there is none for that code.
+pub fn errors_are_caught_by_their_code()
+    ensures there { (board : Board) (code : List ℕ) (cell : ℕ) (event : Triggered) → catcher board code cell ≡ Some event → IsCaughtAt board code event }
+    ensures code { (code : List ℕ) (events : List Node) (event : Node) → first_for code events ≡ Some event
+        → IsTrue (is_for code event) ⊎ ((find (is_for code) events ≡ None) × IsTrue (is_for [] event)) }
 {}

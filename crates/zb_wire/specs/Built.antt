@@ -18,9 +18,13 @@ is_built_kind (Some kinds.ServiceTask) = true
 is_built_kind (Some kinds.SubProcess) = true
 is_built_kind (Some kinds.ExclusiveGateway) = true
 is_built_kind (Some kinds.ParallelGateway) = true
+is_built_kind (Some kinds.EventBasedGateway) = true
 is_built_kind (Some kinds.DateCatchEvent) = true
 is_built_kind (Some kinds.DurationCatchEvent) = true
 is_built_kind (Some kinds.ThrowEvent) = true
+is_built_kind (Some kinds.DateBoundaryEvent) = true
+is_built_kind (Some kinds.DurationBoundaryEvent) = true
+is_built_kind (Some kinds.ErrorBoundaryEvent) = true
 is_built_kind kind = false
 
 -- a node is of such a kind, has no multi-instance, and isn't there for a compensation (own)

@@ -58,9 +58,13 @@ fn is_built_kind(kind: Option<NodeKind>) -> bool
                 | NodeKind::SubProcess
                 | NodeKind::ExclusiveGateway
                 | NodeKind::ParallelGateway
+                | NodeKind::EventBasedGateway
                 | NodeKind::DateCatchEvent
                 | NodeKind::DurationCatchEvent
                 | NodeKind::ThrowEvent
+                | NodeKind::DateBoundaryEvent
+                | NodeKind::DurationBoundaryEvent
+                | NodeKind::ErrorBoundaryEvent
         )
     )
 }

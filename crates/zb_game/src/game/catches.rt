@@ -1,13 +1,15 @@
 // How a cell becomes active, and the timers that open for it.
-ghost use Rattle.std.specs.Prelude.{◌≡◌, ◌<◌, ◌∷◌, [], IfOk, length, option_map, slice_get};
-ghost use Rattle.std.specs.Option.{option_and_then};
+ghost use Rattle.std.specs.Prelude.{◌≡◌, ◌<◌, ◌∷◌, ◌++◌, List, [], Some, Ok, IfOk, OnOk, length, map, option_map, slice_get};
+ghost use Rattle.std.specs.Option.{option_and_then, option_map_or};
+ghost use Rattle.zb_process.specs.declared.model.Node.{Node};
 ghost use Rattle.zb_expr.specs.Outcome.{Evaluates};
 ghost use Rattle.zb_tokens.specs.Board.{node_with};
-ghost use Rattle.zb_tokens.specs.Catches.{due_by, opened_with, opening_by, openings_at, openings_by, own_time, text_told, time_form, time_of};
+ghost use Rattle.zb_tokens.specs.Catches.{awaited, due_by, opened_with, opening_by, openings_at, openings_by, openings_in, text_told, time_of};
 ghost use Rattle.zb_tokens.specs.Forced.{open_by};
-ghost use Rattle.zb_game.specs.Opens.{opened_over, text_given};
+ghost use Rattle.zb_game.specs.Opens.{opened_over, opening_at, text_given};
 
 use crate::Game;
+use crate::game::awaited::{awaited, time_form};
 use crate::game::hindrances::{Hindrance, due_given, given, stop_by};
 use crate::game::mappings::Side;
 use crate::game::seen::{Seen, SeenWith};
@@ -16,7 +18,7 @@ use zb_base::{Key, List, Moment, Text, TryCopy, Value, Variable};
 use zb_duration::{TimeForm, due};
 use zb_expr::{Code, Env, EvalFault, run};
 use zb_graph::Graph;
-use zb_process::NodeKind;
+use zb_process::Node;
 use zb_tokens::{Cell, Move, Opening};
 
 impl Game {
@@ -73,7 +75,9 @@ impl Game {
     }
 
     /// The timers that open for a cell that has become active at this moment; none where it isn't there, or they can't.
-    /// For each name in the text of a timer it goes up the scopes; a cell and a model are found as in `fits`.
+    /// At an event gateway it goes through all nodes of the model, and for each through the flows into it; at any other
+    /// node through the boundary events there. For each name in the text of a timer it goes up the scopes; a cell and a
+    /// model are found as in `fits`.
     pub fn openings_at(
         &self,
         alloc: Global,
@@ -106,51 +110,108 @@ impl Game {
     ) -> Result<Result<List<Opening>, Hindrance>, AllocError>
         ensures { IfOk result (λ openings. openings ≡ openings_by (E.values env.now) self.now moment cell.now) }
     {
-        match self.own_time(cell) {
-            Some((form, time)) => opening_by(alloc, env, moment, cell, form, time),
-            None => Ok(Ok(List::empty(alloc))),
-        }
-    }
-
-    // The time that a cell waits for at its own node, with its form; a root is at none.
-    pub(super) fn own_time(&self, cell: &Cell) -> Option<(TimeForm, &Code)>
-        ensures { option_map (λ t. (t.0, t.1.now)) result ≡ own_time self.now cell.now }
-    {
-        if cell.scope == Key::new(0) {
-            return None;
-        }
         match self.model(cell.definition) {
-            Some(model) => time_in(model, cell.node.as_str()),
-            None => None,
+            Some(model) => {
+                if cell.scope == Key::new(0) {
+                    return Ok(Ok(List::empty(alloc)));
+                }
+                openings_for(alloc, env, moment, model, cell)
+            }
+            None => Ok(Ok(List::empty(alloc))),
         }
     }
 }
 
-// The timer that opens for a cell at this time.
-fn opening_by<E: Env>(
+// The same in its model, for a cell that is no root.
+fn openings_for<E: Env>(
     alloc: Global,
     env: &E,
     moment: Moment,
+    model: &Graph,
     cell: &Cell,
-    form: TimeForm,
-    time: &Code,
 ) -> Result<Result<List<Opening>, Hindrance>, AllocError>
-    ensures { IfOk result (λ openings. openings ≡ opening_by (E.values env.now) moment cell.now (form, time.now)) }
+    ensures { IfOk result (λ openings. openings ≡ option_map_or (λ n. openings_in (E.values env.now) moment (awaited model.now cell.now n)) (node_with model.now cell.now.node) (Ok [])) }
 {
-    match due_by(alloc, env, moment, form, time)? {
-        Ok(due) => Ok(Ok(one_opening(alloc, cell, due)?)),
+    match model.number(cell.node.as_str()) {
+        Some(number) => {
+            let numbers = awaited(alloc, model, cell, number)?;
+            openings_in(alloc, env, moment, model, numbers.as_slice())
+        }
+        None => Ok(Ok(List::empty(alloc))),
+    }
+}
+
+// The timers that open at those of the nodes with these numbers that have a time, in their order, or why the first one
+// that can't doesn't.
+fn openings_in<E: Env>(
+    alloc: Global,
+    env: &E,
+    moment: Moment,
+    model: &Graph,
+    numbers: &[u32],
+) -> Result<Result<List<Opening>, Hindrance>, AllocError>
+    requires { (nodes : List Node) × (map (slice_get model.now.nodes) numbers.now ≡ map Some nodes) }
+    ensures { (nodes : List Node) → map (slice_get model.now.nodes) numbers.now ≡ map Some nodes
+        → IfOk result (λ openings. openings ≡ openings_in (E.values env.now) moment nodes) }
+{
+    let mut openings = List::empty(alloc);
+    for number in numbers {
+        match opening_at(alloc, env, moment, model, *number)? {
+            Ok(opening) => add(opening, &mut openings)?,
+            Err(hindrance) => return Ok(Err(hindrance)),
+        }
+    }
+    Ok(Ok(openings))
+}
+
+// Adds a timer, if there is one.
+fn add(opening: Option<Opening>, openings: &mut List<Opening>) -> Result<(), AllocError>
+    ensures { OnOk result (openings.new ≡ openings.old ++ option_map_or (λ o. o ∷ []) opening []) }
+{
+    match opening {
+        Some(opening) => openings.push(opening),
+        None => Ok(()),
+    }
+}
+
+// The timer that opens at the node with a number, if it has a time, or why it can't.
+fn opening_at<E: Env>(
+    alloc: Global,
+    env: &E,
+    moment: Moment,
+    model: &Graph,
+    number: u32,
+) -> Result<Result<Option<Opening>, Hindrance>, AllocError>
+    requires { number < length model.now.nodes }
+    ensures { (n : Node) → slice_get model.now.nodes number ≡ Some n → IfOk result (λ opening. opening ≡ opening_at (E.values env.now) moment n) }
+{
+    let Some((form, time)) = time_at(model, number) else {
+        return Ok(Ok(None));
+    };
+    match opening_by(alloc, env, moment, model.node(number), form, time)? {
+        Ok(opening) => Ok(Ok(Some(opening))),
         Err(hindrance) => Ok(Err(hindrance)),
     }
 }
 
-// One timer, at the node of a cell.
-fn one_opening(alloc: Global, cell: &Cell, due: Moment) -> Result<List<Opening>, AllocError>
-    ensures { IfOk result (λ openings. openings ≡ record { node = cell.now.node; due = due } ∷ []) }
+// The timer that opens at a node with this time, or why it can't.
+fn opening_by<E: Env>(
+    alloc: Global,
+    env: &E,
+    moment: Moment,
+    node: &Node,
+    form: TimeForm,
+    time: &Code,
+) -> Result<Result<Opening, Hindrance>, AllocError>
+    ensures { IfOk result (λ opening. opening ≡ opening_by (E.values env.now) moment node.now.id (form, time.now)) }
 {
-    let node = cell.node.copy(alloc)?;
-    let mut openings = List::empty(alloc);
-    openings.push(Opening { node, due })?;
-    Ok(openings)
+    match due_by(alloc, env, moment, form, time)? {
+        Ok(due) => {
+            let node = node.id.copy(alloc)?;
+            Ok(Ok(Opening { node, due }))
+        }
+        Err(hindrance) => Ok(Err(hindrance)),
+    }
 }
 
 // When a timer is due that opens at this moment, or why that can't be told.
@@ -189,16 +250,6 @@ fn text_told(value: Value) -> Result<Text, EvalFault>
     }
 }
 
-// The time that the node with an id has, with its form.
-fn time_in<'a>(model: &'a Graph, id: &str) -> Option<(TimeForm, &'a Code)>
-    ensures { option_map (λ t. (t.0, t.1.now)) result ≡ option_and_then time_of (node_with model.now id.now) }
-{
-    match model.number(id) {
-        Some(number) => time_at(model, number),
-        None => None,
-    }
-}
-
 // The time that the node with a number has, with its form.
 fn time_at(model: &Graph, number: u32) -> Option<(TimeForm, &Code)>
     requires { number < length model.now.nodes }
@@ -206,17 +257,6 @@ fn time_at(model: &Graph, number: u32) -> Option<(TimeForm, &Code)>
 {
     match (time_form(model.node(number).kind), model.expr(number)) {
         (Some(form), Some(time)) => Some((form, time)),
-        _ => None,
-    }
-}
-
-// The form of the time at a catch event with a timer.
-fn time_form(kind: NodeKind) -> Option<TimeForm>
-    ensures { result ≡ time_form kind }
-{
-    match kind {
-        NodeKind::DateCatchEvent => Some(TimeForm::Date),
-        NodeKind::DurationCatchEvent => Some(TimeForm::Duration),
         _ => None,
     }
 }

@@ -1,16 +1,15 @@
-// How a cell that completes is left: by the flows out of its node, or at an exclusive gateway by the one that is
-// chosen.
+// How a cell that completes is left: by the flows that may go out of its node, or at an exclusive gateway by the one that
+// is chosen.
 ghost use Rattle.std.specs.Prelude.{◌≡◌, ◌∷◌, [], Some, IfOk, filter, slice_get};
 ghost use Rattle.std.specs.Str.{bytes_eq};
 ghost use Rattle.zb_tokens.specs.declared.board.Move.TheVariants as moves;
-ghost use Rattle.zb_tokens.specs.Board.{flows_out};
 ghost use Rattle.zb_tokens.specs.Names.{value_seen};
-ghost use Rattle.zb_tokens.specs.MoveLeave.{exit_of};
+ghost use Rattle.zb_tokens.specs.MoveLeave.{exit_of, flows_on};
 ghost use Rattle.zb_tokens.specs.Forced.{leave_by};
 ghost use Rattle.zb_game.specs.Exits.{decided_by, exit_at, exit_in};
 
 use crate::Game;
-use crate::flows::{default_of, flows_out, is_default};
+use crate::flows::{default_of, flows_on, is_default};
 use crate::game::conditions::truth_at;
 use crate::game::hindrances::{given, stop_by, undecided};
 use std::alloc::{AllocError, Global};
@@ -122,11 +121,11 @@ fn left_by(alloc: Global, cell: Key, flow: &Flow) -> Result<Move, AllocError>
     Ok(Move::Leave(Leave { key: cell, owed }))
 }
 
-// A cell is left by all flows out of its node.
+// A cell is left by all flows that may go out of its node.
 fn left_by_all(alloc: Global, model: &Graph, cell: &Cell) -> Result<Move, AllocError>
-    ensures { IfOk result (λ move. move ≡ moves.Leave (record { key = cell.now.key; owed = flows_out model.now cell.now.node })) }
+    ensures { IfOk result (λ move. move ≡ moves.Leave (record { key = cell.now.key; owed = flows_on model.now cell.now })) }
 {
-    let owed = flows_out(alloc, model, cell.node.as_str())?;
+    let owed = flows_on(alloc, model, cell)?;
     Ok(Move::Leave(Leave {
         key: cell.key,
         owed,

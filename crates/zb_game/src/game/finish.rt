@@ -2,7 +2,7 @@ ghost use Rattle.std.specs.Prelude.{◌≡◌, Some, None, OnOk, IsErrOf};
 ghost use Rattle.zb_tokens.specs.MoveFinish.{fits_finish, is_done, play_finish};
 ghost use Rattle.zb_game.specs.Indexed.{is_done_in};
 
-use crate::kinds::{goes_on_at, is_scope_in};
+use crate::kinds::{goes_on, is_scope_in};
 use crate::marks::has_come_about;
 use crate::{Game, GameFault};
 use std::alloc::Global;
@@ -38,7 +38,7 @@ impl Game {
         if is_scope_in(model, cell) {
             self.is_empty(cell.key)
         } else {
-            has_come_about(&cell.mark) || goes_on_at(model, cell.node.as_str())
+            has_come_about(&cell.mark) || goes_on(model, cell)
         }
     }
 

@@ -1,10 +1,18 @@
-ghost use Rattle.std.specs.Prelude.{◌≡◌, Some, None, OnOk, IsErrOf};
-ghost use Rattle.zb_tokens.specs.MoveHalt.{fits_halt, is_alive, play_halt};
+ghost use Rattle.std.specs.Prelude.{◌≡◌, Some, None, OnOk, IsErrOf, filter};
+ghost use Rattle.std.specs.List.{list_any};
+ghost use Rattle.std.specs.Str.{bytes_eq};
+ghost use Rattle.zb_tokens.specs.MoveHalt.{fits_halt, is_alive, is_interrupted, play_halt};
+ghost use Rattle.zb_places.specs.Places.{held_tokens};
+ghost use Rattle.zb_game.specs.Searches.{interrupts_among};
 
 use crate::{Game, GameFault};
 use std::alloc::Global;
 use zb_base::{Key, List};
-use zb_tokens::{Cell, Phase};
+use zb_graph::Graph;
+use zb_groups::Groups;
+use zb_places::stands_coming;
+use zb_process::Node;
+use zb_tokens::{Cell, Phase, Token};
 
 impl Game {
     // Whether a cell may begin to terminate.
@@ -12,7 +20,18 @@ impl Game {
         ensures { result ≡ fits_halt self.now key }
     {
         match self.cell(key) {
-            Some(cell) => is_alive(cell) && (cell.scope == Key::new(0) || self.is_doomed(cell)),
+            Some(cell) => is_alive(cell)
+                && (cell.scope == Key::new(0) || self.is_doomed(cell) || self.is_interrupted(cell)),
+            None => false,
+        }
+    }
+
+    // Whether a boundary event interrupts a cell.
+    fn is_interrupted(&self, cell: &Cell) -> bool
+        ensures { result ≡ is_interrupted self.now cell.now }
+    {
+        match self.model(cell.definition) {
+            Some(model) => is_interrupted_in(model, &self.tokens, cell),
             None => false,
         }
     }
@@ -35,4 +54,24 @@ fn is_alive(cell: &Cell) -> bool
     ensures { result ≡ is_alive cell.now }
 {
     cell.phase != Phase::Leaving && cell.phase != Phase::Terminating
+}
+
+// The same in its model. It goes through the boundary events at the node of the cell, and for each that interrupts
+// through the tokens in the scope of the cell.
+fn is_interrupted_in(model: &Graph, tokens: &Groups<Token>, cell: &Cell) -> bool
+    ensures { result ≡ list_any (interrupts_among cell.now.scope (held_tokens tokens.now)) (filter (λ n. bytes_eq n.attached cell.now.node) model.now.nodes) }
+{
+    for number in model.bounds_of(cell.node.as_str()) {
+        if interrupts_among(cell.scope, tokens, model.node(*number)) {
+            return true;
+        }
+    }
+    false
+}
+
+// Whether a boundary event interrupts, and a token stands before it in this scope.
+fn interrupts_among(scope: Key, tokens: &Groups<Token>, event: &Node) -> bool
+    ensures { result ≡ interrupts_among scope (held_tokens tokens.now) event.now }
+{
+    event.cancel && stands_coming(scope, event.id.as_str(), "", tokens)
 }

@@ -10,7 +10,7 @@ use zb_base::{Key, List, Text};
 use zb_tokens::{Cell, Leave, Phase};
 
 impl Game {
-    // Whether a cell has completed, and these flows go out of its node.
+    // Whether a cell has completed, and these flows may go out of its node.
     pub(super) fn fits_leave(&self, l: &Leave) -> bool
         ensures { result ≡ fits_leave self.now l.now }
     {
@@ -20,14 +20,14 @@ impl Game {
         }
     }
 
-    // Whether a cell may owe these flows: they go out of its node, in order, and are one at an exclusive gateway.
+    // Whether a cell may owe these flows: they may go out of its node, in order, and are one at an exclusive gateway.
     fn may_owe(&self, cell: &Cell, ids: &[Text]) -> bool
         ensures { result ≡ may_owe self.now cell.now ids.now }
     {
         self.are_among_its(cell, ids) && (!self.is_at_gateway(cell) || is_single(ids))
     }
 
-    // Whether these are flows out of the node of a cell, in order.
+    // Whether these are flows that may go out of the node of a cell, in order.
     #[tactic(auto, using(crate::proofs::FlowLemmas::compared))]
     fn are_among_its(&self, cell: &Cell, ids: &[Text]) -> bool
         ensures { result ≡ are_among ids.now (flows_of self.now cell.now) }
@@ -36,7 +36,7 @@ impl Game {
             return ids.is_empty();
         }
         match self.model(cell.definition) {
-            Some(model) => are_among_flows(ids, model, cell.node.as_str()),
+            Some(model) => are_among_flows(ids, model, cell),
             None => ids.is_empty(),
         }
     }

@@ -1,6 +1,7 @@
 ghost use Rattle.std.specs.Prelude.{◌≡◌, IfOk};
 ghost use Rattle.zb_tokens.specs.Marks.{error_of};
-ghost use Rattle.zb_tokens.specs.Forced.{end_in, entry_at, entry_of, finish_by, move_at, move_in, move_of, take_first};
+ghost use Rattle.zb_tokens.specs.Errors.{caught};
+ghost use Rattle.zb_tokens.specs.Forced.{catch_by, end_in, entry_at, entry_of, finish_by, move_at, move_in, move_of, take_first};
 ghost use Rattle.zb_game.specs.Searches.{entry_by};
 
 use crate::Game;
@@ -10,15 +11,17 @@ use std::alloc::{AllocError, Global};
 use zb_base::{Key, Moment, Text, TryCopy};
 use zb_graph::Graph;
 use zb_places::way_by;
-use zb_tokens::{Cell, Enter, Move, Mover, Phase, Spot, Take, Token};
+use zb_tokens::{Cell, Enter, Move, Mover, Phase, Spot, Take, Token, Triggered};
 
 impl Game {
     /// The move of a mover, where a cell that begins, or an incident, gets this key; `None` where the mover isn't there
     /// or does nothing. A cell or a model is found as in `fits`; it goes up the scopes where a cell is terminating or
     /// ended, and through the flows out of a node, and the texts of the move are copied. The inputs of
-    /// a cell that becomes active are evaluated, and then when its timer is due that opens at this moment; so are the
-    /// outputs of one that has completed, and at an exclusive gateway the conditions of the flows, up to the one that
-    /// decides. For each name in them it goes up the scopes, for one in the text of a timer also through the inputs.
+    /// a cell that becomes active are evaluated, and then when its timers are due that open at this moment, which are
+    /// found as in `openings_at`; so are the outputs of one that has completed, and at an exclusive gateway the
+    /// conditions of the flows, up to the one that decides. For each name in them it goes up the scopes, for one in the
+    /// text of a timer also through the inputs. For an error that was thrown in the cell it goes up the scopes, and
+    /// through the boundary events of each cell.
     pub fn move_of(
         &self,
         alloc: Global,
@@ -65,10 +68,34 @@ impl Game {
     {
         match cell.phase {
             Phase::Activating => Ok(Some(self.open_by(alloc, moment, key, cell)?)),
-            Phase::Active => Ok(Some(finish_by(alloc, key, cell)?)),
+            Phase::Active => Ok(Some(self.finish_by(alloc, key, cell)?)),
             Phase::Completing => Ok(Some(self.complete_by(alloc, key, cell)?)),
             Phase::Leaving => take_first(alloc, cell.key, cell.owed.as_slice()),
             Phase::Terminating => Ok(Some(Move::Gone(cell.key))),
+        }
+    }
+
+    // How an active cell begins to complete, or how an error that was thrown in it comes about where it is caught, or the
+    // incident under this key that tells of it.
+    fn finish_by(&self, alloc: Global, key: Key, cell: &Cell) -> Result<Move, AllocError>
+        ensures { IfOk result (λ move. move ≡ finish_by key cell.now (caught self.now cell.now) (error_of cell.now.mark)) }
+    {
+        match error_of(&cell.mark) {
+            Some(code) => self.catch_by(alloc, key, cell, code.as_str()),
+            None => Ok(Move::Finish(cell.key)),
+        }
+    }
+
+    // How an error that was thrown in a cell comes about where it is caught, or the incident under this key that tells of it.
+    fn catch_by(&self, alloc: Global, key: Key, cell: &Cell, code: &str) -> Result<Move, AllocError>
+        ensures { IfOk result (λ move. move ≡ catch_by key cell.now code.now (caught self.now cell.now)) }
+    {
+        match self.caught(cell) {
+            Some((host, event)) => {
+                let node = event.copy(alloc)?;
+                Ok(Move::Trigger(Triggered { cell: host, node }))
+            }
+            None => uncaught(alloc, key, cell, code),
         }
     }
 
@@ -83,16 +110,6 @@ impl Game {
             return Ok(None);
         };
         entry_in(alloc, model, key, token)
-    }
-}
-
-// How an active cell begins to complete, or the incident under this key that tells of the error that was thrown in it.
-fn finish_by(alloc: Global, key: Key, cell: &Cell) -> Result<Move, AllocError>
-    ensures { IfOk result (λ move. move ≡ finish_by key cell.now (error_of cell.now.mark)) }
-{
-    match error_of(&cell.mark) {
-        Some(code) => uncaught(alloc, key, cell, code.as_str()),
-        None => Ok(Move::Finish(cell.key)),
     }
 }
 

@@ -1,11 +1,13 @@
 ghost use Rattle.std.specs.Prelude.{◌≡◌, Some, None, IfOk, OnOk, IsErrOf};
-ghost use Rattle.zb_tokens.specs.MoveTake.{fits_take, is_first, play_take, rest_of};
+ghost use Rattle.zb_tokens.specs.MoveTake.{fits_take, is_first, play_take, rest_of, spot_behind, spot_by};
 
+use crate::kinds::chooses_by_event;
 use crate::{Game, GameFault};
 use std::alloc::{AllocError, Global};
 use zb_arrivals::copy_of;
-use zb_base::{List, Text};
-use zb_tokens::{Phase, Spot, Take, Token};
+use zb_base::{List, Text, TryCopy};
+use zb_graph::Graph;
+use zb_tokens::{Cell, Phase, Spot, Take, Token};
 
 impl Game {
     // Whether a cell leaves, and owes this flow first.
@@ -30,10 +32,34 @@ impl Game {
         };
         let scope = cell.scope;
         let owed = rest_of(alloc, cell.owed.as_slice())?;
+        let spot = self.spot_behind(alloc, cell, t.flow)?;
         self.leaving(t.key, owed)?;
-        let spot = Spot::OnFlow(t.flow);
         self.add_token(alloc, Token { scope, spot })?;
         Ok(())
+    }
+
+    // Where the token stands that goes out of the node of a cell by a flow.
+    fn spot_behind(&self, alloc: Global, cell: &Cell, flow: Text) -> Result<Spot, AllocError>
+        ensures { IfOk result (λ spot. spot ≡ spot_behind self.now cell.now flow) }
+    {
+        match self.model(cell.definition) {
+            Some(model) => spot_by(alloc, model, cell.node.as_str(), flow),
+            None => Ok(Spot::OnFlow(flow)),
+        }
+    }
+}
+
+// The same out of a node of a model: before the target at an event gateway, whose event has come there, and on the flow
+// at any other node.
+fn spot_by(alloc: Global, model: &Graph, node: &str, flow: Text) -> Result<Spot, AllocError>
+    ensures { IfOk result (λ spot. spot ≡ spot_by model.now node.now flow) }
+{
+    if !chooses_by_event(model, node) {
+        return Ok(Spot::OnFlow(flow));
+    }
+    match model.flow_with(flow.as_str()) {
+        Some(found) => Ok(Spot::BeforeNode(found.to.copy(alloc)?)),
+        None => Ok(Spot::BeforeNode(Text::empty(alloc))),
     }
 }
 

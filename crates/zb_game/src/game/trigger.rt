@@ -1,19 +1,29 @@
 // The events that cells wait for.
-ghost use Rattle.std.specs.Prelude.{◌≡◌, Some, None, OnOk, IsErrOf};
-ghost use Rattle.zb_tokens.specs.Catches.{is_timed_at, may_be_told, may_open_at};
-ghost use Rattle.zb_tokens.specs.MoveTrigger.{awaits_event, fits_trigger, play_trigger};
+ghost use Rattle.std.specs.Prelude.{◌≡◌, ◌&&◌, false, Some, None, OnOk, IsErrOf, is_none};
+ghost use Rattle.std.specs.Option.{option_map_or};
+ghost use Rattle.std.specs.Str.{bytes_eq};
+ghost use Rattle.zb_tokens.specs.Board.{model_under, node_with};
+ghost use Rattle.zb_tokens.specs.Catches.{may_be_told, may_open_at, opens_at, waits_itself};
+ghost use Rattle.zb_tokens.specs.Mappings.{node_of};
+ghost use Rattle.zb_tokens.specs.MoveTrigger.{awaits_event, ends_cell, fits_trigger, is_awaited, is_gateway_cell, is_interrupting, mark_by, play_trigger};
 
+use crate::game::awaited::waits_itself_at;
+use crate::kinds::chooses_by_event;
 use crate::marks::{error_of, is_unset};
 use crate::{Game, GameFault};
+use std::alloc::Global;
 use zb_base::Key;
-use zb_tokens::{Cell, Mark, Phase, Triggered};
+use zb_graph::Graph;
+use zb_tokens::{Cell, Mark, Phase, Spot, Token, Triggered};
 
 impl Game {
     /// Whether a cell waits for the event of a node: it is active, not called off, was told nothing so far, or of an
-    /// error, and is at this node, which has a timer. The cell and its model are found as in `fits`; where a cell is
-    /// terminating or ended, it goes up the scopes too.
+    /// error, and waits for the time of this node. That is its own one, one at its boundary, or one to which a flow
+    /// leads from it, where it is at an event gateway. The cell, its model and the node are found as in `fits`; at an
+    /// event gateway it goes through the flows into the node. Where a cell is terminating or ended, it goes up the scopes
+    /// too.
     pub fn waits_at(&self, cell: Key, node: &str) -> bool
-        ensures { result ≡ fits_trigger self.now (record { cell = cell; node = node.now }) }
+        ensures { result ≡ is_awaited self.now (record { cell = cell; node = node.now }) }
     {
         match self.cell(cell) {
             Some(cell) => self.waits_for(cell, node),
@@ -25,28 +35,76 @@ impl Game {
     fn waits_for(&self, cell: &Cell, node: &str) -> bool
         ensures { result ≡ awaits_event self.now (record { cell = cell.now.key; node = node.now }) cell.now }
     {
-        self.may_be_told(cell) && (cell.node.as_str() == node && self.own_time(cell).is_some())
+        self.may_be_told(cell) && self.awaits_time(cell, node)
     }
 
-    /// Whether a timer may open at a node for a cell: it is active, and at this node, which has a time. The cell and its
-    /// model are found as in `fits`.
+    /// Whether a timer may open at a node for a cell: it is active, and waits for the time of this node. It costs what
+    /// `waits_at` does, but never goes up the scopes.
     pub fn may_open(&self, cell: Key, node: &str) -> bool
         ensures { result ≡ may_open_at cell node.now self.now }
     {
         match self.cell(cell) {
-            Some(cell) => self.is_timed_at(cell, node),
+            Some(cell) => self.opens_at(cell, node),
             None => false,
         }
     }
 
     // Whether one may for this cell.
-    fn is_timed_at(&self, cell: &Cell, node: &str) -> bool
-        ensures { result ≡ is_timed_at node.now self.now cell.now }
+    fn opens_at(&self, cell: &Cell, node: &str) -> bool
+        ensures { result ≡ opens_at node.now self.now cell.now }
     {
-        cell.phase == Phase::Active && (cell.node.as_str() == node && self.own_time(cell).is_some())
+        cell.phase == Phase::Active && self.awaits_time(cell, node)
     }
 
-    // Whether a cell waits for an event, if its node has any.
+    /// Whether the event of a node interrupts a cell, if it comes about there: the cell isn't told of it, and it is a
+    /// boundary event that interrupts, at the node of the cell. The cell, its model and the node are found as in `fits`.
+    pub fn is_interrupting(&self, cell: Key, node: &str) -> bool
+        ensures { result ≡ is_interrupting cell node.now self.now }
+    {
+        match self.cell(cell) {
+            Some(cell) => self.ends_cell(cell, node),
+            None => false,
+        }
+    }
+
+    // Whether it interrupts this cell.
+    fn ends_cell(&self, cell: &Cell, node: &str) -> bool
+        ensures { result ≡ ends_cell self.now (record { cell = cell.now.key; node = node.now }) cell.now }
+    {
+        self.isnt_told(cell, node) && self.has_interrupting(cell, node)
+    }
+
+    // Whether the event of a node is a cell's own one, for which it waits itself.
+    fn is_own_event(&self, cell: &Cell, node: &str) -> bool
+        ensures { result ≡ option_map_or (λ n. waits_itself cell.now n && bytes_eq cell.now.node node.now) (node_of self.now cell.now) false }
+    {
+        if cell.scope == Key::new(0) {
+            return false;
+        }
+        match self.model(cell.definition) {
+            Some(model) => waits_itself_at(model, cell) && cell.node.as_str() == node,
+            None => false,
+        }
+    }
+
+    // Whether a cell isn't told of the event of a node: it is of its own one, and at an event gateway of each.
+    fn isnt_told(&self, cell: &Cell, node: &str) -> bool
+        ensures { result ≡ is_none (mark_by self.now (record { cell = cell.now.key; node = node.now }) cell.now) }
+    {
+        !self.is_own_event(cell, node) && !self.is_gateway_cell(cell)
+    }
+
+    // Whether the node with an id is a boundary event that interrupts, at the node of a cell.
+    fn has_interrupting(&self, cell: &Cell, id: &str) -> bool
+        ensures { result ≡ option_map_or (λ m. option_map_or (λ n. n.cancel && bytes_eq n.attached cell.now.node) (node_with m id.now) false) (model_under self.now cell.now.definition) false }
+    {
+        match self.model(cell.definition) {
+            Some(model) => interrupts_at(model, cell.node.as_str(), id),
+            None => false,
+        }
+    }
+
+    // Whether a cell may be told of an event, if it waits for one.
     fn may_be_told(&self, cell: &Cell) -> bool
         ensures { result ≡ may_be_told self.now cell.now }
     {
@@ -55,19 +113,55 @@ impl Game {
             && (is_unset(&cell.mark) || error_of(&cell.mark).is_some())
     }
 
-    // Whether an event may come about that a cell waits for.
+    // Whether a cell is at an event gateway; a root is at none.
+    fn is_gateway_cell(&self, cell: &Cell) -> bool
+        ensures { result ≡ is_gateway_cell self.now cell.now }
+    {
+        if cell.scope == Key::new(0) {
+            return false;
+        }
+        match self.model(cell.definition) {
+            Some(model) => chooses_by_event(model, cell.node.as_str()),
+            None => false,
+        }
+    }
+
+    // Whether an event may come about: a cell waits for it, or it catches an error.
     pub(super) fn fits_trigger(&self, t: &Triggered) -> bool
         ensures { result ≡ fits_trigger self.now t.now }
     {
-        self.waits_at(t.cell, t.node.as_str())
+        self.waits_at(t.cell, t.node.as_str()) || self.comes_about(t)
     }
 
-    // Plays that an event comes about that a cell waits for.
-    pub(super) fn trigger(&mut self, t: Triggered) -> Result<(), GameFault>
+    // Plays that an event comes about that a cell waits for: the cell is told of its own one, and at an event gateway of
+    // the node; else a token stands before that.
+    pub(super) fn trigger(&mut self, alloc: Global, t: Triggered) -> Result<(), GameFault>
         ensures played { OnOk result (play_trigger self.old t ≡ Some self.new) }
         ensures illegal { IsErrOf result GameFault.Illegal → play_trigger self.old t ≡ None }
         ensures kept { IsErrOf result GameFault.Illegal → self.new ≡ self.old }
     {
-        self.put_mark(t.cell, Mark::Done)
+        let Some(cell) = self.cell(t.cell) else {
+            return Err(GameFault::Illegal);
+        };
+        if self.is_own_event(cell, t.node.as_str()) {
+            return self.put_mark(t.cell, Mark::Done);
+        }
+        if self.is_gateway_cell(cell) {
+            return self.put_mark(t.cell, Mark::Chosen(t.node));
+        }
+        let scope = cell.scope;
+        let spot = Spot::BeforeNode(t.node);
+        self.add_token(alloc, Token { scope, spot })?;
+        Ok(())
+    }
+}
+
+// Whether in a model the node with an id is a boundary event that interrupts, at this node.
+fn interrupts_at(model: &Graph, node: &str, id: &str) -> bool
+    ensures { result ≡ option_map_or (λ n. n.cancel && bytes_eq n.attached node.now) (node_with model.now id.now) false }
+{
+    match model.node_with(id) {
+        Some(event) => event.cancel && event.attached.as_str() == node,
+        None => false,
     }
 }

@@ -4,6 +4,7 @@ ghost use Rattle.std.specs.Option.{option_copied, option_map_or};
 ghost use Rattle.zb_model.specs.declared.record.Event.{Event};
 ghost use Rattle.zb_views.specs.Timers.{timer_at, timers_on};
 ghost use Rattle.zb_tokens.specs.Catches.{openings_at};
+ghost use Rattle.zb_tokens.specs.MoveTrigger.{is_interrupting};
 ghost use Rattle.zb_rules.specs.Applies.{is_fresh};
 ghost use Rattle.zb_rules.specs.Shown.{holds_of_game, board_of};
 ghost use Rattle.zb_rules.specs.TimerEvents.{has_timer, may_open};
@@ -40,6 +41,14 @@ impl State {
         self.game.waits_at(timer.cell, timer.node.as_str())
     }
 
+    /// Whether the event of a node, which has come about for a cell, interrupts it. It costs what `Game::is_interrupting`
+    /// does.
+    pub fn is_interrupting(&self, cell: Key, node: &str) -> bool
+        ensures { (es : List Event) → IsStateOf es self.now → result ≡ holds_of_game (is_interrupting cell node.now) es }
+    {
+        self.game.is_interrupting(cell, node)
+    }
+
     /// The timers that open for a cell that has become active at a moment. It costs what `Game::openings_at` does.
     pub fn openings_at(
         &self,
@@ -53,7 +62,7 @@ impl State {
         self.game.openings_at(alloc, moment, cell)
     }
 
-    // Whether the key of a timer is fresh, and its cell has a time at the node.
+    // Whether the key of a timer is fresh, and its cell waits for the time of the node.
     pub(super) fn opens_timer(&self, made: &TimerCreated) -> bool
         ensures next { IsTrue result → IsNext (partition_of self.now) self.now.counter made.now.key }
         ensures own { (es : List Event) → IsStateOf es self.now

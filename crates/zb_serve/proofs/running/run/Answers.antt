@@ -1,6 +1,6 @@
-use Rattle.std.proofs.Common.{◌≡◌, ℕ, [], refl, sym, ◌∙◌, subst, inl, ⊎_elim, arith}
+use Rattle.std.proofs.Common.{ℕ, refl, ◌∙◌, subst, inl, ⊎_elim, arith}
 use Rattle.zb_partition.specs.Log.{IsApplied, IsBadAt}
-use Rattle.zb_serve.specs.Ends.{told}
+use Rattle.zb_serve.specs.Ends.{all_told}
 use Rattle.zb_engine.specs.Ledger.{IsOpen}
 use Rattle.zb_serve.proofs.OpeningLemmas.{fails_to_open, opened_as, opened_ever}
 use Rattle.zb_serve.proofs.running.run.Goals as goal
@@ -16,7 +16,7 @@ pub returns-in-Err-open-clause-run : goal.returns-in-Err-open-clause-run
 returns-in-Err-open-clause-run g c =
     let said = c.in-Err-open.ensures in
     rw (c.reserve.ensures.items, c.new-stamps.ensures.items, c.open_cause.ensures) (
-      fails_to_open (told g.S.Source.tells g.S.Source.counts_failures g.K.Sink g.D.Disk)
+      fails_to_open (all_told g.S.Source.tells g.S.Source.counts_failures g.K.Sink g.D.Disk)
           (record { disk = g.D.Disk.view c.args.volume.log; disk_after = g.D.Disk.view c.in-Err-open.volume.log }) c.in-Err-open.fault
           (λ t frame e. subst (λ (p : ℕ). IsBadAt p (g.D.Disk.view c.args.volume.log).contents frame) c.new.ensures (said.bad t frame e)) said.cause,
       (λ t. (said.opens.same t, said.opens.short t), tt),

@@ -1,4 +1,4 @@
-use Rattle.std.proofs.Common.{◌≡◌, ◌∷◌, ◌++◌, [], map, refl, sym, ◌∙◌, ap}
+use Rattle.std.proofs.Common.{◌∷◌, ◌++◌, [], map, ◌∙◌, ap}
 use Rattle.zb_session.specs.Answer.{found_in, entries_made}
 use Rattle.zb_session.specs.Session.{streams_of, session_ends}
 use Rattle.zb_serve.specs.Setting.{hours_of}

@@ -23,5 +23,11 @@ put_ended-requires c =
     let Admits : Behind → Type 0 = λ b. AdmitsMade c.args.state.now (made_behind p c.args.moment b) in
     subst Admits c.in-End.is c.requires
 
+pub put_interrupted-requires : goal.put_interrupted-requires
+put_interrupted-requires c =
+    let p = partition_of c.args.state.now in
+    let Admits : Behind → Type 0 = λ b. AdmitsMade c.args.state.now (made_behind p c.args.moment b) in
+    subst Admits c.in-Interrupt.is c.requires
+
 pub returns-in-Nothing-clause-reached : goal.returns-in-Nothing-clause-reached
 returns-in-Nothing-clause-reached c = ∥∥₁_map c.requires (λ r. (r.0, r.1))

@@ -38,3 +38,8 @@ pub returns-in-ProcessInstanceCancel-clause-state : goal.returns-in-ProcessInsta
 returns-in-ProcessInstanceCancel-clause-state c = λ n es is.
     let Is : Command → Type 0 = λ x. OnOk c.put_own.result (IsStateOf (es ++ made_one_by_one (partition_of c.args.state.now) n c.args.moment x es) c.put_own.new.state) in
     subst Is (sym c.in-ProcessInstanceCancel.is) (c.put_own.ensures.state n es is)
+
+pub put_own-requires-in-TimerTrigger : goal.put_own-requires-in-TimerTrigger
+put_own-requires-in-TimerTrigger c = λ n.
+    let Admits : Command → Type 0 = λ x. AdmitsMade c.args.state.now (made_one_by_one (partition_of c.args.state.now) n c.args.moment x) in
+    subst Admits c.in-TimerTrigger.is (c.requires n)

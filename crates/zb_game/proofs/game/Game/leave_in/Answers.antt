@@ -13,4 +13,4 @@ pub returns-else-is_exclusive_gateway : goal.returns-else-is_exclusive_gateway
 returns-else-is_exclusive_gateway c =
     let there : node_with c.args.model.now c.args.cell.now.node ≡ Some c.in-Some.node.now = search rules in
     let is : is_exclusive_gateway c.in-Some.node.now.kind ≡ false = search rules in
-    rw (there, is) c.left_by_all.ensures
+    rw (there, is) (rw there at c.left_by_all.ensures)

@@ -1,0 +1,46 @@
+-- Where an error is caught that was thrown in a cell: at the boundary of that, or of the nearest cell around it that has an event for it (BPMN 2.0.2, 10.5.6 and 10.5.7).
+use Rattle.std.specs.Prelude.{ℕ, ◌==◌, List, [], ◌∷◌, filter, Bool, ◌&&◌, if◌then◌else◌, Option, None, option_map, option_and_then}
+use Rattle.std.specs.Option.{option_or}
+use Rattle.std.specs.List.{find}
+use Rattle.std.specs.Str.{bytes_eq}
+use Rattle.zb_process.specs.declared.model.Model.{Model}
+use Rattle.zb_process.specs.declared.model.Node.{Node}
+use Rattle.zb_faults.specs.Elements.{is_activity, is_error_boundary}
+use Rattle.zb_tokens.specs.declared.board.Cell.{Cell}
+use Rattle.zb_tokens.specs.declared.board.Triggered.{Triggered}
+use Rattle.zb_tokens.specs.Board.{Board, cell_at, model_under}
+use Rattle.zb_tokens.specs.Mappings.{node_of}
+use Rattle.zb_tokens.specs.Marks.{error_of}
+
+-- a node is a boundary event for errors with a code; without one it is for any (BPMN 2.0.2, 10.5.7)
+abbrev pub is_for : (code : List ℕ) → Node → Bool
+is_for code n = is_error_boundary n.kind && bytes_eq n.name code
+
+-- of some boundary events the one that catches an error: the first for its code, or else the first for any (BPMN 2.0.2, 10.5.7)
+abbrev pub first_for : (code : List ℕ) → List Node → Option Node
+first_for code ns = option_or (find (is_for code) ns) (find (is_for []) ns)
+
+-- at the boundary of an activity the event that catches an error (BPMN 2.0.2, 10.5.7)
+abbrev pub error_event : Model → (code : List ℕ) → Node → Option Node
+error_event m code at = if is_activity at.kind then first_for code (filter (λ n. bytes_eq n.attached at.id) m.nodes) else None
+
+-- the event at the boundary of a cell that catches an error
+abbrev pub error_event_of : Board → (code : List ℕ) → Cell → Option Node
+error_event_of b code c = option_and_then (λ m. option_and_then (error_event m code) (node_of b c)) (model_under b c.definition)
+
+-- where an error is caught, from the cell with a key on up; no more cells are above it than there are (BPMN 2.0.2, 10.5.6 and 10.5.7)
+abbrev pub catcher_from : List Cell → Board → (code : List ℕ) → ℕ → Option Triggered
+catcher_from [] b code key = None
+catcher_from (more ∷ cells) b code key = option_and_then (λ c. option_or (option_map (λ n. record { cell = key; node = n.id }) (error_event_of b code c)) (catcher_from cells b code c.scope)) (cell_at b key)
+
+-- where an error is caught that is thrown in the cell with a key (BPMN 2.0.2, 10.5.7)
+abbrev pub catcher : Board → (code : List ℕ) → ℕ → Option Triggered
+catcher b code key = catcher_from b.cells b code key
+
+-- where the error is caught that was thrown in a cell
+abbrev pub caught : Board → Cell → Option Triggered
+caught b c = option_and_then (λ code. catcher b code c.key) (error_of c.mark)
+
+-- two events are the same
+abbrev pub is_same_event : Triggered → Triggered → Bool
+is_same_event t u = (u.cell == t.cell) && bytes_eq u.node t.node
