@@ -15,10 +15,11 @@ abbrev pub reply_of_one : List Entry → Option Reply
 reply_of_one (entry ∷ []) = answer_of entry.batch
 reply_of_one _ = None
 
--- the reply to the clock's ops: a tick tells how many its entries are, an advance the reading
+-- the reply to what has no command of a client: a tick tells how many its entries are, an advance the reading, and a settle nothing
 abbrev pub clocked_reply : Request → ℕ → List Entry → Option Reply
 clocked_reply requests.Tick reading entries = Some (replies.Tick (length entries))
 clocked_reply (requests.Advance ms) reading entries = Some (replies.Advance reading)
+clocked_reply requests.Settle reading entries = Some replies.Settle
 clocked_reply _ reading entries = None
 
 -- the reply to a request that asked for these entries, by the command of a client that it has, if it has one

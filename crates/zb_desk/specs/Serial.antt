@@ -1,11 +1,14 @@
 -- The serial run: which command comes next, units of work included, and what a request leads to by it.
-use Rattle.std.specs.Prelude.{◌≡◌, ◌+◌, nat_lt, max, if◌then◌else◌, ℕ, suc, List, [], ◌∷◌, ◌++◌, length, filter, Bool, true, false, not, Option, Some, None, option_map}
-use Rattle.std.specs.List.{sum_by, list_any}
+use Rattle.std.specs.Prelude.{◌≡◌, ◌+◌, nat_lt, max, if◌then◌else◌, ℕ, suc, List, [], ◌∷◌, ◌++◌, length, filter, drop, slice_get, Bool, true, not, Option, Some, None, option_map}
+use Rattle.std.specs.List.{sum_by, list_any, flat_map}
 use Rattle.std.specs.Option.{option_or}
 use Rattle.zb_model.specs.declared.record.Batch.{Batch}
 use Rattle.zb_model.specs.declared.record.Command.{Command}
 use Rattle.zb_model.specs.declared.record.Command.TheVariants as commands
+use Rattle.zb_model.specs.declared.record.Packet.{Packet}
 use Rattle.zb_views.specs.View.{events_of, moment_of_last}
+use Rattle.zb_views.specs.Standing.{begun_by}
+use Rattle.zb_record.specs.Packets.{first_packet, answer_packet, is_answer, is_by_packet}
 use Rattle.zb_rules.specs.Step.{EachOn}
 use Rattle.zb_rules.specs.Due.{due_command}
 use Rattle.zb_rules.specs.Continue.{is_quiet}
@@ -54,10 +57,10 @@ next_by None logs request reading earlier done = clocked logs request reading ea
 abbrev pub next_asked : List (List Batch) → Request → ℕ → (earlier done : List Entry) → Option (ℕ × Command)
 next_asked logs request reading earlier done = next_by (command_of request) logs request reading earlier done
 
--- a unit of work is a command that nobody asks for: the engine goes on where a batch was full (own)
+-- a unit of work is a command that nobody asks for: the engine goes on where a batch was full, or takes a packet (own)
 abbrev pub is_unit_command : Command → Bool
 is_unit_command commands.ProcessInstanceBatchContinue = true
-is_unit_command _ = false
+is_unit_command command = is_by_packet command
 
 -- the entry is a unit of work
 abbrev pub is_unit : Entry → Bool
@@ -71,11 +74,37 @@ units_in entries = filter is_unit entries
 abbrev pub asked_in : List Entry → List Entry
 asked_in entries = filter (λ entry. not (is_unit entry)) entries
 
--- the next unit of work behind some entries, with its partition, of the logs from partition p on: the first one whose game isn't quiet goes on
-abbrev pub unit_in_logs : (p : ℕ) → List (List Batch) → List Entry → Option (ℕ × Command)
-unit_in_logs p [] entries = None
-unit_in_logs p (log ∷ logs) entries =
-    if is_quiet (events_of (log_behind p log entries)) then unit_in_logs (suc p) logs entries else Some (p, commands.ProcessInstanceBatchContinue)
+-- of the logs from partition p on, behind some entries: the first one whose game isn't quiet goes on
+abbrev pub going_on : (p : ℕ) → List (List Batch) → List Entry → Option (ℕ × Command)
+going_on p [] entries = None
+going_on p (log ∷ logs) entries =
+    if is_quiet (events_of (log_behind p log entries)) then going_on (suc p) logs entries else Some (p, commands.ProcessInstanceBatchContinue)
+
+-- the answers that some units of work at n partitions have sent, in order
+abbrev pub answers_sent : (n : ℕ) → List Entry → List Packet
+answers_sent n units = flat_map (λ entry. begun_by (answer_packet entry.partition n entry.batch.command)) units
+
+-- the answers of them that are still in hand, the oldest first: as many of those that were sent were taken as units took one (own)
+abbrev pub answers_in_hand : (n : ℕ) → List Entry → List Packet
+answers_in_hand n units = drop (length (filter (λ entry. is_answer entry.batch.command) units)) (answers_sent n units)
+
+-- of the logs from partition p on, of n in all, behind some entries: the first packet of the first outbox that isn't empty
+abbrev pub first_sent : (n p : ℕ) → List (List Batch) → List Entry → Option Packet
+first_sent n p [] entries = None
+first_sent n p (log ∷ logs) entries =
+    option_or (first_packet p n (events_of (log_behind p log entries))) (first_sent n (suc p) logs entries)
+
+-- the packet that is delivered next behind some entries, of which these last ones are units of work: the oldest answer in hand, or else one of an outbox
+abbrev pub packet_next : List (List Batch) → (units entries : List Entry) → Option Packet
+packet_next logs units entries = option_or (slice_get (answers_in_hand (length logs) units) 0) (first_sent (length logs) 1 logs entries)
+
+-- where a packet goes, and its command
+abbrev pub delivery_of : Packet → ℕ × Command
+delivery_of packet = (packet.to, packet.command)
+
+-- the next unit of work behind some entries, with its partition, where these units were done so far: the engine goes on, or a packet is delivered
+abbrev pub unit_in_logs : List (List Batch) → (units entries : List Entry) → Option (ℕ × Command)
+unit_in_logs logs units entries = option_or (going_on 1 logs entries) (option_map delivery_of (packet_next logs units entries))
 
 -- what a run goes by as it begins: the logs as they were opened, and how many units of work are done behind a request
 pub record Basis : Type 0 where
@@ -86,16 +115,16 @@ pub record Basis : Type 0 where
 abbrev pub basis_of : List (List Batch) → ℕ → Basis
 basis_of logs units = record { logs = logs; units = units }
 
--- the next unit of work behind some entries, where so many were done so far; None where no more are done, or where every game is quiet
-abbrev pub next_unit : Basis → ℕ → List Entry → Option (ℕ × Command)
-next_unit basis count entries = if nat_lt count basis.units then unit_in_logs 1 basis.logs entries else None
+-- the next unit of work behind some entries, where these were done so far; None where no more are done, or where every game is quiet and no packet is left
+abbrev pub next_unit : Basis → (units entries : List Entry) → Option (ℕ × Command)
+next_unit basis units entries = if nat_lt (length units) basis.units then unit_in_logs basis.logs units entries else None
 
 -- the command that comes next for a request at a reading, and its partition, behind the entries before it and those that
 -- were done for it: what it asks for, and then units of work
 abbrev pub next_of : Basis → Request → ℕ → (earlier done : List Entry) → Option (ℕ × Command)
 next_of basis request reading earlier done =
     option_or (if list_any is_unit done then None else next_asked basis.logs request reading earlier done)
-    (next_unit basis (length (units_in done)) (earlier ++ done))
+    (next_unit basis (units_in done) (earlier ++ done))
 
 -- this is the entry of a command that comes next behind some entries: at the larger one of the last moment of its log and
 -- the reading, and it begins at its own place
@@ -122,7 +151,7 @@ pub record IsCarriedOut (basis : Basis) (request : Request) (reading : ℕ) (ear
 -- this is the unit of work that is done next at a reading, for no request
 abbrev pub IsNextUnit : Basis → ℕ → (earlier done : List Entry) → Entry → Type 0
 IsNextUnit basis reading earlier done entry =
-    IsEntryBy basis.logs (next_unit basis (length done) (earlier ++ done)) reading (earlier ++ done) entry
+    IsEntryBy basis.logs (next_unit basis done (earlier ++ done)) reading (earlier ++ done) entry
 
 -- these units of work were done one after the other behind some entries
 abbrev pub AreUnits : Basis → ℕ → (earlier units : List Entry) → Type 0
@@ -131,4 +160,4 @@ AreUnits basis reading earlier units = EachOn (IsNextUnit basis reading earlier)
 -- these units of work were done, and no more come
 pub record AreAllUnits (basis : Basis) (reading : ℕ) (earlier units : List Entry) : Type 0 where
   pub made : AreUnits basis reading earlier units
-  pub all : next_unit basis (length units) (earlier ++ units) ≡ None
+  pub all : next_unit basis units (earlier ++ units) ≡ None

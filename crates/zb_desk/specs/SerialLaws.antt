@@ -8,7 +8,8 @@ use Rattle.zb_model.specs.declared.record.Batch.{Batch}
 use Rattle.zb_model.specs.declared.record.Command.{Command}
 use Rattle.zb_model.specs.declared.record.Command.TheVariants as commands
 use Rattle.zb_views.specs.View.{events_of}
-use Rattle.zb_rules.specs.Continue.{is_quiet}
+use Rattle.zb_views.specs.Standing.{begun_by}
+use Rattle.zb_record.specs.Packets.{answer_packet}
 use Rattle.zb_rules.specs.Due.{due_command}
 use Rattle.zb_rules.specs.DueLaws.{due_command_has}
 use Rattle.zb_rules.specs.Step.{EachOn}
@@ -16,7 +17,8 @@ use Rattle.zb_rules.specs.StepLaws.{each_on_front, each_on_all, each_on_joined}
 use Rattle.zb_world.specs.Entries.{Entry}
 use Rattle.zb_wire.specs.declared.request.Request.{Request}
 use Rattle.zb_wire.specs.declared.request.Request.TheVariants as requests
-use Rattle.zb_desk.specs.Serial.{Basis, log_behind, due_in_logs, once, next_asked, is_unit_command, is_unit, units_in, asked_in, unit_in_logs, next_unit, next_of, IsEntryBy, IsNextEntry, AreMadeFor, IsCarriedOut, IsNextUnit, AreUnits, AreAllUnits}
+use Rattle.zb_desk.specs.UnitLaws.{AllHave, first_has, answers_have, unit_has}
+use Rattle.zb_desk.specs.Serial.{Basis, log_behind, due_in_logs, once, next_asked, is_unit_command, is_unit, units_in, asked_in, answers_sent, unit_in_logs, next_unit, next_of, IsEntryBy, IsNextEntry, AreMadeFor, IsCarriedOut, IsNextUnit, AreUnits, AreAllUnits}
 
 -- a request alone asked for this entry next
 abbrev pub IsNextAsked : List (List Batch) → Request → ℕ → (earlier done : List Entry) → Entry → Type 0
@@ -61,26 +63,30 @@ pub asked_no_unit : (logs : List (List Batch)) (request : Request) (reading : �
 asked_no_unit logs requests.Tick reading earlier done q command is =
     tick_no_unit _ (due_in_logs reading 1 logs (earlier ++ done)) q command (due_no_unit reading 1 logs (earlier ++ done) q command) is
 asked_no_unit logs (requests.Advance ms) reading earlier done q command is = absurd (cc)
+asked_no_unit logs requests.Settle reading earlier done q command is = absurd (cc)
 asked_no_unit logs request reading earlier done q command is = once_no_unit _ _ done q command refl is
 
 -- a unit of work is one
-unit_is : (quiet : Bool) (p q : ℕ) (later : Option (ℕ × Command)) (command : Command) → (later ≡ Some (q, command) → is_unit_command command ≡ true)
-    → (if quiet then later else Some (p, commands.ProcessInstanceBatchContinue)) ≡ Some (q, command) → is_unit_command command ≡ true
-unit_is true p q later command behind is = behind is
-unit_is false p q later command behind is = some_pair (λ (c : Command). is_unit_command c ≡ true) p q commands.ProcessInstanceBatchContinue command refl is
+abbrev IsUnitNext : ℕ × Command → Type 0
+IsUnitNext next = is_unit_command next.1 ≡ true
 
-logs_unit : (p : ℕ) (logs : List (List Batch)) (entries : List Entry) (q : ℕ) (command : Command) → unit_in_logs p logs entries ≡ Some (q, command) → is_unit_command command ≡ true
-logs_unit p [] entries q command is = absurd (cc)
-logs_unit p (log ∷ logs) entries q command is =
-    unit_is (is_quiet (events_of (log_behind p log entries))) p q (unit_in_logs (suc p) logs entries) command (logs_unit (suc p) logs entries q command) is
+answer_unit : (p n : ℕ) (command : Command) → AllHave IsUnitNext (begun_by (answer_packet p n command))
+answer_unit p n (commands.DeploymentDistribute c) = (refl, tt)
+answer_unit p n command = tt
+
+logs_unit : (logs : List (List Batch)) (units entries : List Entry) (q : ℕ) (command : Command) → unit_in_logs logs units entries ≡ Some (q, command) → is_unit_command command ≡ true
+logs_unit logs units entries q command is =
+    let n = length logs in
+    unit_has IsUnitNext n (λ p d version m. refl) logs units entries refl (λ k above below. refl)
+    (first_has IsUnitNext _ (answers_sent n units) (answers_have IsUnitNext n units (λ p c. answer_unit p n c))) (q, command) is
 
 few_unit : (few : Bool) (next : Option (ℕ × Command)) (q : ℕ) (command : Command) → (next ≡ Some (q, command) → is_unit_command command ≡ true) → (if few then next else None) ≡ Some (q, command) → is_unit_command command ≡ true
 few_unit true next q command is_one is = is_one is
 few_unit false next q command is_one is = absurd (cc)
 
 -- the next unit of work is one
-pub next_is_unit : (basis : Basis) (count : ℕ) (entries : List Entry) (q : ℕ) (command : Command) → next_unit basis count entries ≡ Some (q, command) → is_unit_command command ≡ true
-next_is_unit basis count entries q command is = few_unit _ (unit_in_logs 1 basis.logs entries) q command (logs_unit 1 basis.logs entries q command) is
+pub next_is_unit : (basis : Basis) (units entries : List Entry) (q : ℕ) (command : Command) → next_unit basis units entries ≡ Some (q, command) → is_unit_command command ≡ true
+next_is_unit basis units entries q command is = few_unit _ (unit_in_logs basis.logs units entries) q command (logs_unit basis.logs units entries q command) is
 
 -- all are units of work
 abbrev AreOnlyUnits : List Entry → Type 0
@@ -118,7 +124,7 @@ asked_are_no_units logs request reading earlier entries each =
 pub units_are : (basis : Basis) (reading : ℕ) (earlier units : List Entry) → AreUnits basis reading earlier units → AreOnlyUnits units
 units_are basis reading earlier units each =
     each_on_all (IsNextUnit basis reading earlier) [] AreOnlyUnits
-    (λ (front : List Entry) (entry : Entry) of_front are next. more_only_units front entry are (next_is_unit basis (length front) (earlier ++ front) entry.partition entry.batch.command next.command))
+    (λ (front : List Entry) (entry : Entry) of_front are next. more_only_units front entry are (next_is_unit basis front (earlier ++ front) entry.partition entry.batch.command next.command))
     (refl, refl) units each
 
 -- behind what a request asked for, and some units of work
@@ -137,12 +143,12 @@ module _ (basis : Basis) (request : Request) (reading : ℕ) (earlier own : List
 
   -- the next unit comes then
   pub unit_next : (units : List Entry) → next_asked basis.logs request reading earlier own ≡ None → AreOnlyUnits units
-      → next_of basis request reading earlier (own ++ units) ≡ next_unit basis (length units) ((earlier ++ own) ++ units)
+      → next_of basis request reading earlier (own ++ units) ≡ next_unit basis units ((earlier ++ own) ++ units)
   unit_next units all only =
       let count : units_in (own ++ units) ≡ units = filter-append is_unit own units ∙ rw (are.1, only.0) refl in
-      ap (λ (o : Option (ℕ × Command)). option_or o (next_unit basis (length (units_in (own ++ units))) (earlier ++ (own ++ units)))) (asks_no_more units all only)
-      ∙ ap (λ (us : List Entry). next_unit basis (length us) (earlier ++ (own ++ units))) count
-      ∙ ap (λ (es : List Entry). next_unit basis (length units) es) (sym (append_assoc earlier own units))
+      ap (λ (o : Option (ℕ × Command)). option_or o (next_unit basis (units_in (own ++ units)) (earlier ++ (own ++ units)))) (asks_no_more units all only)
+      ∙ ap (λ (us : List Entry). next_unit basis us (earlier ++ (own ++ units))) count
+      ∙ ap (λ (es : List Entry). next_unit basis units es) (sym (append_assoc earlier own units))
 
 -- what a request asks for next is the next entry for it
 pub next_of_asked : (basis : Basis) (request : Request) (reading : ℕ) (earlier done : List Entry) (next : ℕ × Command) → list_any is_unit done ≡ false → next_asked basis.logs request reading earlier done ≡ Some next

@@ -32,6 +32,7 @@ asked_has P a command has is =
 pub asked_run : (request : Request) (command : Command) → command_of request ≡ Some command → IsSupported command
 asked_run requests.Tick command is = absurd (cc)
 asked_run (requests.Advance ms) command is = absurd (cc)
+asked_run requests.Settle command is = absurd (cc)
 asked_run request command is = asked_has IsSupported _ command tt is
 
 -- where one of these events tells a reply, one of the own events does, which are the same
@@ -52,13 +53,14 @@ module _ (p n moment : ℕ) (before own rest : List Event) where
 
   asked_tells : (request : Request) (command : Command) → command_of request ≡ Some command → Tells command
   asked_tells (requests.Deploy m) command asked =
-      asked_has Tells (commands.DeploymentCreate m) command (own_tells deploy_answer (deployed p m before) own rest refl) asked
-  asked_tells (requests.Create c) command asked =
+      asked_has Tells (commands.DeploymentCreate m) command (own_tells deploy_answer (deployed p n m before) own rest refl) asked
+  asked_tells (requests.Create partition c) command asked =
       asked_has Tells (commands.ProcessInstanceCreationCreate c) command (created_tells (next_key p before) c (definition_for c.process c.version before) own rest) asked
   asked_tells (requests.Publish c) command asked =
       asked_has Tells (commands.MessagePublish c) command (own_tells publish_answer (published_under (next_key p before) moment c) own rest refl) asked
   asked_tells requests.Tick command asked = absurd (cc)
   asked_tells (requests.Advance ms) command asked = absurd (cc)
+  asked_tells requests.Settle command asked = absurd (cc)
   asked_tells request command asked = asked_has Tells _ command (λ is. refl) asked
 
 -- what a command led to has a reply, if it has one where the command was accepted

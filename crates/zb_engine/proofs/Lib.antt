@@ -1,8 +1,11 @@
 pub mod AnswerLemmas
-pub mod SerialLemmas
+pub mod NumberLemmas
 pub mod ResultLemmas
 pub mod ListLemmas
 pub mod LogLemmas
-pub mod WorkLemmas
-pub mod WorkRunLemmas
-pub mod SoloLemmas
+pub mod MadeLemmas
+pub mod NextLemmas
+pub mod DeliveryLemmas
+pub mod AskingLemmas
+pub mod StandingLemmas
+pub mod StartLemmas

@@ -1,8 +1,7 @@
 -- Batches that are made one after the other.
-use Rattle.std.proofs.Common.{◌≡◌, ◌⊎◌, ℕ, suc, ◌+◌, ◌<◌, ◌≤◌, max, min, List, [], ◌∷◌, ◌++◌, length, take, IsTrue, Option, Some, None, sym, ap, ◌∙◌, subst, inl, inr, ⊎_elim, append_assoc, arith, length-append}
+use Rattle.std.proofs.Common.{◌≡◌, ◌⊎◌, ℕ, ◌+◌, ◌<◌, ◌≤◌, max, min, List, [], ◌∷◌, ◌++◌, length, take, IsTrue, Option, Some, None, sym, ap, ◌∙◌, subst, inl, inr, ⊎_elim, append_assoc, arith}
 use Rattle.std.proofs.lemmas.List.{take-append-le, take_min}
 use Rattle.std.proofs.Math.Seq.{take-append-add}
-use Rattle.std.specs.List.{range_with_len}
 use Rattle.zb_disk.specs.Cause.{Rose}
 use Rattle.zb_disk.specs.Disk.{DiskView}
 use Rattle.zb_disk.specs.declared.disk.Disk.{Ghosts}
@@ -18,33 +17,25 @@ use Rattle.zb_store.specs.GateLogLaws.{log_stands}
 use Rattle.zb_store.specs.Log.{extent}
 use Rattle.zb_store.specs.Stands.{Stands}
 use Rattle.zb_partition.specs.Log.{bodies_of, AreBatches}
-use Rattle.zb_partition.specs.Partition.{disk_of, in_writing, HasLog}
+use Rattle.zb_partition.specs.Partition.{disk_of, slots_of, in_writing, HasLog}
 use Rattle.zb_partition.specs.Stopping.{IsLeft, IsHurt, IsStepOf, IsStopCause, IsStopped, IsLogOrMore}
 use Rattle.zb_store.specs.Calls.{LeavesOnly}
 use Rattle.zb_partition.specs.declared.partition.Partition.{Partition}
-use Rattle.zb_engine.specs.Ledger.{IsFront}
-use Rattle.zb_engine.specs.Ledger.{Account, log_of, with_more, disk_in, view_in, IsStamped, AreMadeBatches, IsOpen, HasAccount, HasStopped, HasRefused, IsHurtSince, IsLeftIn, account_of, first_disk}
-use Rattle.zb_engine.specs.declared.ledger.Ledger.{Ledger}
-use Rattle.zb_engine.proofs.ListLemmas.{range_with_len_more, AllZip_more, append_none}
+use Rattle.zb_engine.specs.Ledger.{Opening, Account, log_of, with_more, view_in, IsFront, AreMadeBatches, IsOpen, HasAccount, HasStopped, HasRefused, IsHurtSince, IsLeftIn, first_disk}
+use Rattle.zb_engine.proofs.ListLemmas.{append_none}
 
 -- a count that rose later rose
 pub rose_since : (start old new : ℕ) → start ≤ old → Rose old new → Rose start new
 rose_since start old new later rose = λ below. let more : old < new = rose below in omega arith
 
--- one batch more, with the next place
-pub made_more : (limit : ℕ) (opened made : List Batch) (places : List ℕ) (batch : Batch) → AreMadeBatches limit opened made places → IsStep 1 1 (opened ++ made) batch
-    → batch.begin ≡ length (opened ++ made) → extent (bodies_of ((opened ++ made) ++ batch ∷ [])) ≤ limit
-    → AreBatches ((opened ++ made) ++ batch ∷ []) → AreMadeBatches limit opened (made ++ batch ∷ []) (places ++ length (opened ++ made) ∷ [])
-made_more limit opened made places batch old step begin fits fit = record {
-  stamps =
-      let count : length (made ++ batch ∷ []) ≡ suc (length made) = omega (arith, length-append made (batch ∷ [])) in
-      let put : places ++ length (opened ++ made) ∷ [] ≡ range_with_len (length opened) (length made) ++ (length opened + length made) ∷ [] =
-      rw (old.stamps) (ap (λ k. range_with_len (length opened) (length made) ++ k ∷ []) (length-append opened made)) in
-      put ∙ sym (range_with_len_more (length opened) (length made)) ∙ ap (range_with_len (length opened)) (sym count);
-  stamped = AllZip_more IsStamped places made (length (opened ++ made)) batch old.stamped begin;
-  steps = are_steps_more 1 1 opened made batch old.steps step;
-  fit = subst AreBatches (append_assoc opened made (batch ∷ [])) fit;
-  fits = inr (subst (λ (log : List Batch). extent (bodies_of log) ≤ limit) (append_assoc opened made (batch ∷ [])) fits);
+-- one batch more
+pub made_more : {D : Type 0} (opening : Opening D) (made : List Batch) (batch : Batch) → AreMadeBatches opening made → IsStep opening.place opening.partitions (opening.batches ++ made) batch
+    → extent (bodies_of ((opening.batches ++ made) ++ batch ∷ [])) ≤ opening.limit
+    → AreBatches ((opening.batches ++ made) ++ batch ∷ []) → AreMadeBatches opening (made ++ batch ∷ [])
+made_more opening made batch old step fits fit = record {
+  steps = are_steps_more opening.place opening.partitions opening.batches made batch old.steps step;
+  fit = subst AreBatches (append_assoc opening.batches made (batch ∷ [])) fit;
+  fits = inr (subst (λ (log : List Batch). extent (bodies_of log) ≤ opening.limit) (append_assoc opening.batches made (batch ∷ [])) fits);
 }
 
 -- a front of a log that grows is one of it when it has grown more
@@ -90,20 +81,21 @@ module _ {D : Type 0} {disks : Ghosts D} (log : List Batch) (partition : Partiti
   pub crash_stands : (IsTrue disks.tells_images → IsTrue disks.tells) → IsTrue disks.tells_images → (image : List ℕ) → disks.images (disk_of partition) image → Stands image (bodies_of log)
   crash_stands told t image left = rw (has.durable t image left) (log_stands _ _ _ (has.file (told t)))
 
--- a ledger that holds what an account has
-module _ {D : Type 0} {disks : Ghosts D} (account : Account D) (old : Ledger D disks) (holds : HasAccount account old) where
+-- a partition that holds what an account has
+module _ {D : Type 0} {disks : Ghosts D} (account : Account D) (old : Partition D disks) (holds : HasAccount account old) where
   abbrev first : DiskView
   first = disks.view (first_disk account)
 
   -- and its disk since, over the calls of a command
-  module _ (new : Ledger D disks) where
+  module _ (new : Partition D disks) where
     -- one batch more was made
-    pub holds_more : (batch : Batch) → AreMadeBatches account.opening.limit account.opening.batches (account.made ++ batch ∷ []) new.stamps.items
-        → IsOpen account.opening.limit new.partition (account.opening.batches ++ (account.made ++ batch ∷ []))
-        → (IsTrue disks.tells_images → LeavesOnly (view_in old).moment (view_in new).moment (disks.since (disk_in old)) (disks.since (disk_in new)) (IsLogOrMore (log_of account) batch))
+    pub holds_more : (batch : Batch) → AreMadeBatches account.opening (account.made ++ batch ∷ [])
+        → IsOpen account.opening new (account.opening.batches ++ (account.made ++ batch ∷ []))
+        → (IsTrue disks.tells_images → LeavesOnly (view_in old).moment (view_in new).moment (disks.since (disk_of old)) (disks.since (disk_of new)) (IsLogOrMore (log_of account) batch))
         → (view_in old).faults ≤ (view_in new).faults → (IsTrue disks.counts_failures → (view_in new).faults ≡ (view_in old).faults)
+        → slots_of new ≡ slots_of old
         → HasAccount (with_more account (batch ∷ [])) new
-    holds_more batch made stands time later steady = record {
+    holds_more batch made stands time later steady slots = record {
       was = holds.was;
       made = made;
       is_open = stands;
@@ -112,12 +104,13 @@ module _ {D : Type 0} {disks : Ghosts D} (account : Account D) (old : Ledger D d
           let leaves = leaves_weaker _ _ _ _ _ _ (front_or_more (log_of account) batch) (time t) in
           record {
             later = omega (arith, h.later, leaves.later);
-            ever = ever_more account.opening.batches account.made (batch ∷ []) account.opening.moment (view_in old).moment (view_in new).moment (disks.since (disk_in old)) (disks.since (disk_in new)) h.later h.ever leaves;
-            before = opening_more (disks.images (first_disk account)) first.moment account.opening.moment (view_in old).moment (view_in new).moment (disks.since (disk_in old)) (disks.since (disk_in new)) _
+            ever = ever_more account.opening.batches account.made (batch ∷ []) account.opening.moment (view_in old).moment (view_in new).moment (disks.since (disk_of old)) (disks.since (disk_of new)) h.later h.ever leaves;
+            before = opening_more (disks.images (first_disk account)) first.moment account.opening.moment (view_in old).moment (view_in new).moment (disks.since (disk_of old)) (disks.since (disk_of new)) _
                 (holds.was.by_first t).0 h.later h.before leaves;
           };
       faults = omega (arith, holds.faults, later);
       steady = λ t. steady t ∙ holds.steady t;
+      slots = slots ∙ holds.slots;
     }
 
     -- what a disk that was hurt in a command holds
@@ -135,35 +128,37 @@ module _ {D : Type 0} {disks : Ghosts D} (account : Account D) (old : Ledger D d
     cause_then refused writing (stops.LogFull n frame most) why = why
 
     -- a command stopped it
-    pub stopped_by : (reading at begin : ℕ) (command : Command) (stop : Stop) → new.stamps.items ≡ old.stamps.items → at ≡ max (moment_of_last (log_of account)) reading → begin ≡ length (log_of account)
-        → IsStopped disks.tells disks.tells_images disks.takes_memory (view_in old) (view_in new) (disks.images (disk_in new)) (disks.since (disk_in old)) (disks.since (disk_in new)) 1 account.opening.limit
-        (log_of account) at begin command (in_writing new.partition) stop
+    pub stopped_by : (reading at begin : ℕ) (command : Command) (stop : Stop) → at ≡ max (moment_of_last (log_of account)) reading
+        → IsStopped disks.tells disks.tells_images disks.takes_memory (view_in old) (view_in new) (disks.images (disk_of new)) (disks.since (disk_of old)) (disks.since (disk_of new)) account.opening.place account.opening.partitions account.opening.limit
+        (log_of account) at begin command (in_writing new) stop
         → (IsTrue disks.counts_failures → (stop ≡ stops.DiskFault → ⊥) → (view_in new).faults ≡ (view_in old).faults)
-        → HasRefused account reading command stop new
-    stopped_by reading at begin command stop stamps is_at is_begin stopped steady =
+        → slots_of new ≡ slots_of old
+        → HasRefused account reading begin command stop new
+    stopped_by reading at begin command stop is_at stopped steady slots =
         let log = log_of account in
-        let next : (batch : Batch) → stopped.refused ≡ Some batch → IsStepOf 1 1 log (max (moment_of_last log) reading) (length log) command batch =
-        λ batch is. subst (λ (m : ℕ). IsStepOf 1 1 log m (length log) command batch) is_at (subst (λ (b : ℕ). IsStepOf 1 1 log at b command batch) is_begin (stopped.next 1 batch is)) in
+        let next : (batch : Batch) → stopped.refused ≡ Some batch → IsStepOf account.opening.place account.opening.partitions log (max (moment_of_last log) reading) begin command batch =
+        λ batch is. subst (λ (m : ℕ). IsStepOf account.opening.place account.opening.partitions log m begin command batch) is_at (stopped.next batch is) in
         record {
           refused = stopped.refused;
           next = next;
           stopped = record {
             was = holds.was;
-            made = subst (AreMadeBatches account.opening.limit account.opening.batches account.made) (sym stamps) holds.made;
-            left = λ batch is. let step = next batch is in (step.step, step.begin);
-            cause = cause_then stopped.refused (in_writing new.partition) stop stopped.unwritten.cause;
-            file = λ t. hurt_then log (in_writing new.partition) (view_in new).contents (stopped.unwritten.file t);
-            crash = λ t image left. hurt_then log (in_writing new.partition) image (stopped.unwritten.crash t image left);
+            made = holds.made;
+            left = λ batch is. (next batch is).step;
+            cause = cause_then stopped.refused (in_writing new) stop stopped.unwritten.cause;
+            file = λ t. hurt_then log (in_writing new) (view_in new).contents (stopped.unwritten.file t);
+            crash = λ t image left. hurt_then log (in_writing new) image (stopped.unwritten.crash t image left);
             time = λ t.
                 let h = holds.time t in
                 let leaves = stopped.unwritten.time t in
                 record {
                   later = omega (arith, h.later, leaves.later);
-                  ever = λ image was. ⊎_elim (λ earlier. inl (h.ever image earlier)) (λ left. inr (hurt_then log (in_writing new.partition) image left)) (leaves.nothing_else account.opening.moment image h.later was);
-                  before = opening_more (disks.images (first_disk account)) first.moment account.opening.moment (view_in old).moment (view_in new).moment (disks.since (disk_in old)) (disks.since (disk_in new)) _
+                  ever = λ image was. ⊎_elim (λ earlier. inl (h.ever image earlier)) (λ left. inr (hurt_then log (in_writing new) image left)) (leaves.nothing_else account.opening.moment image h.later was);
+                  before = opening_more (disks.images (first_disk account)) first.moment account.opening.moment (view_in old).moment (view_in new).moment (disks.since (disk_of old)) (disks.since (disk_of new)) _
                       (holds.was.by_first t).0 h.later h.before leaves;
                 };
             steady = λ t other. steady t other ∙ holds.steady t;
+            slots = slots ∙ holds.slots;
           };
         }
 
@@ -177,49 +172,11 @@ module _ {D : Type 0} {disks : Ghosts D} (account : Account D) (old : Ledger D d
         made = holds.made;
         left = λ batch e. absurd (cc);
         cause = (inl has.resting, λ batch e. absurd (cc));
-        file = λ t. resting (view_in old).contents (file_stands (log_of account) old.partition has t);
-        crash = λ t image left. resting image (crash_stands (log_of account) old.partition has told t image left);
+        file = λ t. resting (view_in old).contents (file_stands (log_of account) old has t);
+        crash = λ t image left. resting image (crash_stands (log_of account) old has told t image left);
         time = λ t.
             let h = holds.time t in
             record { later = h.later; ever = λ image was. inl (h.ever image was); before = h.before };
         steady = λ t other. holds.steady t;
+        slots = holds.slots;
       }
-
-  -- so a command was refused
-  pub refused_unasked : (told : IsTrue disks.tells_images → IsTrue disks.tells) (reading : ℕ) (command : Command) → HasRefused account reading command stops.Memory old
-  refused_unasked told reading command = record { refused = None; next = λ batch e. absurd (cc); stopped = stopped_resting told }
-
-  -- the same partition with the same stamps
-  pub holds_moved : (new : Ledger D disks) → new.partition ≡ old.partition → new.stamps.items ≡ old.stamps.items → HasAccount account new
-  holds_moved new partition stamps =
-      subst (λ (p : Partition D disks). HasAccount account (record { partition = p; stamps = new.stamps })) (sym partition) (record {
-        was = holds.was;
-        made = subst (AreMadeBatches account.opening.limit account.opening.batches account.made) (sym stamps) holds.made;
-        is_open = holds.is_open;
-        time = holds.time;
-        faults = holds.faults;
-        steady = holds.steady;
-      })
-
--- an account with nothing more
-pub holds_same : {D : Type 0} {disks : Ghosts D} (account : Account D) (ledger : Ledger D disks) → HasAccount account ledger → HasAccount (with_more account []) ledger
-holds_same account ledger holds =
-    let none : account.made ≡ account.made ++ [] = append_none account.made in
-    subst (λ (made : List Batch). HasAccount (account_of account.opening made) ledger) none holds
-
--- an account with more, and then more
-pub holds_then : {D : Type 0} {disks : Ghosts D} (account : Account D) (ledger : Ledger D disks) (more again : List Batch) → HasAccount (with_more (with_more account more) again) ledger → HasAccount (with_more account (more ++ again)) ledger
-holds_then account ledger more again holds =
-    subst (λ (made : List Batch). HasAccount (account_of account.opening made) ledger) (append_assoc account.made more again) holds
-
--- the same of a ledger that was stopped
-pub stopped_then : {D : Type 0} {disks : Ghosts D} (account : Account D) (ledger : Ledger D disks) (more again : List Batch) (refused : Option Batch) (stop : Stop) → HasStopped (with_more (with_more account more) again) refused stop ledger
-    → HasStopped (with_more account (more ++ again)) refused stop ledger
-stopped_then account ledger more again refused stop stopped =
-    subst (λ (made : List Batch). HasStopped (account_of account.opening made) refused stop ledger) (append_assoc account.made more again) stopped
-
--- a ledger that was stopped behind an account was so behind it with nothing more
-pub stopped_same : {D : Type 0} {disks : Ghosts D} (account : Account D) (refused : Option Batch) (stop : Stop) (ledger : Ledger D disks) → HasStopped account refused stop ledger
-    → HasStopped (with_more account []) refused stop ledger
-stopped_same account refused stop ledger stopped =
-    subst (λ (made : List Batch). HasStopped (account_of account.opening made) refused stop ledger) (append_none account.made) stopped

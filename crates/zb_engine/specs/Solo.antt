@@ -1,55 +1,149 @@
 -- What is known of the engine of one thread.
-use Rattle.std.specs.Prelude.{◌≡◌, ◌≤◌, ℕ, List, Option, Some, None, option_map, IsTrue}
+use Rattle.std.specs.Prelude.{◌≡◌, ◌⊎◌, ◌≤◌, ℕ, List, [], ◌∷◌, ◌++◌, length, map, IsTrue, Option, Some, None}
+use Rattle.std.specs.List.{AllByRecursion}
 use Rattle.zb_disk.specs.declared.disk.Disk.{Ghosts}
 use Rattle.zb_model.specs.declared.record.Batch.{Batch}
+use Rattle.zb_model.specs.declared.record.Command.{Command}
 use Rattle.zb_model.specs.declared.stop.Stop.{Stop}
-use Rattle.zb_store.specs.declared.volume.Volume.{Volume}
-use Rattle.zb_world.specs.Entries.{Entry, as_entry, entries_of}
+use Rattle.zb_store.specs.Stands.{Stands}
+use Rattle.zb_rules.specs.Step.{IsStep, EachOn}
+use Rattle.zb_world.specs.Entries.{Entry, IsPartitionOf, part_of, stamps_of, as_entry}
 use Rattle.zb_partition.specs.Log.{bodies_of}
 use Rattle.zb_partition.specs.Partition.{disk_of, slots_of}
 use Rattle.zb_partition.specs.declared.partition.Partition.{Partition}
-use Rattle.zb_store.specs.Stands.{Stands}
-use Rattle.zb_engine.specs.Ledger.{Opening, account_of, WasOpened, IsOpen, LeftSince, HasAccount, HasStopped}
-use Rattle.zb_engine.specs.declared.ledger.Ledger.{Ledger}
+use Rattle.zb_wire.specs.declared.request.Request.{Request}
+use Rattle.zb_reply.specs.declared.reply.Reply.{Reply}
+use Rattle.zb_wire.specs.Asked.{command_of}
+use Rattle.zb_desk.specs.Numbered.{EachFrom}
+use Rattle.zb_desk.specs.Replies.{reply_if}
+use Rattle.zb_desk.specs.Serial.{Basis, basis_of, place_behind, IsEntryBy, AreMadeFor, IsNextEntry}
+use Rattle.zb_desk.specs.SerialLaws.{AreAsked}
+use Rattle.zb_engine.specs.Ledger.{Opening, Account, account_of, slots_in, WasOpened, IsOpen, LeftSince, HasAccount, HasStopped}
 use Rattle.zb_engine.specs.declared.solo.Solo.{Solo}
-
--- the slots for snapshots of a volume
-abbrev pub slots_in : {D : Type 0} → Volume D → D × D
-slots_in volume = (volume.snap_a, volume.snap_b)
 
 -- a partition was opened so, and nothing was done with it since
 pub record IsOpenedAs {D : Type 0} {disks : Ghosts D} (opening : Opening D) (partition : Partition D disks) : Type 0 where
-  pub is_open : IsOpen opening.limit partition opening.batches
+  pub is_open : IsOpen opening partition opening.batches
   pub was : WasOpened disks opening
   pub time : IsTrue disks.tells_images → LeftSince disks opening (disk_of partition) (λ image. Stands image (bodies_of opening.batches))
   pub faults : (disks.view opening.volume.log).faults ≤ (disks.view (disk_of partition)).faults
   pub steady : IsTrue disks.counts_failures → (disks.view (disk_of partition)).faults ≡ (disks.view opening.volume.log).faults
   pub slots : slots_of partition ≡ slots_in opening.volume
 
--- the ledger of its one partition
-abbrev pub ledger_in : {D : Type 0} {disks : Ghosts D} → Solo D disks → Ledger D disks
-ledger_in solo = solo.ledger
+-- the opening is that of the partition with this number, of so many
+abbrev pub IsOpeningOf : {D : Type 0} → (n number : ℕ) → Opening D → Type 0
+IsOpeningOf n number opening = (opening.place ≡ number) × (opening.partitions ≡ n)
+
+-- the partition with this number, of n, was opened so, and nothing was done with it since
+abbrev pub IsFreshPart : {D : Type 0} {disks : Ghosts D} → (n number : ℕ) → Opening D → Partition D disks → Type 0
+IsFreshPart n number opening partition = IsOpeningOf n number opening × IsOpenedAs opening partition
+
+-- what an engine began with: how its logs were opened, and how many units of work it does behind a request
+pub record Start (D : Type 0) : Type 0 where
+  pub openings : List (Opening D)
+  pub units : ℕ
+
+-- what an engine began with, by its parts
+abbrev pub start_of : {D : Type 0} → List (Opening D) → ℕ → Start D
+start_of openings units = record { openings = openings; units = units }
+
+-- how many partitions it has
+abbrev pub many_in : {D : Type 0} → Start D → ℕ
+many_in start = length start.openings
+
+-- the batches that each of its logs had
+abbrev pub logs_in : {D : Type 0} → Start D → List (List Batch)
+logs_in start = map (λ opening. opening.batches) start.openings
+
+-- what its run goes by
+abbrev pub basis_in : {D : Type 0} → Start D → Basis
+basis_in start = basis_of (logs_in start) start.units
+
+-- the place of its first entry
+abbrev pub place_at_start : {D : Type 0} → Start D → ℕ
+place_at_start start = place_behind (logs_in start) []
+
+-- the account of the partition with a number, behind these entries
+abbrev pub account_in : {D : Type 0} → ℕ → Opening D → List Entry → Account D
+account_in number opening entries = account_of opening (part_of number entries)
+
+-- the partition with this number, of n, was opened so, and has made what is its own of these entries
+abbrev pub HasPart : {D : Type 0} {disks : Ghosts D} → (n : ℕ) → List Entry → (number : ℕ) → Opening D → Partition D disks → Type 0
+HasPart n entries number opening partition = IsOpeningOf n number opening × HasAccount (account_in number opening entries) partition
+
+-- each of these entries begins at its own place
+abbrev pub AreStamped : List (List Batch) → List Entry → Type 0
+AreStamped logs entries = EachOn (λ before entry. entry.batch.begin ≡ place_behind logs before) [] entries
+
+-- the partitions of an engine
+abbrev pub partitions_in : {D : Type 0} {disks : Ghosts D} → Solo D disks → List (Partition D disks)
+partitions_in solo = solo.partitions.items
+
+-- the places that the batches of each have
+abbrev pub stamps_in : {D : Type 0} {disks : Ghosts D} → Solo D disks → List (List ℕ)
+stamps_in solo = map (λ places. places.items) solo.stamps.items
 
 -- the stop that it keeps, with the number of the partition that met it
 abbrev pub kept_in : {D : Type 0} {disks : Ghosts D} → Solo D disks → Option (ℕ × Stop)
-kept_in solo = option_map (λ stop. (1, stop)) solo.kept
+kept_in solo = solo.kept
 
--- its log was opened so, and it has made these entries since
-pub record HasMade {D : Type 0} {disks : Ghosts D} (opening : Opening D) (entries : List Entry) (solo : Solo D disks) : Type 0 where
-  pub made : List Batch
-  pub are : entries ≡ entries_of 1 made
-  pub holds : HasAccount (account_of opening made) (ledger_in solo)
-  pub slots : slots_of (ledger_in solo).partition ≡ slots_in opening.volume
+-- its logs were opened so, and it has made these entries since
+pub record HasMade {D : Type 0} {disks : Ghosts D} (start : Start D) (entries : List Entry) (solo : Solo D disks) : Type 0 where
+  pub within : AllByRecursion (λ entry. IsPartitionOf (many_in start) entry.partition) entries
+  pub begun : AreStamped (logs_in start) entries
+  pub parts : EachFrom (HasPart (many_in start) entries) 1 start.openings (partitions_in solo)
+  pub stamped : stamps_in solo ≡ stamps_of (many_in start) (place_at_start start) entries
+  pub place : solo.place ≡ place_behind (logs_in start) entries
   pub goes_on : kept_in solo ≡ None
-  pub bound : solo.units ≡ opening.units
+  pub bound : solo.units ≡ start.units
 
--- its log was opened so, it made these entries, and then it stopped, with the one that was made last and isn't in its
--- log, if there is one
-pub record HasEnded {D : Type 0} {disks : Ghosts D} (opening : Opening D) (entries : List Entry) (unlogged : Option Entry) (stop : Stop) (solo : Solo D disks) : Type 0 where
-  pub made : List Batch
-  pub are : entries ≡ entries_of 1 made
-  pub refused : Option Batch
-  pub last : unlogged ≡ option_map (as_entry 1) refused
-  pub stopped : HasStopped (account_of opening made) refused stop (ledger_in solo)
-  pub slots : slots_of (ledger_in solo).partition ≡ slots_in opening.volume
-  pub kept : kept_in solo ≡ Some (1, stop)
+-- this is the batch of an entry of the partition with this number, if there is one
+abbrev pub IsBatchOf : ℕ → Option Entry → Option Batch → Type 0
+IsBatchOf number None batch = batch ≡ None
+IsBatchOf number (Some entry) batch = (entry.partition ≡ number) × (batch ≡ Some entry.batch)
+
+-- the partition with this number was opened so and has made what is its own of these entries, or it is the one that
+-- stopped, with the entry that was made last and isn't in its log, if there is one
+abbrev pub IsLeftPart : {D : Type 0} {disks : Ghosts D} → (n : ℕ) → List Entry → Option Entry → (at : ℕ) → Stop → (number : ℕ) → Opening D → Partition D disks → Type 0
+IsLeftPart n entries unlogged at stop number opening partition = IsOpeningOf n number opening
+    × (((number ≡ at → ⊥) × HasAccount (account_in number opening entries) partition)
+    ⊎ ((number ≡ at) × ((refused : Option Batch) × IsBatchOf number unlogged refused × HasStopped (account_in number opening entries) refused stop partition)))
+
+-- its logs were opened so, it made these entries, and then the partition with this number stopped, with the entry that was
+-- made last and isn't in its log, if there is one
+pub record HasEnded {D : Type 0} {disks : Ghosts D} (start : Start D) (entries : List Entry) (unlogged : Option Entry) (stop : Stop) (solo : Solo D disks) : Type 0 where
+  pub at : ℕ
+  pub within : AllByRecursion (λ entry. IsPartitionOf (many_in start) entry.partition) entries
+  pub begun : AreStamped (logs_in start) entries
+  pub last : (entry : Entry) → unlogged ≡ Some entry → (entry.partition ≡ at) × (entry.batch.begin ≡ place_behind (logs_in start) entries)
+  pub of : IsPartitionOf (many_in start) at
+  pub parts : EachFrom (IsLeftPart (many_in start) entries unlogged at stop) 1 start.openings (partitions_in solo)
+  pub stamped : stamps_in solo ≡ stamps_of (many_in start) (place_at_start start) entries
+  pub kept : kept_in solo ≡ Some (at, stop)
+
+-- behind these entries a command was submitted at a reading of the clock at a partition, and this is its batch
+pub record IsPlaced {D : Type 0} {disks : Ghosts D} (start : Start D) (entries : List Entry) (reading : ℕ) (next : ℕ × Command) (batch : Batch) (solo : Solo D disks) : Type 0 where
+  pub step : (log : List Batch) × IsStep next.0 (many_in start) log batch
+  pub by : IsEntryBy (logs_in start) (Some next) reading entries (as_entry next.0 batch)
+  pub holds : HasMade start (entries ++ as_entry next.0 batch ∷ []) solo
+
+-- behind these entries a command at a partition stopped the engine
+pub record IsTurnedAway {D : Type 0} {disks : Ghosts D} (start : Start D) (entries : List Entry) (reading : ℕ) (next : ℕ × Command) (stop : Stop) (solo : Solo D disks) : Type 0 where
+  pub unlogged : Option Entry
+  pub by : (entry : Entry) → unlogged ≡ Some entry → IsEntryBy (logs_in start) (Some next) reading entries entry
+  pub holds : HasEnded start entries unlogged stop solo
+
+-- what a request itself asks for was done at a reading, and this is the reply to it
+pub record IsDone {D : Type 0} {disks : Ghosts D} (start : Start D) (earlier : List Entry) (request : Request) (reading : ℕ) (reply : Reply) (solo : Solo D disks) : Type 0 where
+  pub own : List Entry
+  pub done : AreAsked (logs_in start) request reading earlier own
+  pub told : reply_if (command_of request) request reading own ≡ Some reply
+  pub holds : HasMade start (earlier ++ own) solo
+
+-- a request stopped the engine once it had made these entries, and the one that isn't in its log, if there is one
+pub record IsCutOff {D : Type 0} {disks : Ghosts D} (start : Start D) (earlier : List Entry) (request : Request) (reading : ℕ) (stop : Stop) (solo : Solo D disks) : Type 0 where
+  pub own : List Entry
+  pub made : AreMadeFor (basis_in start) request reading earlier own
+  pub unlogged : Option Entry
+  pub next : (entry : Entry) → unlogged ≡ Some entry → IsNextEntry (basis_in start) request reading earlier own entry
+  pub holds : HasEnded start (earlier ++ own) unlogged stop solo

@@ -1,9 +1,12 @@
-//! The engine of one thread: partitions, one so far, and what carries requests out on them.
+//! The engine of one thread: partitions, and what carries requests out on them and delivers what they send one another.
 #![tactic(auto)]
 
 mod asking;
-mod ledger;
+mod committing;
+mod delivering;
+mod desk;
+mod next;
 mod solo;
-mod work;
+mod starting;
 
 pub use solo::Solo;

@@ -85,7 +85,10 @@ fn moves_no_real_clock(rt: HostRuntime) {
 
 // Whether the line is a create, where there are two partitions.
 fn creates(alloc: Global, line: &[u8]) -> bool {
-    matches!(read_line(alloc, line, given(false)), Ok(Request::Create(_)))
+    matches!(
+        read_line(alloc, line, given(false)),
+        Ok(Request::Create { .. })
+    )
 }
 
 #[test]
@@ -144,7 +147,10 @@ fn reads_an_activate(rt: HostRuntime) {
     let line =
         br#"{"op":"activate","type":"pay","worker":"","timeout":4000000000000,"max":1000,"partition":2}"#;
     match &request_of(&rt, rt.alloc(), line) {
-        Request::Activate(asked) => {
+        Request::Activate {
+            activation: asked,
+            ..
+        } => {
             assert!(rt; asked.kind.as_str() == "pay");
             assert!(rt; asked.worker.as_str() == "");
             assert!(rt; asked.timeout == 4_000_000_000_000);

@@ -15,6 +15,10 @@ use Rattle.zb_partition.specs.declared.partition.Partition.{Partition}
 abbrev pub partition_number_of : {D : Type 0} {disks : Ghosts D} → Partition D disks → ℕ
 partition_number_of partition = states.partition_of partition.state
 
+-- of how many partitions it is one
+abbrev pub partitions_of : {D : Type 0} {disks : Ghosts D} → Partition D disks → ℕ
+partitions_of partition = partition.partitions
+
 -- the disk of its log
 abbrev pub disk_of : {D : Type 0} {disks : Ghosts D} → Partition D disks → D
 disk_of partition = gates.disk_of_log partition.log

@@ -64,11 +64,11 @@ pub record IsUnwritten (tells tells_images takes_memory : Bool) (old new : DiskV
   pub time : IsTrue tells_images → LeavesOnly old.moment new.moment past since (IsLeft (IsHurt takes_memory old.faults new.faults) log in_writing)
 
 -- a command stopped the partition
-pub record IsStopped (tells tells_images takes_memory : Bool) (old new : DiskView) (images : List ℕ → Type 0) (past since : ℕ → List ℕ → Type 0) (place limit : ℕ)
+pub record IsStopped (tells tells_images takes_memory : Bool) (old new : DiskView) (images : List ℕ → Type 0) (past since : ℕ → List ℕ → Type 0) (place partitions limit : ℕ)
     (log : List Batch) (moment begin : ℕ) (command : Command) (in_writing : Option Batch) (stop : Stop) : Type 0 where
-  -- the batch that was made and isn't in the log, if there was one; it is the step for any number of partitions
+  -- the batch that was made and isn't in the log, if there was one
   pub refused : Option Batch
-  pub next : (n : ℕ) (batch : Batch) → refused ≡ Some batch → IsStepOf place n log moment begin command batch
+  pub next : (batch : Batch) → refused ≡ Some batch → IsStepOf place partitions log moment begin command batch
   pub unwritten : IsUnwritten tells tells_images takes_memory old new images past since limit log refused in_writing stop
 
 -- the frame of the batch doesn't fit into a log of this length, or it does and there was no memory for it

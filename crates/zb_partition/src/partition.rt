@@ -10,6 +10,7 @@ ghost use Rattle.zb_store.specs.GateLog as gates;
 ghost use Rattle.zb_store.specs.Scan.{disk_of_scan, limit_of_scan};
 ghost use Rattle.zb_store.specs.Log.{framed, extent};
 ghost use Rattle.zb_views.specs.View.{moment_of_last, events_of};
+ghost use Rattle.zb_record.specs.Packets.{outbox_of, first_packet};
 ghost use Rattle.zb_rules.specs.Due.{due_command};
 ghost use Rattle.zb_rules.specs.Own.{IsSupported};
 ghost use Rattle.zb_rules.specs.Continue.{is_quiet};
@@ -26,7 +27,7 @@ use crate::record::put_frame;
 use std::alloc::{AllocError, Global};
 use std::mem;
 use zb_disk::Disk;
-use zb_model::{Batch, Command, Moment, PartitionId, Stop};
+use zb_model::{Batch, Command, Moment, Packet, PartitionId, Stop};
 use zb_state::State;
 use zb_step::outcome_of;
 use zb_store::{GateLog, Scan, StoreFault, Volume};
@@ -42,6 +43,8 @@ pub struct Partition<D: Disk> {
     snap_a: D,
     snap_b: D,
     state: State,
+    // How many partitions there are.
+    partitions: u32,
     last_moment: Moment,
     live: bool,
     in_writing: Option<Batch>,
@@ -50,6 +53,7 @@ pub struct Partition<D: Disk> {
     ghost whole: { IsTrue live → IsTrue (gates.is_whole_log log) },
     ghost sound: { IsTrue live → IsTrue (gates.is_sound log) },
     ghost limited: { gates.limit_of_log log ≤ 2 ^ 32 },
+    ghost counted: { partitions ≤ 16 },
     ghost resting: { IsTrue live → in_writing ≡ None },
     ghost reached: { IsTrue live → IsReached state },
 }
@@ -66,10 +70,10 @@ pub struct Stopped<D> {
 
 impl<D: Disk> Partition<D> {
     ghost use Rattle.zb_partition.specs.Log.{IsBadAt};
-    ghost use Rattle.zb_partition.specs.Partition.{partition_number_of, disk_of, slots_of, limit_of, frames_of, last_moment_of, is_live, in_writing, HasLog, IsAhead};
+    ghost use Rattle.zb_partition.specs.Partition.{partition_number_of, partitions_of, disk_of, slots_of, limit_of, frames_of, last_moment_of, is_live, in_writing, HasLog, IsAhead};
     ghost use Rattle.zb_partition.specs.Opening.{IsOpened, disk_after, slots_after};
 
-    /// Opens the partition with this number over its volume, whose log may have so many bytes. Every frame is
+    /// Opens the partition with this number, of so many, over its volume, whose log may have so many bytes. Every frame is
     /// read, and the log is refused where one can't be: at the first frame that spells no batch, that has an
     /// event that doesn't apply, or that runs past the end of the file. No frame is changed. It reads the log
     /// once, in large pieces, and takes memory for the buffered messages, for what the state keeps, and for one
@@ -78,11 +82,14 @@ impl<D: Disk> Partition<D> {
         alloc: Global,
         volume: Volume<D>,
         place: PartitionId,
+        partitions: u32,
         limit: u64,
     ) -> Result<Partition<D>, (OpenFault, Volume<D>)>
-        requires { limit ≤ 2 ^ 32 }
+        requires limit { limit ≤ 2 ^ 32 }
+        requires most { partitions ≤ 16 }
         ensures opened { IfOk result (λ partition. (log : List Batch) × IsOpened place (D.view volume.log).contents log partition) }
         ensures place { IfOk result (λ partition. partition_number_of partition ≡ place) }
+        ensures partitions { IfOk result (λ partition. partitions_of partition ≡ partitions) }
         ensures limit { IfOk result (λ partition. limit_of partition ≡ limit) }
         ensures live { IfOk result (λ partition. IsTrue (is_live partition)) }
         ensures bad { IsTrue D.tells → (frame : ℕ) → IfErr result (λ refused. refused.0 ≡ OpenFault.BadLog frame → IsBadAt place (D.view volume.log).contents frame) }
@@ -104,7 +111,7 @@ impl<D: Disk> Partition<D> {
             snap_b,
         } = volume;
         match Scan::begin(alloc, log, limit) {
-            Ok(scan) => Partition::over(alloc, scan, snap_a, snap_b, place),
+            Ok(scan) => Partition::over(alloc, scan, snap_a, snap_b, place, partitions),
             Err((fault, log)) => Err((
                 OpenFault::from(fault),
                 Volume {
@@ -148,15 +155,15 @@ impl<D: Disk> Partition<D> {
     ) -> Result<Batch, Stop>
         requires live { IsTrue (is_live self.old) }
         requires run { IsSupported command }
-        ensures step { (log : List Batch) (n : ℕ) → HasLog log self.old → moment_of_last log ≤ moment
-            → IfOk result (IsStepOf (partition_number_of self.old) n log moment begin command) }
+        ensures step { (log : List Batch) → HasLog log self.old → moment_of_last log ≤ moment
+            → IfOk result (IsStepOf (partition_number_of self.old) (partitions_of self.old) log moment begin command) }
         ensures log { (log : List Batch) → HasLog log self.old → IfOk result (λ batch. HasLog (log ++ batch ∷ []) self.new) }
         ensures fits { (log : List Batch) → HasLog log self.old
             → IfOk result (λ batch. extent (bodies_of (log ++ batch ∷ [])) ≤ limit_of self.old) }
         ensures stopped { (log : List Batch) → HasLog log self.old → moment_of_last log ≤ moment
             → IfErr result (IsStopped D.tells D.tells_images D.takes_memory (D.view (disk_of self.old)) (D.view (disk_of self.new))
             (D.images (disk_of self.new)) (D.since (disk_of self.old)) (D.since (disk_of self.new))
-            (partition_number_of self.old) (limit_of self.old) log moment begin command (in_writing self.new)) }
+            (partition_number_of self.old) (partitions_of self.old) (limit_of self.old) log moment begin command (in_writing self.new)) }
 
         // A crash at any moment since leaves the log, or the log with this batch.
         ensures time { IsTrue D.tells_images → (log : List Batch) → HasLog log self.old
@@ -170,6 +177,7 @@ impl<D: Disk> Partition<D> {
         ensures live { IsOk result → IsTrue (is_live self.new) }
         ensures dead { IsErr result → IsFalse (is_live self.new) }
         ensures place { partition_number_of self.new ≡ partition_number_of self.old }
+        ensures partitions { partitions_of self.new ≡ partitions_of self.old }
         ensures limit { limit_of self.new ≡ limit_of self.old }
         ensures steady { IsTrue D.counts_failures → UnlessDiskFails result ((D.view (disk_of self.new)).faults ≡ (D.view (disk_of self.old)).faults) }
         ensures later { (D.view (disk_of self.old)).faults ≤ (D.view (disk_of self.new)).faults }
@@ -200,6 +208,23 @@ impl<D: Disk> Partition<D> {
         ensures { (log : List Batch) → HasLog log self.now → result ≡ is_quiet (events_of log) }
     {
         self.state.quiet()
+    }
+
+    /// The packets that it has sent and that no event has ended, in the order in which they were sent. It costs what
+    /// `State::outbox` does.
+    pub fn outbox(&self, alloc: Global) -> Result<Vec<Packet>, AllocError>
+        ensures { (log : List Batch) → HasLog log self.now
+            → IfOk result (λ packets. packets.items ≡ outbox_of (partition_number_of self.now) (partitions_of self.now) (events_of log)) }
+    {
+        self.state.outbox(alloc, self.partitions)
+    }
+
+    /// The first one of these packets. It costs what `State::first_packet` does.
+    pub fn first_packet(&self, alloc: Global) -> Result<Option<Packet>, AllocError>
+        ensures { (log : List Batch) → HasLog log self.now
+            → IfOk result (λ packet. packet ≡ first_packet (partition_number_of self.now) (partitions_of self.now) (events_of log)) }
+    {
+        self.state.first_packet(alloc, self.partitions)
     }
 
     /// Its files, and the batch that it was writing when it stopped, if it did. The memory of its state isn't given
@@ -236,12 +261,15 @@ impl<D: Disk> Partition<D> {
         snap_a: D,
         snap_b: D,
         place: PartitionId,
+        partitions: u32,
     ) -> Result<Partition<D>, (OpenFault, Volume<D>)>
         requires start { IsAtStart (D.view (disk_of_scan scan)).contents scan }
         requires limit { limit_of_scan scan ≤ 2 ^ 32 }
+        requires most { partitions ≤ 16 }
         requires durable { IsTrue D.tells_images → Only (D.view (disk_of_scan scan)).contents (D.images (disk_of_scan scan)) }
         ensures opened { IfOk result (λ partition. (log : List Batch) × IsOpened place (D.view (disk_of_scan scan)).contents log partition) }
         ensures place { IfOk result (λ partition. partition_number_of partition ≡ place) }
+        ensures partitions { IfOk result (λ partition. partitions_of partition ≡ partitions) }
         ensures limit { IfOk result (λ partition. limit_of partition ≡ limit_of_scan scan) }
         ensures live { IfOk result (λ partition. IsTrue (is_live partition)) }
         ensures bad { IsTrue D.tells → (frame : ℕ)
@@ -257,6 +285,7 @@ impl<D: Disk> Partition<D> {
                 snap_a,
                 snap_b,
                 state: known.state,
+                partitions,
                 last_moment: known.last_moment,
                 live: true,
                 in_writing: None,
@@ -284,8 +313,8 @@ impl<D: Disk> Partition<D> {
         requires run { IsSupported command }
         requires reached { IsReached self.old.state }
         requires stopped { IsFalse (is_live self.old) }
-        ensures step { (log : List Batch) (n : ℕ) → HasLog log self.old → moment_of_last log ≤ moment
-            → IfOk result (IsStepOf (partition_number_of self.old) n log moment begin command) }
+        ensures step { (log : List Batch) → HasLog log self.old → moment_of_last log ≤ moment
+            → IfOk result (IsStepOf (partition_number_of self.old) (partitions_of self.old) log moment begin command) }
         ensures ahead { (log : List Batch) → HasLog log self.old → IfOk result (λ batch. IsAhead log batch self.new) }
         ensures reached { OnOk result (IsReached self.new.state) }
         ensures memory { OnErr result (result ≡ Err Stop.Memory) }
@@ -294,8 +323,9 @@ impl<D: Disk> Partition<D> {
         ensures live { is_live self.new ≡ is_live self.old }
         ensures in_writing { in_writing self.new ≡ in_writing self.old }
         ensures place { partition_number_of self.new ≡ partition_number_of self.old }
+        ensures partitions { partitions_of self.new ≡ partitions_of self.old }
     {
-        let outcome = outcome_of(alloc, &mut self.state, moment, &command)?;
+        let outcome = outcome_of(alloc, &mut self.state, self.partitions, moment, &command)?;
         self.last_moment = moment;
         Ok(Batch {
             moment,
@@ -330,6 +360,7 @@ impl<D: Disk> Partition<D> {
         ensures live { is_live self.new ≡ is_live self.old }
         ensures resting { OnOk result (in_writing self.new ≡ in_writing self.old) }
         ensures place { partition_number_of self.new ≡ partition_number_of self.old }
+        ensures partitions { partitions_of self.new ≡ partitions_of self.old }
         ensures limit { limit_of self.new ≡ limit_of self.old }
         ensures steady { IsTrue D.counts_failures → UnlessDiskFails result ((D.view (disk_of self.new)).faults ≡ (D.view (disk_of self.old)).faults) }
         ensures later { (D.view (disk_of self.old)).faults ≤ (D.view (disk_of self.new)).faults }
@@ -357,6 +388,7 @@ impl<D: Disk> Partition<D> {
         ensures slots { slots_of self.new ≡ slots_of self.old }
         ensures state { self.new.state ≡ self.old.state }
         ensures last_moment { self.new.last_moment ≡ self.old.last_moment }
+        ensures partitions { partitions_of self.new ≡ partitions_of self.old }
         ensures live { is_live self.new ≡ is_live self.old }
         ensures in_writing { in_writing self.new ≡ in_writing self.old }
     {

@@ -73,6 +73,7 @@ fn line(alloc: Global, reply: &Reply, units: Option<u64>) -> Result<String, Allo
         Reply::Resolve(key) => key_line(alloc, "incident", *key, units),
         Reply::Tick(due) => ok_line(alloc, &[Member::Number("due", *due)], units),
         Reply::Advance(now) => ok_line(alloc, &[Member::Number("now", now.ms())], units),
+        Reply::Settle => ok_line::<Member<'_>>(alloc, &[], units),
         Reply::Rejected(rejection) => rejected_line(alloc, rejection, units),
         Reply::Fault(number, fault) => fault_line(alloc, *number, fault),
     }

@@ -30,6 +30,8 @@ pub enum Reply {
     Tick(u64),
     /// The clock reads this moment.
     Advance(Moment),
+    /// Units of work were done.
+    Settle,
     /// The request was rejected.
     Rejected(Rejection),
     /// The line with this number, from 1, is no request.

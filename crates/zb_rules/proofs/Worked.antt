@@ -1,4 +1,4 @@
--- Plays worked out by hand: of one start event, one flow and one end event; with two end events; of a fork and a join; of a subprocess that a terminate
+-- Plays worked out by hand: of one start event, one flow and one end event; of its distribution to three partitions; with two end events; of a fork and a join; of a subprocess that a terminate
 -- end event ends; of one that is cancelled while a task waits in it; the variables that an update sets; of choices at an exclusive gateway, with their incidents; of
 -- what a subprocess takes in and gives out, with its incidents; and of a job that is given out, taken back and completed, that fails, or in which an error is thrown.
 use Rattle.std.proofs.Common.{◌≡◌, ℕ, List, [], ◌∷◌, ◌++◌, Bool, true, false, ◌+◌, Some, None, refl}
@@ -12,6 +12,8 @@ use Rattle.zb_process.specs.declared.operator.Operator.TheVariants as operators
 use Rattle.zb_process.specs.Tree.{Tree, Int, Name, Binary}
 use Rattle.zb_process.specs.declared.model.NodeKind.{NodeKind}
 use Rattle.zb_process.specs.declared.model.NodeKind.TheVariants as kinds
+use Rattle.zb_instance_records.specs.declared.deployment.DeploymentDistribute.{DeploymentDistribute}
+use Rattle.zb_instance_records.specs.declared.deployment.CommandDistributionAcknowledge.{CommandDistributionAcknowledge}
 use Rattle.zb_instance_records.specs.declared.instance.Role.TheVariants as roles
 use Rattle.zb_instance_records.specs.declared.happening.IncidentKind.{IncidentKind}
 use Rattle.zb_instance_records.specs.declared.happening.IncidentKind.TheVariants as incidents
@@ -22,6 +24,8 @@ use Rattle.zb_model.specs.declared.record.Event.TheVariants as events
 use Rattle.zb_model.specs.declared.record.RejectionKind.TheVariants as kinds_of
 use Rattle.zb_rules.specs.Settling.{turn}
 use Rattle.zb_rules.specs.Deploy.{deployed}
+use Rattle.zb_rules.specs.Distribute.{definition_is_there}
+use Rattle.zb_rules.specs.Acknowledge.{no_distribution}
 use Rattle.zb_rules.specs.Applies.{all_apply}
 use Rattle.zb_rules.specs.Create.{created, reason_to_create}
 use Rattle.zb_rules.specs.Shown.{board_of}
@@ -107,9 +111,66 @@ task_waits : turn 1 1 0 at_task ≡ None
 unfolding turn
 task_waits = refl
 
+-- its definition sets out for a partition, and has arrived there
+abbrev setting_out : ℕ → Event
+setting_out p = events.CommandDistributionDistributing (record { key = 2251799813685249; partition = p })
+
+abbrev arrived_at : ℕ → Event
+arrived_at p = events.CommandDistributionAcknowledged (record { key = 2251799813685249; partition = p })
+
 -- deploying it, and making an instance of it
-deploy : deployed 1 process [] ≡ events.ProcessCreated (record { key = 2251799813685249; version = 1; model = process }) ∷ events.DeploymentCreated (record { key = 2251799813685250; definition = 2251799813685249 }) ∷ []
+deploy : deployed 1 1 process [] ≡ events.ProcessCreated (record { key = 2251799813685249; version = 1; model = process }) ∷ events.DeploymentCreated (record { key = 2251799813685250; definition = 2251799813685249 }) ∷ []
 deploy = refl
+
+-- the same at one of three partitions: the definition sets out for the others
+deploy_of_three : deployed 1 3 process [] ≡
+    events.ProcessCreated (record { key = 2251799813685249; version = 1; model = process }) ∷ events.DeploymentCreated (record { key = 2251799813685250; definition = 2251799813685249 })
+    ∷ setting_out 2 ∷ setting_out 3 ∷ []
+deploy_of_three = refl
+
+-- it arrives there under its key, once
+abbrev sent : DeploymentDistribute
+sent = record { key = 2251799813685249; version = 1; model = process }
+
+arrives : own_events 2 3 [] 0 (commands.DeploymentDistribute sent) ≡ Some (events.ProcessCreated (record { key = 2251799813685249; version = 1; model = process }) ∷ [])
+arrives = refl
+
+welcome : reason_for [] 0 (commands.DeploymentDistribute sent) ≡ None
+unfolding first_fault
+welcome = refl
+
+-- where it is there it isn't taken again
+there_already : reason_for (events.ProcessCreated (record { key = 2251799813685249; version = 1; model = process }) ∷ []) 0 (commands.DeploymentDistribute sent)
+    ≡ Some (record { kind = kinds_of.AlreadyExists; reason = definition_is_there 2251799813685249 })
+unfolding first_fault
+there_already = refl
+
+-- each partition acknowledges it, and behind the last one the distribution is finished
+abbrev three_deployed : List Event
+three_deployed = deployed 1 3 process []
+
+abbrev of_partition : ℕ → CommandDistributionAcknowledge
+of_partition p = record { key = 2251799813685249; partition = p }
+
+first_acknowledged : own_events 1 3 three_deployed 0 (commands.CommandDistributionAcknowledge (of_partition 3)) ≡ Some (arrived_at 3 ∷ [])
+first_acknowledged = refl
+
+last_acknowledged : own_events 1 3 (three_deployed ++ arrived_at 3 ∷ []) 0 (commands.CommandDistributionAcknowledge (of_partition 2)) ≡ Some (arrived_at 2 ∷ events.CommandDistributionFinished 2251799813685249 ∷ [])
+last_acknowledged = refl
+
+acknowledged_twice : reason_for (three_deployed ++ arrived_at 3 ∷ []) 0 (commands.CommandDistributionAcknowledge (of_partition 3))
+    ≡ Some (record { kind = kinds_of.NotFound; reason = no_distribution 2251799813685249 3 })
+acknowledged_twice = refl
+
+-- all of it applies
+distribution_applies : all_apply 1 [] (three_deployed ++ arrived_at 3 ∷ arrived_at 2 ∷ events.CommandDistributionFinished 2251799813685249 ∷ []) ≡ true
+unfolding first_fault
+distribution_applies = refl
+
+-- a distribution isn't finished before the last answer
+finished_early : all_apply 1 [] (three_deployed ++ arrived_at 3 ∷ events.CommandDistributionFinished 2251799813685249 ∷ []) ≡ false
+unfolding first_fault
+finished_early = refl
 
 abbrev deployed_events : List Event
 deployed_events = events.ProcessCreated (record { key = 2251799813685249; version = 1; model = process }) ∷ events.DeploymentCreated (record { key = 2251799813685250; definition = 2251799813685249 }) ∷ []

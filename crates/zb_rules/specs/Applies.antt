@@ -1,5 +1,5 @@
 -- Which events a log may have.
-use Rattle.std.specs.Prelude.{ℕ, ◌+◌, ◌^◌, ◌==◌, nat_lt, List, [], ◌∷◌, ◌++◌, Bool, true, false, ◌&&◌, is_some, if◌then◌else◌, Option, Some, None}
+use Rattle.std.specs.Prelude.{ℕ, ◌+◌, ◌^◌, ◌==◌, nat_lt, List, [], ◌∷◌, ◌++◌, Bool, true, false, ◌&&◌, not, is_some, if◌then◌else◌, Option, Some, None}
 use Rattle.std.specs.Option.{option_map_or}
 use Rattle.std.specs.List.{list_any}
 use Rattle.std.specs.Str.{bytes_eq}
@@ -22,6 +22,7 @@ use Rattle.zb_rules.specs.TimerEvents.{may_open, has_timer}
 use Rattle.zb_tokens.specs.Work.{is_cause_of}
 use Rattle.zb_views.specs.Begin.{begun}
 use Rattle.zb_views.specs.Definitions.{definitions}
+use Rattle.zb_views.specs.Distributions.{is_distributed_to, is_distributed}
 use Rattle.zb_faults.specs.Faults.{is_well_formed}
 
 -- the key is the next one that partition p draws, and there is one
@@ -66,6 +67,9 @@ begins_well p before e = is_plain e.role && bytes_eq e.started [] && (if e.scope
 abbrev pub holds_own : ℕ → List Event → Event → Bool
 holds_own p before (events.ProcessCreated e) = is_well_formed e.model
 holds_own p before (events.DeploymentCreated e) = is_fresh p before e.key && has_definition e.definition before
+holds_own p before (events.CommandDistributionDistributing e) = has_definition e.key before
+holds_own p before (events.CommandDistributionAcknowledged e) = is_distributed_to e.key e.partition before
+holds_own p before (events.CommandDistributionFinished key) = has_definition key before && not (is_distributed key before)
 holds_own p before (events.ProcessInstanceCreationCreated e) = is_fresh p before e.key && has_definition e.definition before
 holds_own p before (events.ElementActivating e) = begins_well p before e
 holds_own p before (events.ElementActivated e) = is_none_of e.items

@@ -1,6 +1,8 @@
 -- Deploying a model (own; the records as in Zeebe).
-use Rattle.std.specs.Prelude.{ℕ, ◌+◌, ◌-◌, ◌^◌, min, [], ◌∷◌, Option, option_map}
+use Rattle.std.specs.Prelude.{ℕ, ◌+◌, ◌-◌, ◌^◌, min, List, [], ◌∷◌, map, Option, option_map}
+use Rattle.std.specs.List.{range_with_len}
 use Rattle.zb_process.specs.declared.model.Model.{Model}
+use Rattle.zb_model.specs.declared.record.Event.{Event}
 use Rattle.zb_model.specs.declared.record.Event.TheVariants as events
 use Rattle.zb_model.specs.declared.record.Rejection.{Rejection}
 use Rattle.zb_model.specs.declared.record.RejectionKind.TheVariants as kinds
@@ -25,6 +27,14 @@ definition_of p m before = events.ProcessCreated (record { key = next_key p befo
 abbrev pub deployment_of : ℕ → ℕ → Making
 deployment_of p definition before = events.DeploymentCreated (record { key = next_key p before; definition = definition }) ∷ []
 
--- the definition, and then its deployment
-abbrev pub deployed : ℕ → Model → Making
-deployed p m before = and_then (definition_of p m) (deployment_of p (next_key p before)) before
+-- the definition sets out for a partition (Zeebe, the records)
+abbrev pub sent_to : (definition partition : ℕ) → Event
+sent_to definition partition = events.CommandDistributionDistributing (record { key = definition; partition = partition })
+
+-- and so it does for each of n partitions but the first
+abbrev pub sent_to_all : (definition n : ℕ) → List Event
+sent_to_all definition n = map (sent_to definition) (range_with_len 2 (n - 1))
+
+-- the definition, then its deployment, and then it sets out for the other ones of n partitions
+abbrev pub deployed : (p n : ℕ) → Model → Making
+deployed p n m before = let definition = next_key p before in and_then (definition_of p m) (and_then (deployment_of p definition) (λ so_far. sent_to_all definition n)) before

@@ -22,6 +22,8 @@ pub mod Publish
 pub mod Expire
 pub mod Continue
 pub mod Due
+pub mod Distribute
+pub mod Acknowledge
 pub mod Reason
 pub mod Own
 pub mod Applies
@@ -49,7 +51,9 @@ pub mod OpeningsLaws
 pub mod TimedLaws
 pub mod CatchLaws
 pub mod TriggerLaws
+pub mod OrdinaryLaws
 pub mod OnTimeLaws
+pub mod SendingLaws
 pub mod GatewayLaws
 pub mod JobCellsLaws
 pub mod JobListLaws
@@ -61,6 +65,8 @@ pub mod PlacedLaws
 pub mod IncidentsLaws
 pub mod SoundLaws
 pub mod OwnLaws
+pub mod DeployLaws
+pub mod ProcessLaws
 pub mod CreateLaws
 pub mod MoversLaws
 pub mod HolderLaws

@@ -74,7 +74,7 @@ module _ (b : Board) where
   models_shown after (Some move) made = made_holds b (λ x. x.models ≡ b.models ++ models_made move) after move (by_move move) made
 
 -- the model that an event puts on the board
-abbrev models_told : Event → List Deployed
+abbrev pub models_told : Event → List Deployed
 models_told (events.ProcessCreated e) = record { key = e.key; model = e.model } ∷ []
 models_told _ = []
 
@@ -88,7 +88,8 @@ told_made before (events.JobCompleted key) = job_shows (λ (m : Option Move). op
 told_made before (events.JobErrorThrown t) = job_shows (λ (m : Option Move). option_map_or models_made m [] ≡ []) (λ j. moves.Throw (record { cell = j.cell; code = t.code })) (job_at t.key before) refl (λ j. refl)
 told_made before e = refl
 
-models_more : (p : ℕ) (before : List Event) (b : Board) (e : Event) (after : Board) → Advances p before b e after → after.models ≡ b.models ++ models_told e
+-- the models behind an event that applies
+pub models_more : (p : ℕ) (before : List Event) (b : Board) (e : Event) (after : Board) → Advances p before b e after → after.models ≡ b.models ++ models_told e
 models_more p before b e after h = models_shown b after (shown before e) h.leads ∙ ap (λ (ms : List Deployed). b.models ++ ms) (told_made before e)
 
 -- the model under a key among some

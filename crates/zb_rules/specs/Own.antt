@@ -13,6 +13,8 @@ use Rattle.zb_rules.specs.Retries.{retried}
 use Rattle.zb_rules.specs.Trigger.{triggered}
 use Rattle.zb_rules.specs.TimeOut.{timed_out}
 use Rattle.zb_rules.specs.Deploy.{deployed}
+use Rattle.zb_rules.specs.Distribute.{distributed}
+use Rattle.zb_rules.specs.Acknowledge.{acknowledged}
 use Rattle.zb_rules.specs.Create.{created}
 use Rattle.zb_rules.specs.Cancel.{cancelled}
 use Rattle.zb_rules.specs.Update.{updated}
@@ -36,11 +38,13 @@ IsSupported (commands.IncidentResolve key) = Unit {0}
 IsSupported (commands.MessagePublish c) = Unit {0}
 IsSupported (commands.MessageExpire key) = Unit {0}
 IsSupported commands.ProcessInstanceBatchContinue = Unit {0}
+IsSupported (commands.DeploymentDistribute c) = Unit {0}
+IsSupported (commands.CommandDistributionAcknowledge c) = Unit {0}
 IsSupported _ = ⊥
 
 -- the events that a command makes of those before it, at a moment of partition p of n; None of a command that isn't run
 abbrev pub own_events : (p n : ℕ) → List Event → ℕ → Command → Option (List Event)
-own_events p n before moment (commands.DeploymentCreate m) = Some (deployed p m before)
+own_events p n before moment (commands.DeploymentCreate m) = Some (deployed p n m before)
 own_events p n before moment (commands.ProcessInstanceCreationCreate c) = created p before c
 own_events p n before moment (commands.ProcessInstanceCancel key) = Some (cancelled p n moment key before)
 own_events p n before moment (commands.VariableDocumentUpdate c) = Some (updated c before)
@@ -55,4 +59,6 @@ own_events p n before moment (commands.IncidentResolve key) = Some (resolved key
 own_events p n before moment (commands.MessagePublish c) = Some (published_under (next_key p before) moment c)
 own_events p n before moment (commands.MessageExpire key) = Some (expired key)
 own_events p n before moment commands.ProcessInstanceBatchContinue = Some []
+own_events p n before moment (commands.DeploymentDistribute c) = Some (distributed c)
+own_events p n before moment (commands.CommandDistributionAcknowledge c) = Some (acknowledged c before)
 own_events p n before moment _ = None

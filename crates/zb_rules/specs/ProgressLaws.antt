@@ -1,6 +1,6 @@
 -- Who is forced has an event that applies; where nobody is, the game is quiet.
-use Rattle.std.proofs.Common.{◌≡◌, ℕ, ◌==◌, List, [], ◌∷◌, ◌++◌, map, Bool, true, false, if◌then◌else◌, IsTrue, is_some, Option, Some, None, ◌↔◌, refl, sym, ap, ◌∙◌, subst, append-nil, append_assoc, arith}
-use Rattle.std.specs.List.{find}
+use Rattle.std.proofs.Common.{◌≡◌, ℕ, ◌-◌, ◌==◌, List, [], ◌∷◌, ◌++◌, map, Bool, true, false, if◌then◌else◌, IsTrue, is_some, Option, Some, None, ◌↔◌, refl, sym, ap, ◌∙◌, subst, append-nil, append_assoc, arith}
+use Rattle.std.specs.List.{find, range_with_len}
 use Rattle.std.proofs.lemmas.Bool.Decides.{nat_tests}
 use Rattle.zb_instance_records.specs.declared.instance.Role.TheVariants as roles
 use Rattle.zb_base.specs.declared.vars.Variable.{Variable}
@@ -35,7 +35,9 @@ use Rattle.zb_rules.specs.Settling.{turn_of, turn, HasQuietGame}
 use Rattle.zb_rules.specs.Legal.{AllLegal, EachLegal}
 use Rattle.zb_rules.specs.Reason.{reason_for}
 use Rattle.zb_rules.specs.Own.{IsSupported, own_events}
-use Rattle.zb_rules.specs.Deploy.{deployed}
+use Rattle.zb_rules.specs.Deploy.{sent_to, deployed}
+use Rattle.zb_rules.specs.Distribute.{distributed}
+use Rattle.zb_rules.specs.Acknowledge.{acknowledged}
 use Rattle.zb_rules.specs.Create.{reason_by, variable_event, instance_under}
 use Rattle.zb_rules.specs.Cancel.{reason_to_cancel, cancelled}
 use Rattle.zb_rules.specs.Update.{set_each, updated}
@@ -58,7 +60,8 @@ use Rattle.zb_rules.specs.BehindLaws.{MayHaveWork, MayFollow, resolve_applies, c
 use Rattle.zb_rules.specs.CellsLaws.{ascend_between}
 use Rattle.zb_rules.specs.OpenedLaws.{IsSetBehind, set_behind, front_are, opens_free, opened_may_work, follows_by}
 use Rattle.zb_rules.specs.ModelsLaws.{Knows, board_knows}
-use Rattle.zb_rules.specs.OwnLaws.{deploy_applies, publish_applies, expire_applies}
+use Rattle.zb_rules.specs.OwnLaws.{publish_applies, expire_applies}
+use Rattle.zb_rules.specs.DeployLaws.{deploy_applies, distribute_applies, acknowledge_applies}
 use Rattle.zb_rules.specs.CreateLaws.{create_applies}
 use Rattle.zb_rules.specs.CancelLaws.{cancel_applies}
 use Rattle.zb_rules.specs.UpdateLaws.{update_applies}
@@ -68,6 +71,7 @@ use Rattle.zb_rules.specs.AppliedLaws.{Advances, applied_from, some_of, game_hol
 use Rattle.zb_rules.specs.SoundLaws.{BoardKeeps, board_is_there, cells_ascend, keeps_on, board_keeps}
 use Rattle.zb_rules.specs.IncidentsLaws.{none_behind}
 use Rattle.zb_views.specs.Jobs.{called_off}
+use Rattle.zb_views.specs.Distributions.{is_distributed}
 use Rattle.zb_rules.specs.Trigger.{triggered}
 use Rattle.zb_rules.specs.TriggerLaws.{told_halts, trigger_applies, triggered_never}
 use Rattle.zb_rules.specs.TimerSoundLaws.{canceled_on_apply}
@@ -319,6 +323,8 @@ own_there p n es moment (commands.IncidentResolve key) supported none = refl
 own_there p n es moment (commands.MessagePublish c) supported none = refl
 own_there p n es moment (commands.MessageExpire key) supported none = refl
 own_there p n es moment commands.ProcessInstanceBatchContinue supported none = refl
+own_there p n es moment (commands.DeploymentDistribute c) supported none = refl
+own_there p n es moment (commands.CommandDistributionAcknowledge c) supported none = refl
 own_there p n es moment _ supported none = absurd supported
 
 variables_never : (root : ℕ) (vs : List Variable) → NeverEvaluate (map (variable_event root) vs)
@@ -331,11 +337,19 @@ instance_never key definition c = (
   (λ before b moment move is. shows_some b moment (moves.Start (record { key = key; definition = definition })) move refl is, variables_never key c.variables),
 )
 
-deployed_never : (p : ℕ) (m : Model) (before : List Event) → NeverEvaluate (deployed p m before)
-deployed_never p m es = (
+sent_never : (definition : ℕ) (qs : List ℕ) → NeverEvaluate (map (sent_to definition) qs)
+sent_never definition [] = tt
+sent_never definition (q ∷ qs) = (λ before b moment move is. shows_none b moment move is, sent_never definition qs)
+
+deployed_never : (p n : ℕ) (m : Model) (before : List Event) → NeverEvaluate (deployed p n m before)
+deployed_never p n m es = (
   λ before b moment move is. shows_some b moment (moves.Stand (record { key = next_key p es; model = m })) move refl is,
-  (λ before b moment move is. shows_none b moment move is, tt),
+  (λ before b moment move is. shows_none b moment move is, sent_never (next_key p es) (range_with_len 2 (n - 1))),
 )
+
+finished_never : (t : Bool) (definition : ℕ) → NeverEvaluate (if t then [] else events.CommandDistributionFinished definition ∷ [])
+finished_never true definition = tt
+finished_never false definition = (λ before b moment move is. shows_none b moment move is, tt)
 
 expiry_never : (t : Bool) (key : ℕ) → NeverEvaluate (if t then events.MessageExpired key ∷ [] else [])
 expiry_never true key = (λ before b moment move is. shows_none b moment move is, tt)
@@ -354,7 +368,7 @@ failure_never : (p : ℕ) (c : JobFail) (es own : List Event) → IsTrue (all_ap
 failure_never p c es own apply is = subst NeverEvaluate is (failed_never p c es (subst (λ (x : List Event). IsTrue (all_apply p es x)) (sym is) apply))
 
 own_never : (p n : ℕ) (es : List Event) (moment : ℕ) (command : Command) (own : List Event) → IsTrue (all_apply p es own) → own_events p n es moment command ≡ Some own → NeverEvaluate own
-own_never p n es moment (commands.DeploymentCreate m) own apply is = some_never (deployed p m es) own (deployed_never p m es) is
+own_never p n es moment (commands.DeploymentCreate m) own apply is = some_never (deployed p n m es) own (deployed_never p n m es) is
 own_never p n es moment (commands.ProcessInstanceCreationCreate c) own apply is =
     mapped_holds NeverEvaluate (λ d. instance_under (next_key p es) d.key c) (definition_for c.process c.version es) own (λ d found. instance_never (next_key p es) d.key c) is
 own_never p n es moment (commands.ProcessInstanceCancel key) own apply is =
@@ -371,6 +385,10 @@ own_never p n es moment (commands.IncidentResolve key) own apply is = some_never
 own_never p n es moment (commands.MessagePublish c) own apply is = some_never (published_under (next_key p es) moment c) own (published_never (next_key p es) moment c) is
 own_never p n es moment (commands.MessageExpire key) own apply is = some_never (expired key) own (λ before b moment move is. shows_none b moment move is, tt) is
 own_never p n es moment commands.ProcessInstanceBatchContinue own apply is = some_never [] own tt is
+own_never p n es moment (commands.DeploymentDistribute c) own apply is =
+    some_never (distributed c) own (λ before b moment move is. shows_some b moment (moves.Stand (record { key = c.key; model = c.model })) move refl is, tt) is
+own_never p n es moment (commands.CommandDistributionAcknowledge c) own apply is =
+    some_never (acknowledged c es) own (λ before b moment move is. shows_none b moment move is, finished_never (is_distributed c.key (es ++ events.CommandDistributionAcknowledged (record { key = c.key; partition = c.partition }) ∷ [])) c.key) is
 own_never p n es moment _ own apply is = absurd (cc)
 
 -- each of the moves that own events show is legal
@@ -378,42 +396,46 @@ pub own_legal : (p n : ℕ) (es : List Event) (moment : ℕ) (command : Command)
 own_legal p n es moment command own apply is = each_legal_by p moment es own (own_never p n es moment command own apply is) apply
 
 -- the own events of a command without a reason apply
-own_apply_by : (p n : ℕ) (es : List Event) (b : Board) (moment : ℕ) (command : Command) (own : List Event) → board_of es ≡ Some b → BoardKeeps p es b → Knows p es b → HasKeys p es 2 → HasOrderedNames command
+own_apply_by : (p n : ℕ) (es : List Event) (b : Board) (moment : ℕ) (command : Command) (own : List Event) → board_of es ≡ Some b → IsTrue (all_apply p [] es) → BoardKeeps p es b → Knows p es b → HasKeys p es 2 → HasOrderedNames command
     → IsSupported command → reason_for es moment command ≡ None → own_events p n es moment command ≡ Some own → IsTrue (all_apply p es own)
-own_apply_by p n es b moment (commands.DeploymentCreate m) own is k knows keys ordered supported none made =
-    subst (λ (x : List Event). IsTrue (all_apply p es x)) (let same : deployed p m es ≡ own = cc in same) (deploy_applies p es b is knows m keys none)
-own_apply_by p n es b moment (commands.ProcessInstanceCreationCreate c) own is k knows keys ordered supported none made = create_applies p es b is k.stands knows c own (omega (arith, keys)) ordered made
-own_apply_by p n es b moment (commands.ProcessInstanceCancel key) own is k knows keys ordered supported none made =
+own_apply_by p n es b moment (commands.DeploymentCreate m) own is apply k knows keys ordered supported none made =
+    subst (λ (x : List Event). IsTrue (all_apply p es x)) (let same : deployed p n m es ≡ own = cc in same) (deploy_applies p es b is knows n m keys none)
+own_apply_by p n es b moment (commands.ProcessInstanceCreationCreate c) own is apply k knows keys ordered supported none made = create_applies p es b is k.stands knows c own (omega (arith, keys)) ordered made
+own_apply_by p n es b moment (commands.ProcessInstanceCancel key) own is apply k knows keys ordered supported none made =
     subst (λ (x : List Event). IsTrue (all_apply p es x)) (let same : cancelled p n moment key es ≡ own = cc in same) (cancel_applies p es b is k n moment key none)
-own_apply_by p n es b moment (commands.VariableDocumentUpdate c) own is k knows keys ordered supported none made =
+own_apply_by p n es b moment (commands.VariableDocumentUpdate c) own is apply k knows keys ordered supported none made =
     subst (λ (x : List Event). IsTrue (all_apply p es x)) (let same : updated c es ≡ own = cc in same) (update_applies p es b is k c none)
-own_apply_by p n es b moment (commands.JobBatchActivate c) own is k knows keys ordered supported none made =
+own_apply_by p n es b moment (commands.JobBatchActivate c) own is apply k knows keys ordered supported none made =
     subst (λ (x : List Event). IsTrue (all_apply p es x)) (let same : activated p moment c es ≡ own = cc in same) (activate_applies p moment c es b is k (omega (arith, keys)))
-own_apply_by p n es b moment (commands.JobComplete c) own is k knows keys ordered supported none made =
+own_apply_by p n es b moment (commands.JobComplete c) own is apply k knows keys ordered supported none made =
     subst (λ (x : List Event). IsTrue (all_apply p es x)) (let same : completed c es ≡ own = cc in same) (complete_applies p es b is k c none)
-own_apply_by p n es b moment (commands.JobFail c) own is k knows keys ordered supported none made =
+own_apply_by p n es b moment (commands.JobFail c) own is apply k knows keys ordered supported none made =
     subst (λ (x : List Event). IsTrue (all_apply p es x)) (let same : failed p c es ≡ own = cc in same) (fail_applies p es b is k c (omega (arith, keys)) none)
-own_apply_by p n es b moment (commands.JobThrowError c) own is k knows keys ordered supported none made =
+own_apply_by p n es b moment (commands.JobThrowError c) own is apply k knows keys ordered supported none made =
     subst (λ (x : List Event). IsTrue (all_apply p es x)) (let same : thrown c ≡ own = cc in same) (throw_applies p es b is k c none)
-own_apply_by p n es b moment (commands.JobUpdateRetries c) own is k knows keys ordered supported none made =
+own_apply_by p n es b moment (commands.JobUpdateRetries c) own is apply k knows keys ordered supported none made =
     subst (λ (x : List Event). IsTrue (all_apply p es x)) (let same : retried c ≡ own = cc in same) (retry_applies p es b is k c none)
-own_apply_by p n es b moment (commands.JobTimeOut key) own is k knows keys ordered supported none made =
+own_apply_by p n es b moment (commands.JobTimeOut key) own is apply k knows keys ordered supported none made =
     subst (λ (x : List Event). IsTrue (all_apply p es x)) (let same : timed_out key ≡ own = cc in same) (time_out_applies p es b is k moment key none)
-own_apply_by p n es b moment (commands.TimerTrigger key) own is k knows keys ordered supported none made =
+own_apply_by p n es b moment (commands.TimerTrigger key) own is apply k knows keys ordered supported none made =
     subst (λ (x : List Event). IsTrue (all_apply p es x)) (let same : triggered p n moment key es ≡ own = cc in same) (trigger_applies p n moment es b is k key none)
-own_apply_by p n es b moment (commands.IncidentResolve key) own is k knows keys ordered supported none made =
+own_apply_by p n es b moment (commands.IncidentResolve key) own is apply k knows keys ordered supported none made =
     subst (λ (x : List Event). IsTrue (all_apply p es x)) (let same : resolved key es ≡ own = cc in same) (resolve_applies p es b is key none)
-own_apply_by p n es b moment (commands.MessagePublish c) own is k knows keys ordered supported none made =
+own_apply_by p n es b moment (commands.MessagePublish c) own is apply k knows keys ordered supported none made =
     subst (λ (x : List Event). IsTrue (all_apply p es x)) (let same : published_under (next_key p es) moment c ≡ own = cc in same) (publish_applies p es b is knows moment c keys)
-own_apply_by p n es b moment (commands.MessageExpire key) own is k knows keys ordered supported none made =
+own_apply_by p n es b moment (commands.MessageExpire key) own is apply k knows keys ordered supported none made =
     subst (λ (x : List Event). IsTrue (all_apply p es x)) (let same : expired key ≡ own = cc in same) (expire_applies p es b is knows key moment none)
-own_apply_by p n es b moment commands.ProcessInstanceBatchContinue own is k knows keys ordered supported none made =
+own_apply_by p n es b moment commands.ProcessInstanceBatchContinue own is apply k knows keys ordered supported none made =
     subst (λ (x : List Event). IsTrue (all_apply p es x)) (let same : [] ≡ own = cc in same) refl
-own_apply_by p n es b moment _ own is k knows keys ordered supported none made = absurd supported
+own_apply_by p n es b moment (commands.DeploymentDistribute c) own is apply k knows keys ordered supported none made =
+    subst (λ (x : List Event). IsTrue (all_apply p es x)) (let same : distributed c ≡ own = cc in same) (distribute_applies p es b c is apply none)
+own_apply_by p n es b moment (commands.CommandDistributionAcknowledge c) own is apply k knows keys ordered supported none made =
+    subst (λ (x : List Event). IsTrue (all_apply p es x)) (let same : acknowledged c es ≡ own = cc in same) (acknowledge_applies p es b c is apply none)
+own_apply_by p n es b moment _ own is apply k knows keys ordered supported none made = absurd supported
 
 -- behind any log whose events apply
 pub own_apply : (p n : ℕ) (es : List Event) (moment : ℕ) (command : Command) (own : List Event) → IsTrue (all_apply p [] es) → HasKeys p es 2 → HasOrderedNames command
     → IsSupported command → reason_for es moment command ≡ None → own_events p n es moment command ≡ Some own → IsTrue (all_apply p es own)
 own_apply p n es moment command own apply keys ordered supported none made =
     let found = some_of (board_of es) (board_is_there p es apply) in
-    own_apply_by p n es found.0 moment command own found.1 (board_keeps p es found.0 apply found.1) (board_knows p es found.0 apply found.1) keys ordered supported none made
+    own_apply_by p n es found.0 moment command own found.1 apply (board_keeps p es found.0 apply found.1) (board_knows p es found.0 apply found.1) keys ordered supported none made

@@ -11,6 +11,8 @@ use Rattle.zb_rules.specs.Retries.{reason_to_retry}
 use Rattle.zb_rules.specs.Trigger.{reason_to_trigger}
 use Rattle.zb_rules.specs.TimeOut.{reason_to_time_out}
 use Rattle.zb_rules.specs.Deploy.{reason_to_deploy}
+use Rattle.zb_rules.specs.Distribute.{reason_to_distribute}
+use Rattle.zb_rules.specs.Acknowledge.{reason_to_acknowledge}
 use Rattle.zb_rules.specs.Create.{reason_to_create}
 use Rattle.zb_rules.specs.Cancel.{reason_to_cancel}
 use Rattle.zb_rules.specs.Update.{reason_to_update}
@@ -35,4 +37,6 @@ reason_for before moment (commands.IncidentResolve key) = reason_to_resolve befo
 reason_for before moment (commands.MessagePublish c) = reason_to_publish before c
 reason_for before moment (commands.MessageExpire key) = reason_to_expire before moment key
 reason_for before moment commands.ProcessInstanceBatchContinue = reason_to_continue before
+reason_for before moment (commands.DeploymentDistribute c) = reason_to_distribute before c
+reason_for before moment (commands.CommandDistributionAcknowledge c) = reason_to_acknowledge before c
 reason_for before moment _ = None

@@ -26,9 +26,9 @@ fn a_message_is_published_once(rt: HostRuntime) {
     let alloc = rt.alloc();
     let mut state = State::empty(alloc, PartitionId::new(1));
     let command = Command::MessagePublish(wanted(&rt, alloc));
-    let first = outcome_of(alloc, &mut state, Moment::new(0), &command).expect(&rt, "memory");
+    let first = outcome_of(alloc, &mut state, 1, Moment::new(0), &command).expect(&rt, "memory");
     assert!(rt; has_events(&first, 1));
-    let second = outcome_of(alloc, &mut state, Moment::new(0), &command).expect(&rt, "memory");
+    let second = outcome_of(alloc, &mut state, 1, Moment::new(0), &command).expect(&rt, "memory");
     assert!(rt; is_rejected(&second, "message paid o-1 x is buffered"));
 }
 
@@ -38,11 +38,11 @@ fn an_instance_goes_on_by_itself(rt: HostRuntime) {
     let mut state = State::empty(alloc, PartitionId::new(1));
     let model = straight(&rt, alloc, NodeKind::EndEvent);
     let deploy = Command::DeploymentCreate(model);
-    let first = outcome_of(alloc, &mut state, Moment::new(0), &deploy).expect(&rt, "memory");
+    let first = outcome_of(alloc, &mut state, 1, Moment::new(0), &deploy).expect(&rt, "memory");
     assert!(rt; has_events(&first, 2));
     // Three events of its own, one of them for its variable, and twelve that are forced.
     let create = Command::ProcessInstanceCreationCreate(begun(&rt, alloc));
-    let second = outcome_of(alloc, &mut state, Moment::new(0), &create).expect(&rt, "memory");
+    let second = outcome_of(alloc, &mut state, 1, Moment::new(0), &create).expect(&rt, "memory");
     assert!(rt; has_events(&second, 15));
     assert!(rt; state.quiet());
     assert!(rt; state.greatest_version("p") == 1);

@@ -1,209 +1,185 @@
--- How a run is told that ends by itself, or by a stop of the partition.
-use Rattle.std.proofs.Common.{◌≡◌, ℕ, ◌≤◌, List, [], ◌∷◌, ◌++◌, length, IsTrue, IsFalse, IsSome, Option, Some, None, option_map, refl, sym, ap, ◌∙◌, subst, inl, inr, ⊎_elim, arith}
+-- How a run is told that ends by itself, or by a stop of one of its partitions.
+use Rattle.std.proofs.Common.{◌≡◌, ◌⊎◌, ℕ, zero, suc, ◌<◌, ◌≤◌, List, [], ◌∷◌, ◌++◌, length, map, take, slice_get, IsTrue, IsFalse, Option, Some, None, Result, Ok, Err, ◌-◌, refl, sym, ap, ◌∙◌, subst, inl, inr, arith}
+use Rattle.std.specs.Option.{option_or}
+use Rattle.std.specs.List.{AllByRecursion}
+use Rattle.std.proofs.lemmas.Bool.{false≢true}
+use Rattle.std.proofs.lemmas.List.{length-map}
+use Rattle.std.proofs.lemmas.List.FromFn.{length-map-range_with_len}
+use Rattle.std.proofs.lemmas.Grind.{flat_map-append}
 use Rattle.zb_disk.specs.declared.disk.Disk.{Ghosts}
 use Rattle.zb_model.specs.declared.record.Batch.{Batch}
 use Rattle.zb_model.specs.declared.stop.Stop.{Stop}
 use Rattle.zb_model.specs.declared.stop.Stop.TheVariants as stops
+use Rattle.zb_rules.specs.Step.{EachOn}
+use Rattle.zb_rules.specs.StepLaws.{each_on_none, each_on_all, each_on_joined}
 use Rattle.zb_store.specs.Log.{extent}
+use Rattle.zb_store.specs.declared.volume.Volume.{Volume}
 use Rattle.zb_partition.specs.Log.{bodies_of}
-use Rattle.zb_partition.specs.Partition.{slots_of, in_writing}
-use Rattle.zb_partition.specs.Stopping.{IsLeft, IsHurt, IsStopCause}
-use Rattle.zb_world.specs.Entries.{Entry, as_entry, entries_of}
-use Rattle.std.proofs.lemmas.Bool.{false≢true}
-use Rattle.zb_desk.specs.Serial.{Basis, next_unit, IsNextUnit, AreUnits}
+use Rattle.zb_partition.specs.Partition.{disk_of, slots_of, in_writing}
+use Rattle.zb_partition.specs.declared.partition.Partition.{Partition}
+use Rattle.zb_partition.specs.Stopping.{IsStopCause}
+use Rattle.zb_world.specs.Entries.{Entry, IsPartitionOf, places_of, stamps_of}
+use Rattle.zb_wire.specs.declared.request.Request.{Request}
+use Rattle.zb_wire.specs.declared.request.LineFault.{LineFault}
+use Rattle.zb_desk.specs.Numbered.{EachFrom}
+use Rattle.zb_desk.specs.Serial.{Basis, next_unit, AreMadeFor, IsNextUnit, AreUnits}
+use Rattle.zb_desk.specs.SentLaws.{FollowsOn, asked_follows_on, unit_follows_on}
 use Rattle.zb_session.specs.Hours.{Hours}
-use Rattle.zb_session.specs.Answer.{found_in, entries_made}
+use Rattle.zb_session.specs.Answer.{Answer, found_in, entries_made, IsServed, IsServedAs, AreSerial}
 use Rattle.zb_session.specs.Session.{Streams, SessionEnds, SessionRun, CutsOff, IsLeftUndone, LeavesDesk, IsEndOf, HasServed}
 use Rattle.zb_session.specs.declared.session.End.{End}
 use Rattle.zb_session.specs.declared.session.End.TheVariants as endings
-use Rattle.zb_engine.specs.Ledger.{Opening, basis_in, view_in, disk_in}
-use Rattle.zb_engine.specs.Solo.{slots_in, ledger_in, kept_in, HasMade, HasEnded}
-use Rattle.zb_engine.specs.declared.ledger.Ledger.{Ledger}
+use Rattle.zb_engine.specs.Ledger.{Opening, slots_in}
+use Rattle.zb_engine.specs.Solo.{Start, many_in, logs_in, basis_in, place_at_start, HasPart, IsLeftPart, IsBatchOf, partitions_in, stamps_in, kept_in, HasMade, HasEnded}
 use Rattle.zb_engine.specs.declared.solo.Solo.{Solo}
-use Rattle.zb_engine.proofs.LogLemmas.{file_stands, crash_stands}
 use Rattle.zb_serve.specs.Setting.{RunSetting}
-use Rattle.zb_serve.specs.Ends.{Told, LogEnds}
-use Rattle.zb_serve.specs.Log.{Course, course_of, IsDiskHurt, IsKept}
-use Rattle.zb_serve.specs.Served.{IsWhyUndone, IsUndone, AreClosing, answers_of, cuts_off, answer_of_run, HasRun, IsRun}
-use Rattle.zb_serve.specs.Cause.{comes_before}
+use Rattle.zb_serve.specs.Ends.{Told, LogEnds, RunEnds, logs_ends, Crashes, crashes_of}
+use Rattle.zb_serve.specs.Log.{Course, course_of, OpenedLog, log_in, batch_of, IsLog}
+use Rattle.zb_serve.specs.Served.{IsWhyUndone, IsUntroubled, Serves, batches_of, cuts_off, answer_of_run, HasRun, IsRun, slots_of_all}
+use Rattle.zb_serve.specs.Cause.{rank_of, comes_before}
+use Rattle.zb_serve.specs.Opening.{volumes_in, IsBegunOver}
 use Rattle.zb_serve.specs.WorkOff.{facts_in, Behind, behind_of, AreWorkedOff, AreWorkCut, IsWorkedOff}
-use Rattle.zb_serve.proofs.ListLemmas.{append_none}
-use Rattle.zb_serve.specs.Running.{told_by, log_ends, ends_alone, crashes_alone, stop_cause_of, cause_of}
+use Rattle.zb_serve.specs.Running.{told_by, ends_alone, files_of, first_writing, stop_cause_of, cause_of}
 use Rattle.zb_serve.specs.declared.run.Cause.{Cause}
 use Rattle.zb_serve.specs.declared.run.Cause.TheVariants as causes
-use Rattle.zb_serve.proofs.EndLemmas.{held_stands, IsNamed, undone_of, undone_work, closing_of}
-use Rattle.zb_serve.proofs.OverLemmas.{over}
+use Rattle.zb_serve.proofs.ListLemmas.{append_none, some_same, member_at, place_within, mapped_at, unmapped_at, map_map, all_at, or_none, each_length, first_at, first_by, number_behind}
+use Rattle.zb_serve.proofs.LogLemmas.{AreTold, crashes_told, none_left, opened_by, ends_by, account_log, stopped_log, stopped_steady, stopped_room, why}
+use Rattle.zb_serve.proofs.EndLemmas.{IsNamed, AreNamed, undone_of, undone_work, closing_of}
+use Rattle.zb_serve.proofs.OverLemmas.{HasCome, over}
 
--- a run whose session ended by itself, or for want of memory
-module _ {D : Type 0} (streams : Streams) (disks : Ghosts D) (limit : ℕ) (sides : SessionEnds) (ends : LogEnds) (log : List Batch) (run : SessionRun) where
+-- what a cause says of a session that ended by itself, or of which memory was wanting
+module _ {D : Type 0} (streams : Streams) (disks : Ghosts D) (n : ℕ) (sides : SessionEnds) (run : SessionRun) where
   abbrev told : Told
   told = told_by streams disks
 
-  -- every batch that was made is in the log
-  no_more : (batch : Batch) → None ≡ Some batch → extent (bodies_of (log ++ batch ∷ [])) ≤ limit
-  no_more batch e = absurd (cc)
+  abbrev Named : Cause → Type 0
+  Named cause = IsNamed told n sides run cause
 
-  -- nothing but memory was wanting
-  named_memory : (unlogged : Option Batch) → (IsTrue told.disk_counts → ends.disk_after.faults ≡ ends.disk.faults) → ((batch : Batch) → unlogged ≡ Some batch → extent (bodies_of (log ++ batch ∷ [])) ≤ limit)
-      → IsNamed told limit sides ends log unlogged run causes.Memory
-  named_memory unlogged disk room = record {
+  named_memory : Named causes.Memory
+  named_memory = record {
     status = tt;
     done = λ e. absurd (cc);
     source_fault = λ e. absurd (cc);
     sink_fault = λ e. absurd (cc);
     input_full = λ e. absurd (cc);
-    disk_fault = λ batch e. absurd (cc);
-    log_full = λ n frame most e. absurd (cc);
-    no_disk_fault = λ before. disk;
-    room = λ before. room;
     no_source_fault = λ before. absurd (omega (arith, before));
     no_sink_fault = λ before. absurd (omega (arith, before));
     not_full = λ before. absurd (omega (arith, before));
   }
 
-  -- by the session's end
-  named_by : (writing : Option Batch) (end : End) → (end ≡ endings.Stopped → ⊥) → IsEndOf streams sides run end → (IsTrue told.disk_counts → ends.disk_after.faults ≡ ends.disk.faults)
-      → IsNamed told limit sides ends log None run (cause_of writing None end)
-  named_by writing endings.Done own is disk = record {
+  named_by : (writing : Option Batch) (end : End) → (end ≡ endings.Stopped → ⊥) → IsEndOf streams sides run end → Named (cause_of writing None end)
+  named_by writing endings.Done own is = record {
     status = tt;
     done = λ e. is.done refl;
     source_fault = λ e. absurd (cc);
     sink_fault = λ e. absurd (cc);
     input_full = λ e. absurd (cc);
-    disk_fault = λ batch e. absurd (cc);
-    log_full = λ n frame most e. absurd (cc);
-    no_disk_fault = λ before. disk;
-    room = λ before. no_more;
     no_source_fault = λ before. is.source_steady (λ e. absurd (cc));
     no_sink_fault = λ before. is.sink_steady (λ e. absurd (cc));
     not_full = λ before. (is.done refl).0;
   }
-  named_by writing endings.SourceFault own is disk = record {
+  named_by writing endings.SourceFault own is = record {
     status = (omega arith, omega arith);
     done = λ e. absurd (cc);
     source_fault = λ e. is.source_fault refl;
     sink_fault = λ e. absurd (cc);
     input_full = λ e. absurd (cc);
-    disk_fault = λ batch e. absurd (cc);
-    log_full = λ n frame most e. absurd (cc);
-    no_disk_fault = λ before. disk;
-    room = λ before. no_more;
     no_source_fault = λ before. absurd (omega (arith, before));
     no_sink_fault = λ before. absurd (omega (arith, before));
     not_full = λ before. absurd (omega (arith, before));
   }
-  named_by writing endings.SinkFault own is disk = record {
+  named_by writing endings.SinkFault own is = record {
     status = (omega arith, omega arith);
     done = λ e. absurd (cc);
     source_fault = λ e. absurd (cc);
     sink_fault = λ e. is.sink_fault refl;
     input_full = λ e. absurd (cc);
-    disk_fault = λ batch e. absurd (cc);
-    log_full = λ n frame most e. absurd (cc);
-    no_disk_fault = λ before. disk;
-    room = λ before. no_more;
     no_source_fault = λ before. is.source_steady (λ e. absurd (cc));
     no_sink_fault = λ before. absurd (omega (arith, before));
     not_full = λ before. absurd (omega (arith, before));
   }
-  named_by writing endings.InputFull own is disk = record {
+  named_by writing endings.InputFull own is = record {
     status = (omega arith, omega arith);
     done = λ e. absurd (cc);
     source_fault = λ e. absurd (cc);
     sink_fault = λ e. absurd (cc);
     input_full = λ e. is.input_full refl;
-    disk_fault = λ batch e. absurd (cc);
-    log_full = λ n frame most e. absurd (cc);
-    no_disk_fault = λ before. disk;
-    room = λ before. no_more;
     no_source_fault = λ before. is.source_steady (λ e. absurd (cc));
     no_sink_fault = λ before. is.sink_steady (λ e. absurd (cc));
     not_full = λ before. absurd (omega (arith, before));
   }
-  named_by writing endings.Memory own is disk = named_memory None disk no_more
-  named_by writing endings.Stopped own is disk = absurd (own refl)
+  named_by writing endings.Memory own is = named_memory
+  named_by writing endings.Stopped own is = absurd (own refl)
 
-  -- and by a stop of the partition
-  module _ (refused writing : Option Batch) where
-    abbrev Why : Stop → Type 0
-    Why stop = IsStopCause ends.disk.faults ends.disk_after.faults limit log refused writing stop
+  -- and by a stop of a partition
+  named_stop : (writing : Option Batch) (at : ℕ) → IsPartitionOf n at → (stop : Stop) → Named (stop_cause_of writing (Some (at, stop)))
+  named_stop writing at of stops.Memory = named_memory
+  named_stop writing at of stops.DiskFault = record {
+    status = of;
+    done = λ e. absurd (cc);
+    source_fault = λ e. absurd (cc);
+    sink_fault = λ e. absurd (cc);
+    input_full = λ e. absurd (cc);
+    no_source_fault = λ before. absurd (omega (arith, before));
+    no_sink_fault = λ before. absurd (omega (arith, before));
+    not_full = λ before. absurd (omega (arith, before));
+  }
+  named_stop writing at of (stops.LogFull a b c) = record {
+    status = of;
+    done = λ e. absurd (cc);
+    source_fault = λ e. absurd (cc);
+    sink_fault = λ e. absurd (cc);
+    input_full = λ e. absurd (cc);
+    no_source_fault = λ before. absurd (omega (arith, before));
+    no_sink_fault = λ before. absurd (omega (arith, before));
+    not_full = λ before. absurd (omega (arith, before));
+  }
 
-    abbrev Hurt : Type 0
-    Hurt = IsHurt told.disk_memory ends.disk.faults ends.disk_after.faults
-
-    abbrev cause_by : Stop → Cause
-    cause_by stop = stop_cause_of writing (Some (1, stop))
-
-    -- a batch that was in writing is the one that was made last
-    asked : (batch : Batch) → writing ≡ Some batch → (stop : Stop) → Why stop → refused ≡ Some batch
-    asked batch is stops.Memory why = ⊎_elim (λ none. absurd (let e : None ≡ Some batch = sym none ∙ is in cc)) (λ same. same ∙ is) why.0
-    asked batch is stops.DiskFault why = why.2 ∙ is
-    asked batch is (stops.LogFull n frame most) why = absurd (let e : None ≡ Some batch = sym why.0 ∙ is in cc)
-
-    -- and a hurt disk is told by the cause
-    hurt_told : (batch : Batch) → writing ≡ Some batch → (stop : Stop) → Why stop → Hurt → IsDiskHurt told ends (cause_by stop)
-    hurt_told batch is stops.Memory why hurt = ⊎_elim (λ rose. inl rose) (λ takes. inr (takes, refl)) hurt
-    hurt_told batch is stops.DiskFault why hurt = inl why.0
-    hurt_told batch is (stops.LogFull n frame most) why hurt = absurd (let e : None ≡ Some batch = sym why.0 ∙ is in cc)
-
-    kept_by : (now : Option Batch) → writing ≡ now → (stop : Stop) → Why stop → (file : List ℕ) → IsLeft Hurt log now file → IsKept told ends (cause_by stop) refused log file
-    kept_by None is stop why file left = inl left
-    kept_by (Some batch) is stop why file (inl before) = inl before
-    kept_by (Some batch) is stop why file (inr (hurt, fits, after)) =
-        inr ((batch, asked batch is stop why, fits, after), hurt_told batch is stop why hurt)
-
-    -- how it is named
-    named_stop : (stop : Stop) → Why stop → (IsTrue told.disk_counts → (stop ≡ stops.DiskFault → ⊥) → ends.disk_after.faults ≡ ends.disk.faults) → IsNamed told limit sides ends log refused run (cause_by stop)
-    named_stop stops.Memory why steady = named_memory refused (λ t. steady t (λ e. absurd (cc))) why.1
-    named_stop stops.DiskFault why steady = record {
-      status = (omega arith, omega arith);
-      done = λ e. absurd (cc);
-      source_fault = λ e. absurd (cc);
-      sink_fault = λ e. absurd (cc);
-      input_full = λ e. absurd (cc);
-      disk_fault = λ batch e.
-          let same : writing ≡ batch = cc in
-          (why.0, sym same ∙ sym why.2, (why.1.0, sym same ∙ why.1.1, why.1.2));
-      log_full = λ n frame most e. absurd (cc);
-      no_disk_fault = λ before. absurd (omega (arith, before));
-      room = λ before. absurd (omega (arith, before));
-      no_source_fault = λ before. absurd (omega (arith, before));
-      no_sink_fault = λ before. absurd (omega (arith, before));
-      not_full = λ before. absurd (omega (arith, before));
-    }
-    named_stop (stops.LogFull n frame most) why steady = record {
-      status = (omega arith, omega arith);
-      done = λ e. absurd (cc);
-      source_fault = λ e. absurd (cc);
-      sink_fault = λ e. absurd (cc);
-      input_full = λ e. absurd (cc);
-      disk_fault = λ batch e. absurd (cc);
-      log_full = λ n' frame' most' e.
-          let same_length : n ≡ n' = cc in
-          let same_frame : frame ≡ frame' = cc in
-          let same_most : most ≡ most' = cc in
-          (sym same_length ∙ why.1, sym same_most ∙ why.2, omega (arith, why.3, same_length, same_frame, same_most), (why.4.0, why.4.1, sym same_frame ∙ why.4.2));
-      no_disk_fault = λ before t. steady t (λ e. absurd (cc));
-      room = λ before. absurd (omega (arith, before));
-      no_source_fault = λ before. absurd (omega (arith, before));
-      no_sink_fault = λ before. absurd (omega (arith, before));
-      not_full = λ before. absurd (omega (arith, before));
-    }
-
-    -- why a line was left undone: the batch that was made last isn't in the log, or there was no memory
-    undone_by : (stop : Stop) → Why stop → IsWhyUndone (cause_by stop) refused
-    undone_by stops.Memory why = tt
-    undone_by stops.DiskFault why = subst IsSome (sym (why.2 ∙ why.1.1)) refl
-    undone_by (stops.LogFull n frame most) why = subst IsSome (sym why.4.1) refl
+-- why a line was left undone: the batch that was made last isn't in the log, or there was no memory
+undone_by : (before after limit : ℕ) (log : List Batch) (number : ℕ) (unlogged : Option Entry) (refused writing : Option Batch) (stop : Stop) → IsBatchOf number unlogged refused
+    → IsStopCause before after limit log refused writing stop → IsWhyUndone (stop_cause_of writing (Some (number, stop))) unlogged
+undone_by before after limit log number unlogged refused writing stops.Memory last why = tt
+undone_by before after limit log number None refused writing stops.DiskFault last why = absurd (let e : None ≡ Some why.1.0 = sym last ∙ (why.2 ∙ why.1.1) in cc (e))
+undone_by before after limit log number (Some entry) refused writing stops.DiskFault last why = refl
+undone_by before after limit log number None refused writing (stops.LogFull a b c) last why = absurd (let e : None ≡ Some why.4.0 = sym last ∙ why.4.1 in cc (e))
+undone_by before after limit log number (Some entry) refused writing (stops.LogFull a b c) last why = refl
 
 -- a cause of a session that ends so is told so
-own_undone : (writing : Option Batch) (end : End) → (end ≡ endings.Stopped → ⊥) → CutsOff end → IsWhyUndone {A = Batch} (cause_of writing None end) None
+own_undone : (writing : Option Batch) (end : End) → (end ≡ endings.Stopped → ⊥) → CutsOff end → IsWhyUndone {A = Entry} (cause_of writing None end) None
 own_undone writing endings.Memory own cuts = tt
 own_undone writing endings.Stopped own cuts = absurd (own refl)
 own_undone writing endings.Done own cuts = absurd cuts
 own_undone writing endings.SourceFault own cuts = absurd cuts
 own_undone writing endings.SinkFault own cuts = absurd cuts
 own_undone writing endings.InputFull own cuts = absurd cuts
+
+-- it names no partition
+own_no_disk_fault : (writing : Option Batch) (end : End) → (end ≡ endings.Stopped → ⊥) → (number : ℕ) (batch : Option Batch) → cause_of writing None end ≡ causes.DiskFault number batch → ⊥
+own_no_disk_fault writing endings.Memory own number batch e = cc (e)
+own_no_disk_fault writing endings.Stopped own number batch e = own refl
+own_no_disk_fault writing endings.Done own number batch e = cc (e)
+own_no_disk_fault writing endings.SourceFault own number batch e = cc (e)
+own_no_disk_fault writing endings.SinkFault own number batch e = cc (e)
+own_no_disk_fault writing endings.InputFull own number batch e = cc (e)
+
+own_not_full : (writing : Option Batch) (end : End) → (end ≡ endings.Stopped → ⊥) → (number a b c : ℕ) → cause_of writing None end ≡ causes.LogFull number a b c → ⊥
+own_not_full writing endings.Memory own number a b c e = cc (e)
+own_not_full writing endings.Stopped own number a b c e = own refl
+own_not_full writing endings.Done own number a b c e = cc (e)
+own_not_full writing endings.SourceFault own number a b c e = cc (e)
+own_not_full writing endings.SinkFault own number a b c e = cc (e)
+own_not_full writing endings.InputFull own number a b c e = cc (e)
+
+-- and a stop names the one that it is of
+stop_disk_number : (writing : Option Batch) (at : ℕ) (stop : Stop) (number : ℕ) (batch : Option Batch) → stop_cause_of writing (Some (at, stop)) ≡ causes.DiskFault number batch → number ≡ at
+stop_disk_number writing at stops.Memory number batch e = absurd (cc (e))
+stop_disk_number writing at stops.DiskFault number batch e = cc (e)
+stop_disk_number writing at (stops.LogFull a b c) number batch e = absurd (cc (e))
+
+stop_full_number : (writing : Option Batch) (at : ℕ) (stop : Stop) (number a b c : ℕ) → stop_cause_of writing (Some (at, stop)) ≡ causes.LogFull number a b c → number ≡ at
+stop_full_number writing at stops.Memory number a b c e = absurd (cc (e))
+stop_full_number writing at stops.DiskFault number a b c e = absurd (cc (e))
+stop_full_number writing at (stops.LogFull a' b' c') number a b c e = cc (e)
 
 -- a session that ended by itself doesn't cut the run off
 uncut_cause : (writing : Option Batch) (end : End) → (CutsOff end → ⊥) → IsFalse (cuts_off (cause_of writing None end))
@@ -219,194 +195,478 @@ own_end : (end : End) → (CutsOff end → ⊥) → end ≡ endings.Stopped → 
 own_end end uncut is = uncut (subst CutsOff (sym is) tt)
 
 -- a stop does, and comes before a sink's fault
-stop_cuts : (writing : Option Batch) (stop : Stop) → IsTrue (cuts_off (stop_cause_of writing (Some (1, stop))))
-stop_cuts writing stops.Memory = refl
-stop_cuts writing stops.DiskFault = refl
-stop_cuts writing (stops.LogFull n frame most) = refl
+stop_cuts : (writing : Option Batch) (at : ℕ) (stop : Stop) → IsTrue (cuts_off (stop_cause_of writing (Some (at, stop))))
+stop_cuts writing at stops.Memory = refl
+stop_cuts writing at stops.DiskFault = refl
+stop_cuts writing at (stops.LogFull n frame most) = refl
 
-stop_first : (writing : Option Batch) (stop : Stop) → IsTrue (comes_before (stop_cause_of writing (Some (1, stop))) (causes.SinkFault 1))
-stop_first writing stops.Memory = refl
-stop_first writing stops.DiskFault = refl
-stop_first writing (stops.LogFull n frame most) = refl
+stop_first : (writing : Option Batch) (at : ℕ) (stop : Stop) → IsTrue (comes_before (stop_cause_of writing (Some (at, stop))) (causes.SinkFault 1))
+stop_first writing at stops.Memory = refl
+stop_first writing at stops.DiskFault = refl
+stop_first writing at (stops.LogFull n frame most) = refl
 
 -- where a line was not cut off nothing of one was made
 none_undone : (hours : Hours) (basis : Basis) (run : SessionRun) (rest : List Entry) (unlogged : Option Entry) (end : End) → IsLeftUndone hours basis run rest unlogged end → (CutsOff end → ⊥) → (rest ≡ []) × (unlogged ≡ None)
 none_undone hours basis run rest unlogged end (inl none) uncut = none
 none_undone hours basis run rest unlogged end (inr (first, cuts)) uncut = absurd (uncut cuts)
 
--- the engine that a session was served by, as it ended
-module _ {D : Type 0} {disks : Ghosts D} (streams : Streams) (hours : Hours) (images_told : IsTrue disks.tells_images → IsTrue disks.tells) (opening : Opening D) (sides : SessionEnds) (solo : Solo D disks) where
-  abbrev ledger : Ledger D disks
-  ledger = ledger_in solo
+-- of partitions of which at most one was writing, that one is the first
+none_writing : {D : Type 0} {disks : Ghosts D} (ps : List (Partition D disks)) → ((j : ℕ) (q : Partition D disks) → slice_get ps j ≡ Some q → in_writing q ≡ None) → first_writing ps ≡ None
+none_writing [] none = refl
+none_writing (p ∷ ps) none = ap (λ (o : Option Batch). option_or o (first_writing ps)) (none 0 p refl) ∙ none_writing ps (λ j q at. none (suc j) q at)
 
-  abbrev log : LogEnds
-  log = log_ends (disks.view opening.volume.log) (view_in ledger)
+writing_of : {D : Type 0} {disks : Ghosts D} (ps : List (Partition D disks)) (k : ℕ) (p : Partition D disks) → slice_get ps k ≡ Some p
+    → ((j : ℕ) (q : Partition D disks) → slice_get ps j ≡ Some q → (j ≡ k → ⊥) → in_writing q ≡ None) → first_writing ps ≡ in_writing p
+writing_of [] k p at none = absurd (cc (at))
+writing_of (q ∷ ps) zero p at none =
+    ap (λ (o : Option Batch). option_or (in_writing q) o) (none_writing ps (λ j r there. none (suc j) r there (λ e. absurd (cc (e)))))
+    ∙ (or_none (in_writing q) ∙ ap in_writing (some_same q p at))
+writing_of (q ∷ ps) (suc k) p at none =
+    ap (λ (o : Option Batch). option_or o (first_writing ps)) (none 0 q refl (λ e. absurd (cc (e))))
+    ∙ writing_of ps k p at (λ j r there other. none (suc j) r there (λ e. other (omega (arith, e))))
 
-  abbrev images : List ℕ → Type 0
-  images = disks.images (disk_in ledger)
+-- the entries of answers of a serial run come about one behind the other
+answer_comes : (hours : Hours) (basis : Basis) (before : List Answer) (answer : Answer) (asked : Result Request LineFault) → IsServedAs hours basis before answer asked → EachOn (FollowsOn basis.logs) (entries_made before) answer.entries
+answer_comes hours basis before answer (Ok request) served = λ k entry at. asked_follows_on basis request answer.reading (entries_made before) (take k answer.entries) entry (served.1.made k entry at)
+answer_comes hours basis before answer (Err fault) none = λ k entry at. absurd (let nothing : slice_get [] k ≡ Some entry = subst (λ (es : List Entry). slice_get es k ≡ Some entry) none at in cc (nothing))
+
+answers_come : (hours : Hours) (basis : Basis) (answers : List Answer) → AreSerial hours basis answers → EachOn (FollowsOn basis.logs) [] (entries_made answers)
+answers_come hours basis answers serial =
+    each_on_all (IsServed hours basis) [] (λ (front : List Answer). EachOn (FollowsOn basis.logs) [] (entries_made front))
+    (λ (front : List Answer) (answer : Answer) before come served.
+    let more : entries_made (front ++ answer ∷ []) ≡ entries_made front ++ answer.entries = flat_map-append (λ (a : Answer). a.entries) front (answer ∷ []) ∙ ap (λ (es : List Entry). entries_made front ++ es) (sym (append_none answer.entries)) in
+    subst (EachOn (FollowsOn basis.logs) []) (sym more)
+    (each_on_joined (FollowsOn basis.logs) [] (entries_made front) answer.entries come (answer_comes hours basis front answer answer.asked served)))
+    (each_on_none (FollowsOn basis.logs) []) answers serial
+
+-- and so do those of a line that was cut off, and units of work
+made_come : (basis : Basis) (request : Request) (reading : ℕ) (earlier entries : List Entry) → AreMadeFor basis request reading earlier entries → EachOn (FollowsOn basis.logs) earlier entries
+made_come basis request reading earlier entries made = λ k entry at. asked_follows_on basis request reading earlier (take k entries) entry (made k entry at)
+
+units_come : (basis : Basis) (reading : ℕ) (earlier units : List Entry) → AreUnits basis reading earlier units → EachOn (FollowsOn basis.logs) earlier units
+units_come basis reading earlier units made = λ k entry at. unit_follows_on basis reading earlier (take k units) entry (made k entry at)
+
+-- an engine as it ended, which began over these volumes with this limit
+module _ {D : Type 0} {disks : Ghosts D} (streams : Streams) (hours : Hours) (images_told : IsTrue disks.tells_images → IsTrue disks.tells) (start : Start D) (limit : ℕ) (limits : AllByRecursion (λ opening. opening.limit ≡ limit) start.openings)
+    (sides : SessionEnds) (solo : Solo D disks) where
+  abbrev n : ℕ
+  n = many_in start
+
+  abbrev ps : List (Partition D disks)
+  ps = partitions_in solo
+
+  abbrev news : List (Volume D)
+  news = map files_of ps
+
+  abbrev ends : List LogEnds
+  ends = logs_ends disks (volumes_in start) news
+
+  abbrev crashes : Crashes
+  crashes = crashes_of disks (volumes_in start) news
 
   abbrev setting : RunSetting
-  setting = record { hours = hours; limit = opening.limit; units = opening.units }
+  setting = record { hours = hours; limit = limit; units = start.units }
+
+  abbrev logs : List OpenedLog
+  logs = map opened_by start.openings
 
   abbrev basis : Basis
-  basis = basis_in opening
+  basis = basis_in start
+
+  abbrev course : List Entry → Option Entry → Cause → Course
+  course entries unlogged cause = course_of (told_by streams disks) setting n entries unlogged cause
 
   abbrev Runs : Cause → ℕ → Type 0
-  Runs cause units = HasRun (told_by streams disks) setting (ends_alone sides log) (crashes_alone (disks.images opening.volume.log) images (disks.since (disk_in ledger))) (answer_of_run cause (ledger.stamps.items ∷ []) units)
+  Runs cause units = HasRun (told_by streams disks) setting (ends_alone sides ends) crashes (answer_of_run cause (stamps_in solo) units)
 
-  abbrev course_by : List Batch → Option Batch → Cause → Course
-  course_by made unlogged cause = course_of (told_by streams disks) setting 1 (entries_of 1 made) (option_map (as_entry 1) unlogged) cause
+  batches : batches_of logs ≡ logs_in start
+  batches = map_map (λ (log : OpenedLog). log.batches) opened_by start.openings
 
-  -- its log goes on with what was made
-  made_over : (end : End) (run : SessionRun) (rest closing : List Entry) (units : ℕ) → (end ≡ endings.Stopped → ⊥) → HasServed streams hours basis sides run end
-      → (h : HasMade opening (entries_made run.answers ++ (rest ++ closing)) solo)
-      → IsUndone (course_by h.made None (cause_of (in_writing ledger.partition) None end)) basis (run ∷ []) rest closing
-      → AreClosing (course_by h.made None (cause_of (in_writing ledger.partition) None end)) basis (answers_of (run ∷ [])) closing
-      → (IsFalse (cuts_off (cause_of (in_writing ledger.partition) None end)) → (units ≡ length closing) × (next_unit basis (length closing) (entries_of 1 h.made) ≡ None))
-      → (IsTrue (cuts_off (cause_of (in_writing ledger.partition) None end)) → units ≡ 0)
-      → Runs (cause_of (in_writing ledger.partition) None end) units
-  made_over end run rest closing units own served h undone delivered settled unsettled =
-      let writing = in_writing ledger.partition in
-      let whole : List Batch = opening.batches ++ h.made in
-      let has = h.holds.is_open.has in
-      over streams (told_by streams disks) setting sides log (disks.images opening.volume.log) images (disks.since (disk_in ledger)) ledger.stamps.items end (cause_of writing None end) units
-      run opening.batches h.made rest closing None opening.moment refl refl refl served
-      (λ e. inl (ap (cause_of writing None) e)) (λ e. ap (cause_of writing None) e) undone delivered settled unsettled h.are h.holds.was.by_first h.holds.was.stood h.holds.was.applied h.holds.made
-      (held_stands (told_by streams disks) log images (cause_of writing None end) None whole (file_stands whole ledger.partition has) (crash_stands whole ledger.partition has images_told))
-      (λ t image was. inl ((h.holds.time t).ever image was)) (λ t. (h.holds.time t).before)
-      (named_by streams disks opening.limit sides log whole run writing end own served.ends h.holds.steady) (λ batch e. absurd (cc))
+  many_logs : length (logs_in start) ≡ n
+  many_logs = length-map start.openings (λ (opening : Opening D). opening.batches)
 
-  -- or it stopped
-  ended_over : (end : End) (run : SessionRun) (rest closing : List Entry) (unlogged : Option Entry) (stop : Stop) → (end ≡ endings.Memory → ⊥) → HasServed streams hours basis sides run end
-      → (h : HasEnded opening (entries_made run.answers ++ (rest ++ closing)) unlogged stop solo)
-      → IsUndone (course_by h.made h.refused (stop_cause_of (in_writing ledger.partition) (Some (1, stop)))) basis (run ∷ []) rest closing
-      → AreClosing (course_by h.made h.refused (stop_cause_of (in_writing ledger.partition) (Some (1, stop)))) basis (answers_of (run ∷ [])) closing
-      → Runs (stop_cause_of (in_writing ledger.partition) (Some (1, stop))) 0
-  ended_over end run rest closing unlogged stop other served h undone delivered =
-      let writing = in_writing ledger.partition in
-      let whole : List Batch = opening.batches ++ h.made in
-      let s = h.stopped in
-      let kept = kept_by streams disks opening.limit sides log whole run h.refused writing writing refl stop s.cause in
-      over streams (told_by streams disks) setting sides log (disks.images opening.volume.log) images (disks.since (disk_in ledger)) ledger.stamps.items end (stop_cause_of writing (Some (1, stop))) 0
-      run opening.batches h.made rest closing h.refused opening.moment refl refl refl served
-      (λ e. inr (stop_first writing stop)) (λ e. absurd (other e)) undone delivered
-      (λ uncut. absurd (false≢true (sym uncut ∙ stop_cuts writing stop))) (λ cut. refl)
-      h.are s.was.by_first s.was.stood s.was.applied s.made
-      (record { file = λ t. kept (view_in ledger).contents (s.file t); crash = λ t image left. kept image (s.crash t image left) })
-      (λ t image was. ⊎_elim (λ front. inl front) (λ left. inr (kept image left)) ((s.time t).ever image was)) (λ t. (s.time t).before)
-      (named_stop streams disks opening.limit sides log whole run h.refused writing stop s.cause s.steady) s.left
+  -- what holds of each opening and its partition holds of the logs
+  logs_from : (c : Course) (number : ℕ) (os : List (Opening D)) (qs : List (Partition D disks)) → EachFrom (λ k o p. IsLog c crashes k (ends_by o p) (opened_by o)) number os qs
+      → EachFrom (IsLog c crashes) number (logs_ends disks (map (λ opening. opening.volume) os) (map files_of qs)) (map opened_by os)
+  logs_from c number [] [] each = tt
+  logs_from c number (o ∷ os) (q ∷ qs) each = (each.0, logs_from c (suc number) os qs each.1)
+  logs_from c number [] (q ∷ qs) each = absurd each
+  logs_from c number (o ∷ os) [] each = absurd each
 
-  why_by : (refused writing : Option Batch) (made : List Batch) (run : SessionRun) (stop : Stop) → IsStopCause (disks.view opening.volume.log).faults (view_in ledger).faults opening.limit (opening.batches ++ made) refused writing stop
-      → IsWhyUndone (stop_cause_of writing (Some (1, stop))) refused
-  why_by refused writing made run stop cause = undone_by streams disks opening.limit sides log (opening.batches ++ made) run refused writing stop cause
+  steady_from : (number : ℕ) (os : List (Opening D)) (qs : List (Partition D disks)) → EachFrom (λ k o p. IsUntroubled (told_by streams disks) (ends_by o p)) number os qs
+      → AllByRecursion (IsUntroubled (told_by streams disks)) (logs_ends disks (map (λ opening. opening.volume) os) (map files_of qs))
+  steady_from number [] [] each = tt
+  steady_from number (o ∷ os) (q ∷ qs) each = (each.0, steady_from (suc number) os qs each.1)
+  steady_from number [] (q ∷ qs) each = absurd each
+  steady_from number (o ∷ os) [] each = absurd each
 
-  -- a line was cut off
-  line_cut : (end : End) (run : SessionRun) (rest : List Entry) (unlogged : Option Entry) → CutsOff end → HasServed streams hours basis sides run end → IsLeftUndone hours basis run rest unlogged end
-      → LeavesDesk (facts_in opening solo) (entries_made run.answers ++ rest) unlogged end → Runs (cause_of (in_writing ledger.partition) (kept_in solo) end) 0
-  line_cut endings.Stopped run rest unlogged cuts served undone (stop, left) =
-      let writing = in_writing ledger.partition in
-      let more : HasEnded opening (entries_made run.answers ++ (rest ++ [])) unlogged stop solo = subst (λ (es : List Entry). HasEnded opening (entries_made run.answers ++ es) unlogged stop solo) (append_none rest) left in
-      subst (λ (k : Option (ℕ × Stop)). Runs (stop_cause_of writing k) 0) (sym left.kept)
-      (ended_over endings.Stopped run rest [] unlogged stop (λ e. absurd (cc)) served more
-      (undone_of (told_by streams disks) setting sides log (stop_cause_of writing (Some (1, stop))) opening.batches more.made more.refused opening.moment run rest endings.Stopped
-      (subst (λ (u : Option Entry). IsLeftUndone hours basis run rest u endings.Stopped) more.last undone) (λ c. why_by more.refused writing more.made run stop more.stopped.cause))
-      (inl refl))
-  line_cut endings.Memory run rest unlogged cuts served undone (left, none) =
-      let writing = in_writing ledger.partition in
-      let more : HasMade opening (entries_made run.answers ++ (rest ++ [])) solo = subst (λ (es : List Entry). HasMade opening (entries_made run.answers ++ es) solo) (append_none rest) left in
-      subst (λ (k : Option (ℕ × Stop)). Runs (cause_of writing k endings.Memory) 0) (sym left.goes_on)
-      (made_over endings.Memory run rest [] 0 (λ e. absurd (cc)) served more
-      (undone_of (told_by streams disks) setting sides log causes.Memory opening.batches more.made None opening.moment run rest endings.Memory
-      (subst (λ (u : Option Entry). IsLeftUndone hours basis run rest u endings.Memory) none undone) (λ c. tt))
-      (inl refl) (λ uncut. absurd (false≢true (sym uncut))) (λ cut. refl))
-  line_cut endings.Done run rest unlogged cuts served undone left = absurd cuts
-  line_cut endings.SourceFault run rest unlogged cuts served undone left = absurd cuts
-  line_cut endings.SinkFault run rest unlogged cuts served undone left = absurd cuts
-  line_cut endings.InputFull run rest unlogged cuts served undone left = absurd cuts
+  count_from : (number : ℕ) (os : List (Opening D)) (qs : List (Partition D disks)) → length os ≡ length qs → length (logs_ends disks (map (λ opening. opening.volume) os) (map files_of qs)) ≡ length os
+  count_from number [] [] many = refl
+  count_from number (o ∷ os) (q ∷ qs) many = ap suc (count_from (suc number) os qs (omega (arith, many)))
+  count_from number [] (q ∷ qs) many = absurd (omega (arith, many))
+  count_from number (o ∷ os) [] many = absurd (omega (arith, many))
 
-  -- nothing of a line is left, so the units come behind the answers
-  without_rest : (run : SessionRun) (rest units : List Entry) → rest ≡ [] → (entries_made run.answers ++ rest) ++ units ≡ entries_made run.answers ++ ([] ++ units)
-  without_rest run rest units none =
-      ap (λ (es : List Entry). (entries_made run.answers ++ es) ++ units) none ∙ ap (λ (es : List Entry). es ++ units) (sym (append_none (entries_made run.answers)))
+  -- the opening and the partition at a place
+  limit_at : (k : ℕ) (o : Opening D) → slice_get start.openings k ≡ Some o → o.limit ≡ limit
+  limit_at k o at = all_at (λ opening. opening.limit ≡ limit) start.openings k o limits at
 
-  no_rest : (run : SessionRun) (rest : List Entry) → rest ≡ [] → entries_made run.answers ++ rest ≡ entries_made run.answers
-  no_rest run rest none = ap (λ (es : List Entry). entries_made run.answers ++ es) none ∙ sym (append_none (entries_made run.answers))
+  told_at : (k : ℕ) (o : Opening D) (p : Partition D disks) → slice_get start.openings k ≡ Some o → slice_get ps k ≡ Some p → AreTold disks crashes (suc k) o.volume.log (disk_of p)
+  told_at k o p at_o at_p = crashes_told disks (volumes_in start) news k o.volume (files_of p) (mapped_at (λ opening. opening.volume) start.openings k o at_o) (mapped_at files_of ps k p at_p)
 
-  -- all units of work were done
-  all_done : (end : End) (run : SessionRun) (rest : List Entry) (unlogged : Option Entry) (count : ℕ) → (CutsOff end → ⊥) → HasServed streams hours basis sides run end → IsLeftUndone hours basis run rest unlogged end
-      → AreWorkedOff basis (behind_of hours (found_in run.answers) (entries_made run.answers ++ rest) unlogged end) (facts_in opening solo) end count → Runs (cause_of (in_writing ledger.partition) (kept_in solo) end) count
-  all_done end run rest unlogged count uncut served undone w =
-      let writing = in_writing ledger.partition in
-      let none = (none_undone hours basis run rest unlogged end undone uncut).0 in
-      let d = w.delivered in
-      let more : HasMade opening (entries_made run.answers ++ ([] ++ d.units)) solo = subst (λ (es : List Entry). HasMade opening es solo) (without_rest run rest d.units none) d.holds in
-      let behind = no_rest run rest none in
-      let made : AreUnits basis w.reading (entries_made run.answers) d.units = subst (λ (es : List Entry). AreUnits basis w.reading es d.units) behind d.done.made in
-      let last : next_unit basis (length d.units) (entries_of 1 more.made) ≡ None =
-      subst (λ (es : List Entry). next_unit basis (length d.units) es ≡ None) (without_rest run rest d.units none ∙ more.are) d.done.all in
-      subst (λ (k : Option (ℕ × Stop)). Runs (cause_of writing k end) count) (sym more.goes_on)
-      (made_over end run [] d.units count (own_end end uncut) served more (inl (refl, refl))
-      (closing_of (told_by streams disks) setting sides log (cause_of writing None end) opening.batches more.made None opening.moment run d.units w.reading w.read made)
-      (λ uncut. (d.told, last)) (λ cut. absurd (false≢true (sym (uncut_cause writing end uncut) ∙ cut))))
+  -- the run, by all that is known of its logs
+  module _ (c_entries : List Entry) (c_unlogged : Option Entry) (c_cause : Cause) (many : length start.openings ≡ length ps) where
+    abbrev c : Course
+    c = course c_entries c_unlogged c_cause
 
-  -- or they were cut off
-  work_cut : (end : End) (run : SessionRun) (rest : List Entry) (unlogged : Option Entry) (count : ℕ) → (CutsOff end → ⊥) → HasServed streams hours basis sides run end → IsLeftUndone hours basis run rest unlogged end
-      → AreWorkCut basis (behind_of hours (found_in run.answers) (entries_made run.answers ++ rest) unlogged end) (facts_in opening solo) endings.Stopped count → Runs (stop_cause_of (in_writing ledger.partition) (kept_in solo)) 0
-  work_cut end run rest unlogged count uncut served undone w =
-      let writing = in_writing ledger.partition in
-      let none = (none_undone hours basis run rest unlogged end undone uncut).0 in
-      let d = w.cut in
-      let more : HasEnded opening (entries_made run.answers ++ ([] ++ d.units)) d.unlogged w.stop solo = subst (λ (es : List Entry). HasEnded opening es d.unlogged w.stop solo) (without_rest run rest d.units none) d.holds in
-      let behind = no_rest run rest none in
-      let made : AreUnits basis w.reading (entries_made run.answers) d.units = subst (λ (es : List Entry). AreUnits basis w.reading es d.units) behind d.made in
-      subst (λ (k : Option (ℕ × Stop)). Runs (stop_cause_of writing k) 0) (sym more.kept)
-      (ended_over end run [] d.units d.unlogged w.stop (λ e. uncut (subst CutsOff (sym e) tt)) served more
-      (undone_work (told_by streams disks) setting sides log (stop_cause_of writing (Some (1, w.stop))) opening.batches more.made more.refused opening.moment run d.units w.reading w.read made
-      (λ entry is. subst (λ (es : List Entry). IsNextUnit basis w.reading es d.units entry) behind (d.next entry (more.last ∙ is))) (why_by more.refused writing more.made run w.stop more.stopped.cause))
-      (closing_of (told_by streams disks) setting sides log (stop_cause_of writing (Some (1, w.stop))) opening.batches more.made more.refused opening.moment run d.units w.reading w.read made))
+    run_is : (end : End) (run : SessionRun) (rest closing : List Entry) (units : ℕ)
+        → (end ≡ endings.SinkFault → (c_cause ≡ causes.SinkFault 1) ⊎ IsTrue (comes_before c_cause (causes.SinkFault 1))) → (end ≡ endings.Memory → c_cause ≡ causes.Memory)
+        → (IsTrue (cuts_off c_cause) → units ≡ 0)
+        → c_entries ≡ entries_made run.answers ++ (rest ++ closing)
+        → AllByRecursion (λ entry. IsPartitionOf n entry.partition) c_entries
+        → ((k : ℕ) (o : Opening D) (p : Partition D disks) → slice_get start.openings k ≡ Some o → slice_get ps k ≡ Some p → IsLog c crashes (suc k) (ends_by o p) (opened_by o))
+        → IsNamed (told_by streams disks) n sides run c_cause
+        → (1 < rank_of c_cause → (k : ℕ) (o : Opening D) (p : Partition D disks) → slice_get start.openings k ≡ Some o → slice_get ps k ≡ Some p → IsUntroubled (told_by streams disks) (ends_by o p))
+        → (2 < rank_of c_cause → (k : ℕ) (o : Opening D) (p : Partition D disks) → slice_get start.openings k ≡ Some o → slice_get ps k ≡ Some p → (batch : Batch) → batch_of (suc k) c_unlogged ≡ Some batch
+        → extent (bodies_of (log_in c (suc k) (opened_by o) ++ batch ∷ [])) ≤ limit)
+        → HasCome streams c sides run end rest closing units (stamps_in solo) (logs_in start)
+        → Runs c_cause units
+    run_is end run rest closing units failed forgot unsettled split within is_log named steady room come =
+        let each : EachFrom (λ k o p. IsLog c crashes k (ends_by o p) (opened_by o)) 1 start.openings ps = first_by (λ k o p. IsLog c crashes k (ends_by o p) (opened_by o)) start.openings ps many is_log in
+        let are_named : AreNamed c ends logs = record {
+          steady = λ before. steady_from 1 start.openings ps (first_by (λ k o p. IsUntroubled (told_by streams disks) (ends_by o p)) start.openings ps many (steady before));
+          room = λ before k opened at batch last.
+              let o = unmapped_at opened_by start.openings k opened at in
+              let p = member_at ps k (let within_it = place_within start.openings k o.0 o.1 in omega (arith, within_it, many)) in
+              subst (λ (l : OpenedLog). extent (bodies_of (log_in c (suc k) l ++ batch ∷ [])) ≤ limit) o.2 (room before k o.0 p.0 o.1 p.1 batch last);
+        } in
+        let serves : Serves c (ends_alone sides ends) crashes (stamps_in solo) units =
+        over streams c crashes sides ends logs run end rest closing units (stamps_in solo) refl refl refl (length-map start.openings opened_by) failed forgot unsettled split within
+        (logs_from c 1 start.openings ps each) named are_named
+        (subst (HasCome streams c sides run end rest closing units (stamps_in solo)) (sym batches) come) in
+        (c_entries, c_unlogged, subst (λ (m : ℕ). Serves (course_of (told_by streams disks) setting m c_entries c_unlogged c_cause) (ends_alone sides ends) crashes (stamps_in solo) units) (sym (count_from 1 start.openings ps many)) serves)
 
-  -- the run is over
-  pub run_over : (end : End) (run : SessionRun) (rest : List Entry) (unlogged : Option Entry) (told_end : End) (count : ℕ) → HasServed streams hours basis sides run end → IsLeftUndone hours basis run rest unlogged end
-      → IsWorkedOff basis (behind_of hours (found_in run.answers) (entries_made run.answers ++ rest) unlogged end) (facts_in opening solo) (told_end, count)
-      → Runs (cause_of (in_writing ledger.partition) (kept_in solo) told_end) count
-  run_over end run rest unlogged told_end count served undone (inl idle) =
-      subst (λ (e : End). Runs (cause_of (in_writing ledger.partition) (kept_in solo) e) count) (sym idle.same.0)
-      (subst (λ (n : ℕ). Runs (cause_of (in_writing ledger.partition) (kept_in solo) end) n) (sym idle.same.1) (line_cut end run rest unlogged idle.cuts served undone idle.leaves))
-  run_over end run rest unlogged told_end count served undone (inr (uncut, inl w)) =
-      subst (λ (e : End). Runs (cause_of (in_writing ledger.partition) (kept_in solo) e) count) (sym w.same)
-      (all_done end run rest unlogged count uncut served undone (record { reading = w.reading; read = w.read; delivered = w.delivered; same = refl }))
-  run_over end run rest unlogged told_end count served undone (inr (uncut, inr w)) =
-      subst (λ (e : End). Runs (cause_of (in_writing ledger.partition) (kept_in solo) e) count) (sym w.told.0)
-      (subst (λ (n : ℕ). Runs (stop_cause_of (in_writing ledger.partition) (kept_in solo)) n) (sym w.told.1)
-      (work_cut end run rest unlogged count uncut served undone (record { reading = w.reading; read = w.read; stop = w.stop; cut = w.cut; told = (refl, w.told.1) })))
+  -- nothing stopped it
+  module _ (entries : List Entry) (h : HasMade start entries solo) where
+    made_many : length start.openings ≡ length ps
+    made_many = each_length (HasPart n entries) 1 start.openings ps h.parts
 
-  -- its slots for snapshots stayed
-  slots_left : (end : End) (entries : List Entry) (unlogged : Option Entry) → LeavesDesk (facts_in opening solo) entries unlogged end → slots_of ledger.partition ≡ slots_in opening.volume
-  slots_left endings.Stopped entries unlogged (stop, left) = left.slots
-  slots_left endings.Done entries unlogged left = left.0.slots
-  slots_left endings.SourceFault entries unlogged left = left.0.slots
-  slots_left endings.SinkFault entries unlogged left = left.0.slots
-  slots_left endings.InputFull entries unlogged left = left.0.slots
-  slots_left endings.Memory entries unlogged left = left.0.slots
+    part_at : (k : ℕ) (o : Opening D) (p : Partition D disks) → slice_get start.openings k ≡ Some o → slice_get ps k ≡ Some p → HasPart n entries (suc k) o p
+    part_at k o p at_o at_p = first_at (HasPart n entries) start.openings ps k o p h.parts at_o at_p
 
-  pub slots_over : (behind : Behind) (result : End × ℕ) → IsWorkedOff basis behind (facts_in opening solo) result → slots_of ledger.partition ≡ slots_in opening.volume
-  slots_over behind result (inl idle) = slots_left behind.end behind.entries behind.unlogged idle.leaves
-  slots_over behind result (inr (uncut, inl w)) = w.delivered.holds.slots
-  slots_over behind result (inr (uncut, inr w)) = w.cut.holds.slots
+    made_over : (writing : Option Batch) (end : End) (run : SessionRun) (rest closing : List Entry) (units : ℕ) → (end ≡ endings.Stopped → ⊥) → IsEndOf streams sides run end
+        → entries ≡ entries_made run.answers ++ (rest ++ closing) → (IsTrue (cuts_off (cause_of writing None end)) → units ≡ 0)
+        → HasCome streams (course entries None (cause_of writing None end)) sides run end rest closing units (stamps_in solo) (logs_in start)
+        → Runs (cause_of writing None end) units
+    made_over writing end run rest closing units own is_end split unsettled come =
+        let cause = cause_of writing None end in
+        run_is entries None cause made_many end run rest closing units
+        (λ e. inl (ap (cause_of writing None) e)) (λ e. ap (cause_of writing None) e) unsettled split h.within
+        (λ k o p at_o at_p.
+        let part = part_at k o p at_o at_p in
+        account_log streams images_told setting n entries None cause crashes (suc k) o p part.0.0 part.0.1 (limit_at k o at_o) (told_at k o p at_o at_p) part.1 refl
+        (λ batch e. own_no_disk_fault writing end own (suc k) batch e) (λ a b d e. own_not_full writing end own (suc k) a b d e))
+        (named_by streams disks n sides run writing end own is_end)
+        (λ before k o p at_o at_p. (part_at k o p at_o at_p).1.steady)
+        (λ before k o p at_o at_p batch e. absurd (cc (e)))
+        come
 
-  -- the run is over, in the words of what was closed
-  pub closed_over : (end : End) (run : SessionRun) (rest : List Entry) (unlogged : Option Entry) (told_end : End) (count : ℕ) → HasServed streams hours basis sides run end → IsLeftUndone hours basis run rest unlogged end
-      → IsWorkedOff basis (behind_of hours (found_in run.answers) (entries_made run.answers ++ rest) unlogged end) (facts_in opening solo) (told_end, count)
-      → (limit units : ℕ) → opening.limit ≡ limit → opening.units ≡ units → (disk : D) → disk ≡ disk_in ledger → (writing : Option Batch) → writing ≡ in_writing ledger.partition → (stop : Option (ℕ × Stop)) → stop ≡ kept_in solo
-      → (cause : Cause) → cause ≡ cause_of writing stop told_end → (stamps : List (List ℕ)) → stamps ≡ ledger.stamps.items ∷ []
-      → IsRun (told_by streams disks) (record { hours = hours; limit = limit; units = units }) (ends_alone sides (log_ends (disks.view opening.volume.log) (disks.view disk))) (crashes_alone (disks.images opening.volume.log) (disks.images disk) (disks.since disk)) (answer_of_run cause stamps count)
-  closed_over end run rest unlogged told_end count served undone worked limit units is_limit are_units disk is_disk writing is_writing stop is_stop cause is_cause stamps are =
-      let by_parts : cause_of (in_writing ledger.partition) (kept_in solo) told_end ≡ cause =
-      ap (λ (w : Option Batch). cause_of w (kept_in solo) told_end) (sym is_writing) ∙ ap (λ (k : Option (ℕ × Stop)). cause_of writing k told_end) (sym is_stop) ∙ sym is_cause in
-      let Ran_so : ℕ → ℕ → D → Cause → List (List ℕ) → Type 0 =
-      λ limit units disk cause stamps. IsRun (told_by streams disks) (record { hours = hours; limit = limit; units = units }) (ends_alone sides (log_ends (disks.view opening.volume.log) (disks.view disk))) (crashes_alone (disks.images opening.volume.log) (disks.images disk) (disks.since disk)) (answer_of_run cause stamps count) in
-      subst (λ (n : ℕ). Ran_so n units disk cause stamps) is_limit
-      (subst (λ (n : ℕ). Ran_so opening.limit n disk cause stamps) are_units
-      (subst (λ (d : D). Ran_so opening.limit opening.units d cause stamps) (sym is_disk)
-      (subst (λ (c : Cause). Ran_so opening.limit opening.units (disk_in ledger) c stamps) by_parts
-      (subst (λ (l : List (List ℕ)). Ran_so opening.limit opening.units (disk_in ledger) (cause_of (in_writing ledger.partition) (kept_in solo) told_end) l) (sym are) (run_over end run rest unlogged told_end count served undone worked)))))
+  -- a partition stopped it
+  module _ (entries : List Entry) (unlogged : Option Entry) (stop : Stop) (h : HasEnded start entries unlogged stop solo) where
+    ended_many : length start.openings ≡ length ps
+    ended_many = each_length (IsLeftPart n entries unlogged h.at stop) 1 start.openings ps h.parts
+
+    left_at : (k : ℕ) (o : Opening D) (p : Partition D disks) → slice_get start.openings k ≡ Some o → slice_get ps k ≡ Some p → IsLeftPart n entries unlogged h.at stop (suc k) o p
+    left_at k o p at_o at_p = first_at (IsLeftPart n entries unlogged h.at stop) start.openings ps k o p h.parts at_o at_p
+
+    -- no other partition was writing
+    resting : (number : ℕ) (o : Opening D) (p : Partition D disks) → IsLeftPart n entries unlogged h.at stop number o p → (number ≡ h.at → ⊥) → in_writing p ≡ None
+    resting number o p (of, inl live) other = live.1.is_open.has.resting
+    resting number o p (of, inr dead) other = absurd (other dead.0)
+
+    writing_at : (k : ℕ) (p : Partition D disks) → suc k ≡ h.at → slice_get ps k ≡ Some p → first_writing ps ≡ in_writing p
+    writing_at k p here at = writing_of ps k p at (λ j q there other.
+        let o = member_at start.openings j (let within_it = place_within ps j q there in omega (arith, within_it, ended_many)) in
+        resting (suc j) o.0 q (left_at j o.0 q o.1 there) (λ e. other (omega (arith, e, here))))
+
+    abbrev ended_cause : Cause
+    ended_cause = stop_cause_of (first_writing ps) (Some (h.at, stop))
+
+    cause_at : (k : ℕ) (p : Partition D disks) → suc k ≡ h.at → slice_get ps k ≡ Some p → ended_cause ≡ stop_cause_of (in_writing p) (Some (suc k, stop))
+    cause_at k p here at = ap (λ (w : Option Batch). stop_cause_of w (Some (h.at, stop))) (writing_at k p here at) ∙ ap (λ (m : ℕ). stop_cause_of (in_writing p) (Some (m, stop))) (sym here)
+
+    none_of : (number : ℕ) → (number ≡ h.at → ⊥) → batch_of number unlogged ≡ None
+    none_of number other = none_left number unlogged (λ entry is its. other (sym its ∙ (h.last entry is).0))
+
+    log_by : (k : ℕ) (o : Opening D) (p : Partition D disks) → slice_get start.openings k ≡ Some o → slice_get ps k ≡ Some p → IsLeftPart n entries unlogged h.at stop (suc k) o p
+        → IsLog (course entries unlogged ended_cause) crashes (suc k) (ends_by o p) (opened_by o)
+    log_by k o p at_o at_p (of, inl live) =
+        account_log streams images_told setting n entries unlogged ended_cause crashes (suc k) o p of.0 of.1 (limit_at k o at_o) (told_at k o p at_o at_p) live.1 (none_of (suc k) live.0)
+        (λ batch e. live.0 (stop_disk_number (first_writing ps) h.at stop (suc k) batch e)) (λ a b d e. live.0 (stop_full_number (first_writing ps) h.at stop (suc k) a b d e))
+    log_by k o p at_o at_p (of, inr dead) =
+        let d = dead.1 in
+        stopped_log streams images_told setting n entries unlogged ended_cause crashes (suc k) o p of.0 of.1 (limit_at k o at_o) (told_at k o p at_o at_p) d.0 stop d.2 d.1 (cause_at k p dead.0 at_p)
+
+    steady_by : 1 < rank_of ended_cause → (k : ℕ) (o : Opening D) (p : Partition D disks) → slice_get start.openings k ≡ Some o → slice_get ps k ≡ Some p → IsLeftPart n entries unlogged h.at stop (suc k) o p
+        → IsUntroubled (told_by streams disks) (ends_by o p)
+    steady_by before k o p at_o at_p (of, inl live) = live.1.steady
+    steady_by before k o p at_o at_p (of, inr dead) =
+        let d = dead.1 in
+        stopped_steady streams images_told setting n entries unlogged ended_cause crashes (suc k) o p of.0 of.1 (limit_at k o at_o) (told_at k o p at_o at_p) d.0 stop d.2 d.1 (cause_at k p dead.0 at_p) before
+
+    room_by : 2 < rank_of ended_cause → (k : ℕ) (o : Opening D) (p : Partition D disks) → slice_get start.openings k ≡ Some o → slice_get ps k ≡ Some p → IsLeftPart n entries unlogged h.at stop (suc k) o p
+        → (batch : Batch) → batch_of (suc k) unlogged ≡ Some batch → extent (bodies_of (log_in (course entries unlogged ended_cause) (suc k) (opened_by o) ++ batch ∷ [])) ≤ limit
+    room_by before k o p at_o at_p (of, inl live) batch e = absurd (let some : None ≡ Some batch = sym (none_of (suc k) live.0) ∙ e in cc (some))
+    room_by before k o p at_o at_p (of, inr dead) batch e =
+        let d = dead.1 in
+        stopped_room streams images_told setting n entries unlogged ended_cause crashes (suc k) o p of.0 of.1 (limit_at k o at_o) (told_at k o p at_o at_p) d.0 stop d.2 d.1 (cause_at k p dead.0 at_p) before batch e
+
+    -- why something was left undone
+    why_at : (k : ℕ) (o : Opening D) (p : Partition D disks) → suc k ≡ h.at → slice_get ps k ≡ Some p → IsLeftPart n entries unlogged h.at stop (suc k) o p → IsWhyUndone ended_cause unlogged
+    why_at k o p here at_p (of, inl live) = absurd (live.0 here)
+    why_at k o p here at_p (of, inr dead) =
+        let d = dead.1 in
+        subst (λ (cause : Cause). IsWhyUndone cause unlogged) (sym (cause_at k p here at_p))
+        (undone_by _ _ _ _ (suc k) unlogged d.0 (in_writing p) stop d.1 d.2.cause)
+
+    why_ended : IsWhyUndone ended_cause unlogged
+    why_ended =
+        let here : suc (h.at - 1) ≡ h.at = sym (number_behind h.at h.of.0) in
+        let o = member_at start.openings (h.at - 1) (omega (arith, h.of.0, h.of.1)) in
+        let p = member_at ps (h.at - 1) (omega (arith, h.of.0, h.of.1, ended_many)) in
+        why_at (h.at - 1) o.0 p.0 here p.1 (left_at (h.at - 1) o.0 p.0 o.1 p.1)
+
+    ended_over : (end : End) (run : SessionRun) (rest closing : List Entry) → (end ≡ endings.Memory → ⊥)
+        → entries ≡ entries_made run.answers ++ (rest ++ closing)
+        → HasCome streams (course entries unlogged ended_cause) sides run end rest closing 0 (stamps_in solo) (logs_in start)
+        → Runs ended_cause 0
+    ended_over end run rest closing other split come =
+        run_is entries unlogged ended_cause ended_many end run rest closing 0
+        (λ e. inr (stop_first (first_writing ps) h.at stop)) (λ e. absurd (other e)) (λ cut. refl) split h.within
+        (λ k o p at_o at_p. log_by k o p at_o at_p (left_at k o p at_o at_p))
+        (named_stop streams disks n sides run (first_writing ps) h.at h.of stop)
+        (λ before k o p at_o at_p. steady_by before k o p at_o at_p (left_at k o p at_o at_p))
+        (λ before k o p at_o at_p. room_by before k o p at_o at_p (left_at k o p at_o at_p))
+        come
+
+  -- what came of the lines, and of the units of work behind the last one
+  module _ (run : SessionRun) (end : End) (served : HasServed streams hours basis sides run end) where
+    answered : EachOn (FollowsOn (logs_in start)) [] (entries_made run.answers)
+    answered = answers_come hours basis run.answers served.serial
+
+    -- the entries of a line that was cut off, and the one that isn't in its log
+    line_come : (rest : List Entry) (unlogged : Option Entry) → IsLeftUndone hours basis run rest unlogged end
+        → EachOn (FollowsOn (logs_in start)) [] (entries_made run.answers ++ rest) × ((entry : Entry) → unlogged ≡ Some entry → FollowsOn (logs_in start) (entries_made run.answers ++ rest) entry)
+    line_come rest unlogged (inl none) = (
+      subst (λ (es : List Entry). EachOn (FollowsOn (logs_in start)) [] (entries_made run.answers ++ es)) (sym none.0) (subst (EachOn (FollowsOn (logs_in start)) []) (append_none (entries_made run.answers)) answered),
+      λ entry is. absurd (let e : None ≡ Some entry = sym none.1 ∙ is in cc (e)),
+    )
+    line_come rest unlogged (inr (first, cuts)) =
+        let cut = first.cut in (
+          each_on_joined (FollowsOn (logs_in start)) [] (entries_made run.answers) rest answered (made_come basis cut.request cut.reading (entries_made run.answers) rest cut.made),
+          λ entry is. asked_follows_on basis cut.request cut.reading (entries_made run.answers) rest entry (cut.next entry is),
+        )
+
+    -- a line was cut off
+    line_cut : (rest : List Entry) (unlogged : Option Entry) → CutsOff end → IsLeftUndone hours basis run rest unlogged end
+        → LeavesDesk (facts_in start solo) (entries_made run.answers ++ rest) unlogged end → Runs (cause_of (first_writing ps) (kept_in solo) end) 0
+    line_cut rest unlogged cuts undone left = by_end end refl cuts left
+      where
+        entries : List Entry
+        entries = entries_made run.answers ++ rest
+
+        split : entries ≡ entries_made run.answers ++ (rest ++ [])
+        split = ap (λ (es : List Entry). entries_made run.answers ++ es) (append_none rest)
+
+        come : EachOn (FollowsOn (logs_in start)) [] entries × ((entry : Entry) → unlogged ≡ Some entry → FollowsOn (logs_in start) entries entry)
+        come = line_come rest unlogged undone
+
+        undone_by_end : (ended : End) → end ≡ ended → IsLeftUndone hours basis run rest unlogged ended
+        undone_by_end ended is = subst (λ (e : End). IsLeftUndone hours basis run rest unlogged e) is undone
+
+        by_end : (ended : End) → end ≡ ended → CutsOff ended → LeavesDesk (facts_in start solo) entries unlogged ended → Runs (cause_of (first_writing ps) (kept_in solo) ended) 0
+        by_end endings.Stopped is cut (stop, h) =
+            let cause = ended_cause entries unlogged stop h in
+            subst (λ (k : Option (ℕ × Stop)). Runs (stop_cause_of (first_writing ps) k) 0) (sym h.kept)
+            (ended_over entries unlogged stop h end run rest [] (λ e. let no : endings.Stopped ≡ endings.Memory = sym is ∙ e in cc (no)) split
+            (record {
+              served = served;
+              undone = undone_of (course entries unlogged cause) sides basis many_logs run rest end undone (λ c. why_ended entries unlogged stop h);
+              delivered = inl refl;
+              settled = λ uncut. absurd (false≢true (sym uncut ∙ stop_cuts (first_writing ps) h.at stop));
+              stamped = h.stamped;
+              each = come.0;
+              last = λ entry e. (subst (IsPartitionOf n) (sym (h.last entry e).0) h.of, come.1 entry e);
+            }))
+        by_end endings.Memory is cut (h, none) =
+            subst (λ (k : Option (ℕ × Stop)). Runs (cause_of (first_writing ps) k endings.Memory) 0) (sym h.goes_on)
+            (subst (λ (e : End). Runs (cause_of (first_writing ps) None e) 0) is
+            (made_over entries h (first_writing ps) end run rest [] 0 (λ e. let no : endings.Memory ≡ endings.Stopped = sym is ∙ e in cc (no)) served.ends split (λ c. refl)
+            (record {
+              served = served;
+              undone = undone_of (course entries None (cause_of (first_writing ps) None end)) sides basis many_logs run rest end (subst (λ (u : Option Entry). IsLeftUndone hours basis run rest u end) none undone)
+                  (λ c. own_undone (first_writing ps) end (λ e. let no : endings.Memory ≡ endings.Stopped = sym is ∙ e in cc (no)) c);
+              delivered = inl refl;
+              settled = λ uncut. absurd (let cuts_too : IsFalse (cuts_off (cause_of (first_writing ps) None endings.Memory)) = subst (λ (e : End). IsFalse (cuts_off (cause_of (first_writing ps) None e))) is uncut in false≢true (sym cuts_too));
+              stamped = h.stamped;
+              each = come.0;
+              last = λ entry e. absurd (cc (e));
+            })))
+        by_end endings.Done is cut h = absurd cut
+        by_end endings.SourceFault is cut h = absurd cut
+        by_end endings.SinkFault is cut h = absurd cut
+        by_end endings.InputFull is cut h = absurd cut
+
+    -- nothing of a line is left, so the units come behind the answers
+    without_rest : (rest units : List Entry) → rest ≡ [] → (entries_made run.answers ++ rest) ++ units ≡ entries_made run.answers ++ ([] ++ units)
+    without_rest rest units none =
+        ap (λ (es : List Entry). (entries_made run.answers ++ es) ++ units) none ∙ ap (λ (es : List Entry). es ++ units) (sym (append_none (entries_made run.answers)))
+
+    no_rest : (rest : List Entry) → rest ≡ [] → entries_made run.answers ++ rest ≡ entries_made run.answers
+    no_rest rest none = ap (λ (es : List Entry). entries_made run.answers ++ es) none ∙ sym (append_none (entries_made run.answers))
+
+    -- all units of work were done
+    all_done : (rest : List Entry) (unlogged : Option Entry) (count : ℕ) → (CutsOff end → ⊥) → IsLeftUndone hours basis run rest unlogged end
+        → AreWorkedOff basis (behind_of hours (found_in run.answers) (entries_made run.answers ++ rest) unlogged end) (facts_in start solo) end count → Runs (cause_of (first_writing ps) (kept_in solo) end) count
+    all_done rest unlogged count uncut undone w =
+        let writing = first_writing ps in
+        let none = (none_undone hours basis run rest unlogged end undone uncut).0 in
+        let d = w.delivered in
+        let entries = entries_made run.answers ++ ([] ++ d.units) in
+        let same = without_rest rest d.units none in
+        let h : HasMade start entries solo = subst (λ (es : List Entry). HasMade start es solo) same d.holds in
+        let made : AreUnits basis w.reading (entries_made run.answers) d.units = subst (λ (es : List Entry). AreUnits basis w.reading es d.units) (no_rest rest none) d.done.made in
+        let last : next_unit basis d.units entries ≡ None = subst (λ (es : List Entry). next_unit basis d.units es ≡ None) same d.done.all in
+        subst (λ (k : Option (ℕ × Stop)). Runs (cause_of writing k end) count) (sym h.goes_on)
+        (made_over entries h writing end run [] d.units count (own_end end uncut) served.ends refl (λ cut. absurd (false≢true (sym (uncut_cause writing end uncut) ∙ cut)))
+        (record {
+          served = served;
+          undone = inl (refl, refl);
+          delivered = closing_of (course entries None (cause_of writing None end)) sides basis many_logs run d.units w.reading w.read made;
+          settled = λ c. (d.told, last);
+          stamped = h.stamped;
+          each = each_on_joined (FollowsOn (logs_in start)) [] (entries_made run.answers) d.units answered (units_come basis w.reading (entries_made run.answers) d.units made);
+          last = λ entry e. absurd (cc (e));
+        }))
+
+    -- or they were cut off
+    work_cut : (rest : List Entry) (unlogged : Option Entry) (count : ℕ) → (CutsOff end → ⊥) → IsLeftUndone hours basis run rest unlogged end
+        → AreWorkCut basis (behind_of hours (found_in run.answers) (entries_made run.answers ++ rest) unlogged end) (facts_in start solo) endings.Stopped count → Runs (stop_cause_of (first_writing ps) (kept_in solo)) 0
+    work_cut rest unlogged count uncut undone w =
+        let writing = first_writing ps in
+        let none = (none_undone hours basis run rest unlogged end undone uncut).0 in
+        let d = w.cut in
+        let entries = entries_made run.answers ++ ([] ++ d.units) in
+        let h : HasEnded start entries d.unlogged w.stop solo = subst (λ (es : List Entry). HasEnded start es d.unlogged w.stop solo) (without_rest rest d.units none) d.holds in
+        let behind = no_rest rest none in
+        let made : AreUnits basis w.reading (entries_made run.answers) d.units = subst (λ (es : List Entry). AreUnits basis w.reading es d.units) behind d.made in
+        let next : (entry : Entry) → d.unlogged ≡ Some entry → IsNextUnit basis w.reading (entries_made run.answers) d.units entry = λ entry is. subst (λ (es : List Entry). IsNextUnit basis w.reading es d.units entry) behind (d.next entry is) in
+        subst (λ (k : Option (ℕ × Stop)). Runs (stop_cause_of writing k) 0) (sym h.kept)
+        (ended_over entries d.unlogged w.stop h end run [] d.units (λ e. uncut (subst CutsOff (sym e) tt)) refl
+        (record {
+          served = served;
+          undone = undone_work (course entries d.unlogged (ended_cause entries d.unlogged w.stop h)) sides basis many_logs run d.units w.reading w.read made next (why_ended entries d.unlogged w.stop h);
+          delivered = closing_of (course entries d.unlogged (ended_cause entries d.unlogged w.stop h)) sides basis many_logs run d.units w.reading w.read made;
+          settled = λ c. absurd (false≢true (sym c ∙ stop_cuts writing h.at w.stop));
+          stamped = h.stamped;
+          each = each_on_joined (FollowsOn (logs_in start)) [] (entries_made run.answers) d.units answered (units_come basis w.reading (entries_made run.answers) d.units made);
+          last = λ entry e. (subst (IsPartitionOf n) (sym (h.last entry e).0) h.of, unit_follows_on basis w.reading (entries_made run.answers) d.units entry (next entry e));
+        }))
+
+    -- the run is over
+    pub run_over : (rest : List Entry) (unlogged : Option Entry) (told_end : End) (count : ℕ) → IsLeftUndone hours basis run rest unlogged end
+        → IsWorkedOff basis (behind_of hours (found_in run.answers) (entries_made run.answers ++ rest) unlogged end) (facts_in start solo) (told_end, count)
+        → Runs (cause_of (first_writing ps) (kept_in solo) told_end) count
+    run_over rest unlogged told_end count undone (inl idle) =
+        subst (λ (e : End). Runs (cause_of (first_writing ps) (kept_in solo) e) count) (sym idle.same.0)
+        (subst (λ (m : ℕ). Runs (cause_of (first_writing ps) (kept_in solo) end) m) (sym idle.same.1) (line_cut rest unlogged idle.cuts undone idle.leaves))
+    run_over rest unlogged told_end count undone (inr (uncut, inl w)) =
+        subst (λ (e : End). Runs (cause_of (first_writing ps) (kept_in solo) e) count) (sym w.same)
+        (all_done rest unlogged count uncut undone (record { reading = w.reading; read = w.read; delivered = w.delivered; same = refl }))
+    run_over rest unlogged told_end count undone (inr (uncut, inr w)) =
+        subst (λ (e : End). Runs (cause_of (first_writing ps) (kept_in solo) e) count) (sym w.told.0)
+        (subst (λ (m : ℕ). Runs (stop_cause_of (first_writing ps) (kept_in solo)) m) (sym w.told.1)
+        (work_cut rest unlogged count uncut undone (record { reading = w.reading; read = w.read; stop = w.stop; cut = w.cut; told = (refl, w.told.1) })))
+
+-- what is left of an engine, however its run ended: as many partitions as it began with, stamps for each, and the slots
+module _ {D : Type 0} {disks : Ghosts D} (start : Start D) (solo : Solo D disks) where
+  pub record IsLeft : Type 0 where
+    pub many : length (partitions_in solo) ≡ many_in start
+    pub stamps : length (stamps_in solo) ≡ many_in start
+    pub slots : slots_of_all (map files_of (partitions_in solo)) ≡ slots_of_all (volumes_in start)
+
+  slots_made : (n : ℕ) (entries : List Entry) (number : ℕ) (os : List (Opening D)) (qs : List (Partition D disks)) → EachFrom (HasPart n entries) number os qs
+      → slots_of_all (map files_of qs) ≡ slots_of_all (map (λ opening. opening.volume) os)
+  slots_made n entries number [] [] each = refl
+  slots_made n entries number (o ∷ os) (q ∷ qs) each = ap (λ (s : D × D). s ∷ slots_of_all (map files_of qs)) each.0.1.slots ∙ ap (λ (l : List (D × D)). slots_in o.volume ∷ l) (slots_made n entries (suc number) os qs each.1)
+  slots_made n entries number [] (q ∷ qs) each = absurd each
+  slots_made n entries number (o ∷ os) [] each = absurd each
+
+  slot_left : (n : ℕ) (entries : List Entry) (unlogged : Option Entry) (at : ℕ) (stop : Stop) (number : ℕ) (o : Opening D) (q : Partition D disks) → IsLeftPart n entries unlogged at stop number o q → slots_of q ≡ slots_in o.volume
+  slot_left n entries unlogged at stop number o q (of, inl live) = live.1.slots
+  slot_left n entries unlogged at stop number o q (of, inr dead) = dead.1.2.slots
+
+  slots_ended : (n : ℕ) (entries : List Entry) (unlogged : Option Entry) (at : ℕ) (stop : Stop) (number : ℕ) (os : List (Opening D)) (qs : List (Partition D disks)) → EachFrom (IsLeftPart n entries unlogged at stop) number os qs
+      → slots_of_all (map files_of qs) ≡ slots_of_all (map (λ opening. opening.volume) os)
+  slots_ended n entries unlogged at stop number [] [] each = refl
+  slots_ended n entries unlogged at stop number (o ∷ os) (q ∷ qs) each =
+      ap (λ (s : D × D). s ∷ slots_of_all (map files_of qs)) (slot_left n entries unlogged at stop number o q each.0) ∙ ap (λ (l : List (D × D)). slots_in o.volume ∷ l) (slots_ended n entries unlogged at stop (suc number) os qs each.1)
+  slots_ended n entries unlogged at stop number [] (q ∷ qs) each = absurd each
+  slots_ended n entries unlogged at stop number (o ∷ os) [] each = absurd each
+
+  stamps_count : (m first : ℕ) (entries : List Entry) → length (stamps_of m first entries) ≡ m
+  stamps_count m first entries = length-map-range_with_len (λ p. places_of p first entries) 1 m
+
+  left_made : (entries : List Entry) → HasMade start entries solo → IsLeft
+  left_made entries h = record {
+    many = sym (each_length (HasPart (many_in start) entries) 1 start.openings (partitions_in solo) h.parts);
+    stamps = ap length h.stamped ∙ stamps_count (many_in start) (place_at_start start) entries;
+    slots = slots_made (many_in start) entries 1 start.openings (partitions_in solo) h.parts;
+  }
+
+  left_ended : (entries : List Entry) (unlogged : Option Entry) (stop : Stop) → HasEnded start entries unlogged stop solo → IsLeft
+  left_ended entries unlogged stop h = record {
+    many = sym (each_length (IsLeftPart (many_in start) entries unlogged h.at stop) 1 start.openings (partitions_in solo) h.parts);
+    stamps = ap length h.stamped ∙ stamps_count (many_in start) (place_at_start start) entries;
+    slots = slots_ended (many_in start) entries unlogged h.at stop 1 start.openings (partitions_in solo) h.parts;
+  }
+
+  left_desk : (end : End) (entries : List Entry) (unlogged : Option Entry) → LeavesDesk (facts_in start solo) entries unlogged end → IsLeft
+  left_desk endings.Stopped entries unlogged (stop, left) = left_ended entries unlogged stop left
+  left_desk endings.Done entries unlogged left = left_made entries left.0
+  left_desk endings.SourceFault entries unlogged left = left_made entries left.0
+  left_desk endings.SinkFault entries unlogged left = left_made entries left.0
+  left_desk endings.InputFull entries unlogged left = left_made entries left.0
+  left_desk endings.Memory entries unlogged left = left_made entries left.0
+
+  pub left_over : (goes_by : Basis) (behind : Behind) (result : End × ℕ) → IsWorkedOff goes_by behind (facts_in start solo) result → IsLeft
+  left_over goes_by behind result (inl idle) = left_desk behind.end behind.entries behind.unlogged idle.leaves
+  left_over goes_by behind result (inr (uncut, inl w)) = left_made _ w.delivered.holds
+  left_over goes_by behind result (inr (uncut, inr w)) = left_ended _ _ _ w.cut.holds
+
+-- a run whose logs were opened has stamps
+pub run_by : (told : Told) (setting : RunSetting) (ends : RunEnds) (crashes : Crashes) (cause : Cause) (units : ℕ) (stamps : List (List ℕ)) → 1 ≤ length stamps → HasRun told setting ends crashes (answer_of_run cause stamps units)
+    → IsRun told setting ends crashes (answer_of_run cause stamps units)
+run_by told setting ends crashes cause units [] some run = absurd (omega (arith, some))
+run_by told setting ends crashes cause units (stamp ∷ stamps) some run = run
+
+-- the run is over, in the words of what was closed
+module _ {D : Type 0} {disks : Ghosts D} (streams : Streams) (hours : Hours) (images_told : IsTrue disks.tells_images → IsTrue disks.tells) (start : Start D) (limit units : ℕ) (volumes : List (Volume D)) (begun : IsBegunOver limit units volumes start)
+    (sides : SessionEnds) (solo : Solo D disks) where
+  abbrev IsRunTo : List (Volume D) → ℕ → List (Volume D) → Cause → List (List ℕ) → ℕ → Type 0
+  IsRunTo olds bound news cause stamps count =
+      IsRun (told_by streams disks) (record { hours = hours; limit = limit; units = bound }) (ends_alone sides (logs_ends disks olds news)) (crashes_of disks olds news) (answer_of_run cause stamps count)
+
+  pub closed_over : (run : SessionRun) (end : End) → HasServed streams hours (basis_in start) sides run end → (rest : List Entry) (unlogged : Option Entry) (told_end : End) (count : ℕ) → IsLeftUndone hours (basis_in start) run rest unlogged end
+      → IsWorkedOff (basis_in start) (behind_of hours (found_in run.answers) (entries_made run.answers ++ rest) unlogged end) (facts_in start solo) (told_end, count)
+      → (news : List (Volume D)) → news ≡ map files_of (partitions_in solo) → (cause : Cause) → cause ≡ cause_of (first_writing (partitions_in solo)) (kept_in solo) told_end → (stamps : List (List ℕ)) → stamps ≡ stamps_in solo → (told_count : ℕ) → told_count ≡ count
+      → 1 ≤ length (stamps_in solo) → IsRunTo volumes units news cause stamps told_count
+  closed_over run end served rest unlogged told_end count undone worked news are_news cause is_cause stamps are_stamps told_count is_count some =
+      let own = run_by (told_by streams disks) (record { hours = hours; limit = limit; units = start.units }) (ends_alone sides (logs_ends disks (volumes_in start) (map files_of (partitions_in solo)))) (crashes_of disks (volumes_in start) (map files_of (partitions_in solo)))
+      (cause_of (first_writing (partitions_in solo)) (kept_in solo) told_end) count (stamps_in solo) some
+      (run_over streams hours images_told start limit begun.most sides solo run end served rest unlogged told_end count undone worked) in
+      subst (λ (olds : List (Volume D)). IsRunTo olds units news cause stamps told_count) begun.over
+      (subst (λ (bound : ℕ). IsRunTo (volumes_in start) bound news cause stamps told_count) begun.bound
+      (subst (λ (l : List (Volume D)). IsRunTo (volumes_in start) start.units l cause stamps told_count) (sym are_news)
+      (subst (λ (c : Cause). IsRunTo (volumes_in start) start.units (map files_of (partitions_in solo)) c stamps told_count) (sym is_cause)
+      (subst (λ (l : List (List ℕ)). IsRunTo (volumes_in start) start.units (map files_of (partitions_in solo)) (cause_of (first_writing (partitions_in solo)) (kept_in solo) told_end) l told_count) (sym are_stamps)
+      (subst (λ (m : ℕ). IsRunTo (volumes_in start) start.units (map files_of (partitions_in solo)) (cause_of (first_writing (partitions_in solo)) (kept_in solo) told_end) (stamps_in solo) m) (sym is_count) own)))))

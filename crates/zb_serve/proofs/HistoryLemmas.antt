@@ -1,112 +1,180 @@
--- The batches of a run of one partition in the history of the engine.
-use Rattle.std.proofs.Common.{◌≡◌, ℕ, zero, suc, ◌+◌, List, [], ◌∷◌, ◌++◌, length, take, All, Option, Some, refl, sym, ap, subst, ◌∙◌, arith, inl, inr}
-use Rattle.std.specs.List.{AllZip, range_with_len, slice_get}
-use Rattle.std.proofs.lemmas.List.{length-append, length-take, length-map, take_all}
+-- The entries of a run in the history of the engine.
+use Rattle.std.proofs.Common.{◌≡◌, ◌⊎◌, ℕ, suc, ◌-◌, ◌==◌, List, [], ◌∷◌, ◌++◌, length, take, slice_get, true, false, All, Option, Some, None, refl, sym, ap, subst, ◌∙◌, arith, inl, inr, append-nil}
+use Rattle.std.proofs.lemmas.Bool.{cases_eq}
+use Rattle.std.proofs.lemmas.Bool.Decides.{nat_tests}
+use Rattle.std.proofs.lemmas.List.{take_all}
 use Rattle.std.proofs.lemmas.List.Elements.{All-nil, All-cons}
-use Rattle.std.proofs.lemmas.Option.{slice_get_within}
 use Rattle.zb_model.specs.declared.record.Batch.{Batch}
 use Rattle.zb_store.specs.Stands.{Stands}
-use Rattle.zb_rules.specs.Step.{IsStep, EachOn}
 use Rattle.zb_partition.specs.Log.{bodies_of}
-use Rattle.zb_world.specs.Entries.{Entry, is_of, as_entry, entries_of, part_of, AtMostOne}
-use Rattle.zb_world.specs.History.{RestsOn, IsEntryOf, IsHistory, IsCutAt}
-use Rattle.zb_world.specs.EntryLaws.{part_of_entries, part_of_joined}
-use Rattle.zb_world.specs.HistoryLaws.{history_of_one, history_joined, log_goes_on, whole_is_cut}
+use Rattle.zb_world.specs.Entries.{Entry, IsPartitionOf, is_of, part_of, parts_of, AtMostOne}
+use Rattle.zb_world.specs.EntryLaws.{part_of_joined, part_of_its, part_of_other}
+use Rattle.zb_world.specs.History.{IsEntryOf, IsHistory, IsCutAt}
+use Rattle.zb_world.specs.HistoryLaws.{whole_is_cut}
 use Rattle.zb_world.specs.OnceLaws.{happens_once}
+use Rattle.zb_desk.specs.Serial.{log_behind}
+use Rattle.zb_desk.specs.SentLaws.{AreSerially, serial_goes_on}
 use Rattle.zb_serve.specs.Ends.{Told, LogEnds}
-use Rattle.zb_engine.specs.Ledger.{IsStamped, AreMadeBatches}
-use Rattle.zb_serve.specs.Log.{IsKept}
-use Rattle.zb_serve.specs.History.{parts_of, GoesOnWith, AreCut, AreImages}
+use Rattle.zb_serve.specs.Log.{batch_if, batch_of, IsKept}
+use Rattle.zb_serve.specs.History.{GoesOnWith, AreCut, AreImages}
 use Rattle.zb_serve.specs.declared.run.Cause.{Cause}
+use Rattle.zb_serve.proofs.ListLemmas.{some_same, one_at, member_at, place_within}
+use Rattle.zb_serve.proofs.PartLemmas.{part_at, zip_parts}
 
--- of batches that begin at numbers one after the other, the one at a place
-begins_at : (first : ℕ) (made : List Batch) (k : ℕ) (batch : Batch) → AllZip IsStamped (range_with_len first (length made)) made → slice_get made k ≡ Some batch → batch.begin ≡ first + k
-begins_at first [] k batch stamped at = absurd (cc at)
-begins_at first (x ∷ made) zero batch stamped at =
-    let same : x ≡ batch = cc at in
-    let here : x.begin ≡ first = stamped.0 in
-    let begin : batch.begin ≡ first = subst (λ (b : Batch). b.begin ≡ first) same here in
-    omega (arith, begin)
-begins_at first (x ∷ made) (suc k) batch stamped at =
-    let behind : batch.begin ≡ (first + 1) + k = begins_at (first + 1) made k batch stamped.1 at in
-    omega (arith, behind)
+-- the entries go on with every history of the logs
+pub goes_on : (n : ℕ) (logs : List (List Batch)) (entries : List Entry) → AreSerially n logs entries → GoesOnWith n logs entries
+goes_on n logs entries are = λ base is parts.
+    let history : IsHistory n (base ++ entries) = serial_goes_on n logs entries are base is parts in
+    (history, happens_once n (base ++ entries) history)
 
--- each batch that was made rests on no more than what was there before it
-rest_on : (opened made : List Batch) (places : List ℕ) → places ≡ range_with_len (length opened) (length made) → AllZip IsStamped places made → EachOn RestsOn opened made
-rest_on opened made places are stamped k batch at =
-    let stamps : AllZip IsStamped (range_with_len (length opened) (length made)) made = subst (λ (l : List ℕ). AllZip IsStamped l made) are stamped in
-    let begin : batch.begin ≡ length opened + k = begins_at (length opened) made k batch stamps at in
-    omega (arith, begin, length-append opened (take k made), length-take k made, slice_get_within made k batch at)
+-- the batch of a partition that isn't in its log is that of the entry, which is of it
+record IsOfEntry (number : ℕ) (unlogged : Option Entry) (batch : Batch) : Type 0 where
+  pub entry : Entry
+  pub is : unlogged ≡ Some entry
+  pub its : entry.partition ≡ number
+  pub same : entry.batch ≡ batch
 
-heads : {A : Type 0} (x y : A) (xs ys : List A) → x ∷ xs ≡ y ∷ ys → x ≡ y
-heads x y xs ys same = cc
+batch_is : (number : ℕ) (unlogged : Option Entry) (batch : Batch) → batch_of number unlogged ≡ Some batch → IsOfEntry number unlogged batch
+batch_is number None batch e = absurd (cc (e))
+batch_is number (Some entry) batch e = elim (cases_eq entry.partition number) [
+  | inl its ↦
+      let test : (entry.partition == number) ≡ true = grind (arith, nat_tests) in
+      let some : batch_if true entry.batch ≡ Some batch = rw test at e in
+      record { entry = entry; is = refl; its = its; same = some_same entry.batch batch some }
+  | inr other ↦
+      let test : (entry.partition == number) ≡ false = grind (arith, nat_tests) in
+      let none : batch_if false entry.batch ≡ Some batch = rw test at e in
+      absurd (cc (none))
+]
 
--- of one partition there is one part
-part_alone : (base : List Entry) (opened : List Batch) → parts_of 1 base ≡ opened ∷ [] → part_of 1 base ≡ opened
-part_alone base opened same = heads (part_of 1 base) opened [] [] same
+-- an image of the log at a place stands for it, or for it with the batch of the entry that isn't in it
+abbrev pub IsKeptAt : Option Entry → ℕ → List Batch → List ℕ → Type 0
+IsKeptAt unlogged k log image = Stands image (bodies_of log)
+    ⊎ ((entry : Entry) × (unlogged ≡ Some entry) × (entry.partition ≡ suc k) × Stands image (bodies_of (log ++ entry.batch ∷ [])))
 
--- the batches that were made go on with every history of the opened log
-pub run_goes_on : (limit : ℕ) (opened made : List Batch) (places : List ℕ) → AreMadeBatches limit opened made places → GoesOnWith 1 (opened ∷ []) (entries_of 1 made)
-run_goes_on limit opened made places are = λ base is has.
-    let part : part_of 1 base ≡ opened = part_alone base opened has in
-    let whole : base ≡ entries_of 1 opened = history_of_one base is ∙ ap (entries_of 1) part in
-    let run : List Entry = entries_of 1 made in
-    let next : EachOn (IsEntryOf 1) base run = subst (λ (b : List Entry). EachOn (IsEntryOf 1) b run) (sym whole)
-    (log_goes_on 1 1 opened made (omega arith, omega arith) are.steps (rest_on opened made places are.stamps are.stamped)) in
-    let history : IsHistory 1 (base ++ run) = history_joined 1 base run is next in
-    (history, happens_once 1 (base ++ run) history)
+pub kept_at : (told : Told) (ends : LogEnds) (cause : Cause) (unlogged : Option Entry) (k : ℕ) (log : List Batch) (image : List ℕ) → IsKept told ends cause (batch_of (suc k) unlogged) log image → IsKeptAt unlogged k log image
+kept_at told ends cause unlogged k log image (inl stands) = inl stands
+kept_at told ends cause unlogged k log image (inr kept) =
+    let of = batch_is (suc k) unlogged kept.0.0 kept.0.1 in
+    inr (of.entry, of.is, of.its, subst (λ (batch : Batch). Stands image (bodies_of (log ++ batch ∷ []))) (sym of.same) kept.0.3)
 
 -- one entry is at most one
 only_one : (p : ℕ) (e : Entry) → AtMostOne (is_of p) (e ∷ [])
 only_one p e i j x y at there its its_too =
-    omega (arith, slice_get_within (e ∷ []) i x at, slice_get_within (e ∷ []) j y there)
+    omega (arith, place_within (e ∷ []) i x at, place_within (e ∷ []) j y there)
 
--- a history and one more step of its partition are a cut of it at its end
-one_more_is_cut : (h : List Entry) (log : List Batch) (batch : Batch) → part_of 1 h ≡ log → IsStep 1 1 log batch → batch.begin ≡ length log → IsHistory 1 h → IsCutAt 1 (length h) h (h ++ as_entry 1 batch ∷ [])
-one_more_is_cut h log batch part step begin is =
+-- a history and one entry that may be the next one are a cut of it at its end
+one_more_is_cut : (n : ℕ) (h : List Entry) (e : Entry) → IsEntryOf n h e → IsCutAt n (length h) h (h ++ e ∷ [])
+one_more_is_cut n h e entry =
     let front : take (length h) h ≡ h = take_all (length h) h (omega arith) in
-    let long : length h ≡ length log = ap length (history_of_one h is) ∙ (length-map (part_of 1 h) (as_entry 1) ∙ ap length part) in
-    let entry : IsEntryOf 1 h (as_entry 1 batch) = record {
-      partition = (omega arith, omega arith);
-      step = subst (λ (l : List Batch). IsStep 1 1 l batch) (sym part) step;
-      begin = omega (arith, begin, long);
-    } in
     record {
-      more = as_entry 1 batch ∷ [];
+      more = e ∷ [];
       within = omega arith;
-      is = ap (λ (l : List Entry). l ++ as_entry 1 batch ∷ []) (sym front);
-      once = λ (p : ℕ). only_one p (as_entry 1 batch);
-      each = subst (λ (l : List Entry). All (IsEntryOf 1 l) (as_entry 1 batch ∷ [])) (sym front) (All-cons (IsEntryOf 1 h) (as_entry 1 batch) [] entry (All-nil (IsEntryOf 1 h)));
+      is = ap (λ (l : List Entry). l ++ e ∷ []) (sym front);
+      once = λ (p : ℕ). only_one p e;
+      each = subst (λ (l : List Entry). All (IsEntryOf n l) (e ∷ [])) (sym front) (All-cons (IsEntryOf n h) e [] entry (All-nil (IsEntryOf n h)));
     }
 
--- what a crash leaves of the one log is a cut of every history of it
-kept_is_cut : (told : Told) (ends : LogEnds) (cause : Cause) (unlogged : Option Batch) (log : List Batch) (image : List ℕ)
-    → ((batch : Batch) → unlogged ≡ Some batch → IsStep 1 1 log batch × (batch.begin ≡ length log))
-    → (h : List Entry) → IsHistory 1 h → part_of 1 h ≡ log → IsKept told ends cause unlogged log image → AreCut 1 h (image ∷ [])
-kept_is_cut told ends cause unlogged log image left h is part (inl stands) = record {
-  cut = h;
-  is = whole_is_cut 1 h;
-  stand = (subst (λ (l : List Batch). Stands image (bodies_of l)) (sym part) stands, tt);
-}
-kept_is_cut told ends cause unlogged log image left h is part (inr kept) =
-    let batch : Batch = kept.0.0 in
-    let next = left batch kept.0.1 in
-    let e : Entry = as_entry 1 batch in
-    let behind : part_of 1 (h ++ e ∷ []) ≡ log ++ batch ∷ [] = part_of_joined 1 h (e ∷ []) ∙ ap (λ (l : List Batch). l ++ batch ∷ []) part in
-    record {
-      cut = h ++ e ∷ [];
-      is = one_more_is_cut h log batch part next.0 next.1 is;
-      stand = (subst (λ (l : List Batch). Stands image (bodies_of l)) (sym behind) kept.0.3, tt);
-    }
+-- images that stand for all of a history, or for it and one more entry
+module _ (n : ℕ) (h : List Entry) (kept : List (List ℕ)) (many : length kept ≡ n) where
+  abbrev StandFor : List Entry → Type 0
+  StandFor cut = (k : ℕ) (image : List ℕ) → slice_get kept k ≡ Some image → Stands image (bodies_of (part_of (suc k) cut))
 
--- the same for the list of the one image
-pub cut_at_end : (told : Told) (ends : LogEnds) (images : ℕ → List ℕ → Type 0) (cause : Cause) (unlogged : Option Batch) (opened made : List Batch)
-    → ((batch : Batch) → unlogged ≡ Some batch → IsStep 1 1 (opened ++ made) batch × (batch.begin ≡ length (opened ++ made)))
-    → ((image : List ℕ) → images 1 image → IsKept told ends cause unlogged (opened ++ made) image)
-    → (base : List Entry) → parts_of 1 base ≡ opened ∷ [] → IsHistory 1 (base ++ entries_of 1 made)
-    → (kept : List (List ℕ)) → length kept ≡ 1 → AreImages images kept → AreCut 1 (base ++ entries_of 1 made) kept
-cut_at_end told ends images cause unlogged opened made left may base has is [] one are = absurd (omega (arith, one))
-cut_at_end told ends images cause unlogged opened made left may base has is (image ∷ []) one are =
-    let part : part_of 1 (base ++ entries_of 1 made) ≡ opened ++ made = part_of_joined 1 base (entries_of 1 made) ∙ rw (part_alone base opened has, part_of_entries 1 made) refl in
-    kept_is_cut told ends cause unlogged (opened ++ made) image left (base ++ entries_of 1 made) is part (may image (are 0 image refl))
-cut_at_end told ends images cause unlogged opened made left may base has is (image ∷ other ∷ kept) one are = absurd (omega (arith, one))
+  cut_of : (cut : List Entry) → IsCutAt n (length h) h cut → StandFor cut → AreCut n h kept
+  cut_of cut is stand = record {
+    cut = cut;
+    is = is;
+    stand = zip_parts (λ image part. Stands image (bodies_of part)) n kept cut many stand;
+  }
+
+-- what a crash leaves of all logs is a cut of every history of them
+module _ (n : ℕ) (logs : List (List Batch)) (many : length logs ≡ n) (entries : List Entry) (unlogged : Option Entry) (images : ℕ → List ℕ → Type 0)
+    (may : (k : ℕ) (log : List Batch) (image : List ℕ) → slice_get logs k ≡ Some log → images (suc k) image → IsKeptAt unlogged k (log_behind (suc k) log entries) image)
+    (base : List Entry) (parts : parts_of n base ≡ logs) (next : (entry : Entry) → unlogged ≡ Some entry → IsEntryOf n (base ++ entries) entry)
+    (kept : List (List ℕ)) (all : length kept ≡ n) (are : AreImages images kept) where
+  abbrev whole : List Entry
+  whole = base ++ entries
+
+  part_here : (k : ℕ) (log : List Batch) → slice_get logs k ≡ Some log → part_of (suc k) whole ≡ log_behind (suc k) log entries
+  part_here k log at = part_of_joined (suc k) base entries ∙ ap (λ (l : List Batch). l ++ part_of (suc k) entries) (part_at n base logs parts k log at)
+
+  log_of_place : (k : ℕ) (image : List ℕ) → slice_get kept k ≡ Some image → (log : List Batch) × (slice_get logs k ≡ Some log)
+  log_of_place k image at = member_at logs k (omega (arith, place_within kept k image at, all, many))
+
+  -- each image stands for its part of the whole, or with the one entry more
+  by_place : (k : ℕ) (image : List ℕ) → slice_get kept k ≡ Some image → IsKeptAt unlogged k (part_of (suc k) whole) image
+  by_place k image at =
+      let log = log_of_place k image at in
+      subst (λ (l : List Batch). IsKeptAt unlogged k l image) (sym (part_here k log.0 log.1)) (may k log.0 image log.1 (are k image at))
+
+  -- none has more
+  none_more : unlogged ≡ None → AreCut n whole kept
+  none_more none = cut_of n whole kept all whole (whole_is_cut n whole) (λ k image at. stands k (part_of (suc k) whole) image (by_place k image at))
+    where
+      stands : (k : ℕ) (log : List Batch) (image : List ℕ) → IsKeptAt unlogged k log image → Stands image (bodies_of log)
+      stands k log image (inl is) = is
+      stands k log image (inr more) = absurd (let e : None ≡ Some more.0 = sym none ∙ more.1 in cc (e))
+
+  -- or the one of the entry's partition may
+  module _ (entry : Entry) (is : unlogged ≡ Some entry) (image : List ℕ) (at : slice_get kept (entry.partition - 1) ≡ Some image) where
+    abbrev place : ℕ
+    place = entry.partition - 1
+
+    same_image : (k : ℕ) (other : List ℕ) → entry.partition ≡ suc k → slice_get kept k ≡ Some other → image ≡ other
+    same_image k other same there =
+        let here : k ≡ place = omega (arith, same) in
+        one_at kept place image other at (subst (λ (j : ℕ). slice_get kept j ≡ Some other) here there)
+
+    -- its image stands for the whole
+    it_has_none : Stands image (bodies_of (part_of entry.partition whole)) → AreCut n whole kept
+    it_has_none stands = cut_of n whole kept all whole (whole_is_cut n whole) (λ k other there. by_kept k other there (by_place k other there))
+      where
+        by_kept : (k : ℕ) (other : List ℕ) → slice_get kept k ≡ Some other → IsKeptAt unlogged k (part_of (suc k) whole) other → Stands other (bodies_of (part_of (suc k) whole))
+        by_kept k other there (inl is) = is
+        by_kept k other there (inr more) =
+            let one : entry ≡ more.0 = some_same entry more.0 (sym is ∙ more.1) in
+            let same : entry.partition ≡ suc k = ap (λ (e : Entry). e.partition) one ∙ more.2 in
+            subst (λ (i : List ℕ). Stands i (bodies_of (part_of (suc k) whole))) (same_image k other same there)
+            (subst (λ (p : ℕ). Stands image (bodies_of (part_of p whole))) same stands)
+
+    -- or for the whole and the entry
+    it_has_more : Stands image (bodies_of (part_of entry.partition whole ++ entry.batch ∷ [])) → AreCut n whole kept
+    it_has_more stands = cut_of n whole kept all (whole ++ entry ∷ []) (one_more_is_cut n whole entry (next entry is)) (λ k other there. elim (cases_eq entry.partition (suc k)) [
+      | inl same ↦
+          let more : part_of (suc k) (whole ++ entry ∷ []) ≡ part_of (suc k) whole ++ entry.batch ∷ [] = part_of_joined (suc k) whole (entry ∷ []) ∙ ap (λ (l : List Batch). part_of (suc k) whole ++ l) (part_of_its (suc k) entry [] same) in
+          subst (λ (l : List Batch). Stands other (bodies_of l)) (sym more)
+          (subst (λ (i : List ℕ). Stands i (bodies_of (part_of (suc k) whole ++ entry.batch ∷ []))) (same_image k other same there)
+          (subst (λ (p : ℕ). Stands image (bodies_of (part_of p whole ++ entry.batch ∷ []))) same stands))
+      | inr not ↦
+          let none : part_of (suc k) (whole ++ entry ∷ []) ≡ part_of (suc k) whole = part_of_joined (suc k) whole (entry ∷ []) ∙ (ap (λ (l : List Batch). part_of (suc k) whole ++ l) (part_of_other (suc k) entry [] not) ∙ append-nil (part_of (suc k) whole)) in
+          subst (λ (l : List Batch). Stands other (bodies_of l)) (sym none) (by_kept k other not (by_place k other there))
+    ])
+      where
+        by_kept : (k : ℕ) (other : List ℕ) → (entry.partition ≡ suc k → ⊥) → IsKeptAt unlogged k (part_of (suc k) whole) other → Stands other (bodies_of (part_of (suc k) whole))
+        by_kept k other not (inl is) = is
+        by_kept k other not (inr more) =
+            let one : entry ≡ more.0 = some_same entry more.0 (sym is ∙ more.1) in
+            absurd (not (ap (λ (e : Entry). e.partition) one ∙ more.2))
+
+    it_has : IsPartitionOf n entry.partition → AreCut n whole kept
+    it_has of = by_its (by_place place image at)
+      where
+        number : suc place ≡ entry.partition
+        number = omega (arith, of.0)
+
+        by_its : IsKeptAt unlogged place (part_of (suc place) whole) image → AreCut n whole kept
+        by_its (inl stands) = it_has_none (subst (λ (p : ℕ). Stands image (bodies_of (part_of p whole))) number stands)
+        by_its (inr more) =
+            let one : more.0 ≡ entry = some_same more.0 entry (sym more.1 ∙ is) in
+            it_has_more (subst (λ (p : ℕ). Stands image (bodies_of (part_of p whole ++ entry.batch ∷ []))) number
+            (subst (λ (e : Entry). Stands image (bodies_of (part_of (suc place) whole ++ e.batch ∷ []))) one more.3))
+
+  pub cut_at_end : AreCut n whole kept
+  cut_at_end = by_unlogged unlogged refl
+    where
+      by_unlogged : (u : Option Entry) → unlogged ≡ u → AreCut n whole kept
+      by_unlogged None is = none_more is
+      by_unlogged (Some entry) is =
+          let of : IsPartitionOf n entry.partition = (next entry is).partition in
+          let there = member_at kept (entry.partition - 1) (omega (arith, of.0, of.1, all)) in
+          it_has entry is there.0 there.1 of

@@ -1,9 +1,12 @@
-pub mod HaltLemmas
 pub mod ClockLemmas
 pub mod ListLemmas
-pub mod OpeningLemmas
+pub mod PartLemmas
 pub mod HistoryLemmas
+pub mod LogLemmas
 pub mod EndLemmas
-pub mod SingleLemmas
 pub mod OverLemmas
+pub mod OpeningLemmas
+pub mod ClosingLemmas
+pub mod HaltLemmas
+pub mod SessionLemmas
 pub mod WorkLemmas

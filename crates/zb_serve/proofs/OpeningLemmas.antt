@@ -1,31 +1,36 @@
--- How a partition is opened, or not.
-use Rattle.std.proofs.Common.{◌≡◌, ◌⊎◌, ℕ, ◌≤◌, List, [], ◌∷◌, Bool, true, false, IsTrue, refl, arith, inl, ⊎_elim}
+-- How the logs of a run are opened, and how its volumes are handed back where one can't be.
+use Rattle.std.proofs.Common.{◌≡◌, ◌⊎◌, ℕ, zero, suc, ◌+◌, ◌<◌, ◌≤◌, List, [], ◌∷◌, ◌++◌, length, map, slice_get, get_or, Bool, true, false, IsTrue, Some, refl, sym, ap, ◌∙◌, subst, arith, inl, ⊎_elim, append_assoc, append-nil}
+use Rattle.std.specs.List.{AllByRecursion, AllZip, remove}
 use Rattle.std.proofs.lemmas.Bool.{false≢true}
+use Rattle.std.proofs.lemmas.List.{length-map}
+use Rattle.zb_disk.specs.Cause.{Rose}
 use Rattle.zb_disk.specs.declared.disk.Disk.{Ghosts}
 use Rattle.zb_model.specs.declared.record.Batch.{Batch}
 use Rattle.zb_store.specs.Calls.{OnlyOpens, LeftByOpening, IsByFirstCall, Settles}
+use Rattle.zb_store.specs.CallLaws.{leaves_none}
 use Rattle.zb_store.specs.Stands.{Stands}
 use Rattle.zb_store.specs.declared.volume.Volume.{Volume}
 use Rattle.zb_partition.specs.Log.{bodies_of, IsApplied, IsBadAt}
+use Rattle.zb_partition.proofs.LogLemmas.{none_bad}
 use Rattle.zb_partition.specs.Partition.{disk_of, slots_of}
 use Rattle.zb_partition.specs.declared.partition.Partition.{Partition}
 use Rattle.zb_partition.specs.Fault.{IsDiskCause}
 use Rattle.zb_partition.specs.declared.fault.OpenFault.{OpenFault}
 use Rattle.zb_partition.specs.declared.fault.OpenFault.TheVariants as faults
-use Rattle.zb_engine.specs.Ledger.{IsOpen}
-use Rattle.zb_engine.specs.Solo.{slots_in, IsOpenedAs}
-use Rattle.zb_serve.specs.Ends.{Told, LogEnds}
-use Rattle.zb_serve.specs.Served.{FailsToOpen}
-use Rattle.zb_serve.specs.Running.{open_cause_of}
+use Rattle.zb_desk.specs.Numbered.{EachFrom, OfNumber}
+use Rattle.zb_engine.specs.Ledger.{Opening, slots_in, IsOpen}
+use Rattle.zb_engine.specs.Solo.{Start, start_of, many_in, IsFreshPart}
+use Rattle.zb_serve.specs.Ends.{Told, LogEnds, logs_ends, IsSafe}
+use Rattle.zb_serve.specs.Served.{AreGoodBelow, FailsToOpen, IsUntroubled, IsSpared, slots_of_all}
+use Rattle.zb_serve.specs.Opening.{open_cause_of, TellsOf, IsHandedBack, IsOpenedOver, IsBegunOver}
+use Rattle.zb_serve.specs.Running.{files_of}
+use Rattle.zb_serve.specs.declared.run.Cause.TheVariants as causes
+use Rattle.zb_serve.proofs.ListLemmas.{each_length, each_more, has_number}
 
--- a log that isn't opened
-pub fails_to_open : (told : Told) (ends : LogEnds) (fault : OpenFault)
-    → (IsTrue told.disk → (frame : ℕ) → fault ≡ faults.BadLog frame → IsBadAt 1 ends.disk.contents frame)
-    → IsDiskCause told.disk_counts ends.disk.faults ends.disk_after.faults fault
-    → FailsToOpen told (ends ∷ []) (open_cause_of fault)
-fails_to_open told ends faults.DiskFault bad rose = (refl, (ends, omega arith, refl, rose))
-fails_to_open told ends (faults.BadLog frame) bad rose = ((ends, omega arith, refl, λ t. bad t frame refl), (rose, tt))
-fails_to_open told ends faults.Memory bad rose = (rose, tt)
+-- the first member was taken out
+pub first_removed : {A : Type 0} (old new : List A) (x : A) → 0 < length old → x ≡ get_or old 0 x → new ≡ remove old 0 → old ≡ x ∷ new
+first_removed [] new x some is rest = absurd (omega (arith, some))
+first_removed (y ∷ old) new x some is rest = ap (λ (z : _). z ∷ old) (sym is) ∙ ap (λ (l : List _). x ∷ l) (sym rest)
 
 -- what is settled where it is told, from a moment that there is in any case
 settled_at : (tells : Bool) (began now : ℕ) (before : List ℕ → Type 0) (since : ℕ → List ℕ → Type 0) (P : List ℕ → Type 0) → (IsTrue tells → Settles began now before since P)
@@ -36,23 +41,260 @@ settled_at true began now before since P settled =
 settled_at false began now before since P settled = (0, λ t. absurd (false≢true t))
 
 -- a partition that was opened over a volume
-pub opened_as : {D : Type 0} {disks : Ghosts D} (volume : Volume D) (limit units : ℕ) (batches : List Batch) (partition : Partition D disks)
-    → IsOpen limit partition batches → (IsTrue disks.tells → Stands (disks.view volume.log).contents (bodies_of batches)) → IsApplied 1 batches
-    → (disks.view volume.log).faults ≤ (disks.view (disk_of partition)).faults → (IsTrue disks.counts_failures → (disks.view (disk_of partition)).faults ≡ (disks.view volume.log).faults)
+pub opened_over : {D : Type 0} {disks : Ghosts D} (volume : Volume D) (n limit number : ℕ) (batches : List Batch) (partition : Partition D disks)
+    → IsOpen (record { place = number; partitions = n; volume = volume; limit = limit; batches = batches; moment = 0 }) partition batches
+    → (IsTrue disks.tells → Stands (disks.view volume.log).contents (bodies_of batches)) → IsApplied number batches
+    → OnlyOpens disks.tells disks.tells_images disks.view disks.images disks.since volume.log (disk_of partition)
+    → (IsTrue disks.counts_failures → (disks.view (disk_of partition)).faults ≡ (disks.view volume.log).faults)
     → (IsTrue disks.tells_images → Settles (disks.view volume.log).moment (disks.view (disk_of partition)).moment (disks.images volume.log) (disks.since (disk_of partition)) (λ image. Stands image (bodies_of batches)))
-    → slots_of partition ≡ slots_in volume → (moment : ℕ) × IsOpenedAs (record { volume = volume; limit = limit; batches = batches; moment = moment; units = units }) partition
-opened_as {D} {disks} volume limit units batches partition is_open stood applied later steady settled slots =
-    let so = settled_at disks.tells_images (disks.view volume.log).moment (disks.view (disk_of partition)).moment (disks.images volume.log) (disks.since (disk_of partition)) (λ image. Stands image (bodies_of batches)) settled in (
-      so.0,
+    → slots_of partition ≡ slots_in volume → IsOpenedOver n limit number volume partition
+opened_over {D} {disks} volume n limit number batches partition is_open stood applied opens steady settled slots =
+    let so = settled_at disks.tells_images (disks.view volume.log).moment (disks.view (disk_of partition)).moment (disks.images volume.log) (disks.since (disk_of partition)) (λ image. Stands image (bodies_of batches)) settled in
+    record {
+      opening = record { place = number; partitions = n; volume = volume; limit = limit; batches = batches; moment = so.0 };
+      over = refl;
+      most = refl;
+      fresh = (
+        (refl, refl),
+        record {
+          is_open = record { has = is_open.has; live = is_open.live; place = is_open.place; partitions = is_open.partitions; most = is_open.most };
+          was = record { stood = stood; applied = applied; by_first = λ t. (so.1 t).0 };
+          time = λ t. let told = so.1 t in record { later = told.1; ever = told.2; before = told.3 };
+          faults = opens.later;
+          steady = steady;
+          slots = slots;
+        },
+      );
+      opens = opens;
+    }
+
+-- volumes of which the first ones were opened
+pub record HasOpened {D : Type 0} {disks : Ghosts D} (n limit : ℕ) (volumes left : List (Volume D)) (partitions : List (Partition D disks)) : Type 0 where
+  pub front : List (Volume D)
+  pub split : volumes ≡ front ++ left
+  pub each : EachFrom (IsOpenedOver n limit) 1 front partitions
+
+module _ {D : Type 0} {disks : Ghosts D} (n limit : ℕ) (volumes : List (Volume D)) where
+  pub none_opened : HasOpened {disks = disks} n limit volumes volumes []
+  none_opened = record { front = []; split = refl; each = tt }
+
+  -- one more
+  pub opened_more : (partitions : List (Partition D disks)) (volume : Volume D) (left : List (Volume D)) (partition : Partition D disks) (number : ℕ) → HasOpened n limit volumes (volume ∷ left) partitions
+      → number ≡ length partitions + 1 → IsOpenedOver n limit number volume partition → HasOpened n limit volumes left (partitions ++ partition ∷ [])
+  opened_more partitions volume left partition number h is o =
+      let many = each_length (IsOpenedOver n limit) 1 h.front partitions h.each in
+      let here : number ≡ 1 + length h.front = omega (arith, is, many) in
       record {
-        is_open = is_open;
-        was = record { stood = stood; applied = applied; by_first = λ t. (so.1 t).0 };
-        time = λ t. let told = so.1 t in record { later = told.1; ever = told.2; before = told.3 };
-        faults = later;
-        steady = steady;
-        slots = slots;
-      },
-    )
+        front = h.front ++ volume ∷ [];
+        split = h.split ∙ sym (append_assoc h.front (volume ∷ []) left);
+        each = each_more (IsOpenedOver n limit) 1 h.front partitions volume partition h.each (subst (λ (m : ℕ). IsOpenedOver n limit m volume partition) here o);
+      }
+
+  -- all
+  pub all_opened : (partitions : List (Partition D disks)) (left : List (Volume D)) → left ≡ [] → HasOpened n limit volumes left partitions → EachFrom (IsOpenedOver n limit) 1 volumes partitions
+  all_opened partitions left none h =
+      let whole : volumes ≡ h.front = h.split ∙ (ap (λ (l : List (Volume D)). h.front ++ l) none ∙ append-nil h.front) in
+      subst (λ (l : List (Volume D)). EachFrom (IsOpenedOver n limit) 1 l partitions) (sym whole) h.each
+
+-- an engine began with as many logs as there are volumes
+pub begun_count : {D : Type 0} (limit units : ℕ) (volumes : List (Volume D)) (start : Start D) → IsBegunOver limit units volumes start → many_in start ≡ length volumes
+begun_count limit units volumes start begun = sym (length-map start.openings (λ opening. opening.volume)) ∙ ap length begun.over
+
+-- what was handed back
+module _ {D : Type 0} (disks : Ghosts D) where
+  same_back : (volume : Volume D) → IsHandedBack disks volume volume
+  same_back volume = record {
+    opens = record {
+      later = omega arith;
+      same = λ t long. refl;
+      short = λ t few. few;
+      crash = λ t image left. inl left;
+      time = λ t. leaves_none (disks.view volume.log).moment (disks.since volume.log) (LeftByOpening (disks.view volume.log).contents (disks.images volume.log));
+    };
+    slots = refl;
+  }
+
+  pub all_same_back : (volumes : List (Volume D)) → AllZip (IsHandedBack disks) volumes volumes
+  all_same_back [] = tt
+  all_same_back (volume ∷ volumes) = (same_back volume, all_same_back volumes)
+
+  untroubled_same : (told : Told) (volumes : List (Volume D)) → AllByRecursion (IsUntroubled told) (logs_ends disks volumes volumes)
+  untroubled_same told [] = tt
+  untroubled_same told (volume ∷ volumes) = (λ t. refl, untroubled_same told volumes)
+
+  pub fails_untouched : (told : Told) (volumes : List (Volume D)) → FailsToOpen told (logs_ends disks volumes volumes) causes.Memory
+  fails_untouched told volumes = untroubled_same told volumes
+
+  -- of one that was opened
+  closed_back : (n limit number : ℕ) (volume : Volume D) (partition : Partition D disks) → IsOpenedOver n limit number volume partition → IsHandedBack disks volume (files_of partition)
+  closed_back n limit number volume partition o =
+      record { opens = o.opens; slots = o.fresh.1.slots ∙ ap slots_in o.over }
+
+  -- of the one that was refused, and of those that are left
+  module _ (n limit : ℕ) (refused back : Volume D) (handed : IsHandedBack disks refused back) (left : List (Volume D)) where
+    back_from : (number : ℕ) (front : List (Volume D)) (partitions : List (Partition D disks)) → EachFrom (IsOpenedOver n limit) number front partitions
+        → AllZip (IsHandedBack disks) (front ++ refused ∷ left) (map files_of partitions ++ back ∷ left)
+    back_from number [] [] each = (handed, all_same_back left)
+    back_from number (volume ∷ front) (partition ∷ partitions) each = (closed_back n limit number volume partition each.0, back_from (suc number) front partitions each.1)
+    back_from number [] (partition ∷ partitions) each = absurd each
+    back_from number (volume ∷ front) [] each = absurd each
+
+    module _ (told : Told) (tells : TellsOf disks told) where
+      abbrev ends : LogEnds
+      ends = record { disk = disks.view refused.log; disk_after = disks.view back.log }
+
+      steady_one : (number : ℕ) (volume : Volume D) (partition : Partition D disks) → IsOpenedOver n limit number volume partition
+          → IsUntroubled told (record { disk = disks.view volume.log; disk_after = disks.view (disk_of partition) })
+      steady_one number volume partition o = λ t.
+          let counts : IsTrue disks.counts_failures = subst IsTrue tells.1 t in
+          o.fresh.1.steady counts ∙ ap (λ (v : Volume D). (disks.view v.log).faults) o.over
+
+      steady_from : (number : ℕ) (front : List (Volume D)) (partitions : List (Partition D disks)) → EachFrom (IsOpenedOver n limit) number front partitions
+          → IsUntroubled told ends → AllByRecursion (IsUntroubled told) (logs_ends disks (front ++ refused ∷ left) (map files_of partitions ++ back ∷ left))
+      steady_from number [] [] each one = (one, untroubled_same told left)
+      steady_from number (volume ∷ front) (partition ∷ partitions) each one = (steady_one number volume partition each.0, steady_from (suc number) front partitions each.1 one)
+      steady_from number [] (partition ∷ partitions) each one = absurd each
+      steady_from number (volume ∷ front) [] each one = absurd each
+
+      refused_at : (number : ℕ) (front : List (Volume D)) (partitions : List (Partition D disks)) → EachFrom (IsOpenedOver n limit) number front partitions
+          → slice_get (logs_ends disks (front ++ refused ∷ left) (map files_of partitions ++ back ∷ left)) (length front) ≡ Some ends
+      refused_at number [] [] each = refl
+      refused_at number (volume ∷ front) (partition ∷ partitions) each = refused_at (suc number) front partitions each.1
+      refused_at number [] (partition ∷ partitions) each = absurd each
+      refused_at number (volume ∷ front) [] each = absurd each
+
+      -- the log of one that was opened can be read
+      good_one : (number : ℕ) (volume : Volume D) (partition : Partition D disks) → IsOpenedOver n limit number volume partition → IsTrue disks.tells
+          → (frame : ℕ) → IsBadAt number (disks.view volume.log).contents frame → ⊥
+      good_one number volume partition o t frame bad =
+          let is = o.fresh.1 in
+          let stood = subst (λ (v : Volume D). Stands (disks.view v.log).contents (bodies_of o.opening.batches)) o.over (is.was.stood t) in
+          let applied = subst (λ (p : ℕ). IsApplied p o.opening.batches) o.fresh.0.0 is.was.applied in
+          none_bad number (disks.view volume.log).contents o.opening.batches frame is.is_open.has.fits applied stood bad
+
+      good_from : (number : ℕ) (front : List (Volume D)) (partitions : List (Partition D disks)) → EachFrom (IsOpenedOver n limit) number front partitions → (i : ℕ) → i < length front
+          → (e : LogEnds) × (slice_get (logs_ends disks (front ++ refused ∷ left) (map files_of partitions ++ back ∷ left)) i ≡ Some e)
+          × (IsTrue disks.tells → (frame : ℕ) → IsBadAt (number + i) e.disk.contents frame → ⊥)
+      good_from number [] [] each i within = absurd (let no : ⊥ = omega (arith, within) in no)
+      good_from number (volume ∷ front) (partition ∷ partitions) each zero within =
+          let here : number + 0 ≡ number = omega arith in (
+            record { disk = disks.view volume.log; disk_after = disks.view (disk_of partition) },
+            refl,
+            λ t frame bad. good_one number volume partition each.0 t frame (subst (λ (p : ℕ). IsBadAt p (disks.view volume.log).contents frame) here bad),
+          )
+      good_from number (volume ∷ front) (partition ∷ partitions) each (suc i) within =
+          let on : suc number + i ≡ number + suc i = omega arith in
+          subst (λ (p : ℕ). (e : LogEnds) × (slice_get (logs_ends disks (front ++ refused ∷ left) (map files_of partitions ++ back ∷ left)) i ≡ Some e)
+          × (IsTrue disks.tells → (frame : ℕ) → IsBadAt p e.disk.contents frame → ⊥)) on
+          (good_from (suc number) front partitions each.1 i (omega (arith, within)))
+      good_from number [] (partition ∷ partitions) each i within = absurd each
+      good_from number (volume ∷ front) [] each i within = absurd each
+
+      module _ (front : List (Volume D)) (partitions : List (Partition D disks)) (each : EachFrom (IsOpenedOver n limit) 1 front partitions) where
+        abbrev all_ends : List LogEnds
+        all_ends = logs_ends disks (front ++ refused ∷ left) (map files_of partitions ++ back ∷ left)
+
+        good_below : (number : ℕ) → number ≡ suc (length front) → AreGoodBelow told all_ends number
+        good_below number is zero some below = absurd (let no : ⊥ = omega (arith, some) in no)
+        good_below number is (suc i) some below =
+            let good = good_from 1 front partitions each i (omega (arith, is, below)) in
+            let here : suc i ≡ 1 + i = omega arith in
+            has_number all_ends i good.0 (λ e. IsTrue told.disk → (frame : ℕ) → IsBadAt (suc i) e.disk.contents frame → ⊥) good.1
+            (λ t frame bad. good.2 (subst IsTrue tells.0 t) frame (subst (λ (p : ℕ). IsBadAt p good.0.disk.contents frame) here bad))
+
+        fails_at : (number : ℕ) → number ≡ suc (length front) → (fault : OpenFault)
+            → (IsTrue told.disk → (frame : ℕ) → fault ≡ faults.BadLog frame → IsBadAt number ends.disk.contents frame)
+            → IsDiskCause disks.counts_failures ends.disk.faults ends.disk_after.faults fault
+            → FailsToOpen told all_ends (open_cause_of number fault)
+        fails_at number is faults.DiskFault bad rose = (
+          refl,
+          subst (λ (m : ℕ). OfNumber all_ends m (λ ends. Rose ends.disk.faults ends.disk_after.faults)) (sym is)
+              (has_number all_ends (length front) ends (λ ends. Rose ends.disk.faults ends.disk_after.faults) (refused_at 1 front partitions each) rose),
+          good_below number is,
+        )
+        fails_at number is (faults.BadLog frame) bad rose = (
+          subst (λ (m : ℕ). OfNumber all_ends m (λ ends. IsTrue told.disk → IsBadAt number ends.disk.contents frame)) (sym is)
+              (has_number all_ends (length front) ends (λ ends. IsTrue told.disk → IsBadAt number ends.disk.contents frame) (refused_at 1 front partitions each) (λ t. bad t frame refl)),
+          good_below number is,
+          steady_from 1 front partitions each (λ t. rose (subst IsTrue tells.1 t)),
+        )
+        fails_at number is faults.Memory bad rose = steady_from 1 front partitions each (λ t. rose (subst IsTrue tells.1 t))
+
+  -- where the volume with a number was refused, behind those that were opened
+  pub refused_back : (n limit : ℕ) (volumes left : List (Volume D)) (partitions : List (Partition D disks)) (refused back : Volume D) → HasOpened n limit volumes (refused ∷ left) partitions
+      → IsHandedBack disks refused back → (all : List (Volume D)) → all ≡ map files_of partitions ++ back ∷ left → AllZip (IsHandedBack disks) volumes all
+  refused_back n limit volumes left partitions refused back h handed all are =
+      subst (λ (news : List (Volume D)). AllZip (IsHandedBack disks) volumes news) (sym are)
+      (subst (λ (olds : List (Volume D)). AllZip (IsHandedBack disks) olds (map files_of partitions ++ back ∷ left)) (sym h.split)
+      (back_from n limit refused back handed left 1 h.front partitions h.each))
+
+  pub fails_refused : (n limit : ℕ) (volumes left : List (Volume D)) (partitions : List (Partition D disks)) (refused back : Volume D) (number : ℕ) (fault : OpenFault) → HasOpened n limit volumes (refused ∷ left) partitions
+      → number ≡ length partitions + 1 → IsHandedBack disks refused back
+      → (IsTrue disks.tells → (frame : ℕ) → fault ≡ faults.BadLog frame → IsBadAt number (disks.view refused.log).contents frame)
+      → IsDiskCause disks.counts_failures (disks.view refused.log).faults (disks.view back.log).faults fault
+      → (all : List (Volume D)) → all ≡ map files_of partitions ++ back ∷ left → (told : Told) → TellsOf disks told → FailsToOpen told (logs_ends disks volumes all) (open_cause_of number fault)
+  fails_refused n limit volumes left partitions refused back number fault h is handed bad cause all are told tells =
+      let many = each_length (IsOpenedOver n limit) 1 h.front partitions h.each in
+      let here : number ≡ suc (length h.front) = omega (arith, is, many) in
+      subst (λ (news : List (Volume D)). FailsToOpen told (logs_ends disks volumes news) (open_cause_of number fault)) (sym are)
+      (subst (λ (olds : List (Volume D)). FailsToOpen told (logs_ends disks olds (map files_of partitions ++ back ∷ left)) (open_cause_of number fault)) (sym h.split)
+      (fails_at n limit refused back handed left told tells h.front partitions h.each number here fault (λ t. bad (subst IsTrue tells.0 t)) cause))
+
+  -- where all were opened, and closed
+  pub all_closed_back : (n limit number : ℕ) (volumes : List (Volume D)) (partitions : List (Partition D disks)) → EachFrom (IsOpenedOver n limit) number volumes partitions → AllZip (IsHandedBack disks) volumes (map files_of partitions)
+  all_closed_back n limit number [] [] each = tt
+  all_closed_back n limit number (volume ∷ volumes) (partition ∷ partitions) each = (closed_back n limit number volume partition each.0, all_closed_back n limit (suc number) volumes partitions each.1)
+  all_closed_back n limit number [] (partition ∷ partitions) each = absurd each
+  all_closed_back n limit number (volume ∷ volumes) [] each = absurd each
+
+  pub fails_closed : (n limit number : ℕ) (volumes : List (Volume D)) (partitions : List (Partition D disks)) → EachFrom (IsOpenedOver n limit) number volumes partitions
+      → (told : Told) → TellsOf disks told → AllByRecursion (IsUntroubled told) (logs_ends disks volumes (map files_of partitions))
+  fails_closed n limit number [] [] each told tells = tt
+  fails_closed n limit number (volume ∷ volumes) (partition ∷ partitions) each told tells =
+      let o = each.0 in (
+        λ t. let counts : IsTrue disks.counts_failures = subst IsTrue tells.1 t in o.fresh.1.steady counts ∙ ap (λ (v : Volume D). (disks.view v.log).faults) o.over,
+        fails_closed n limit (suc number) volumes partitions each.1 told tells,
+      )
+  fails_closed n limit number [] (partition ∷ partitions) each told tells = absurd each
+  fails_closed n limit number (volume ∷ volumes) [] each told tells = absurd each
+
+  -- what is known of all of them as the engine begins
+  record AreBegun (n limit number : ℕ) (volumes : List (Volume D)) (partitions : List (Partition D disks)) : Type 0 where
+    pub openings : List (Opening D)
+    pub over : map (λ opening. opening.volume) openings ≡ volumes
+    pub most : AllByRecursion (λ opening. opening.limit ≡ limit) openings
+    pub fresh : EachFrom (IsFreshPart n) number openings partitions
+
+  are_begun : (n limit number : ℕ) (volumes : List (Volume D)) (partitions : List (Partition D disks)) → EachFrom (IsOpenedOver n limit) number volumes partitions → AreBegun n limit number volumes partitions
+  are_begun n limit number [] [] each = record { openings = []; over = refl; most = tt; fresh = tt }
+  are_begun n limit number (volume ∷ volumes) (partition ∷ partitions) each =
+      let o = each.0 in
+      let rest = are_begun n limit (suc number) volumes partitions each.1 in
+      record {
+        openings = o.opening ∷ rest.openings;
+        over = ap (λ (v : Volume D). v ∷ map (λ opening. opening.volume) rest.openings) o.over ∙ ap (λ (l : List (Volume D)). volume ∷ l) rest.over;
+        most = (o.most, rest.most);
+        fresh = (o.fresh, rest.fresh);
+      }
+  are_begun n limit number [] (partition ∷ partitions) each = absurd each
+  are_begun n limit number (volume ∷ volumes) [] each = absurd each
+
+  pub record IsBegun (limit units : ℕ) (volumes : List (Volume D)) (partitions : List (Partition D disks)) : Type 0 where
+    pub start : Start D
+    pub begun : IsBegunOver limit units volumes start
+    pub bound : start.units ≡ units
+    pub fresh : EachFrom (IsFreshPart (length start.openings)) 1 start.openings partitions
+
+  pub is_begun : (limit units : ℕ) (volumes : List (Volume D)) (partitions : List (Partition D disks)) → EachFrom (IsOpenedOver (length volumes) limit) 1 volumes partitions → IsBegun limit units volumes partitions
+  is_begun limit units volumes partitions each =
+      let all = are_begun (length volumes) limit 1 volumes partitions each in
+      let many : length volumes ≡ length all.openings = each_length (IsOpenedOver (length volumes) limit) 1 volumes partitions each ∙ sym (each_length (IsFreshPart (length volumes)) 1 all.openings partitions all.fresh) in
+      record {
+        start = start_of all.openings units;
+        begun = record { over = all.over; most = all.most; bound = refl };
+        bound = refl;
+        fresh = subst (λ (n : ℕ). EachFrom (IsFreshPart n) 1 all.openings partitions) many all.fresh;
+      }
 
 -- what an opening may have left, at any moment since
 module _ {D : Type 0} (disks : Ghosts D) where
@@ -60,3 +302,40 @@ module _ {D : Type 0} (disks : Ghosts D) where
       → ((c : List ℕ) → disks.since old (disks.view old).moment c → disks.images old c)
       → IsTrue disks.tells_images → (image : List ℕ) → disks.since new (disks.view old).moment image → LeftByOpening (disks.view old).contents (disks.images old) image
   opened_ever old new opens now t image was = ⊎_elim (λ earlier. inl (now image earlier)) (λ left. left) ((opens.time t).nothing_else (disks.view old).moment image (omega arith) was)
+
+  -- volumes that were handed back were spared, and not put at risk
+  pub all_spared : (told : Told) → told.disk ≡ disks.tells → (olds news : List (Volume D)) → AllZip (IsHandedBack disks) olds news → AllByRecursion (IsSpared told) (logs_ends disks olds news)
+  all_spared told tells [] [] all = tt
+  all_spared told tells (old ∷ olds) (new ∷ news) all =
+      (λ t. let so : IsTrue disks.tells = subst IsTrue tells t in (all.0.opens.same so, all.0.opens.short so), all_spared told tells olds news all.1)
+  all_spared told tells [] (new ∷ news) all = absurd all
+  all_spared told tells (old ∷ olds) [] all = absurd all
+
+  pub all_safe : IsTrue disks.tells_images → ((disk : D) (c : List ℕ) → disks.since disk (disks.view disk).moment c → disks.images disk c) → (olds news : List (Volume D)) → AllZip (IsHandedBack disks) olds news → AllZip (IsSafe disks) olds news
+  all_safe t now [] [] all = tt
+  all_safe t now (old ∷ olds) (new ∷ news) all = (
+    record {
+      now = λ long image left. ⊎_elim (λ before. before) (λ few. let short = few.0 in absurd (omega (arith, short, long))) (all.0.opens.crash t image left);
+      ever = λ image was. opened_ever old.log new.log all.0.opens (λ image left. now old.log image left) t image was;
+    },
+    all_safe t now olds news all.1,
+  )
+  all_safe t now [] (new ∷ news) all = absurd all
+  all_safe t now (old ∷ olds) [] all = absurd all
+
+  pub same_safe : ((disk : D) (c : List ℕ) → disks.since disk (disks.view disk).moment c → disks.images disk c) → (volumes : List (Volume D)) → AllZip (IsSafe disks) volumes volumes
+  same_safe now [] = tt
+  same_safe now (volume ∷ volumes) = (record { now = λ long image left. left; ever = λ image was. inl (now volume.log image was) }, same_safe now volumes)
+
+  -- as many, with their slots
+  pub all_many : (olds news : List (Volume D)) → AllZip (IsHandedBack disks) olds news → length news ≡ length olds
+  all_many [] [] all = refl
+  all_many (old ∷ olds) (new ∷ news) all = ap suc (all_many olds news all.1)
+  all_many [] (new ∷ news) all = absurd all
+  all_many (old ∷ olds) [] all = absurd all
+
+  pub all_slots : (olds news : List (Volume D)) → AllZip (IsHandedBack disks) olds news → slots_of_all news ≡ slots_of_all olds
+  all_slots [] [] all = refl
+  all_slots (old ∷ olds) (new ∷ news) all = ap (λ (s : D × D). s ∷ slots_of_all news) all.0.slots ∙ ap (λ (l : List (D × D)). slots_in old ∷ l) (all_slots olds news all.1)
+  all_slots [] (new ∷ news) all = absurd all
+  all_slots (old ∷ olds) [] all = absurd all

@@ -1,8 +1,8 @@
 -- What the server promises of a run: the clauses of its top call.
-use Rattle.std.specs.Prelude.{◌≡◌, ◌≢◌, ℕ, List, [], length, map, Bool, IsTrue}
+use Rattle.std.specs.Prelude.{◌≡◌, ◌≢◌, ◌⊎◌, ℕ, List, [], length, map, Bool, IsTrue}
 use Rattle.std.specs.List.{AllZip}
 use Rattle.zb_store.specs.declared.volume.Volume.{Volume}
-use Rattle.zb_words.specs.declared.plan.Plan.{Plan}
+use Rattle.zb_words.specs.declared.plan.ServePlan.{ServePlan}
 use Rattle.zb_serve.specs.Setting.{setting_of}
 use Rattle.zb_serve.specs.Words.{IsPlanned}
 use Rattle.zb_serve.specs.Ends.{Devices, told_of, ends_of, crashes_of, IsSafe}
@@ -21,6 +21,12 @@ pub record ClockAtHand : Type 0 where
 abbrev pub clock_at_hand : Bool → List ℕ → ClockAtHand
 clock_at_hand tells moments = record { tells = tells; moments = moments }
 
+-- there was no memory to read the words, and nothing was touched
+pub record IsUnheard {S K D : Type 0} (volumes : List (Volume D)) (closed : Closed S K D) : Type 0 where
+  pub memory : closed.cause ≡ causes.Memory
+  pub unopened : (closed.stamps.items ≡ []) × (closed.units ≡ 0)
+  pub untouched : closed.volumes.items ≡ volumes
+
 -- the words, a clock, and what was handed in led to this
 pub record Closes {S K D : Type 0} (devices : Devices S K D) (clock : ClockAtHand)
     (words : List (List ℕ)) (sessions : List (Session S K)) (volumes : List (Volume D))
@@ -29,7 +35,7 @@ pub record Closes {S K D : Type 0} (devices : Devices S K D) (clock : ClockAtHan
   pub status : closed.status ≡ status_of closed.cause
   -- It is a question of usage exactly where the words or the numbers can't be served. Nothing was
   -- touched then.
-  pub usage : closed.cause ≡ causes.Usage → (plan : Plan)
+  pub usage : closed.cause ≡ causes.Usage → (plan : ServePlan)
       → IsPlanned words (length sessions) (length volumes) plan → ⊥
   pub unopened : closed.cause ≡ causes.Usage → (closed.stamps.items ≡ []) × (closed.units ≡ 0)
   pub untouched : closed.cause ≡ causes.Usage → closed.volumes.items ≡ volumes
@@ -44,9 +50,10 @@ pub record Closes {S K D : Type 0} (devices : Devices S K D) (clock : ClockAtHan
   pub slots : slots_of_all closed.volumes.items ≡ slots_of_all volumes
   -- what the run is, by the plan of the words: its causes, its logs, its sessions, the units of
   -- work behind the last line, and what a crash leaves, now and ever
-  pub run : closed.cause ≢ causes.Usage → (plan : Plan)
+  pub run : closed.cause ≢ causes.Usage → IsUnheard volumes closed
+      ⊎ ((plan : ServePlan)
       × IsPlanned words (length sessions) (length volumes) plan
       × IsRun (told_of devices) (setting_of plan clock.tells clock.moments)
       (ends_of devices sessions closed.sessions.items volumes closed.volumes.items)
       (crashes_of devices.disk volumes closed.volumes.items)
-      (answer_of_run closed.cause (map (λ list. list.items) closed.stamps.items) closed.units)
+      (answer_of_run closed.cause (map (λ list. list.items) closed.stamps.items) closed.units))

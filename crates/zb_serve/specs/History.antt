@@ -1,21 +1,12 @@
 -- The run in the one history of the engine.
-use Rattle.std.specs.Prelude.{◌≡◌, ℕ, List, ◌++◌, length, map, slice_get, Some, suc}
-use Rattle.std.specs.List.{AllZip, range_with_len}
+use Rattle.std.specs.Prelude.{◌≡◌, ℕ, List, ◌++◌, length, slice_get, Some, suc}
+use Rattle.std.specs.List.{AllZip}
 use Rattle.zb_model.specs.declared.record.Batch.{Batch}
 use Rattle.zb_store.specs.Stands.{Stands}
-use Rattle.zb_world.specs.Entries.{Entry, part_of, places_of}
+use Rattle.zb_world.specs.Entries.{Entry, parts_of}
 use Rattle.zb_world.specs.History.{IsHistory, IsCutAt}
 use Rattle.zb_world.specs.Once.{HappensOnce}
 use Rattle.zb_partition.specs.Log.{bodies_of}
-
--- the parts of n partitions, by their numbers
-abbrev pub parts_of : ℕ → List Entry → List (List Batch)
-parts_of n h = map (λ p. part_of p h) (range_with_len 1 n)
-
--- the places of the entries of n partitions, by their numbers, where the first entry has the place
--- first
-abbrev pub stamps_of : (n first : ℕ) → List Entry → List (List ℕ)
-stamps_of n first h = map (λ p. places_of p first h) (range_with_len 1 n)
 
 -- behind a history of n partitions, that of the logs as they were opened, these entries are one
 -- history with it, and in that one what happens at most once does

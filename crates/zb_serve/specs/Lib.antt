@@ -6,6 +6,7 @@ pub mod Session
 pub mod Log
 pub mod History
 pub mod Served
+pub mod Opening
 pub mod Running
 pub mod Closing
 pub mod Order

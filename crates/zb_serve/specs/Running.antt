@@ -1,18 +1,19 @@
--- A run of one session and one partition: its ends, and the causes that they are told as.
+-- A run of one session: its ends, the causes that they are told as, and what is left of its partitions.
 use Rattle.std.specs.Prelude.{ℕ, List, [], ◌∷◌, Bool, true, false, Option, Some, None}
-use Rattle.zb_disk.specs.Disk.{DiskView}
+use Rattle.std.specs.Option.{option_or}
 use Rattle.zb_disk.specs.declared.disk.Disk.{Ghosts}
 use Rattle.zb_model.specs.declared.record.Batch.{Batch}
 use Rattle.zb_model.specs.declared.stop.Stop.{Stop}
 use Rattle.zb_model.specs.declared.stop.Stop.TheVariants as stops
-use Rattle.zb_partition.specs.declared.fault.OpenFault.{OpenFault}
-use Rattle.zb_partition.specs.declared.fault.OpenFault.TheVariants as faults
+use Rattle.zb_store.specs.declared.volume.Volume.{Volume}
+use Rattle.zb_partition.specs.Partition.{disk_of, slots_of, in_writing}
+use Rattle.zb_partition.specs.declared.partition.Partition.{Partition}
 use Rattle.zb_words.specs.declared.plan.ClockKind.{ClockKind}
 use Rattle.zb_words.specs.declared.plan.ClockKind.TheVariants as kinds
 use Rattle.zb_session.specs.Session.{SessionEnds, Streams}
 use Rattle.zb_session.specs.declared.session.End.{End}
 use Rattle.zb_session.specs.declared.session.End.TheVariants as ends
-use Rattle.zb_serve.specs.Ends.{Told, LogEnds, RunEnds, Crashes}
+use Rattle.zb_serve.specs.Ends.{Told, LogEnds, RunEnds}
 use Rattle.zb_serve.specs.declared.run.Cause.{Cause}
 use Rattle.zb_serve.specs.declared.run.Cause.TheVariants as causes
 
@@ -30,19 +31,22 @@ told_by streams disks = record {
   disk_counts = disks.counts_failures;
 }
 
--- a volume's log, as the run began and as it ended
-abbrev pub log_ends : (disk disk_after : DiskView) → LogEnds
-log_ends disk disk_after = record { disk = disk; disk_after = disk_after }
+-- the ends of the one session, and those of the logs
+abbrev pub ends_alone : SessionEnds → List LogEnds → RunEnds
+ends_alone session logs = record { sessions = session ∷ []; logs = logs }
 
--- the ends of the one session and the one log
-abbrev pub ends_alone : SessionEnds → LogEnds → RunEnds
-ends_alone session log = record { sessions = session ∷ []; logs = log ∷ [] }
+-- the files of a partition
+abbrev pub files_of : {D : Type 0} {disks : Ghosts D} → Partition D disks → Volume D
+files_of partition = record {
+  log = disk_of partition;
+  snap_a = (slots_of partition).0;
+  snap_b = (slots_of partition).1;
+}
 
--- what crashes leave of the one log
-abbrev pub crashes_alone : (before images : List ℕ → Type 0) → (since : ℕ → List ℕ → Type 0)
-    → Crashes
-crashes_alone before images since =
-    record { before = λ number. before; now = λ number. images; since = λ number. since }
+-- the batch that the first of these partitions was writing that was writing one
+abbrev pub first_writing : {D : Type 0} {disks : Ghosts D} → List (Partition D disks) → Option Batch
+first_writing [] = None
+first_writing (partition ∷ partitions) = option_or (in_writing partition) (first_writing partitions)
 
 -- the cause that a stop of a partition is told as, with the batch that was in writing
 abbrev pub stop_cause_of : Option Batch → Option (ℕ × Stop) → Cause
@@ -80,9 +84,3 @@ is_cut ends.InputFull = false
 abbrev pub is_by_hand : ClockKind → Bool
 is_by_hand kinds.Manual = true
 is_by_hand kinds.Real = false
-
--- why an opening ends a run
-abbrev pub open_cause_of : OpenFault → Cause
-open_cause_of faults.DiskFault = causes.DiskFault 1 None
-open_cause_of (faults.BadLog frame) = causes.BadLog 1 frame
-open_cause_of faults.Memory = causes.Memory

@@ -4,7 +4,7 @@ use Rattle.std.specs.Prelude.{Bool, All, IsTrue, IsFalse, IsSome, Option, Some, 
 use Rattle.std.specs.List.{flat_map, AllByRecursion}
 use Rattle.zb_disk.specs.Cause.{Rose}
 use Rattle.zb_model.specs.declared.record.Batch.{Batch}
-use Rattle.zb_world.specs.Entries.{Entry, IsPartitionOf}
+use Rattle.zb_world.specs.Entries.{Entry, IsPartitionOf, parts_of, stamps_of}
 use Rattle.zb_world.specs.History.{IsHistory}
 use Rattle.zb_wire.specs.declared.request.Request.{Request}
 use Rattle.zb_wire.specs.Request.{request_of}
@@ -16,14 +16,14 @@ use Rattle.zb_desk.specs.Serial.{IsNextUnit, AreUnits}
 use Rattle.zb_session.specs.Hours.{given_of, IsReadingOf}
 use Rattle.zb_session.specs.Answer.{Answer, found_in, entries_made, AreSerial}
 use Rattle.zb_session.specs.Session.{SessionRun}
-use Rattle.zb_engine.specs.Solo.{slots_in}
+use Rattle.zb_engine.specs.Ledger.{slots_in}
 use Rattle.zb_serve.specs.Ends.{RunEnds, LogEnds, Told, Crashes}
 use Rattle.zb_serve.specs.Cause.{rank_of, comes_before}
 use Rattle.zb_serve.specs.Order.{WasMet}
 use Rattle.zb_serve.specs.Setting.{RunSetting}
 use Rattle.zb_serve.specs.Session.{IsSession}
 use Rattle.zb_serve.specs.Log.{Course, course_of, OpenedLog, IsLog}
-use Rattle.zb_serve.specs.History.{parts_of, stamps_of, GoesOnWith, AreCut, AreImages}
+use Rattle.zb_serve.specs.History.{GoesOnWith, AreCut, AreImages}
 use Rattle.zb_serve.specs.declared.run.Cause.{Cause}
 use Rattle.zb_serve.specs.declared.run.Cause.TheVariants as causes
 
@@ -158,7 +158,7 @@ pub record Serves (course : Course) (ends : RunEnds) (crashes : Crashes) (stamps
   -- where nothing cut the run off every game is quiet at its end, or as many units were done as may
   -- be, and their number is told
   pub settled : IsFalse (cuts_off course.cause) → (units ≡ length closing)
-      × (next_unit (basis_in_run course logs) (length closing) course.entries ≡ None)
+      × (next_unit (basis_in_run course logs) closing course.entries ≡ None)
   pub unsettled : IsTrue (cuts_off course.cause) → units ≡ 0
   -- what a crash now leaves of all logs is a cut of the history at its end: all of it, and of a
   -- partition at most one step more
@@ -171,14 +171,23 @@ pub record Serves (course : Course) (ends : RunEnds) (crashes : Crashes) (stamps
 abbrev pub IsUntroubled : Told → LogEnds → Type 0
 IsUntroubled told ends = IsTrue told.disk_counts → ends.disk_after.faults ≡ ends.disk.faults
 
+-- each log of a partition below this one can be read: they are opened in order, up to the first one
+-- that can't be
+abbrev pub AreGoodBelow : Told → List LogEnds → ℕ → Type 0
+AreGoodBelow told volumes partition = (number : ℕ) → 1 ≤ number → number < partition
+    → OfNumber volumes number
+    (λ ends. IsTrue told.disk → (frame : ℕ) → IsBadAt number ends.disk.contents frame → ⊥)
+
 -- Opening ended the run: a disk failed, a log has a first frame that can't be read, or there was no
 -- memory.
 abbrev pub FailsToOpen : Told → List LogEnds → Cause → Type 0
 FailsToOpen told volumes (causes.DiskFault partition batch) = (batch ≡ None)
     × OfNumber volumes partition (λ ends. Rose ends.disk.faults ends.disk_after.faults)
+    × AreGoodBelow told volumes partition
 FailsToOpen told volumes (causes.BadLog partition frame) =
     OfNumber volumes partition
     (λ ends. IsTrue told.disk → IsBadAt partition ends.disk.contents frame)
+    × AreGoodBelow told volumes partition
     × AllByRecursion (IsUntroubled told) volumes
 FailsToOpen told volumes causes.Memory = AllByRecursion (IsUntroubled told) volumes
 FailsToOpen told volumes causes.Done = ⊥

@@ -2,7 +2,7 @@
 use Rattle.std.specs.Prelude.{ℕ, List, Bool}
 use Rattle.zb_words.specs.declared.plan.ClockKind.{ClockKind}
 use Rattle.zb_words.specs.declared.plan.ClockKind.TheVariants as kinds
-use Rattle.zb_words.specs.declared.plan.Plan.{Plan}
+use Rattle.zb_words.specs.declared.plan.ServePlan.{ServePlan}
 use Rattle.zb_session.specs.Hours.{Hours, manual, real}
 
 -- what a run goes by: its clock, how many bytes a log may have, and how many units of work are done
@@ -19,6 +19,6 @@ hours_of kinds.Real tells moments = real tells moments
 
 -- what a run goes by under a plan, with a real clock at hand that may tell the moments that it
 -- reads
-abbrev pub setting_of : Plan → Bool → List ℕ → RunSetting
+abbrev pub setting_of : ServePlan → Bool → List ℕ → RunSetting
 setting_of plan tells moments =
     record { hours = hours_of plan.clock tells moments; limit = plan.limit; units = plan.units }

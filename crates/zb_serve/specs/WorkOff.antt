@@ -11,14 +11,13 @@ use Rattle.zb_session.specs.Hours.{Hours, IsReadingOf}
 use Rattle.zb_session.specs.Session.{CutsOff, Facts, facts_of, LeavesDesk}
 use Rattle.zb_session.specs.declared.session.End.{End}
 use Rattle.zb_session.specs.declared.session.End.TheVariants as ends
-use Rattle.zb_engine.specs.Ledger.{Opening}
-use Rattle.zb_engine.specs.Solo.{HasMade, HasEnded}
+use Rattle.zb_engine.specs.Solo.{Start, HasMade, HasEnded}
 use Rattle.zb_engine.specs.declared.solo.Solo.{Solo}
 
--- what is known of an engine whose log was opened so
-abbrev pub facts_in : {D : Type 0} {disks : Ghosts D} → Opening D → Solo D disks → Facts
-facts_in opening solo = facts_of (λ made. HasMade opening made solo)
-    (λ made left stop. HasEnded opening made left stop solo)
+-- what is known of an engine that began so
+abbrev pub facts_in : {D : Type 0} {disks : Ghosts D} → Start D → Solo D disks → Facts
+facts_in start solo = facts_of (λ made. HasMade start made solo)
+    (λ made left stop. HasEnded start made left stop solo)
 
 -- what lies before the last units of work of a run: its clock, what its lines were found to be, the
 -- entries that were made for them, the one that isn't in its log, if there is one, and how the

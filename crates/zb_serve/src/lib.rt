@@ -1,6 +1,8 @@
 //! The server: sessions over the partitions of a run, and the top call.
 #![tactic(auto)]
 
+mod closing;
+mod opening;
 mod run;
 mod running;
 mod top;

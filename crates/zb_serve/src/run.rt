@@ -8,9 +8,6 @@ use zb_store::Volume;
 /// The number of the one session that is served so far.
 pub const SESSION: u32 = 1;
 
-/// The number of the one partition that there is so far.
-pub const PARTITION: u32 = 1;
-
 /// Why a run ended. Sessions and partitions are numbered from 1.
 #[derive(Drop)]
 pub enum Cause {

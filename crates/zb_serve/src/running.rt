@@ -1,5 +1,6 @@
-ghost use Rattle.std.specs.Prelude.{◌≡◌, ◌≤◌, ◌^◌, ◌<◌, List, [], None, Option, Result, map};
-ghost use Rattle.std.specs.Prelude.{IsTrue, IsFalse, is_some, vec_len, vec_capacity};
+ghost use Rattle.std.specs.Prelude.{◌≡◌, ◌≤◌, ◌^◌, List, [], None, Option, Result, map, length};
+ghost use Rattle.std.specs.Prelude.{IsTrue, IsFalse, is_some, vec_capacity};
+ghost use Rattle.std.specs.List.{AllZip};
 ghost use Rattle.zb_words.specs.declared.plan.ClockKind.TheVariants as kinds;
 ghost use Rattle.zb_session.specs.Hours.{Hours};
 ghost use Rattle.zb_wire.specs.declared.request.Request.{Request as Asked};
@@ -7,127 +8,132 @@ ghost use Rattle.zb_wire.specs.declared.request.LineFault.{LineFault};
 ghost use Rattle.zb_world.specs.Entries.{Entry};
 ghost use Rattle.zb_session.specs.Session.{session_ends, streams_of, LeavesDesk};
 ghost use Rattle.zb_session.specs.Serving.{AreAt, began_of, clocks_of, service_of, IsOver};
-ghost use Rattle.zb_engine.specs.Ledger.{Opening, basis_in};
-ghost use Rattle.zb_engine.specs.Solo.{IsOpenedAs, HasMade, slots_in};
+ghost use Rattle.zb_engine.specs.Solo.{Start, basis_in, many_in, HasMade, partitions_in, stamps_in, kept_in};
 ghost use Rattle.zb_serve.specs.Setting.{setting_of};
-ghost use Rattle.zb_serve.specs.Ends.{all_told, IsSafe};
-ghost use Rattle.zb_serve.specs.Served.{answer_of_run, IsRun};
+ghost use Rattle.zb_serve.specs.Ends.{all_told, logs_ends, crashes_of, IsSafe};
+ghost use Rattle.zb_serve.specs.Served.{answer_of_run, IsRun, slots_of_all};
+ghost use Rattle.zb_serve.specs.Opening.{volumes_in, IsBegunOver};
 ghost use Rattle.zb_serve.specs.WorkOff.{facts_in, behind_of, IsWorkedOff};
-ghost use Rattle.zb_serve.specs.Running.{log_ends, ends_alone, crashes_alone, cause_of, is_cut};
-ghost use Rattle.zb_serve.specs.Running.{stop_cause_of, failed_at, open_cause_of, is_by_hand};
+ghost use Rattle.zb_serve.specs.Running.{ends_alone, files_of, first_writing, cause_of, is_cut};
+ghost use Rattle.zb_serve.specs.Running.{stop_cause_of, failed_at, is_by_hand};
 ghost use Rattle.zb_model.specs.declared.record.Batch.{Batch as Record};
 
-use crate::run::{Cause, PARTITION, SESSION};
-use std::alloc::{AllocError, Global};
+use crate::closing::close_all;
+use crate::opening::open_engine;
+use crate::run::{Cause, SESSION};
+use std::alloc::Global;
 use zb_disk::Disk;
 use zb_engine::Solo;
 use zb_model::{Batch, PartitionId, Stop};
 use zb_outside::{Clock, Sink, Source};
-use zb_partition::{OpenFault, Partition};
 use zb_session::{Dial, End, Session, serve_session};
 use zb_store::Volume;
-use zb_words::{ClockKind, Plan};
+use zb_words::{ClockKind, ServePlan};
 
-/// How a run of one session over one partition ended.
+/// How a run of one session ended.
 pub struct Ran<D> {
     pub cause: Cause,
-    /// The files of the partition.
-    pub volume: Volume<D>,
-    /// The stamps of each log that was opened.
+    /// The files of each partition.
+    pub volumes: Vec<Volume<D>>,
+    /// The stamps of each log. Empty where one could not be opened.
     pub stamps: Vec<Vec<u64>>,
     /// How many units of work were done behind the last line.
     pub units: u64,
 }
 
-/// Runs one session over one volume, by a plan.
+/// Runs one session over the partitions of these volumes, by a plan.
 pub fn run<S: Source, K: Sink, D: Disk, C: Clock>(
     alloc: Global,
-    plan: Plan,
+    plan: &ServePlan,
     session: &mut Session<S, K>,
-    volume: Volume<D>,
+    volumes: Vec<Volume<D>>,
     clock: &mut C,
 ) -> Ran<D>
-    requires { plan.limit ≤ 2 ^ 32 }
+    requires limit { plan.now.limit ≤ 2 ^ 32 }
+    requires some { 1 ≤ length volumes.items }
+    requires few { length volumes.items ≤ 16 }
     ensures unread { result.stamps.items ≡ [] → session.new ≡ session.old }
-    ensures slots { slots_in result.volume ≡ slots_in volume }
+    ensures same { length result.volumes.items ≡ length volumes.items }
+    ensures slots { slots_of_all result.volumes.items ≡ slots_of_all volumes.items }
     ensures spared { result.stamps.items ≡ [] → IsTrue D.tells_images
-        → IsSafe D.Disk volume result.volume }
+        → AllZip (IsSafe D.Disk) volumes.items result.volumes.items }
     ensures run { IsRun
         (all_told S.tells S.counts_failures K.Sink D.Disk)
-        (setting_of plan C.tells (C.moments clock.old))
+        (setting_of plan.now C.tells (C.moments clock.old))
         (ends_alone
         (session_ends (S.view session.old.source) (S.view session.new.source)
         (K.view session.old.sink) (K.view session.new.sink))
-        (log_ends (D.view volume.log) (D.view result.volume.log)))
-        (crashes_alone (D.images volume.log) (D.images result.volume.log)
-        (D.since result.volume.log))
+        (logs_ends D.Disk volumes.items result.volumes.items))
+        (crashes_of D.Disk volumes.items result.volumes.items)
         (answer_of_run result.cause (map (λ list. list.items) result.stamps.items) result.units) }
-    ensures untouched { plan.clock ≡ kinds.Manual → clock.new ≡ clock.old }
+    ensures untouched { plan.now.clock ≡ kinds.Manual → clock.new ≡ clock.old }
     ensures moments { C.moments clock.new ≡ C.moments clock.old }
 {
-    let mut stamps = Vec::new(alloc);
-    match stamps.reserve(1) {
-        Ok(()) => {}
-        Err(AllocError) => return Ran {
-            cause: Cause::Memory,
-            volume,
-            stamps,
-            units: 0,
-        },
-    }
-    match Partition::open(alloc, volume, PartitionId::new(PARTITION), plan.limit) {
-        Ok(partition) => serve_partition(alloc, plan, session, partition, clock, stamps),
-        Err((fault, volume)) => Ran {
-            cause: open_cause(fault),
-            volume,
-            stamps,
+    match open_engine(alloc, volumes, plan.limit, plan.units) {
+        Ok((solo, room)) => serve_engine(alloc, plan, session, solo, room, clock),
+        Err((cause, volumes)) => Ran {
+            cause,
+            volumes,
+            stamps: Vec::new(alloc),
             units: 0,
         },
     }
 }
 
-// Runs one session over a partition that was opened, with room for its stamps.
-fn serve_partition<S: Source, K: Sink, D: Disk, C: Clock>(
+// Runs one session over an engine that was made, with room for the volumes of its partitions.
+fn serve_engine<S: Source, K: Sink, D: Disk, C: Clock>(
     alloc: Global,
-    plan: Plan,
+    plan: &ServePlan,
     session: &mut Session<S, K>,
-    partition: Partition<D>,
+    mut solo: Solo<D>,
+    room: Vec<Volume<D>>,
     clock: &mut C,
-    mut stamps: Vec<Vec<u64>>,
 ) -> Ran<D>
-    requires room { vec_len stamps < vec_capacity stamps }
-    requires none { stamps.items ≡ [] }
-    requires opened { (opening : Opening D) × IsOpenedAs opening partition
-        × (opening.units ≡ plan.units) }
+    requires made { (start : Start D) × HasMade start [] solo
+        × (many_in start ≤ vec_capacity room) }
+    requires none { room.items ≡ [] }
     ensures some { ¬ (result.stamps.items ≡ []) }
 
-    // However it may have been opened.
-    ensures slots { (opening : Opening D) → IsOpenedAs opening partition
-        → opening.units ≡ plan.units → slots_in result.volume ≡ slots_in opening.volume }
-    ensures run { (opening : Opening D) → IsOpenedAs opening partition → opening.limit ≡ plan.limit
-        → opening.units ≡ plan.units → IsRun
+    // However it may have begun.
+    ensures same { (start : Start D) → HasMade start [] solo
+        → length result.volumes.items ≡ many_in start }
+    ensures slots { (start : Start D) → HasMade start [] solo
+        → slots_of_all result.volumes.items ≡ slots_of_all (volumes_in start) }
+    ensures run { (start : Start D) (volumes : List (Volume D)) → HasMade start [] solo
+        → IsBegunOver plan.now.limit plan.now.units volumes start → IsRun
         (all_told S.tells S.counts_failures K.Sink D.Disk)
-        (setting_of plan C.tells (C.moments clock.old))
+        (setting_of plan.now C.tells (C.moments clock.old))
         (ends_alone
         (session_ends (S.view session.old.source) (S.view session.new.source)
         (K.view session.old.sink) (K.view session.new.sink))
-        (log_ends (D.view opening.volume.log) (D.view result.volume.log)))
-        (crashes_alone (D.images opening.volume.log) (D.images result.volume.log)
-        (D.since result.volume.log))
+        (logs_ends D.Disk volumes result.volumes.items))
+        (crashes_of D.Disk volumes result.volumes.items)
         (answer_of_run result.cause (map (λ list. list.items) result.stamps.items) result.units) }
-    ensures untouched { plan.clock ≡ kinds.Manual → clock.new ≡ clock.old }
+    ensures untouched { plan.now.clock ≡ kinds.Manual → clock.new ≡ clock.old }
     ensures moments { C.moments clock.new ≡ C.moments clock.old }
 {
-    let mut solo = Solo::new(alloc, partition, plan.units);
     let mut dial = Dial::new(goes_by_hand(plan.clock));
     let end = serve_solo(alloc, session, &mut solo, &mut dial, clock);
     let (end, units) = work_off(alloc, end, &mut solo, &dial, clock);
+    close_run(end, units, solo, room)
+}
+
+// Closes the engine of a run whose one session ended so.
+fn close_run<D: Disk>(end: End, units: u64, solo: Solo<D>, room: Vec<Volume<D>>) -> Ran<D>
+    requires none { room.items ≡ [] }
+    requires room { length (partitions_in solo) ≤ vec_capacity room }
+    ensures cause { result.cause
+        ≡ cause_of (first_writing (partitions_in solo)) (kept_in solo) end }
+    ensures volumes { result.volumes.items ≡ map files_of (partitions_in solo) }
+    ensures stamps { map (λ list. list.items) result.stamps.items ≡ stamps_in solo }
+    ensures units { result.units ≡ units }
+{
     let stop = solo.stop();
-    let (stopped, places) = solo.close();
-    stamps.push_reserved(places);
+    let (partitions, stamps) = solo.close();
+    let (volumes, in_writing) = close_all(partitions, room);
     Ran {
-        cause: cause(end, stop, stopped.in_writing),
-        volume: stopped.volume,
+        cause: cause(end, stop, in_writing),
+        volumes,
         stamps,
         units,
     }
@@ -142,19 +148,19 @@ fn work_off<D: Disk, C: Clock>(
     dial: &Dial,
     clock: &mut C,
 ) -> (End, u64)
-    requires left { (opening : Opening D) × (hours : Hours)
+    requires left { (start : Start D) × (hours : Hours)
         × (found : List (Result Asked LineFault)) × (entries : List Entry)
         × (unlogged : Option Entry)
-        × LeavesDesk (facts_in opening solo.old) entries unlogged end
+        × LeavesDesk (facts_in start solo.old) entries unlogged end
         × (IsFalse (is_cut end)
         → AreAt hours found (clocks_of dial.now C.tells (C.moments clock.old))) }
-    ensures worked { (opening : Opening D) (hours : Hours) (found : List (Result Asked LineFault))
+    ensures worked { (start : Start D) (hours : Hours) (found : List (Result Asked LineFault))
         (entries : List Entry) (unlogged : Option Entry)
-        → LeavesDesk (facts_in opening solo.old) entries unlogged end
+        → LeavesDesk (facts_in start solo.old) entries unlogged end
         → (IsFalse (is_cut end)
         → AreAt hours found (clocks_of dial.now C.tells (C.moments clock.old)))
-        → IsWorkedOff (basis_in opening) (behind_of hours found entries unlogged end)
-        (facts_in opening solo.new) result }
+        → IsWorkedOff (basis_in start) (behind_of hours found entries unlogged end)
+        (facts_in start solo.new) result }
     ensures moments { C.moments clock.new ≡ C.moments clock.old }
     ensures untouched { (IsFalse (is_cut end) → IsTrue (is_some dial.now)) → clock.new ≡ clock.old }
 {
@@ -183,15 +189,15 @@ fn serve_solo<S: Source, K: Sink, D: Disk, C: Clock>(
     dial: &mut Dial,
     clock: &mut C,
 ) -> End
-    requires { (opening : Opening D) × (hours : Hours) × HasMade opening [] solo.old
+    requires { (start : Start D) × (hours : Hours) × HasMade start [] solo.old
         × AreAt hours [] (clocks_of dial.old C.tells (C.moments clock.old)) }
-    ensures over { (opening : Opening D) (hours : Hours) → HasMade opening [] solo.old
+    ensures over { (start : Start D) (hours : Hours) → HasMade start [] solo.old
         → AreAt hours [] (clocks_of dial.old C.tells (C.moments clock.old))
         → IsOver (streams_of S.tells S.counts_failures K.Sink)
-        (began_of hours (basis_in opening) (S.view session.old.source) (K.view session.old.sink))
+        (began_of hours (basis_in start) (S.view session.old.source) (K.view session.old.sink))
         (S.view session.new.source)
         (service_of (K.view session.new.sink) (clocks_of dial.new C.tells (C.moments clock.new))
-        (facts_in opening solo.new)) result }
+        (facts_in start solo.new)) result }
     ensures moments { C.moments clock.new ≡ C.moments clock.old }
     ensures untouched { IsTrue (is_some dial.old) → clock.new ≡ clock.old }
 {
@@ -271,22 +277,5 @@ fn full_at(stop: Option<(PartitionId, Stop)>) -> Cause
             limit,
         },
         Stop::DiskFault | Stop::Memory => Cause::Memory,
-    }
-}
-
-// Why an opening of the one log ends the run.
-fn open_cause(fault: OpenFault) -> Cause
-    ensures { result ≡ open_cause_of fault }
-{
-    match fault {
-        OpenFault::DiskFault => Cause::DiskFault {
-            partition: PARTITION,
-            in_writing: None,
-        },
-        OpenFault::BadLog { frame } => Cause::BadLog {
-            partition: PARTITION,
-            frame,
-        },
-        OpenFault::Memory => Cause::Memory,
     }
 }

@@ -1,8 +1,10 @@
-ghost use Rattle.std.specs.Prelude.{◌≡◌, ◌<◌, ◌≤◌, ◌^◌, length, map, IfSome, IfNone, string_bytes};
+ghost use Rattle.std.specs.Prelude.{◌≡◌, ◌<◌, ◌≤◌, ◌^◌, ◌↔◌, length, map, IsTrue, IfOk, IfErr, string_bytes};
 ghost use Rattle.zb_words.specs.Plan.{IsPlan};
 ghost use Rattle.zb_words.specs.declared.plan.ClockKind.TheVariants as kinds;
-ghost use Rattle.zb_words.specs.declared.plan.Plan.{Plan};
-ghost use Rattle.zb_serve.specs.Words.{IsPlanned};
+ghost use Rattle.zb_words.specs.declared.plan.Plan.TheVariants as plans;
+ghost use Rattle.zb_words.specs.declared.plan.ServePlan.{ServePlan};
+ghost use Rattle.zb_words.specs.declared.fault.PlanFault.TheVariants as faults;
+ghost use Rattle.zb_serve.specs.Words.{IsPlanned, words_cause_of};
 ghost use Rattle.zb_serve.specs.Ends.{devices_of};
 ghost use Rattle.zb_serve.specs.Cause.{status_of};
 ghost use Rattle.zb_serve.specs.Closing.{Closes, clock_at_hand};
@@ -16,12 +18,12 @@ use zb_disk::Disk;
 use zb_outside::{Clock, Door, Sink, Source};
 use zb_session::Session;
 use zb_store::Volume;
-use zb_words::{Plan, plan_of};
+use zb_words::{Plan, PlanFault, ServePlan, plan_of};
 
 /// Serves sessions over volumes by the words of a command line, and hands everything back with why
 /// it ended. It takes one step for each byte of the lines, four calls of a disk for each batch, and
-/// for each batch of a tick a walk over the buffered messages. So far one session over one volume
-/// can be served, and this thread does all of it: see `serve_alone`.
+/// for each batch of a tick a walk over the buffered messages. So far one session can be served, over
+/// a volume for each partition, and this thread does all of it: see `serve_alone`.
 pub fn serve<R, S, K, D, C, G>(
     rt: &R,
     alloc: Global,
@@ -46,7 +48,7 @@ where
     // The clock is read under a plan that goes by it alone, and not where the words can't be
     // served.
     ensures unasked { result.cause ≡ Cause.Usage → clock.new ≡ clock.old }
-    ensures untouched { (plan : Plan) → IsPlan (map string_bytes words.now) plan
+    ensures untouched { (plan : ServePlan) → IsPlan (map string_bytes words.now) (plans.Serve plan)
         → plan.clock ≡ kinds.Manual → clock.new ≡ clock.old }
     ensures moments { C.moments clock.new ≡ C.moments clock.old }
 {
@@ -60,7 +62,7 @@ pub fn serve_alone<S: Source, K: Sink, D: Disk, C: Clock>(
     alloc: Global,
     words: &[String],
     mut sessions: Vec<Session<S, K>>,
-    mut volumes: Vec<Volume<D>>,
+    volumes: Vec<Volume<D>>,
     clock: &mut C,
 ) -> Closed<S, K, D>
     requires { length sessions.items < 2 ^ 32 }
@@ -71,37 +73,64 @@ pub fn serve_alone<S: Source, K: Sink, D: Disk, C: Clock>(
     // The clock is read under a plan that goes by it alone, and not where the words can't be
     // served.
     ensures unasked { result.cause ≡ Cause.Usage → clock.new ≡ clock.old }
-    ensures untouched { (plan : Plan) → IsPlan (map string_bytes words.now) plan
+    ensures untouched { (plan : ServePlan) → IsPlan (map string_bytes words.now) (plans.Serve plan)
         → plan.clock ≡ kinds.Manual → clock.new ≡ clock.old }
     ensures moments { C.moments clock.new ≡ C.moments clock.old }
 {
-    let Some(plan) = plan_for(words, sessions.len(), volumes.len()) else {
-        return closed(Cause::Usage, Vec::new(alloc), 0, sessions, volumes);
-    };
-    let Some(volume) = volumes.pop() else {
-        return closed(Cause::Usage, Vec::new(alloc), 0, sessions, volumes);
+    let plan = match plan_for(alloc, words, sessions.len(), volumes.len()) {
+        Ok(plan) => plan,
+        Err(fault) => return closed(cause_of(fault), Vec::new(alloc), 0, sessions, volumes),
     };
     let Ran {
         cause,
-        volume,
+        volumes,
         stamps,
         units,
-    } = run(alloc, plan, &mut sessions[0], volume, clock);
-    volumes.push_reserved(volume);
+    } = run(alloc, &plan, &mut sessions[0], volumes, clock);
     closed(cause, stamps, units, sessions, volumes)
 }
 
 /// The plan of these words, where so many sessions and volumes can be served by it.
-pub fn plan_for(words: &[String], sessions: usize, volumes: usize) -> Option<Plan>
-    ensures planned { IfSome result (IsPlanned (map string_bytes words.now) sessions volumes) }
-    ensures unplanned { IfNone result ((plan : Plan)
+pub fn plan_for(
+    alloc: Global,
+    words: &[String],
+    sessions: usize,
+    volumes: usize,
+) -> Result<ServePlan, PlanFault>
+    ensures planned { IfOk result (IsPlanned (map string_bytes words.now) sessions volumes) }
+    ensures unplanned { IfErr result (λ fault. fault ≡ faults.Usage → (plan : ServePlan)
         → IsPlanned (map string_bytes words.now) sessions volumes plan → ⊥) }
-    ensures limit { IfSome result (λ plan. plan.limit ≤ 2 ^ 32) }
+    ensures limit { IfOk result (λ plan. plan.limit ≤ 2 ^ 32) }
+    ensures some { IfOk result (λ plan. 1 ≤ plan.partitions) }
+    ensures few { IfOk result (λ plan. plan.partitions ≤ 16) }
 {
-    if sessions != 1 || volumes != 1 {
-        return None;
+    match plan_of(alloc, words) {
+        Ok(Plan::Serve(plan)) => if can_serve(&plan, sessions, volumes) {
+            Ok(plan)
+        } else {
+            Err(PlanFault::Usage)
+        },
+        Ok(Plan::Log(_) | Plan::Gen(_)) => Err(PlanFault::Usage),
+        Err(fault) => Err(fault),
     }
-    plan_of(words)
+}
+
+// Whether so many sessions and volumes can be served by a plan.
+fn can_serve(plan: &ServePlan, sessions: usize, volumes: usize) -> bool
+    ensures { IsTrue result
+        ↔ (sessions ≡ 1) × (volumes ≡ plan.now.partitions) × (length plan.now.files ≤ 2) }
+{
+    sessions == 1 && volumes == plan.partitions as usize && plan.files.as_slice().len() <= 2
+}
+
+// Why a run ends whose words weren't read as a plan.
+fn cause_of(fault: PlanFault) -> Cause
+    ensures { result ≡ words_cause_of fault }
+{
+    match fault {
+        PlanFault::Usage => Cause::Usage,
+        PlanFault::Memory => Cause::Memory,
+    }
 }
 
 // The end of a run, with its status.

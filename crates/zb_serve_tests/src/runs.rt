@@ -1,5 +1,5 @@
 // Runs over devices in memory, and what they come to.
-use crate::script::{Ended, PLAIN, Script, served};
+use crate::script::{Ended, PLAIN, Script, THREE, output, served};
 use std::alloc::Global;
 use std::process::Abort;
 use std::sync::Wait;
@@ -58,14 +58,6 @@ const fn done<'a>(output: &'a str, stamps: &'a [u64]) -> Want<'a> {
         stamps: Some(stamps),
         bad_frame: None,
         full: None,
-    }
-}
-
-// What the one session was sent.
-fn output(ended: &Ended) -> &[u8] {
-    match ended.sessions.as_slice() {
-        [session] => session.sink.bytes(),
-        _ => b"not one session",
     }
 }
 
@@ -186,7 +178,15 @@ fn a_log_is_full_at_the_limit_of_the_words(rt: HostRuntime) {
 
 #[test]
 fn what_can_not_be_served_is_not_touched(rt: HostRuntime) {
-    for (words, volumes) in [(&["x"] as &[&str], 1), (&[], 0), (&[], 2)] {
+    let table = [
+        (&["x"] as &[&str], 1),
+        (&[], 0),
+        (&[], 2),
+        (THREE.words, 1),
+        (THREE.words, 4),
+        (&["--partitions", "17"], 17),
+    ];
+    for (words, volumes) in table {
         let script = Script {
             words,
             volumes,
@@ -199,6 +199,39 @@ fn what_can_not_be_served_is_not_touched(rt: HostRuntime) {
         assert!(rt; ended.volumes.len() == volumes as usize);
         let _devices = ended.into_devices();
     }
+}
+
+// A deploy, which goes to three partitions, and a message and an instance at the second one.
+const SPREAD: &str =
+    "{\"op\":\"deploy\",\"model\":{\"process\":\"p\",\"nodes\":[{\"id\":\"s\",\"kind\":\"startEvent\"},{\"id\":\"e\",\"kind\":\"endEvent\"}],\"flows\":[{\"id\":\"f\",\"sourceRef\":\"s\",\"targetRef\":\"e\"}]}}\n{\"op\":\"publish\",\"name\":\"paid\",\"correlationKey\":\"o-1\",\"timeToLive\":60000}\n{\"op\":\"create\",\"process\":\"p\",\"partition\":2}\n{\"op\":\"settle\"}\n";
+
+// Their replies.
+const SPREAD_TOLD: &str =
+    "{\"ok\":{\"definition\":2251799813685249,\"process\":\"p\",\"version\":1},\"units\":4}\n{\"ok\":{\"message\":4503599627370497},\"units\":0}\n{\"ok\":{\"definition\":2251799813685249,\"instance\":4503599627370498},\"units\":0}\n{\"ok\":{},\"units\":0}\n";
+
+// Whether the three logs have these stamps.
+fn has_stamps(ended: &Ended, want: [&[u64]; 3]) -> bool {
+    match ended.stamps.as_slice() {
+        [first, second, third] => {
+            first.as_slice() == want[0]
+                && second.as_slice() == want[1]
+                && third.as_slice() == want[2]
+        }
+        _ => false,
+    }
+}
+
+#[test]
+fn three_partitions_are_served_in_one_history(rt: HostRuntime) {
+    let script = Script {
+        input: SPREAD,
+        ..THREE
+    };
+    let ended = served(&rt, rt.alloc(), &script);
+    assert!(rt; ended.status == 0);
+    assert!(rt; output(&ended) == SPREAD_TOLD.as_bytes());
+    assert!(rt; has_stamps(&ended, [&[0, 2, 4], &[1, 5, 6], &[3]]));
+    let _devices = ended.into_devices();
 }
 
 #[test]

@@ -22,10 +22,12 @@ pub struct Script<'a> {
     pub volumes: u32,
     /// What the session says.
     pub input: &'a str,
-    /// The numbers, from 0, of the reads, the writes and the calls of the log that fail.
+    /// The numbers, from 0, of the reads, the writes and the calls of a log that fail.
     pub reads: &'a [u64],
     pub writes: &'a [u64],
     pub calls: &'a [u64],
+    /// The partition of that log.
+    pub failing: u32,
     /// The bytes of each log, at most 4,096.
     pub log: &'a [u8],
 }
@@ -38,7 +40,15 @@ pub const PLAIN: Script<'static> = Script {
     reads: &[],
     writes: &[],
     calls: &[],
+    failing: 1,
     log: &[],
+};
+
+/// The same over three partitions.
+pub const THREE: Script<'static> = Script {
+    words: &["--partitions", "3"],
+    volumes: 3,
+    ..PLAIN
 };
 
 fn words_of(rt: &impl Abort, alloc: Global, script: &Script<'_>) -> Vec<String> {
@@ -80,14 +90,36 @@ pub fn disk_of(rt: &impl Abort, alloc: Global, bytes: &[u8], calls: &[u64]) -> M
     MemDisk::new(alloc, bytes, numbers_of(rt, alloc, calls)).expect(rt, "memory")
 }
 
+// A volume whose log has these bytes, and whose calls with these numbers fail.
+fn volume_of(rt: &impl Abort, alloc: Global, log: &[u8], calls: &[u64]) -> Volume<MemDisk> {
+    Volume {
+        log: disk_of(rt, alloc, log, calls),
+        snap_a: disk_of(rt, alloc, &[], &[]),
+        snap_b: disk_of(rt, alloc, &[], &[]),
+    }
+}
+
 fn volumes_of(rt: &impl Abort, alloc: Global, script: &Script<'_>) -> Vec<Volume<MemDisk>> {
     let mut volumes = Vec::new(alloc);
-    for _ in 0..script.volumes {
-        let volume = Volume {
-            log: disk_of(rt, alloc, script.log, script.calls),
-            snap_a: disk_of(rt, alloc, &[], &[]),
-            snap_b: disk_of(rt, alloc, &[], &[]),
+    for partition in 1..=script.volumes {
+        let calls = if partition == script.failing {
+            script.calls
+        } else {
+            &[]
         };
+        let volume = volume_of(rt, alloc, script.log, calls);
+        volumes.push(volume).expect(rt, "memory");
+    }
+    volumes
+}
+
+// What a crash at the end of a run leaves, with this fill, as volumes of the next one.
+fn left_by(rt: &impl Abort, alloc: Global, ended: &Ended, fill: &[u8]) -> Vec<Volume<MemDisk>> {
+    let mut volumes = Vec::new(alloc);
+    for volume in ended.volumes.iter() {
+        let log = &volume.log;
+        let image = log.image(alloc, log.moment(), fill).expect(rt, "memory");
+        let volume = volume_of(rt, alloc, &image, &[]);
         volumes.push(volume).expect(rt, "memory");
     }
     volumes
@@ -99,9 +131,39 @@ pub fn served<R: Abort + Threads + Wait + Sync>(
     alloc: Global,
     script: &Script<'_>,
 ) -> Ended {
+    let volumes = volumes_of(rt, alloc, script);
+    served_over(rt, alloc, script, volumes)
+}
+
+/// Serves what the script says over what a crash at the end of a run leaves, with this fill.
+pub fn served_behind<R: Abort + Threads + Wait + Sync>(
+    rt: &R,
+    alloc: Global,
+    script: &Script<'_>,
+    ended: &Ended,
+    fill: &[u8],
+) -> Ended {
+    let volumes = left_by(rt, alloc, ended, fill);
+    served_over(rt, alloc, script, volumes)
+}
+
+// Serves what the script says over these volumes.
+fn served_over<R: Abort + Threads + Wait + Sync>(
+    rt: &R,
+    alloc: Global,
+    script: &Script<'_>,
+    volumes: Vec<Volume<MemDisk>>,
+) -> Ended {
     let words = words_of(rt, alloc, script);
     let sessions = sessions_of(rt, alloc, script);
-    let volumes = volumes_of(rt, alloc, script);
     let mut clock = ListClock::new(Vec::new(alloc));
     serve(rt, alloc, &words, sessions, volumes, &mut clock, &OpenDoor)
+}
+
+/// What the one session was sent.
+pub fn output(ended: &Ended) -> &[u8] {
+    match ended.sessions.as_slice() {
+        [session] => session.sink.bytes(),
+        _ => b"not one session",
+    }
 }

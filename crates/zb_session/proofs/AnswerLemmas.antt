@@ -38,6 +38,9 @@ clocked_spoken requests.Tick reading entries reply told =
 clocked_spoken (requests.Advance ms) reading entries reply told =
     let same : replies.Advance reading ≡ reply = cc in
     subst IsSpoken same tt
+clocked_spoken requests.Settle reading entries reply told =
+    let same : replies.Settle ≡ reply = cc in
+    subst IsSpoken same tt
 clocked_spoken _ reading entries reply told = absurd (cc)
 
 -- and so can that to each request

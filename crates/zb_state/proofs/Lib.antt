@@ -3,3 +3,4 @@ pub mod DueLemmas
 pub mod JobLemmas
 pub mod TimerLemmas
 pub mod SmallLemmas
+pub mod PacketLemmas

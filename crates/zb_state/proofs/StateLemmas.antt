@@ -1,5 +1,5 @@
 -- A state with an event more.
-use Rattle.std.proofs.Common.{◌≡◌, ℕ, ◌+◌, ◌<◌, ◌≤◌, ◌==◌, nat_le, max, Option, Some, None, is_some, is_none, option_map, option_and_then, Bool, true, false, ◌&&◌, if◌then◌else◌, Result, Ok, Err, OnOk, OnErr, List, [], ◌∷◌, ◌++◌, IsTrue, not, refl, sym, ap, subst, ◌∙◌, arith, append-nil}
+use Rattle.std.proofs.Common.{◌≡◌, ℕ, ◌+◌, ◌<◌, ◌≤◌, ◌==◌, nat_le, max, Option, Some, None, is_some, is_none, option_map, option_and_then, Bool, true, false, ◌&&◌, if◌then◌else◌, Result, Ok, Err, OnOk, OnErr, List, [], ◌∷◌, ◌++◌, filter, IsTrue, not, refl, sym, ap, subst, ◌∙◌, arith, append-nil}
 use Rattle.std.specs.Prelude.{⊤}
 use Rattle.std.specs.Cmp.Derive.{both_true}
 use Rattle.std.specs.List.{find, list_any}
@@ -17,6 +17,10 @@ use Rattle.zb_views.specs.MessageLaws.{buffered_published, buffered_expired}
 use Rattle.zb_views.specs.ViewLaws.{definitions_more, begun_more, buffered_kept, greatest_counter_more}
 use Rattle.zb_rules.specs.GrowthLaws.{board_of_more}
 use Rattle.zb_views.specs.Definitions.{definition_told}
+use Rattle.zb_views.specs.Standing.{standing_by}
+use Rattle.zb_views.specs.StandingLaws.{standing_more}
+use Rattle.zb_views.specs.declared.distribution.Distribution.{Distribution}
+use Rattle.zb_views.specs.Distributions.{distribution_to, is_that, distribution_told, ends_distribution, distributions}
 use Rattle.zb_views.specs.Begin.{begun_told}
 use Rattle.zb_tokens.specs.Board.{Board}
 use Rattle.zb_rules.specs.Shown.{shown, after_shown, board_of, event_of}
@@ -36,7 +40,7 @@ use Rattle.zb_views.specs.Jobs.{jobs, job_on, ending_told, calls_off_job, called
 use Rattle.zb_views.specs.JobLaws.{jobs_by, jobs_more, jobs_kept, called_off_more}
 use Rattle.zb_views.specs.Timers.{timers}
 use Rattle.zb_views.specs.TimerLaws.{timers_by, timers_more, timers_kept}
-use Rattle.zb_state.specs.Change.{change_told, definition_of_change, instance_of_change, with_change, jobs_with, timers_with, called_off_by, HasNextKey, IsFirstOfCell, Draws, BeginsWait}
+use Rattle.zb_state.specs.Change.{change_told, distributions_with, definition_of_change, instance_of_change, with_change, jobs_with, timers_with, called_off_by, HasNextKey, IsFirstOfCell, Draws, BeginsWait}
 use Rattle.zb_state.specs.State.{IsStateOf, IsSameBeside, GoesBy, IsNoted, HasTaken}
 use Rattle.zb_state.specs.declared.state.State.{State}
 
@@ -65,6 +69,19 @@ instance_made (events.ProcessInstanceCreationCreated i) = refl
 instance_made (events.MessagePublished m) = refl
 instance_made (events.MessageExpired key) = refl
 instance_made e = refl
+
+-- the distributions that an event leaves, and the one that it begins
+all_kept : (ds : List Distribution) → filter (λ d. not false) ds ≡ ds
+all_kept [] = refl
+all_kept (d ∷ ds) = ap (λ (l : List Distribution). d ∷ l) (all_kept ds)
+
+distributions_made : (e : Event) (ds : List Distribution) → standing_by distribution_told ends_distribution e ds ≡ distributions_with (change_told e) ds
+distributions_made (events.CommandDistributionDistributing e) ds = ap (λ (l : List Distribution). l ++ distribution_to e.key e.partition ∷ []) (all_kept ds)
+distributions_made (events.CommandDistributionAcknowledged e) ds = append-nil (filter (λ d. not (is_that e.key e.partition d)) ds)
+distributions_made e ds = append-nil (filter (λ d. not false) ds) ∙ all_kept ds
+
+distributions_more : (es : List Event) (e : Event) → distributions (es ++ e ∷ []) ≡ distributions_with (change_told e) (distributions es)
+distributions_more es e = standing_more distribution_told ends_distribution es e ∙ distributions_made e (distributions es)
 
 -- the key of a message
 abbrev key : MessagePublished → ℕ
@@ -170,6 +187,7 @@ state_more es e found old mid new by is same applied played change counter noted
   counter = rw (noted.place, same.place, counter_more old.place es e, is.counter) (sym (rw (counter, same.counter, same.place) at noted.counter));
   messages = rw (messages_more es e, is.messages) (sym (rw (change, same.messages) at noted.messages));
   definitions = rw (definitions_more es e, is.definitions, definition_made e) (sym (rw (change, same.definitions) at noted.definitions));
+  distributions = rw (distributions_more es e, is.distributions) (sym (rw (change, same.distributions) at noted.distributions));
   begun = begun_more es e ∙ (instance_made e ∙ sym (rw change at noted.begun));
   jobs = rw (jobs_noted es e found by, is.jobs) (sym (rw same.jobs at noted.jobs));
   timers = rw (timers_noted es e found by, is.timers) (sym (rw same.timers at noted.timers));

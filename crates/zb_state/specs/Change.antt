@@ -1,5 +1,5 @@
 -- What an event changes beside the game and the counter.
-use Rattle.std.specs.Prelude.{◌≡◌, ℕ, ◌+◌, ◌<◌, ◌≤◌, ◌^◌, ◌==◌, List, [], ◌∷◌, ◌++◌, Bool, true, false, IsTrue, is_none, Option, Some, None, option_map, option_and_then}
+use Rattle.std.specs.Prelude.{◌≡◌, ℕ, ◌+◌, ◌<◌, ◌≤◌, ◌^◌, ◌==◌, List, [], ◌∷◌, ◌++◌, filter, not, Bool, true, false, IsTrue, is_none, Option, Some, None, option_map, option_and_then}
 use Rattle.std.specs.List.{find}
 use Rattle.zb_base.specs.Key.{key_of}
 use Rattle.zb_exchange_records.specs.declared.message.MessagePublished.{MessagePublished}
@@ -7,6 +7,8 @@ use Rattle.zb_model.specs.declared.record.Event.{Event}
 use Rattle.zb_model.specs.declared.record.Event.TheVariants as events
 use Rattle.zb_views.specs.declared.begun.Begun.{Begun}
 use Rattle.zb_views.specs.declared.definition.Definition.{Definition}
+use Rattle.zb_views.specs.declared.distribution.Distribution.{Distribution}
+use Rattle.zb_views.specs.Distributions.{distribution_to, is_that}
 use Rattle.zb_views.specs.declared.job.Job.{Job}
 use Rattle.zb_views.specs.declared.timer.Timer.{Timer}
 use Rattle.zb_views.specs.TimerLaws.{timers_by}
@@ -22,6 +24,8 @@ change_told (events.ProcessCreated e) = changes.Defined (record { key = e.key; v
 change_told (events.ProcessInstanceCreationCreated i) = changes.Begun (record { key = i.key; definition = i.definition })
 change_told (events.MessagePublished m) = changes.Published m
 change_told (events.MessageExpired key) = changes.Expired key
+change_told (events.CommandDistributionDistributing e) = changes.SentOut (distribution_to e.key e.partition)
+change_told (events.CommandDistributionAcknowledged e) = changes.Arrived (distribution_to e.key e.partition)
 change_told _ = changes.Nothing
 
 -- the definition that is made
@@ -39,6 +43,12 @@ abbrev pub with_change : Change → List MessagePublished → List MessagePublis
 with_change (changes.Published m) messages = messages ++ m ∷ []
 with_change (changes.Expired key) messages = without_message key messages
 with_change _ messages = messages
+
+-- what a change makes of the distributions that are under way
+abbrev pub distributions_with : Change → List Distribution → List Distribution
+distributions_with (changes.SentOut d) ds = ds ++ d ∷ []
+distributions_with (changes.Arrived d) ds = filter (λ x. not (is_that d.definition d.partition x)) ds
+distributions_with _ ds = ds
 
 -- an event may show a move of the game
 abbrev pub may_show : Event → Bool

@@ -3,7 +3,7 @@ use Rattle.std.specs.Prelude.{◌≡◌, ℕ, max, List, [], ◌++◌, true, Opt
 use Rattle.zb_model.specs.declared.record.Event.{Event}
 use Rattle.zb_state.specs.declared.state.State.{State}
 use Rattle.zb_state.specs.declared.change.Change.{Change}
-use Rattle.zb_state.specs.Change.{change_told, with_change, definition_of_change, instance_of_change, jobs_with, timers_with, called_off_by}
+use Rattle.zb_state.specs.Change.{change_told, with_change, distributions_with, definition_of_change, instance_of_change, jobs_with, timers_with, called_off_by}
 use Rattle.zb_views.specs.View.{greatest_counter}
 use Rattle.zb_views.specs.Jobs.{jobs, called_off, ending_told}
 use Rattle.zb_views.specs.JobLaws.{says_nothing_of_jobs}
@@ -11,6 +11,7 @@ use Rattle.zb_views.specs.Timers.{timers}
 use Rattle.zb_views.specs.TimerLaws.{says_nothing_of_timers}
 use Rattle.zb_views.specs.Messages.{buffered}
 use Rattle.zb_views.specs.Definitions.{definitions}
+use Rattle.zb_views.specs.Distributions.{distributions}
 use Rattle.zb_views.specs.Begin.{begun}
 use Rattle.zb_rules.specs.Applies.{applies, all_apply}
 use Rattle.zb_rules.specs.Making.{Making}
@@ -26,6 +27,7 @@ pub record IsStateOf (es : List Event) (state : State) : Type 0 where
   pub counter : greatest_counter state.place es ≡ state.counter
   pub messages : buffered es ≡ state.messages
   pub definitions : definitions es ≡ state.definitions.items
+  pub distributions : distributions es ≡ state.distributions.items
   pub begun : begun es ≡ state.begun
   pub jobs : jobs es ≡ state.jobs
   pub timers : timers es ≡ state.timers
@@ -50,6 +52,7 @@ pub record IsSameBeside (old new : State) : Type 0 where
   pub counter : new.counter ≡ old.counter
   pub messages : new.messages ≡ old.messages
   pub definitions : new.definitions.items ≡ old.definitions.items
+  pub distributions : new.distributions.items ≡ old.distributions.items
   pub begun : new.begun ≡ old.begun
   pub jobs : new.jobs ≡ old.jobs
   pub timers : new.timers ≡ old.timers
@@ -61,6 +64,7 @@ pub record IsNoted (n : ℕ) (change : Change) (found : Option Event) (old new :
   pub counter : new.counter ≡ max old.counter n
   pub messages : new.messages ≡ with_change change old.messages
   pub definitions : new.definitions.items ≡ old.definitions.items ++ definition_of_change change
+  pub distributions : new.distributions.items ≡ distributions_with change old.distributions.items
   pub begun : new.begun ≡ instance_of_change change
   pub jobs : new.jobs ≡ jobs_with found old.jobs
   pub timers : new.timers ≡ timers_with found old.timers

@@ -5,7 +5,7 @@ ghost use Rattle.zb_state.specs.Change.{change_told};
 
 use std::alloc::{AllocError, Global};
 use zb_model::{Event, Key, MessagePublished, ProcessCreated, TryCopy};
-use zb_views::{Begun, Definition};
+use zb_views::{Begun, Definition, Distribution};
 
 /// What an event changes beside the game and the counter.
 #[derive(Drop)]
@@ -18,6 +18,10 @@ pub enum Change {
     Published(MessagePublished),
     /// The message with this key is buffered no more.
     Expired(Key),
+    /// A definition sets out for a partition.
+    SentOut(Distribution),
+    /// The partition has it.
+    Arrived(Distribution),
     Nothing,
 }
 
@@ -35,6 +39,14 @@ pub fn copied_change(alloc: Global, event: &Event) -> Result<Change, AllocError>
         })),
         Event::MessagePublished(message) => Ok(Change::Published(message.copy(alloc)?)),
         Event::MessageExpired(key) => Ok(Change::Expired(*key)),
+        Event::CommandDistributionDistributing(sent) => Ok(Change::SentOut(Distribution {
+            definition: sent.key,
+            partition: sent.partition,
+        })),
+        Event::CommandDistributionAcknowledged(told) => Ok(Change::Arrived(Distribution {
+            definition: told.key,
+            partition: told.partition,
+        })),
         _ => Ok(Change::Nothing),
     }
 }

@@ -1,7 +1,7 @@
 // Process definitions, in a list.
 ghost use Rattle.std.specs.Prelude.{◌≡◌, ◌==◌, ◌&&◌, max, option_map, if◌then◌else◌};
 ghost use Rattle.std.specs.Option.{option_map_or};
-ghost use Rattle.std.specs.List.{list_any};
+ghost use Rattle.std.specs.List.{find, list_any};
 ghost use Rattle.std.specs.Str.{bytes_eq};
 ghost use Rattle.zb_views.specs.Definitions.{greatest_version, version_of};
 
@@ -18,6 +18,18 @@ pub fn has_key(key: Key, definitions: &[Definition]) -> bool
         }
     }
     false
+}
+
+/// The version of the definition with a key. It goes through the definitions up to it.
+pub fn version_under(key: Key, definitions: &[Definition]) -> Option<u32>
+    ensures { result ≡ option_map (λ d. d.version) (find (λ d. d.key == key) definitions.now) }
+{
+    for definition in definitions {
+        if definition.key == key {
+            return Some(definition.version);
+        }
+    }
+    None
 }
 
 /// The greatest version of a process, or 0. It goes through all definitions.

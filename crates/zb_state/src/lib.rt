@@ -4,6 +4,7 @@
 mod buffered;
 mod change;
 mod definitions;
+mod distributions;
 mod keys;
 mod moves;
 mod out;

@@ -1,4 +1,4 @@
-ghost use Rattle.std.specs.Prelude.{◌≡◌, ◌↔◌, ◌==◌, nat_le, ◌&&◌, ◌<◌, ◌+◌, ◌^◌, max, false, ℕ, List, [], ◌∷◌, ◌++◌, IsTrue, IsFalse, IsErrOf, IfOk, IfErr, OnOk, Some, is_none, is_some, option_map, option_and_then};
+ghost use Rattle.std.specs.Prelude.{◌≡◌, ◌↔◌, ◌==◌, nat_le, ◌&&◌, ◌<◌, ◌+◌, ◌^◌, max, not, false, ℕ, List, [], ◌∷◌, ◌++◌, IsTrue, IsFalse, IsErrOf, IfOk, IfErr, OnOk, Some, is_none, is_some, option_map, option_and_then};
 ghost use Rattle.std.specs.List.{list_any};
 ghost use Rattle.std.specs.Option.{option_copied, option_map_or};
 ghost use Rattle.zb_base.specs.Key.{key_of};
@@ -20,6 +20,7 @@ ghost use Rattle.zb_views.specs.TimerLaws.{timers_by};
 ghost use Rattle.zb_tokens.specs.Incidents.{incident_on};
 ghost use Rattle.zb_base.specs.Vars.{value_named};
 ghost use Rattle.zb_tokens.specs.Names.{holder_of, value_seen};
+ghost use Rattle.zb_views.specs.Distributions.{is_distributed};
 ghost use Rattle.zb_views.specs.Definitions.{definitions, definition_for, greatest_version};
 ghost use Rattle.zb_faults.specs.Faults.{is_well_formed};
 ghost use Rattle.zb_rules.specs.Settling.{turn_of, turn_with, HasQuietGame};
@@ -34,14 +35,15 @@ ghost use Rattle.zb_state.specs.Change.{change_told, jobs_with, timers_with, cal
 
 mod due;
 mod jobs;
+mod outbox;
 mod timers;
 
 use crate::buffered::{self, Buffered};
 use crate::change::{Change, copied_change};
-use crate::definitions;
 use crate::keys::greatest_counter_of;
 use crate::moves::{may_show, play};
 use crate::turn::{Turn, turn_by};
+use crate::{definitions, distributions};
 use std::alloc::{AllocError, Global};
 use std::mem;
 use zb_check::{ModelFault, check};
@@ -55,7 +57,7 @@ use zb_model::{
 use zb_table::Table;
 use zb_timers::Timers;
 use zb_tokens::{Incident, Mover, Phase};
-use zb_views::{Begun, Definition};
+use zb_views::{Begun, Definition, Distribution};
 
 /// What the events of a partition's log come to. Its clauses hold for all lists of events of which it is
 /// the state.
@@ -68,6 +70,8 @@ pub struct State {
     messages: Table<Buffered>,
     // The definitions, in the order in which they were made.
     definitions: Vec<Definition>,
+    // The distributions that are under way, in the order in which they began.
+    distributions: Vec<Distribution>,
     // The instance that the last event began, if it began one.
     begun: Option<Begun>,
     // The jobs that are there.
@@ -100,6 +104,7 @@ impl State {
             counter: 0,
             messages: Table::empty(alloc),
             definitions: Vec::new(alloc),
+            distributions: Vec::new(alloc),
             begun: None,
             jobs: Jobs::empty(alloc),
             timers: Timers::empty(alloc),
@@ -206,6 +211,13 @@ impl State {
         ensures { (es : List Event) → IsStateOf es self.now → result ≡ option_map (λ d. d.key) (definition_for process.now version es) }
     {
         definitions::definition_for(process, version, &self.definitions)
+    }
+
+    /// Whether a definition has this key. It goes through all definitions.
+    pub fn has_definition(&self, key: Key) -> bool
+        ensures { (es : List Event) → IsStateOf es self.now → result ≡ has_definition key es }
+    {
+        definitions::has_key(key, &self.definitions)
     }
 
     /// The greatest version of a process, or 0. It goes through all definitions.
@@ -388,10 +400,12 @@ impl State {
             }
             Event::MessagePublished(message) => Ok(self.is_fresh(message.key)),
             Event::MessageExpired(key) => Ok(self.messages.contains(*key)),
-            Event::CommandDistributionDistributing(_)
-            | Event::CommandDistributionAcknowledged(_)
-            | Event::CommandDistributionFinished(_)
-            | Event::ElementMigrated(_)
+            Event::CommandDistributionDistributing(sent) => Ok(self.has_definition(sent.key)),
+            Event::CommandDistributionAcknowledged(told) => {
+                Ok(self.is_distributed_to(told.key, told.partition))
+            }
+            Event::CommandDistributionFinished(key) => Ok(self.has_arrived(*key)),
+            Event::ElementMigrated(_)
             | Event::ProcessInstanceMigrationMigrated(_)
             | Event::MessageStartEventSubscriptionCorrelated(_)
             | Event::MessageSubscriptionCreated(_)
@@ -428,7 +442,15 @@ impl State {
         ensures { (es : List Event) → IsStateOf es self.now
             → result ≡ (is_fresh (partition_of self.now) es key && has_definition definition es) }
     {
-        self.is_fresh(key) && definitions::has_key(definition, &self.definitions)
+        self.is_fresh(key) && self.has_definition(definition)
+    }
+
+    // Whether the definition is there, and on its way to no partition.
+    fn has_arrived(&self, definition: Key) -> bool
+        ensures { (es : List Event) → IsStateOf es self.now
+            → result ≡ (has_definition definition es && not (is_distributed definition es)) }
+    {
+        self.has_definition(definition) && !self.is_distributed(definition)
     }
 
     // Whether the cell that begins is plain, and begins an instance or stands in its scope.
@@ -563,6 +585,7 @@ impl State {
         ensures counter { OnOk result (self.new.counter ≡ max self.old.counter counter) }
         ensures messages { self.new.messages ≡ self.old.messages }
         ensures definitions { self.new.definitions ≡ self.old.definitions }
+        ensures distributions { self.new.distributions ≡ self.old.distributions }
         ensures jobs { OnOk result (self.new.jobs ≡ jobs_with (option_copied event.entry) self.old.jobs) }
         ensures timers { OnOk result (self.new.timers ≡ timers_with (option_copied event.entry) self.old.timers) }
         ensures called_off { OnOk result (self.new.called_off ≡ called_off_by (option_copied event.entry) self.old.jobs) }
@@ -613,6 +636,14 @@ impl State {
             }
             Change::Expired(key) => {
                 self.messages.remove(key);
+                Ok(())
+            }
+            Change::SentOut(distribution) => {
+                self.distributions.push(distribution)?;
+                Ok(())
+            }
+            Change::Arrived(distribution) => {
+                distributions::end(&mut self.distributions, distribution);
                 Ok(())
             }
             Change::Nothing => Ok(()),

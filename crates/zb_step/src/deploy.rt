@@ -1,8 +1,8 @@
 // Deploying a model.
-ghost use Rattle.std.specs.Prelude.{◌≡◌, List, [], ◌∷◌, IfOk, string_bytes};
+ghost use Rattle.std.specs.Prelude.{◌≡◌, ◌≤◌, ◌++◌, List, [], ◌∷◌, IfOk, OnOk, string_bytes};
 ghost use Rattle.zb_model.specs.declared.record.Event.{Event};
 ghost use Rattle.zb_model.specs.declared.record.Event.TheVariants as events;
-ghost use Rattle.zb_rules.specs.Deploy.{reason_to_deploy, version_behind, definition_of, deployed};
+ghost use Rattle.zb_rules.specs.Deploy.{reason_to_deploy, version_behind, definition_of, sent_to_all, deployed};
 ghost use Rattle.zb_faults.specs.Faults.{fault_text};
 ghost use Rattle.zb_state.specs.State.{partition_of, IsStateOf};
 ghost use Rattle.zb_rules.specs.Sound.{HasKeys};
@@ -12,7 +12,8 @@ use std::alloc::{AllocError, Global};
 use zb_check::{ModelFault, check};
 use zb_faults::Fault;
 use zb_model::{
-    DeploymentCreated, Event, List, Model, ProcessCreated, Rejection, RejectionKind, TryCopy,
+    CommandDistributionDistributing, DeploymentCreated, Event, Key, List, Model, ProcessCreated,
+    Rejection, RejectionKind, TryCopy,
 };
 use zb_state::State;
 
@@ -44,22 +45,46 @@ fn text_of_fault(alloc: Global, fault: Fault, id: &str) -> Result<String, AllocE
     Ok(text)
 }
 
-/// The events of a model that is deployed, where two keys are left: its definition, and the deployment.
-#[tactic(auto, using(crate::proofs::DeployLemmas::second_behind))]
-pub fn own(alloc: Global, state: &State, model: &Model) -> Result<List<Event>, AllocError>
-    requires { (es : List Event) → IsStateOf es state.now → HasKeys (partition_of state.now) es 2 }
-    ensures { (es : List Event) → IsStateOf es state.now → IfOk result (λ events. events ≡ deployed (partition_of state.now) model.now es) }
+/// The events of a model that is deployed at one of so many partitions, where two keys are left: its definition, the
+/// deployment, and that the definition sets out for each partition but the first.
+pub fn own(
+    alloc: Global,
+    state: &State,
+    partitions: u32,
+    model: &Model,
+) -> Result<List<Event>, AllocError>
+    requires keys { (es : List Event) → IsStateOf es state.now → HasKeys (partition_of state.now) es 2 }
+    requires most { partitions ≤ 16 }
+    ensures { (es : List Event) → IsStateOf es state.now
+        → IfOk result (λ events. events ≡ deployed (partition_of state.now) partitions model.now es) }
 {
     let definition = definition(alloc, state, model)?;
+    let key = state.next_key();
     let deployment = DeploymentCreated {
         key: state.second_key(),
-        definition: state.next_key(),
+        definition: key,
     };
-    both(
+    let mut events = both(
         alloc,
         Event::ProcessCreated(definition),
         Event::DeploymentCreated(deployment),
-    )
+    )?;
+    send_to_all(key, partitions, &mut events)?;
+    Ok(events)
+}
+
+// Adds the events by which a definition sets out for each of so many partitions but the first.
+fn send_to_all(definition: Key, partitions: u32, events: &mut List<Event>) -> Result<(), AllocError>
+    requires { partitions ≤ 16 }
+    ensures { OnOk result (events.new ≡ events.old ++ sent_to_all definition partitions) }
+{
+    for partition in 2..partitions + 1 {
+        events.push(Event::CommandDistributionDistributing(CommandDistributionDistributing {
+            key: definition,
+            partition,
+        }))?;
+    }
+    Ok(())
 }
 
 // The definition of a model that is deployed.

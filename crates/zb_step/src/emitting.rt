@@ -1,4 +1,4 @@
-ghost use Rattle.std.specs.Prelude.{◌≡◌, ◌++◌, ℕ, List, [], Some, None, IsTrue, IsFalse, OnOk};
+ghost use Rattle.std.specs.Prelude.{◌≡◌, ◌≤◌, ◌++◌, ℕ, List, [], Some, None, IsTrue, IsFalse, OnOk};
 ghost use Rattle.zb_model.specs.declared.record.Event.{Event};
 ghost use Rattle.zb_rules.specs.Reason.{reason_for};
 ghost use Rattle.zb_rules.specs.Own.{IsSupported, own_events};
@@ -8,27 +8,29 @@ ghost use Rattle.zb_state.specs.State.{partition_of, IsStateOf, IsReached, Admit
 ghost use Rattle.zb_step.specs.AtOnce.{IsMadeAtOnce, made_one_by_one};
 
 use crate::own::own_events;
-use crate::{activate, cancel, complete, fail, trigger, update};
+use crate::{acknowledge, activate, cancel, complete, fail, trigger, update};
 use std::alloc::{AllocError, Global};
 use zb_model::{Command, Event, List, Moment};
 use zb_state::{Out, State};
 
-/// Makes a command's own events, where there is no reason against it. Each event costs what `Out::put` does.
-/// Where two keys aren't left it is answered as want of memory. After a refusal the state and the events are
-/// only dropped.
+/// Makes a command's own events at one of so many partitions, where there is no reason against it. Each event
+/// costs what `Out::put` does. Where two keys aren't left it is answered as want of memory. After a refusal the
+/// state and the events are only dropped.
 pub fn emit(
     alloc: Global,
     state: &mut State,
+    partitions: u32,
     moment: Moment,
     command: &Command,
     out: &mut Out,
 ) -> Result<(), AllocError>
+    requires most { partitions ≤ 16 }
     requires run { IsSupported command.now }
     requires none { out.old ≡ [] }
     requires reached { IsReached state.old }
     requires unrefused { (es : List Event) → IsStateOf es state.old → reason_for es moment command.now ≡ None }
-    ensures own { (n : ℕ) (es : List Event) → IsStateOf es state.old
-        → OnOk result (own_events (partition_of state.old) n es moment command.now ≡ Some out.new) }
+    ensures own { (es : List Event) → IsStateOf es state.old
+        → OnOk result (own_events (partition_of state.old) partitions es moment command.now ≡ Some out.new) }
     ensures state { (es : List Event) → IsStateOf es state.old → OnOk result (IsStateOf (es ++ out.new) state.new) }
     ensures place { partition_of state.new ≡ partition_of state.old }
     ensures reached { OnOk result (IsReached state.new) }
@@ -40,7 +42,7 @@ pub fn emit(
     if is_made_one_by_one(command) {
         return put_one_by_one(alloc, state, moment, command, out);
     }
-    let events = own_events(alloc, state, moment, command)?;
+    let events = own_events(alloc, state, partitions, moment, command)?;
     put_all(alloc, state, events, out)
 }
 
@@ -58,6 +60,7 @@ fn is_made_one_by_one(command: &Command) -> bool
             | Command::JobComplete(_)
             | Command::JobFail(_)
             | Command::TimerTrigger(_)
+            | Command::CommandDistributionAcknowledge(_)
     )
 }
 
@@ -83,6 +86,9 @@ fn put_one_by_one(
         Command::JobComplete(done) => complete::put_own(alloc, state, done, out),
         Command::JobFail(failed) => fail::put_own(alloc, state, failed, out),
         Command::TimerTrigger(key) => trigger::put_own(alloc, state, moment, *key, out),
+        Command::CommandDistributionAcknowledge(told) => acknowledge::put_own(
+            alloc, state, told, out,
+        ),
         _ => Ok(()),
     }
 }

@@ -1,6 +1,7 @@
 //! What a command leads to: why it is rejected, or the events that it makes and those that they force.
 #![tactic(auto)]
 
+mod acknowledge;
 mod activate;
 mod assigning;
 mod behind;
@@ -8,6 +9,7 @@ mod cancel;
 mod complete;
 mod create;
 mod deploy;
+mod distribute;
 mod emitting;
 mod expire;
 mod fail;

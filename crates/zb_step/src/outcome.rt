@@ -1,4 +1,4 @@
-ghost use Rattle.std.specs.Prelude.{◌≡◌, ◌++◌, ℕ, List, None, IfOk, OnOk};
+ghost use Rattle.std.specs.Prelude.{◌≡◌, ◌≤◌, ◌++◌, List, None, IfOk, OnOk};
 ghost use Rattle.zb_model.specs.declared.record.Event.{Event};
 ghost use Rattle.zb_views.specs.View.{events_in};
 ghost use Rattle.zb_rules.specs.Reason.{reason_for};
@@ -13,25 +13,28 @@ use std::alloc::{AllocError, Global};
 use zb_model::{Command, Moment, Outcome};
 use zb_state::{Out, State};
 
-/// What a command leads to at this moment: its rejection, exactly where there is a reason, or its own events
-/// and what they force. The state is then that of the events with these. After a refusal it is only dropped.
+/// What a command leads to at this moment, at one of so many partitions: its rejection, exactly where there is a
+/// reason, or its own events and what they force. The state is then that of the events with these. After a refusal
+/// it is only dropped.
 pub fn outcome_of(
     alloc: Global,
     state: &mut State,
+    partitions: u32,
     moment: Moment,
     command: &Command,
 ) -> Result<Outcome, AllocError>
+    requires most { partitions ≤ 16 }
     requires run { IsSupported command.now }
     requires reached { IsReached state.old }
-    ensures outcome { (n : ℕ) (es : List Event) → IsStateOf es state.old
-        → IfOk result (IsOutcomeOf (partition_of state.old) n moment es command.now) }
+    ensures outcome { (es : List Event) → IsStateOf es state.old
+        → IfOk result (IsOutcomeOf (partition_of state.old) partitions moment es command.now) }
     ensures state { (es : List Event) → IsStateOf es state.old → IfOk result (λ outcome. IsStateOf (es ++ events_in outcome) state.new) }
     ensures place { partition_of state.new ≡ partition_of state.old }
     ensures reached { OnOk result (IsReached state.new) }
 {
     match reason(alloc, state, moment, command)? {
         Some(rejection) => Ok(Outcome::Rejected(rejection)),
-        None => run(alloc, state, moment, command),
+        None => run(alloc, state, partitions, moment, command),
     }
 }
 
@@ -39,20 +42,22 @@ pub fn outcome_of(
 fn run(
     alloc: Global,
     state: &mut State,
+    partitions: u32,
     moment: Moment,
     command: &Command,
 ) -> Result<Outcome, AllocError>
+    requires most { partitions ≤ 16 }
     requires run { IsSupported command.now }
     requires reached { IsReached state.old }
     requires unrefused { (es : List Event) → IsStateOf es state.old → reason_for es moment command.now ≡ None }
-    ensures acceptance { (n : ℕ) (es : List Event) → IsStateOf es state.old
-        → IfOk result (IsAcceptance (partition_of state.old) n moment es command.now) }
+    ensures acceptance { (es : List Event) → IsStateOf es state.old
+        → IfOk result (IsAcceptance (partition_of state.old) partitions moment es command.now) }
     ensures state { (es : List Event) → IsStateOf es state.old → IfOk result (λ outcome. IsStateOf (es ++ events_in outcome) state.new) }
     ensures place { partition_of state.new ≡ partition_of state.old }
     ensures reached { OnOk result (IsReached state.new) }
 {
     let mut out = Out::new(alloc)?;
-    emit(alloc, state, moment, command, &mut out)?;
+    emit(alloc, state, partitions, moment, command, &mut out)?;
     settle(alloc, state, moment, &mut out)?;
     Ok(Outcome::Accepted(out.events()))
 }

@@ -4,15 +4,17 @@ ghost use Rattle.zb_rules.specs.Reason.{reason_for};
 ghost use Rattle.zb_state.specs.State.{IsStateOf};
 
 use crate::{
-    activate, cancel, create, deploy, expire, go_on, jobs, publish, resolve, trigger, update,
+    acknowledge, activate, cancel, create, deploy, distribute, expire, go_on, jobs, publish,
+    resolve, trigger, update,
 };
 use std::alloc::{AllocError, Global};
 use zb_model::{Command, Moment, Rejection};
 use zb_state::State;
 
-/// Why a command is rejected at this moment, if there is a reason. A model costs its check, an instance a walk
-/// over the definitions, an expiry or a message with an id one over those that are buffered, a timer what `State::timer`
-/// and `State::waits_for` do, and a command to go on what `State::quiet` does.
+/// Why a command is rejected at this moment, if there is a reason. A model costs its check, an instance or a model
+/// that another partition sends a walk over the definitions, an acknowledgement one over the distributions that are
+/// under way, an expiry or a message with an id one over those that are buffered, a timer what `State::timer` and
+/// `State::waits_for` do, and a command to go on what `State::quiet` does.
 pub fn reason(
     alloc: Global,
     state: &State,
@@ -37,6 +39,8 @@ pub fn reason(
         Command::MessagePublish(message) => publish::reason(alloc, state, message),
         Command::MessageExpire(key) => expire::reason(alloc, state, moment, *key),
         Command::ProcessInstanceBatchContinue => go_on::reason(alloc, state),
+        Command::DeploymentDistribute(sent) => distribute::reason(alloc, state, sent),
+        Command::CommandDistributionAcknowledge(told) => acknowledge::reason(alloc, state, told),
         _ => Ok(None),
     }
 }

@@ -34,8 +34,33 @@ pub fn wrong_state(
 ) -> Result<Rejection, AllocError>
     ensures { IfOk result (λ rejection. rejection ≡ record { kind = RejectionKind.InvalidState; reason = front.now ++ (decimal key ++ behind.now) }) }
 {
+    rejection_of(alloc, RejectionKind::InvalidState, front, key, behind)
+}
+
+/// The rejection where what has this key is there already. What it is stands in front of the key, and that behind.
+pub fn in_the_way(
+    alloc: Global,
+    front: &str,
+    key: Key,
+    behind: &str,
+) -> Result<Rejection, AllocError>
+    ensures { IfOk result (λ rejection. rejection ≡ record { kind = RejectionKind.AlreadyExists; reason = front.now ++ (decimal key ++ behind.now) }) }
+{
+    rejection_of(alloc, RejectionKind::AlreadyExists, front, key, behind)
+}
+
+// The rejection of this kind, that says what stands in front of a key, the key, and what stands behind it.
+fn rejection_of(
+    alloc: Global,
+    kind: RejectionKind,
+    front: &str,
+    key: Key,
+    behind: &str,
+) -> Result<Rejection, AllocError>
+    ensures { IfOk result (λ rejection. rejection ≡ record { kind = kind; reason = front.now ++ (decimal key ++ behind.now) }) }
+{
     let mut text = String::from_str(alloc, front)?;
     text.write(key.number())?;
     text.push_str(behind)?;
-    rejection(alloc, RejectionKind::InvalidState, text.as_str())
+    rejection(alloc, kind, text.as_str())
 }

@@ -1,4 +1,4 @@
-//! Tests of disks, logs, streams, lines and words. They stand in a crate of their own, so that what they test is
+//! Tests of disks, logs, streams, lines, words and workloads. They stand in a crate of their own, so that what they test is
 //! proved once.
 #![tactic(auto)]
 
@@ -12,3 +12,5 @@ mod logs;
 mod streams;
 #[cfg(test)]
 mod words;
+#[cfg(test)]
+mod workloads;

@@ -1,5 +1,5 @@
 -- Laws of the jobs as a log grows by an event.
-use Rattle.std.proofs.Common.{◌≡◌, List, [], ◌∷◌, ◌++◌, map, filter, not, Bool, true, false, ◌||◌, if◌then◌else◌, Option, Some, None, refl, sym, ap, ◌∙◌, append_assoc, append-nil, arith}
+use Rattle.std.proofs.Common.{◌≡◌, List, [], ◌∷◌, ◌++◌, map, filter, not, Bool, true, false, ◌||◌, if◌then◌else◌, Option, Some, None, refl, sym, ap, ◌∙◌, append_assoc, append-nil}
 use Rattle.std.specs.Option.{option_map_or, option_or}
 use Rattle.std.specs.List.{list_any}
 use Rattle.std.proofs.lemmas.List.{map-append}
@@ -11,6 +11,7 @@ use Rattle.zb_model.specs.declared.record.Event.TheVariants as events
 use Rattle.zb_views.specs.declared.job.Job.{Job}
 use Rattle.zb_views.specs.declared.job.JobPhase.TheVariants as phases
 use Rattle.zb_views.specs.Told.{last_told}
+use Rattle.zb_views.specs.ToldLaws.{last_told_more}
 use Rattle.zb_views.specs.Jobs.{job_told, ends_job, phase_told, retries_told, deadline_told, job_behind, unended, jobs, calls_off_job, called_off_behind, called_off}
 
 -- the job as one event more says
@@ -29,11 +30,6 @@ job_made (Some made) = job_behind made [] ∷ []
 -- what an event makes of the jobs: those that it ends are gone, the others are as it says, and the one that it makes is behind them
 abbrev pub jobs_by : Event → List Job → List Job
 jobs_by e js = map (job_changed e) (filter (λ j. not (ends_job j.key j.cell e)) js) ++ job_made (job_told e)
-
--- what the last event tells, once there is one more
-pub last_told_more : {A : Type 0} (tell : Event → Option A) (es : List Event) (e : Event) → last_told tell (es ++ e ∷ []) ≡ option_or (tell e) (last_told tell es)
-last_told_more tell [] e = grind arith
-last_told_more tell (x ∷ es) e = rw (last_told_more tell es e) (grind arith)
 
 -- what an event more leaves of jobs that were there
 abbrev kept_by : Event → List Job → List Job

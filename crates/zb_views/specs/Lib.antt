@@ -2,8 +2,13 @@ pub mod View
 pub mod Messages
 pub mod MessageLaws
 pub mod Definitions
+pub mod Standing
+pub mod StandingLaws
+pub mod Distributions
 pub mod Begin
 pub mod Told
+pub mod ToldLaws
+pub mod Processes
 pub mod Jobs
 pub mod JobLaws
 pub mod Timers

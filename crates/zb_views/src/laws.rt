@@ -6,6 +6,8 @@ ghost use Rattle.zb_table.specs.Rows.{Ascend};
 ghost use Rattle.zb_views.specs.Messages.{buffered, without_message};
 ghost use Rattle.zb_views.specs.Jobs.{jobs, calls_off_job, called_off};
 ghost use Rattle.zb_views.specs.JobLaws.{jobs_by, says_nothing_of_jobs};
+ghost use Rattle.zb_views.specs.Standing.{standing_by};
+ghost use Rattle.zb_views.specs.Distributions.{distribution_told, ends_distribution, distributions};
 ghost use Rattle.zb_views.specs.Timers.{timers, times_timer_made, times_timer_ended, all_fit_timers};
 ghost use Rattle.zb_views.specs.TimerLaws.{timers_by, says_nothing_of_timers};
 
@@ -26,6 +28,12 @@ pub fn jobs_grow()
 pub fn timers_grow()
     ensures more { (es : List Event) (e : Event) → timers (es ++ e ∷ []) ≡ timers_by e (timers es) }
     ensures kept { (es : List Event) (e : Event) → says_nothing_of_timers e ≡ true → timers (es ++ e ∷ []) ≡ timers es }
+{}
+
+/// What an event more makes of the distributions that are under way.
+pub fn distributions_grow()
+    ensures { (es : List Event) (e : Event) → distributions (es ++ e ∷ [])
+        ≡ standing_by distribution_told ends_distribution e (distributions es) }
 {}
 
 /// In a log whose events fit its timers, where one that makes a timer has a greater key than all that were made before,

@@ -1,14 +1,17 @@
-//! Views of a partition's log: what its events say of keys, definitions, instances and messages.
+//! Views of a partition's log: what its events say of keys, definitions, distributions, instances, jobs, timers and
+//! messages.
 #![tactic(auto)]
 
 mod begun;
 mod definition;
+mod distribution;
 mod job;
 mod laws;
 mod timer;
 
 pub use begun::Begun;
 pub use definition::Definition;
+pub use distribution::Distribution;
 pub use job::{Job, JobPhase};
-pub use laws::{buffered_grows, jobs_grow, timers_end_once, timers_grow};
+pub use laws::{buffered_grows, distributions_grow, jobs_grow, timers_end_once, timers_grow};
 pub use timer::Timer;

@@ -74,7 +74,7 @@ request_in_within given value r found =
     let members = made (members_in value) (λ members. op_in value >>= (λ name. request_for given name members value)) r found in
     let name = made (op_in value) (λ name. request_for given name members.value value) r members.goes in
     let op = made (or_fault faults.UnknownOp (op_named given name.value)) (λ op. request_with given op members.value value) r name.goes in
-    let fine = not_faulty (fault_in given op.value.fields members.value value) (op.value.request value) r op.goes in
+    let fine = not_faulty (fault_in given op.value.fields members.value value) (op.value.request given value) r op.goes in
     record {
       op = op.value;
       value = value;

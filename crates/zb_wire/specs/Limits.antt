@@ -13,5 +13,5 @@ pub record IsWithinLimits (given : Given) (request : Request) : Type 0 where
   pub op : Op
   pub value : Data
   pub row : Contains ops op
-  pub made : op.request value ≡ request
+  pub made : op.request given value ≡ request
   pub within : All (λ f. is_within given value f ≡ true) op.fields

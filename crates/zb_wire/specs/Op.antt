@@ -12,7 +12,7 @@ pub record Op : Type 0 where
   pub name : List ℕ
   pub by_hand : Bool
   pub fields : List FieldRule
-  pub request : Data → Request
+  pub request : Given → Data → Request
 
 -- a request, unless there is a fault
 abbrev pub unless_faulty : Option LineFault → Request → Result Request LineFault
@@ -21,4 +21,4 @@ unless_faulty (Some fault) request = Err fault
 
 -- the request of this op that a value is
 abbrev pub request_with : Given → Op → Members → Data → Result Request LineFault
-request_with given op members d = unless_faulty (fault_in given op.fields members d) (op.request d)
+request_with given op members d = unless_faulty (fault_in given op.fields members d) (op.request given d)

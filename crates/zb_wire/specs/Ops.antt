@@ -1,8 +1,9 @@
 -- The ops, a row for each, with what they ask for (Zeebe, the fields).
-use Rattle.std.specs.Prelude.{ℕ, List, [], ◌∷◌, codes, Bool, true, false, ◌&&◌, ◌||◌, not, Option}
+use Rattle.std.specs.Prelude.{ℕ, ◌+◌, ◌-◌, ◌%◌, max, List, [], ◌∷◌, codes, Bool, true, false, ◌&&◌, ◌||◌, not, is_some, if◌then◌else◌, Option}
 use Rattle.std.specs.List.{find}
 use Rattle.std.specs.Str.{bytes_eq}
 use Rattle.serde_json.specs.Data.{Data}
+use Rattle.serde_json.specs.Find.{get}
 use Rattle.zb_exchange_records.specs.declared.job.JobBatchActivate.{JobBatchActivate}
 use Rattle.zb_exchange_records.specs.declared.job.JobComplete.{JobComplete}
 use Rattle.zb_exchange_records.specs.declared.job.JobFail.{JobFail}
@@ -40,16 +41,20 @@ a_duration = kinds.Number 0 longest_duration
 abbrev pub a_key : Kind
 a_key = kinds.Number 0 18446744073709551615
 
+-- the partition that the fields of a line ask; where they name none, the lines of a session ask one after the other (own)
+abbrev pub partition_in : Given → Data → ℕ
+partition_in given d = if is_some (get (codes "partition") d) then short_count_at (codes "partition") d else (given.number - 1) % max given.partitions 1 + 1
+
 -- a deploy
 abbrev pub deploy : Op
 deploy = record {
   name = codes "deploy";
   by_hand = false;
   fields = must (codes "model") kinds.Model ∷ [];
-  request = λ d. requests.Deploy (model_at (codes "model") d);
+  request = λ given d. requests.Deploy (model_at (codes "model") d);
 }
 
--- the instance that the fields of a create ask for; the version 0 asks for the latest, and the partition isn't kept
+-- the instance that the fields of a create ask for; the version 0 asks for the latest
 abbrev pub creation_of : Data → ProcessInstanceCreationCreate
 creation_of d = record { process = text_in (codes "process") d; version = short_count_at (codes "version") d; variables = variables_of_field (codes "variables") d }
 
@@ -64,7 +69,7 @@ create = record {
       ∷ may (codes "variables") kinds.Variables
       ∷ may (codes "partition") kinds.Partition
       ∷ [];
-  request = λ d. requests.Create (creation_of d);
+  request = λ given d. requests.Create (partition_in given d) (creation_of d);
 }
 
 -- an op of this name whose one field is a key, which the request names
@@ -73,7 +78,7 @@ by_key name request_for = record {
   name = name;
   by_hand = false;
   fields = must (codes "key") a_key ∷ [];
-  request = λ d. request_for (count_at (codes "key") d);
+  request = λ given d. request_for (count_at (codes "key") d);
 }
 
 -- a cancel of an instance
@@ -94,14 +99,14 @@ set_variables = record {
       ∷ must (codes "variables") kinds.Variables
       ∷ may (codes "local") kinds.Flag
       ∷ [];
-  request = λ d. requests.Variables (update_of d);
+  request = λ given d. requests.Variables (update_of d);
 }
 
 -- so many tries of a job may be left (own)
 abbrev pub a_retry_count : Kind
 a_retry_count = kinds.Number 0 1000000
 
--- the jobs that the fields of an activate ask for; the partition isn't kept
+-- the jobs that the fields of an activate ask for
 abbrev pub activation_of : Data → JobBatchActivate
 activation_of d = record { kind = text_in (codes "type") d; worker = text_in (codes "worker") d; timeout = count_at (codes "timeout") d; most = short_count_at (codes "max") d }
 
@@ -117,7 +122,7 @@ activate_jobs = record {
       ∷ must (codes "max") (kinds.Number 1 1000)
       ∷ may (codes "partition") kinds.Partition
       ∷ [];
-  request = λ d. requests.Activate (activation_of d);
+  request = λ given d. requests.Activate (partition_in given d) (activation_of d);
 }
 
 -- the job that the fields of a complete end, with its results
@@ -130,7 +135,7 @@ complete_job = record {
   name = codes "complete";
   by_hand = false;
   fields = must (codes "key") a_key ∷ may (codes "variables") kinds.Variables ∷ [];
-  request = λ d. requests.Complete (completing_of d);
+  request = λ given d. requests.Complete (completing_of d);
 }
 
 -- the job that the fields of a fail say has failed
@@ -147,7 +152,7 @@ fail_job = record {
       ∷ must (codes "retries") a_retry_count
       ∷ may (codes "message") (kinds.Text longest_text)
       ∷ [];
-  request = λ d. requests.Fail (failure_of d);
+  request = λ given d. requests.Fail (failure_of d);
 }
 
 -- the job that the fields of a throw end, by an error of this code
@@ -160,7 +165,7 @@ throw_error = record {
   name = codes "throw";
   by_hand = false;
   fields = must (codes "key") a_key ∷ must (codes "code") a_name ∷ [];
-  request = λ d. requests.Throw (thrown_of d);
+  request = λ given d. requests.Throw (thrown_of d);
 }
 
 -- the tries that the fields of a retries line leave a job
@@ -173,7 +178,7 @@ update_retries = record {
   name = codes "retries";
   by_hand = false;
   fields = must (codes "key") a_key ∷ must (codes "retries") a_retry_count ∷ [];
-  request = λ d. requests.Retries (retries_of d);
+  request = λ given d. requests.Retries (retries_of d);
 }
 
 -- the message that the fields of a publish ask for
@@ -192,7 +197,7 @@ publish = record {
       ∷ may (codes "messageId") a_name
       ∷ may (codes "variables") kinds.Variables
       ∷ [];
-  request = λ d. requests.Publish (message_of d);
+  request = λ given d. requests.Publish (message_of d);
 }
 
 -- a resolving of an incident
@@ -201,7 +206,7 @@ resolve = by_key (codes "resolve") requests.Resolve
 
 -- a tick, which has no fields (own)
 abbrev pub tick : Op
-tick = record { name = codes "tick"; by_hand = false; fields = []; request = λ d. requests.Tick }
+tick = record { name = codes "tick"; by_hand = false; fields = []; request = λ given d. requests.Tick }
 
 -- an advance of the clock that is moved by hand (own)
 abbrev pub advance : Op
@@ -209,8 +214,12 @@ advance = record {
   name = codes "advance";
   by_hand = true;
   fields = must (codes "ms") a_duration ∷ [];
-  request = λ d. requests.Advance (count_at (codes "ms") d);
+  request = λ given d. requests.Advance (count_at (codes "ms") d);
 }
+
+-- a settle, which has no fields (own)
+abbrev pub settle : Op
+settle = record { name = codes "settle"; by_hand = false; fields = []; request = λ given d. requests.Settle }
 
 -- all of them
 abbrev pub ops : List Op
@@ -228,6 +237,7 @@ ops =
     ∷ resolve
     ∷ tick
     ∷ advance
+    ∷ settle
     ∷ []
 
 -- the op of a name in the code
@@ -245,6 +255,7 @@ op_of names.Publish = publish
 op_of names.Resolve = resolve
 op_of names.Tick = tick
 op_of names.Advance = advance
+op_of names.Settle = settle
 
 -- an op has this name, and wants no clock that is moved by hand, or that is given
 abbrev pub is_called : Given → List ℕ → Op → Bool

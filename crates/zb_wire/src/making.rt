@@ -1,7 +1,8 @@
-ghost use Rattle.std.specs.Prelude.{◌≡◌, IfOk};
+ghost use Rattle.std.specs.Prelude.{◌≡◌, ◌+◌, ◌-◌, ◌%◌, max, IfOk};
 ghost use Rattle.serde_json.specs.View.{view};
-ghost use Rattle.zb_wire.specs.Ops.{creation_of, update_of, activation_of, completing_of, failure_of, thrown_of, retries_of, message_of};
+ghost use Rattle.zb_wire.specs.Ops.{partition_in, creation_of, update_of, activation_of, completing_of, failure_of, thrown_of, retries_of, message_of};
 
+use crate::Given;
 use crate::values::{count_at, key_at, short_count_at, variables_at};
 use serde_json::Value as Json;
 use std::alloc::{AllocError, Global};
@@ -10,6 +11,25 @@ use zb_model::{
     ProcessInstanceCreationCreate, Text, VariableDocumentUpdate,
 };
 use zb_reader::{flag_in, text_in};
+
+/// The partition that the fields of a line ask; where they name none, the lines of a session ask one after the other.
+pub fn partition_in(given: Given, value: &Json) -> u32
+    ensures { result ≡ partition_in given (view value.now) }
+{
+    match value.get("partition") {
+        Some(_) => short_count_at(value, "partition"),
+        None => turn_of(given),
+    }
+}
+
+// The partition whose turn it is.
+fn turn_of(given: Given) -> u32
+    ensures { result ≡ (given.number - 1) % max given.partitions 1 + 1 }
+{
+    let partitions = given.partitions.max(1);
+    let behind = given.number.saturating_sub(1) % u64::from(partitions);
+    behind as u32 + 1
+}
 
 /// The instance that the fields of a create ask for.
 pub fn creation_in(alloc: Global, value: &Json) -> Result<ProcessInstanceCreationCreate, AllocError>

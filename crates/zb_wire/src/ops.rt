@@ -6,8 +6,8 @@ ghost use Rattle.zb_wire.specs.Reading.{field_of};
 use crate::fields::Field;
 use crate::kind::Kind;
 use crate::making::{
-    activation_in, completion_in, creation_in, failure_in, message_in, retries_in, thrown_in,
-    update_in,
+    activation_in, completion_in, creation_in, failure_in, message_in, partition_in, retries_in,
+    thrown_in, update_in,
 };
 use crate::values::{count_at, key_at, model_at};
 use crate::variables::{LONGEST_NAME, LONGEST_TEXT};
@@ -84,7 +84,7 @@ const PUBLISH: [Field; 5] = [
     Field::May("variables", Kind::Variables),
 ];
 
-const TICK: [Field; 0] = [];
+const NONE: [Field; 0] = [];
 
 const ADVANCE: [Field; 1] = [Field::Must("ms", DURATION)];
 
@@ -104,6 +104,7 @@ pub enum OpName {
     Resolve,
     Tick,
     Advance,
+    Settle,
 }
 
 impl OpName {
@@ -126,6 +127,7 @@ impl OpName {
             "resolve" => Some(OpName::Resolve),
             "tick" => Some(OpName::Tick),
             "advance" if given.manual => Some(OpName::Advance),
+            "settle" => Some(OpName::Settle),
             _ => None,
         }
     }
@@ -145,21 +147,27 @@ impl OpName {
             OpName::Throw => &THROW,
             OpName::Retries => &UPDATE_RETRIES,
             OpName::Publish => &PUBLISH,
-            OpName::Tick => &TICK,
+            OpName::Tick | OpName::Settle => &NONE,
             OpName::Advance => &ADVANCE,
         }
     }
 
     /// The request that a value with such fields is.
-    pub fn make(self, alloc: Global, value: &Json) -> Result<Request, AllocError>
-        ensures { IfOk result (λ request. request ≡ (op_of self).request (view value.now)) }
+    pub fn make(self, alloc: Global, given: Given, value: &Json) -> Result<Request, AllocError>
+        ensures { IfOk result (λ request. request ≡ (op_of self).request given (view value.now)) }
     {
         match self {
             OpName::Deploy => Ok(Request::Deploy(model_at(alloc, value, "model")?)),
-            OpName::Create => Ok(Request::Create(creation_in(alloc, value)?)),
+            OpName::Create => Ok(Request::Create {
+                partition: partition_in(given, value),
+                creation: creation_in(alloc, value)?,
+            }),
             OpName::Cancel => Ok(Request::Cancel(key_at(value, "key"))),
             OpName::Variables => Ok(Request::Variables(update_in(alloc, value)?)),
-            OpName::Activate => Ok(Request::Activate(activation_in(alloc, value)?)),
+            OpName::Activate => Ok(Request::Activate {
+                partition: partition_in(given, value),
+                activation: activation_in(alloc, value)?,
+            }),
             OpName::Complete => Ok(Request::Complete(completion_in(alloc, value)?)),
             OpName::Fail => Ok(Request::Fail(failure_in(alloc, value)?)),
             OpName::Throw => Ok(Request::Throw(thrown_in(alloc, value)?)),
@@ -168,6 +176,7 @@ impl OpName {
             OpName::Resolve => Ok(Request::Resolve(key_at(value, "key"))),
             OpName::Tick => Ok(Request::Tick),
             OpName::Advance => Ok(Request::Advance(count_at(value, "ms"))),
+            OpName::Settle => Ok(Request::Settle),
         }
     }
 }

@@ -96,7 +96,7 @@ fn request_with(
         Ok(Some(fault)) => return Err(fault),
         Err(AllocError) => return Err(LineFault::Memory),
     }
-    match op.make(alloc, value) {
+    match op.make(alloc, given, value) {
         Ok(request) => Ok(request),
         Err(AllocError) => Err(LineFault::Memory),
     }

@@ -1,21 +1,30 @@
-ghost use Rattle.std.specs.Prelude.{◌≡◌};
+ghost use Rattle.std.specs.Prelude.{◌≡◌, ◌≤◌};
 
 use zb_model::{
     Command, JobBatchActivate, JobComplete, JobFail, JobThrowError, JobUpdateRetries, Key,
-    MessagePublish, Model, ProcessInstanceCreationCreate, Text, VariableDocumentUpdate,
+    MessagePublish, Model, PartitionId, ProcessInstanceCreationCreate, Text,
+    VariableDocumentUpdate, home_of,
 };
+use zb_record::{partition_known, partition_of_key};
 
 /// What a line asks for.
 #[derive(Drop)]
 pub enum Request {
     Deploy(Model),
-    Create(ProcessInstanceCreationCreate),
+    /// To make an instance at a partition.
+    Create {
+        partition: u32,
+        creation: ProcessInstanceCreationCreate,
+    },
     /// To end the instance of this key.
     Cancel(Key),
     /// To set variables.
     Variables(VariableDocumentUpdate),
-    /// To give a worker jobs.
-    Activate(JobBatchActivate),
+    /// To give a worker jobs of a partition.
+    Activate {
+        partition: u32,
+        activation: JobBatchActivate,
+    },
     /// A worker has done a job.
     Complete(JobComplete),
     /// A worker has failed at a job.
@@ -31,10 +40,12 @@ pub enum Request {
     Tick,
     /// To move the manual clock on by so many milliseconds.
     Advance(u64),
+    /// To do units of work until there are none left.
+    Settle,
 }
 
 impl Request {
-    ghost use Rattle.zb_wire.specs.Asked.{command_of};
+    ghost use Rattle.zb_wire.specs.Asked.{command_of, key_named, partition_asked};
 
     /// The command of a client that the request asks for, if it asks for one.
     pub fn into_command(self) -> Option<Command>
@@ -42,17 +53,55 @@ impl Request {
     {
         match self {
             Request::Deploy(model) => Some(Command::DeploymentCreate(model)),
-            Request::Create(creation) => Some(Command::ProcessInstanceCreationCreate(creation)),
+            Request::Create { creation, .. } => Some(Command::ProcessInstanceCreationCreate(
+                creation,
+            )),
             Request::Cancel(key) => Some(Command::ProcessInstanceCancel(key)),
             Request::Variables(update) => Some(Command::VariableDocumentUpdate(update)),
-            Request::Activate(activation) => Some(Command::JobBatchActivate(activation)),
+            Request::Activate { activation, .. } => Some(Command::JobBatchActivate(activation)),
             Request::Complete(completion) => Some(Command::JobComplete(completion)),
             Request::Fail(failure) => Some(Command::JobFail(failure)),
             Request::Throw(thrown) => Some(Command::JobThrowError(thrown)),
             Request::Retries(update) => Some(Command::JobUpdateRetries(update)),
             Request::Publish(message) => Some(Command::MessagePublish(message)),
             Request::Resolve(key) => Some(Command::IncidentResolve(key)),
-            Request::Tick | Request::Advance(_) => None,
+            Request::Tick | Request::Advance(_) | Request::Settle => None,
+        }
+    }
+
+    /// The partition, of so many, that is asked for the command: the one that the request names, the home of a message,
+    /// that of a key, or else the first. A message costs a step for each byte of its correlation key.
+    pub fn partition(&self, partitions: u32) -> PartitionId
+        requires from { 1 ≤ partitions }
+        requires to { partitions ≤ 16 }
+        ensures { result ≡ partition_asked partitions self.now }
+    {
+        match self {
+            Request::Create { partition, .. } | Request::Activate { partition, .. } => {
+                partition_known(u64::from(*partition), partitions)
+            }
+            Request::Publish(message) => {
+                home_of(message.correlation_key.as_str().as_bytes(), partitions)
+            }
+            _ => match self.key() {
+                Some(key) => partition_of_key(key, partitions),
+                None => PartitionId::new(1),
+            },
+        }
+    }
+
+    // The key that it names, if it names one.
+    fn key(&self) -> Option<Key>
+        ensures { result ≡ key_named self.now }
+    {
+        match self {
+            Request::Cancel(key) | Request::Resolve(key) => Some(*key),
+            Request::Variables(update) => Some(update.scope),
+            Request::Complete(completion) => Some(completion.key),
+            Request::Fail(failure) => Some(failure.key),
+            Request::Throw(thrown) => Some(thrown.key),
+            Request::Retries(update) => Some(update.key),
+            _ => None,
         }
     }
 }

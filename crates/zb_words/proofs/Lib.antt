@@ -1,2 +1,2 @@
-mod SettingLemmas
+mod PartLemmas
 pub mod WordLaws

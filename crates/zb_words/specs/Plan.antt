@@ -1,60 +1,22 @@
--- The grammar of a server's command line: a verb, and then options, each at most once.
-use Rattle.std.specs.Prelude.{◌≡◌, ◌≤◌, ◌^◌, ℕ, Bool, true, Option, Some, None, List, [], ◌∷◌, ◌++◌, length, codes, ◌⊎◌, option_to_list, if◌then◌else◌}
-use Rattle.std.specs.List.{filter_map, list_any}
-use Rattle.std.specs.Str.{bytes_eq}
+-- The grammar of the command line: a verb, then options, each at most once and in any order, and FILEs where the verb takes them.
+use Rattle.std.specs.Prelude.{◌≡◌, ◌≤◌, ◌-◌, ◌^◌, ℕ, Some, None, List, ◌∷◌, length, codes}
 use Rattle.std.specs.Str.Parse.{IsNumeral, digits_value}
+use Rattle.zb_words.specs.declared.verb.Verb.TheVariants as verbs
 use Rattle.zb_words.specs.declared.plan.ClockKind.{ClockKind}
 use Rattle.zb_words.specs.declared.plan.ClockKind.TheVariants.{Real, Manual}
+use Rattle.zb_words.specs.declared.plan.ServePlan.{ServePlan}
+use Rattle.zb_words.specs.declared.plan.LogPlan.{LogPlan}
+use Rattle.zb_words.specs.declared.plan.GenPlan.{GenPlan}
 use Rattle.zb_words.specs.declared.plan.Plan.{Plan}
+use Rattle.zb_words.specs.declared.plan.Plan.TheVariants as plans
+use Rattle.zb_words.specs.Part.{AskFor, ArePaths, before_dashes, behind_dashes}
 
--- the options that there are
-abbrev pub option_names : List (List ℕ)
-option_names = codes "--clock" ∷ codes "--limit" ∷ codes "--units" ∷ []
-
--- whether the text is one of the options
-abbrev pub is_option : List ℕ → Bool
-is_option text = list_any (bytes_eq text) option_names
-
--- an option with the text of its value
-abbrev pub Setting : Type 0
-Setting = List ℕ × List ℕ
-
--- the words begin with an option and its value, in two words or in one with '=' between the two, and these are the rest
-abbrev pub Gives : List (List ℕ) → Setting → List (List ℕ) → Type 0
-Gives words setting rest = (is_option setting.0 ≡ true) × ((words ≡ setting.0 ∷ setting.1 ∷ rest) ⊎ (words ≡ (setting.0 ++ (codes "=" ++ setting.1)) ∷ rest))
-
--- the words give these settings, one after another
-abbrev pub GiveAll : List (List ℕ) → List Setting → Type 0
-GiveAll words [] = words ≡ []
-GiveAll words (setting ∷ settings) = (rest : List (List ℕ)) × Gives words setting rest × GiveAll rest settings
-
--- the text that the setting gives the option
-abbrev pub text_for : List ℕ → Setting → Option (List ℕ)
-text_for option setting = if bytes_eq setting.0 option then Some setting.1 else None
-
--- the words are settings, of which one at most gives the option a text, which is this one
-pub record GiveOnce (words : List (List ℕ)) (option : List ℕ) (text : Option (List ℕ)) : Type 0 where
-  pub settings : List Setting
-  pub given : GiveAll words settings
-  pub once : filter_map (text_for option) settings ≡ option_to_list text
-
--- x is what the text says, or the default where there is none
-abbrev pub IsMeant : {X : Type 0} → (List ℕ → X → Type 0) → X → Option (List ℕ) → X → Type 0
-IsMeant Says default None x = x ≡ default
-IsMeant Says default (Some text) x = Says text x
-
--- the words are settings, which ask for x by this option
-pub record AskFor {X : Type 0} (words : List (List ℕ)) (option : List ℕ) (Says : List ℕ → X → Type 0) (default x : X) : Type 0 where
-  pub text : Option (List ℕ)
-  pub once : GiveOnce words option text
-  pub meant : IsMeant Says default text x
-
--- the clock has this name
+-- the clock has this name (own)
 abbrev pub IsClockName : List ℕ → ClockKind → Type 0
 IsClockName text Real = text ≡ codes "real"
 IsClockName text Manual = text ≡ codes "manual"
 
--- the text is 1 to 20 decimal digits, which write a number from the least to the greatest
+-- the text is 1 to 20 decimal digits, which write a number from the least to the greatest (own)
 pub record IsDecimal (least greatest : ℕ) (text : List ℕ) (n : ℕ) : Type 0 where
   pub digits : IsNumeral 10 text
   pub short : length text ≤ 20
@@ -62,10 +24,39 @@ pub record IsDecimal (least greatest : ℕ) (text : List ℕ) (n : ℕ) : Type 0
   pub least_one : least ≤ n
   pub greatest_one : n ≤ greatest
 
--- the words, those after the program's name, ask for this plan
-pub record IsPlan (words : List (List ℕ)) (plan : Plan) : Type 0 where
-  pub options : List (List ℕ)
-  pub verb : words ≡ codes "serve" ∷ options
-  pub clock : AskFor options (codes "--clock") IsClockName Real plan.clock
-  pub limit : AskFor options (codes "--limit") (IsDecimal 64 (2 ^ 32)) (2 ^ 30) plan.limit
-  pub units : AskFor options (codes "--units") (IsDecimal 0 1000000) 1000 plan.units
+-- the text names a path, which is the text (own)
+abbrev pub IsPath : List ℕ → List ℕ → Type 0
+IsPath text path = path ≡ text
+
+-- the words behind `serve`, which are those before "--" and those behind it, ask for this plan (own)
+pub record IsServePlan (words behind : List (List ℕ)) (plan : ServePlan) : Type 0 where
+  pub partitions : AskFor verbs.Serve words (codes "--partitions") (IsDecimal 1 16) (Some 1) plan.partitions
+  pub dir : AskFor verbs.Serve words (codes "--dir") IsPath (Some (codes "zb")) plan.dir
+  pub clock : AskFor verbs.Serve words (codes "--clock") IsClockName (Some Real) plan.clock
+  pub limit : AskFor verbs.Serve words (codes "--limit") (IsDecimal 64 (2 ^ 32)) (Some (2 ^ 30)) plan.limit
+  pub units : AskFor verbs.Serve words (codes "--units") (IsDecimal 0 1000000) (Some 1000) plan.units
+  pub files : ArePaths words behind plan.files
+
+-- the words behind `log` ask for this plan (own)
+pub record IsLogPlan (words : List (List ℕ)) (plan : LogPlan) : Type 0 where
+  pub partitions : AskFor verbs.Log words (codes "--partitions") (IsDecimal 1 16) (Some 1) plan.partitions
+  pub dir : AskFor verbs.Log words (codes "--dir") IsPath (Some (codes "zb")) plan.dir
+  pub partition : AskFor verbs.Log words (codes "--partition") (IsDecimal 1 plan.partitions) None plan.partition
+
+-- the words behind `gen` ask for this plan (own)
+pub record IsGenPlan (words : List (List ℕ)) (plan : GenPlan) : Type 0 where
+  pub number : AskFor verbs.Gen words (codes "--number") (IsDecimal 0 (2 ^ 64 - 1)) None plan.number
+  pub requests : AskFor verbs.Gen words (codes "--requests") (IsDecimal 0 100000) None plan.requests
+  pub partitions : AskFor verbs.Gen words (codes "--partitions") (IsDecimal 1 16) (Some 1) plan.partitions
+
+-- the words, those after the program's name, ask for this plan (own)
+abbrev pub IsPlan : List (List ℕ) → Plan → Type 0
+IsPlan words (plans.Serve plan) = (options : List (List ℕ)) × (words ≡ codes "serve" ∷ options) × IsServePlan (before_dashes options) (behind_dashes options) plan
+IsPlan words (plans.Log plan) = (options : List (List ℕ)) × (words ≡ codes "log" ∷ options) × IsLogPlan options plan
+IsPlan words (plans.Gen plan) = (options : List (List ℕ)) × (words ≡ codes "gen" ∷ options) × IsGenPlan options plan
+
+-- the numbers of a plan lie within their limits (own)
+abbrev pub IsInRange : Plan → Type 0
+IsInRange (plans.Serve plan) = (1 ≤ plan.partitions) × (plan.partitions ≤ 16) × (64 ≤ plan.limit) × (plan.limit ≤ 2 ^ 32)
+IsInRange (plans.Log plan) = (1 ≤ plan.partitions) × (plan.partitions ≤ 16) × (1 ≤ plan.partition) × (plan.partition ≤ plan.partitions)
+IsInRange (plans.Gen plan) = (1 ≤ plan.partitions) × (plan.partitions ≤ 16) × (plan.requests ≤ 100000)

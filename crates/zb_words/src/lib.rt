@@ -1,7 +1,13 @@
-//! The words of the server's command line.
+//! The words of the program's command line.
 #![tactic(auto)]
 
+mod fault;
+mod files;
+mod number;
+mod part;
 mod plan;
 mod setting;
+mod verb;
 
-pub use plan::{ClockKind, Plan, plan_of};
+pub use fault::PlanFault;
+pub use plan::{ClockKind, GenPlan, LogPlan, Plan, ServePlan, plan_of};

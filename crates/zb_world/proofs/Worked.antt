@@ -52,13 +52,13 @@ places_3 : places_of 3 10 history ≡ []
 places_3 = refl
 
 is_first : IsEntryOf 2 [] first
-is_first = record { partition = (omega arith, omega arith); step = record { in_time = omega arith; outcome = refl }; begin = omega arith }
+is_first = record { partition = (omega arith, omega arith); step = record { in_time = omega arith; outcome = refl }; begin = omega arith; packet = λ by. absurd (cc) }
 
 is_second : IsEntryOf 2 (first ∷ []) second
-is_second = record { partition = (omega arith, omega arith); step = record { in_time = omega arith; outcome = refl }; begin = omega arith }
+is_second = record { partition = (omega arith, omega arith); step = record { in_time = omega arith; outcome = refl }; begin = omega arith; packet = λ by. absurd (cc) }
 
 is_third : IsEntryOf 2 (first ∷ second ∷ []) third
-is_third = record { partition = (omega arith, omega arith); step = record { in_time = omega arith; outcome = refl }; begin = omega arith }
+is_third = record { partition = (omega arith, omega arith); step = record { in_time = omega arith; outcome = refl }; begin = omega arith; packet = λ by. absurd (cc) }
 
 -- one place earlier the third one would rest on more than there is
 not_yet : IsEntryOf 2 (first ∷ []) third → ⊥

@@ -1,16 +1,17 @@
 -- Laws of histories and of their cuts.
-use Rattle.std.proofs.Common.{◌≡◌, ℕ, ◌≤◌, List, [], ◌∷◌, ◌++◌, length, take, get_or, slice_get, All, IsTrue, Some, refl, inl, inr, ap, sym, subst, ◌∙◌, append-nil, arith}
+use Rattle.std.proofs.Common.{◌≡◌, ℕ, zero, suc, ◌≤◌, List, [], ◌∷◌, ◌++◌, length, take, get_or, slice_get, All, IsTrue, Some, refl, inl, inr, ap, sym, subst, ◌∙◌, append-nil, arith}
 use Rattle.std.proofs.lemmas.Bool.{cases_eq}
 use Rattle.std.proofs.lemmas.Bool.Decides.{nat_tests}
-use Rattle.std.proofs.lemmas.List.{map-append, length-map, length-append, take_all}
+use Rattle.std.proofs.lemmas.List.{map-append, length-append, take_all}
 use Rattle.std.proofs.lemmas.List.Elements.{All-nil, All-get_or}
 use Rattle.std.proofs.lemmas.Option.{slice_get_within, get_or_from_slice_get, slice_get-get_or}
 use Rattle.zb_model.specs.declared.record.Batch.{Batch}
 use Rattle.zb_rules.specs.Step.{IsStep, EachOn, AreStepsOn}
 use Rattle.zb_rules.specs.StepLaws.{are_steps_none, are_steps_more, each_on_none, each_on_more, each_on_front, each_on_all, each_on_joined, taken_at}
 use Rattle.zb_world.specs.Entries.{Entry, IsPartitionOf, is_of, part_of, places_of, as_entry, entries_of, AtMostOne}
-use Rattle.zb_world.specs.History.{RestsOn, IsEntryOf, IsHistory, IsCutAt}
-use Rattle.zb_world.specs.EntryLaws.{part_of_joined, part_of_its, part_of_other, part_of_none, part_of_entries, pinned}
+use Rattle.zb_model.specs.declared.record.Packet.{Packet}
+use Rattle.zb_world.specs.History.{IsSentAmong, WasSent, IsEntryOf, IsHistory, IsCutAt}
+use Rattle.zb_world.specs.EntryLaws.{part_of_joined, part_of_its, part_of_other, part_of_none, pinned}
 
 -- a partition's part behind one more entry
 steps_behind : (n p : ℕ) (front : List Entry) (e : Entry) → AreStepsOn p n [] (part_of p front) → IsStep e.partition n (part_of e.partition front) e.batch → AreStepsOn p n [] (part_of p (front ++ e ∷ []))
@@ -44,6 +45,30 @@ history_front n h count is = each_on_front (IsEntryOf n) [] h count is
 pub history_joined : (n : ℕ) (h more : List Entry) → IsHistory n h → EachOn (IsEntryOf n) h more → IsHistory n (h ++ more)
 history_joined n h more is each = each_on_joined (IsEntryOf n) [] h more is each
 
+-- what stands at a place still does with others behind
+slice_get_front : {A : Type 0} (base others : List A) (k : ℕ) (x : A) → slice_get base k ≡ Some x → slice_get (base ++ others) k ≡ Some x
+slice_get_front [] others k x at = absurd (cc)
+slice_get_front (y ∷ base) others zero x at = at
+slice_get_front (y ∷ base) others (suc k) x at = slice_get_front base others k x at
+
+-- a packet that was sent was sent, whatever comes behind
+pub sent_still : (n below higher : ℕ) (base others : List Entry) (packet : Packet) → below ≤ higher → IsSentAmong n base below packet → IsSentAmong n (base ++ others) higher packet
+sent_still n below higher base others packet up s = record {
+  place = s.place;
+  sender = s.sender;
+  at = slice_get_front base others s.place s.sender s.at;
+  before = let before = s.before in omega arith;
+  sends = s.sends;
+}
+
+sent_behind : (n : ℕ) (base others : List Entry) (e : Entry) → WasSent n base e → WasSent n (base ++ others) e
+sent_behind n base others e was = record {
+  packet = was.packet;
+  sent = sent_still n e.batch.begin e.batch.begin base others was.packet (omega arith) was.sent;
+  to = was.to;
+  command = was.command;
+}
+
 -- behind the first few and others of which none is of its partition, an entry is one that it was behind the first few
 entry_behind : (n : ℕ) (base others : List Entry) (e : Entry) → IsEntryOf n base e → part_of e.partition others ≡ [] → IsEntryOf n (base ++ others) e
 entry_behind n base others e is none =
@@ -52,6 +77,7 @@ entry_behind n base others e is none =
       partition = is.partition;
       step = subst (λ (log : List Batch). IsStep e.partition n log e.batch) (sym same) is.step;
       begin = let begin : e.batch.begin ≤ length base = is.begin in omega (arith, length-append base others);
+      packet = λ by. sent_behind n base others e (is.packet by);
     }
 
 -- of entries of which at most one is of a partition, none in front of that one is
@@ -93,33 +119,8 @@ front_is_cut n at h within = record {
 pub whole_is_cut : (n : ℕ) (h : List Entry) → IsCutAt n (length h) h h
 whole_is_cut n h = subst (IsCutAt n (length h) h) (take_all (length h) h (omega arith)) (front_is_cut n (length h) h (omega arith))
 
--- a step of a partition behind entries that are all its own
-its_entry : (p n : ℕ) (log front : List Batch) (batch : Batch) → IsPartitionOf n p → IsStep p n (log ++ front) batch → RestsOn (log ++ front) batch → IsEntryOf n (entries_of p log ++ entries_of p front) (as_entry p batch)
-its_entry p n log front batch one step begin =
-    let both : List Entry = entries_of p log ++ entries_of p front in
-    let same : entries_of p (log ++ front) ≡ both = map-append (as_entry p) log front in
-    let part : log ++ front ≡ part_of p both = sym (part_of_entries p (log ++ front)) ∙ ap (part_of p) same in
-    let long : length (log ++ front) ≡ length both = sym (length-map (log ++ front) (as_entry p)) ∙ ap length same in
-    record {
-      partition = one;
-      step = subst (λ (log : List Batch). IsStep p n log batch) part step;
-      begin = subst (λ (count : ℕ). batch.begin ≤ count) long begin;
-    }
-
--- entries of a partition go on with others of it, where their batches are steps that rest on no more than what is before them
-pub log_goes_on : (p n : ℕ) (log more : List Batch) → IsPartitionOf n p → AreStepsOn p n log more → EachOn RestsOn log more → EachOn (IsEntryOf n) (entries_of p log) (entries_of p more)
-log_goes_on p n log more one steps rest =
-    each_on_all (λ (before : List Batch) (batch : Batch). IsStep p n before batch × RestsOn before batch) log (λ (more : List Batch). EachOn (IsEntryOf n) (entries_of p log) (entries_of p more))
-    (λ (front : List Batch) (batch : Batch) before are next. subst (EachOn (IsEntryOf n) (entries_of p log)) (sym (map-append (as_entry p) front (batch ∷ [])))
-    (each_on_more (IsEntryOf n) (entries_of p log) (entries_of p front) (as_entry p batch) are (its_entry p n log front batch one next.0 next.1)))
-    (each_on_none (IsEntryOf n) (entries_of p log)) more (λ (k : ℕ) (batch : Batch) (at : slice_get more k ≡ Some batch). (steps k batch at, rest k batch at))
-
--- a log of such steps is a history
-pub log_is_history : (p n : ℕ) (log : List Batch) → IsPartitionOf n p → AreStepsOn p n [] log → EachOn RestsOn [] log → IsHistory n (entries_of p log)
-log_is_history p n log one steps rest = log_goes_on p n [] log one steps rest
-
 -- each entry of a history is one of its partitions
-history_within : (n : ℕ) (h : List Entry) → IsHistory n h → All (λ entry. IsPartitionOf n entry.partition) h
+pub history_within : (n : ℕ) (h : List Entry) → IsHistory n h → All (λ entry. IsPartitionOf n entry.partition) h
 history_within n h is k d within = let entry = is k (get_or h k d) (slice_get-get_or h k d within) in entry.partition
 
 -- so histories are pinned by each partition's part and its places

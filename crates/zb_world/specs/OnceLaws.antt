@@ -73,7 +73,7 @@ outcome_applies p n moment before command outcome (Some rejection) is = rw is re
 outcome_applies p n moment before command outcome None is = rw is.accepted is.applied
 
 -- and so do those of a log of steps
-steps_apply : (p n : ℕ) (log : List Batch) → AreStepsOn p n [] log → IsTrue (all_apply p [] (events_of log))
+pub steps_apply : (p n : ℕ) (log : List Batch) → AreStepsOn p n [] log → IsTrue (all_apply p [] (events_of log))
 steps_apply p n log steps =
     each_on_all (IsStep p n) [] (λ (log : List Batch). IsTrue (all_apply p [] (events_of log)))
     (λ (front : List Batch) (batch : Batch) before apply step.

@@ -1,9 +1,11 @@
 ghost use Rattle.std.specs.Prelude.{◌≡◌, ◌≤◌, ◌+◌, ℕ, List, [], ◌∷◌, ◌++◌, length, take, All};
-ghost use Rattle.std.specs.List.{range_with_len};
+ghost use Rattle.std.specs.List.{range_with_len, AllByRecursion};
 ghost use Rattle.zb_model.specs.declared.record.Batch.{Batch};
 ghost use Rattle.zb_rules.specs.Step.{EachOn, AreStepsOn};
 ghost use Rattle.zb_world.specs.Entries.{Entry, IsPartitionOf, part_of, places_of, entries_of};
-ghost use Rattle.zb_world.specs.History.{RestsOn, IsEntryOf, IsHistory, IsCutAt};
+ghost use Rattle.zb_views.specs.View.{events_of};
+ghost use Rattle.zb_record.specs.Packets.{outbox_of};
+ghost use Rattle.zb_world.specs.History.{IsSentAmong, IsEntryOf, IsHistory, IsCutAt};
 ghost use Rattle.zb_world.specs.Once.{HappensOnce};
 
 /// What a partition has of a history is a log of its steps. Of two lists of entries, one behind the other, it has what
@@ -42,19 +44,18 @@ pub fn once_in_a_history()
     ensures { (n : ℕ) (h : List Entry) → IsHistory n h → HappensOnce h }
 {}
 
-/// A log of steps of one partition is a history, where each batch rests on no more than what is before it, and more of
-/// them behind a log go on with its entries. The partition has all of these entries, and every place. A history of one
-/// partition is that of its log.
-pub fn logs_are_histories()
-    ensures history { (p n : ℕ) (log : List Batch) → IsPartitionOf n p → AreStepsOn p n [] log
-        → EachOn RestsOn [] log → IsHistory n (entries_of p log) }
-    ensures more { (p n : ℕ) (log more : List Batch) → IsPartitionOf n p
-        → AreStepsOn p n log more → EachOn RestsOn log more
-        → EachOn (IsEntryOf n) (entries_of p log) (entries_of p more) }
+/// The entries of a log are its partition's, with every place. A history of one partition is that of its log.
+pub fn logs_have_entries()
     ensures alone { (h : List Entry) → IsHistory 1 h → h ≡ entries_of 1 (part_of 1 h) }
     ensures part { (p : ℕ) (log : List Batch) → part_of p (entries_of p log) ≡ log }
     ensures places { (p first : ℕ) (log : List Batch) → places_of p first (entries_of p log)
         ≡ range_with_len first (length log) }
+{}
+
+/// In a history each packet that stands in the outbox of a partition was sent.
+pub fn packets_in_outboxes_were_sent()
+    ensures { (n p : ℕ) (h : List Entry) → IsHistory n h
+        → AllByRecursion (IsSentAmong n h (length h)) (outbox_of p n (events_of (part_of p h))) }
 {}
 
 /// Entries of n partitions are the same where each partition has the same batches at the same places; so are histories,

@@ -4,6 +4,6 @@
 mod laws;
 
 pub use laws::{
-    cuts_are_histories, entries_are_pinned, histories_go_on, logs_are_histories, once_in_a_history,
-    parts_are_logs_of_steps,
+    cuts_are_histories, entries_are_pinned, histories_go_on, logs_have_entries, once_in_a_history,
+    packets_in_outboxes_were_sent, parts_are_logs_of_steps,
 };

@@ -1,4 +1,5 @@
 use std::alloc::{AllocError, AllocFailed, Global};
+use std::io::ErrorKind;
 use std::{fmt, io};
 
 /// Why the server could not start.
@@ -15,6 +16,11 @@ pub enum StartError {
 }
 
 impl StartError {
+    /// There was no memory.
+    pub fn no_memory() -> StartError {
+        StartError::System(io::Error::from(ErrorKind::OutOfMemory))
+    }
+
     /// An error of the system for this path.
     pub fn at(alloc: Global, path: &str, error: io::Error) -> StartError {
         match String::from_str(alloc, path) {

@@ -1,18 +1,15 @@
-use Rattle.std.proofs.Common.{[], refl}
-use Rattle.zb_engine.proofs.SerialLemmas.{advance_done}
-use Rattle.zb_engine.proofs.LogLemmas.{holds_same}
+use Rattle.std.proofs.Common.{refl}
+use Rattle.zb_engine.proofs.AskingLemmas.{nothing_done}
 use Rattle.zb_engine.proofs.asking.carry_out.Goals as goal
 
 pub returns-in-Tick-clause-done : goal.returns-in-Tick-clause-done
-returns-in-Tick-clause-done g c = λ account holds. rw c.in-Tick.is (c.tick.ensures.done account holds)
+returns-in-Tick-clause-done g c = λ start made has. rw c.in-Tick.is (c.tick.ensures.done start made has)
 
 pub returns-in-Tick-clause-cut : goal.returns-in-Tick-clause-cut
-returns-in-Tick-clause-cut g c = λ account holds. rw c.in-Tick.is (c.tick.ensures.cut account holds)
+returns-in-Tick-clause-cut g c = λ start made has. rw c.in-Tick.is (c.tick.ensures.cut start made has)
 
 pub returns-in-Advance-clause-done : goal.returns-in-Advance-clause-done
-returns-in-Advance-clause-done g c = λ account holds. record {
-  more = [];
-  done = rw c.in-Advance.is (advance_done _ _ _ _);
-  told = rw c.in-Advance.is refl;
-  holds = holds_same account c.args.ledger.now holds;
-}
+returns-in-Advance-clause-done g c = λ start made has. rw c.in-Advance.is (nothing_done start made _ c.args.reading _ c.args.solo.now refl refl has)
+
+pub returns-in-Settle-clause-done : goal.returns-in-Settle-clause-done
+returns-in-Settle-clause-done g c = λ start made has. rw c.in-Settle.is (nothing_done start made _ c.args.reading _ c.args.solo.now refl refl has)

@@ -1,12 +1,23 @@
-use Rattle.std.proofs.Common.{◌≡◌, ◌∷◌, [], None, Some, sym, ap, ◌∙◌, refl}
-use Rattle.zb_wire.specs.Asked.{command_of}
+use Rattle.std.proofs.Common.{◌≡◌, ℕ, ◌<◌, ◌∷◌, ◌++◌, [], None, Some, refl, sym, ap, ◌∙◌, length, arith}
+use Rattle.std.proofs.lemmas.List.{length-map}
 use Rattle.zb_model.specs.declared.stop.Stop.TheVariants as stops
-use Rattle.zb_engine.specs.Ledger.{log_of, with_more}
+use Rattle.zb_world.specs.Entries.{as_entry}
+use Rattle.zb_wire.specs.Asked.{command_of, partition_asked}
+use Rattle.zb_model.specs.declared.record.Command.{Command}
+use Rattle.zb_engine.specs.Ledger.{Opening}
+use Rattle.zb_engine.specs.Solo.{many_in, logs_in, partitions_in}
 use Rattle.zb_engine.proofs.AnswerLemmas.{asked_run, step_answered}
-use Rattle.zb_engine.proofs.SerialLemmas.{command_done, command_told, cut_asking, command_cut}
-use Rattle.zb_engine.proofs.LogLemmas.{stopped_resting}
-use Rattle.std.proofs.lemmas.Result.{IfOk-weaker, IfErr-weaker}
+use Rattle.zb_engine.proofs.AskingLemmas.{asked_within, cut_asking, command_asked, command_done, command_cut}
+use Rattle.zb_engine.proofs.MadeLemmas.{ended_resting}
+use Rattle.zb_engine.proofs.NextLemmas.{command_is}
 use Rattle.zb_engine.proofs.asking.command.Goals as goal
+
+pub commit-requires-clause-known : goal.commit-requires-clause-known
+commit-requires-clause-known g c =
+    let k = c.requires.known in
+    let many = c.count.ensures.count k.0 k.1 k.2 in
+    let within = asked_within c.count.result c.args.request (c.count.ensures.some) in
+    (k.0, k.1, k.2, omega (arith, within, many, c.partition-partition.ensures))
 
 pub commit-requires-clause-run : goal.commit-requires-clause-run
 commit-requires-clause-run g c = asked_run c.args.request c.in-Some.command (sym c.into_command.ensures ∙ c.in-Some.is)
@@ -14,31 +25,38 @@ commit-requires-clause-run g c = asked_run c.args.request c.in-Some.command (sym
 pub reply_of-requires : goal.reply_of-requires
 reply_of-requires g c =
     let k = c.requires.known in
-    let done = c.in-Ok.ensures.committed k.0 k.1 in
-    let asks : command_of c.args.request ≡ Some c.in-Ok.batch.command = sym c.into_command.ensures ∙ c.in-Some.is ∙ ap Some (sym done.is) in
-    step_answered 1 1 (log_of k.0) c.in-Ok.batch c.args.request asks done.step
-
-pub returns-in-Ok-clause-done : goal.returns-in-Ok-clause-done
-returns-in-Ok-clause-done g c = λ account holds.
-    let done = c.in-Ok.ensures.committed account holds in
-    let asks : command_of c.args.request ≡ Some c.in-Ok.batch.command = sym c.into_command.ensures ∙ c.in-Some.is ∙ ap Some (sym done.is) in
-    IfOk-weaker c.reply_of.result _ _ (λ reply answered. record {
-      more = c.in-Ok.batch ∷ [];
-      done = command_done c.args.request c.args.reading account.opening.batches account.made c.in-Ok.batch asks done.moment done.begin;
-      told = command_told c.args.request c.args.reading c.in-Ok.batch reply asks answered;
-      holds = done.holds;
-    }) c.reply_of.ensures.answer
-
--- there was no memory for the reply
-pub returns-in-Ok-clause-cut : goal.returns-in-Ok-clause-cut
-returns-in-Ok-clause-cut g c = λ account holds.
-    let done = c.in-Ok.ensures.committed account holds in
-    let asks : command_of c.args.request ≡ Some c.in-Ok.batch.command = sym c.into_command.ensures ∙ c.in-Some.is ∙ ap Some (sym done.is) in
-    IfErr-weaker c.reply_of.result _ _ (λ stop memory. rw memory (cut_asking account c.args.request c.args.reading (c.in-Ok.batch ∷ []) None stops.Memory _
-    (command_done c.args.request c.args.reading account.opening.batches account.made c.in-Ok.batch asks done.moment done.begin).made
-    (λ batch e. absurd (cc))
-    (stopped_resting (with_more account (c.in-Ok.batch ∷ [])) _ done.holds g.met.D.Disk.images_told))) c.reply_of.ensures.memory
+    let placed = c.in-Ok.ensures.placed k.0 k.1 k.2 in
+    let same = command_is (logs_in k.0) c.partition-partition.result c.in-Some.command c.args.reading k.1 c.in-Ok.batch placed.by in
+    let asks : command_of c.args.request ≡ Some c.in-Ok.batch.command = sym c.into_command.ensures ∙ c.in-Some.is ∙ ap (λ (command : Command). Some command) same in
+    step_answered c.partition-partition.result (many_in k.0) placed.step.0 c.in-Ok.batch c.args.request asks placed.step.1
 
 pub returns-in-Err-clause-cut : goal.returns-in-Err-clause-cut
-returns-in-Err-clause-cut g c = λ account holds.
-    command_cut account c.args.request c.args.reading c.in-Some.command _ _ (sym c.into_command.ensures ∙ c.in-Some.is) (c.in-Err.ensures.stopped account holds)
+returns-in-Err-clause-cut g c = λ start made has.
+    let many = length-map start.openings (λ (o : Opening g.row.D.Denot). o.batches) in
+    let at : c.partition-partition.result ≡ partition_asked (length (logs_in start)) c.args.request =
+    c.partition-partition.ensures ∙ ap (λ (n : ℕ). partition_asked n c.args.request) (c.count.ensures.count start made has ∙ sym many) in
+    command_cut start made c.args.request c.args.reading c.in-Some.command c.partition-partition.result (sym c.into_command.ensures ∙ c.in-Some.is) at c.in-Err.stop c.commit.new.self
+    (c.in-Err.ensures.stopped start made has)
+
+pub returns-in-Ok-reply_of-clause-done : goal.returns-in-Ok-reply_of-clause-done
+returns-in-Ok-reply_of-clause-done g c = λ start made has.
+    let many = length-map start.openings (λ (o : Opening g.row.D.Denot). o.batches) in
+    let at : c.partition-partition.result ≡ partition_asked (length (logs_in start)) c.args.request =
+    c.partition-partition.ensures ∙ ap (λ (n : ℕ). partition_asked n c.args.request) (c.count.ensures.count start made has ∙ sym many) in
+    command_done start made c.args.request c.args.reading c.in-Some.command c.partition-partition.result (sym c.into_command.ensures ∙ c.in-Some.is) at c.in-Ok.batch c.in-Ok-reply_of.reply
+    c.commit.new.self (c.in-Ok.ensures.placed start made has) c.in-Ok-reply_of.ensures
+
+-- there was no memory for the reply
+pub returns-clause-cut : goal.returns-clause-cut
+returns-clause-cut g c = λ start made has.
+    let many = length-map start.openings (λ (o : Opening g.row.D.Denot). o.batches) in
+    let at : c.partition-partition.result ≡ partition_asked (length (logs_in start)) c.args.request =
+    c.partition-partition.ensures ∙ ap (λ (n : ℕ). partition_asked n c.args.request) (c.count.ensures.count start made has ∙ sym many) in
+    let placed = c.in-Ok.ensures.placed start made has in
+    let one = as_entry c.partition-partition.result c.in-Ok.batch ∷ [] in
+    let within : 0 < length (partitions_in c.commit.new.self) = omega (arith, c.commit.new.self.some) in
+    rw (c.keep.ensures.stop) (cut_asking start made c.args.request c.args.reading one None stops.Memory c.keep.new.self
+    (command_asked start made c.args.request c.args.reading c.in-Some.command c.partition-partition.result (sym c.into_command.ensures ∙ c.in-Some.is) at c.in-Ok.batch c.commit.new.self placed)
+    (λ entry is. absurd (cc))
+    (ended_resting start (made ++ one) c.commit.new.self c.keep.new.self placed.holds 1 0 refl within g.met.D.Disk.images_told c.keep.ensures.partitions c.keep.ensures.stamps
+    (c.keep.ensures.kept ∙ ap (λ (p : ℕ). Some (p, stops.Memory)) c.new.ensures)))

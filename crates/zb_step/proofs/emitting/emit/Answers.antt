@@ -27,11 +27,12 @@ put_all-requires-clause-applied c = λ es is.
     let p = partition_of c.args.state.now in
     let left : IsTrue c.has_keys.result = grind arith in
     let keys : HasKeys p es 2 = (c.has_keys.ensures es is).0 left in
-    own_apply p 1 es c.args.moment c.args.command.now c.in_ok-events.events is.applied keys c.see_names.ensures c.requires.run (c.requires.unrefused es is) (c.in_ok-events.ensures 1 es is)
+    own_apply p c.args.partitions es c.args.moment c.args.command.now c.in_ok-events.events is.applied keys c.see_names.ensures c.requires.run (c.requires.unrefused es is) (c.in_ok-events.ensures es is)
 
 pub returns-then-is_made_one_by_one-clause-own : goal.returns-then-is_made_one_by_one-clause-own
-returns-then-is_made_one_by_one-clause-own c = λ n es is.
+returns-then-is_made_one_by_one-clause-own c = λ es is.
     let p = partition_of c.args.state.now in
+    let n = c.args.partitions in
     let made = made_one_by_one p n c.args.moment c.args.command.now es in
     let stepwise : IsTrue c.is_made_one_by_one.result = grind arith in
     let own : own_events p n es c.args.moment c.args.command.now ≡ Some made = c.is_made_one_by_one.ensures.stepwise stepwise p n c.args.moment es in

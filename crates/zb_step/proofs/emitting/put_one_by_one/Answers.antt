@@ -43,3 +43,8 @@ pub put_own-requires-in-TimerTrigger : goal.put_own-requires-in-TimerTrigger
 put_own-requires-in-TimerTrigger c = λ n.
     let Admits : Command → Type 0 = λ x. AdmitsMade c.args.state.now (made_one_by_one (partition_of c.args.state.now) n c.args.moment x) in
     subst Admits c.in-TimerTrigger.is (c.requires n)
+
+pub put_own-requires-in-CommandDistributionAcknowledge : goal.put_own-requires-in-CommandDistributionAcknowledge
+put_own-requires-in-CommandDistributionAcknowledge c =
+    let Admits : Command → Type 0 = λ x. AdmitsMade c.args.state.now (made_one_by_one (partition_of c.args.state.now) 0 c.args.moment x) in
+    subst Admits c.in-CommandDistributionAcknowledge.is (c.requires 0)

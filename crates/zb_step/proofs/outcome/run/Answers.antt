@@ -11,8 +11,9 @@ use Rattle.zb_step.proofs.OutcomeLemmas.{acceptance_of}
 use Rattle.zb_step.proofs.outcome.run.Goals as goal
 
 pub returns-clause-acceptance : goal.returns-clause-acceptance
-returns-clause-acceptance c = λ n es was.
+returns-clause-acceptance c = λ es was.
     let p = partition_of c.args.state.now in
+    let n = c.args.partitions in
     let own = c.emit.new.out in
     let made = c.settle.new.out in
     let told = c.in_ok-emit.ensures in
@@ -22,5 +23,5 @@ returns-clause-acceptance c = λ n es was.
     let Accepts : List Event → Type 0 = λ l. IsAcceptance p n c.args.moment es c.args.command.now (outcomes.Accepted l) in
     let settled = subst Settles c.emit.ensures.place (c.in_ok-settle.ensures.settled n es is) in
     let applied = behind_apply p es own (subst Applies c.emit.ensures.place is.applied) in
-    let is_own = told.own n es was in
+    let is_own = told.own es was in
     subst Accepts (sym c.events.ensures) (acceptance_of p n c.args.moment es own made c.args.command.now is_own applied (own_legal p n es c.args.moment c.args.command.now own applied is_own) settled)

@@ -7,6 +7,7 @@ invariant_of-self g c = record {
   whole = λ live. absurd (false≢true (sym c.requires.stopped ∙ live));
   sound = λ live. absurd (false≢true (sym c.requires.stopped ∙ live));
   limited = search rules;
+  counted = search rules;
   resting = λ live. absurd (false≢true (sym c.requires.stopped ∙ live));
   reached = λ live. absurd (false≢true (sym c.requires.stopped ∙ live));
 }

@@ -8,7 +8,7 @@ use Rattle.zb_store.specs.GateLog as gates
 use Rattle.zb_store.specs.Log.{extent}
 use Rattle.zb_store.specs.declared.gate_log.GateLog.{GateLog}
 use Rattle.zb_partition.specs.Log.{bodies_of}
-use Rattle.zb_partition.specs.Partition.{disk_of, limit_of, partition_number_of, in_writing, HasLog}
+use Rattle.zb_partition.specs.Partition.{disk_of, limit_of, partition_number_of, partitions_of, in_writing, HasLog}
 use Rattle.zb_partition.specs.Stopping.{IsUnwritten, IsStepOf, IsLogOrMore, IsStopCause}
 use Rattle.zb_partition.proofs.WritingLemmas.{file_stands, image_stands, unwritten_none, has_kept}
 use Rattle.zb_partition.proofs.partition.Partition.submit.Goals as goal
@@ -25,7 +25,7 @@ returns-in-Err-clause-stopped g c = λ log has in_time.
     subst (λ (s : Stop). IsStopCause faults faults (limit_of old) log None (in_writing new) s) (sym memory) (inl none, λ batch e. absurd (cc)) in
     record {
       refused = None;
-      next = λ n batch e. absurd (cc);
+      next = λ batch e. absurd (cc);
       unwritten =
           subst (λ (l : GateLog g.row.D.Denot D). IsUnwritten D.tells D.tells_images D.takes_memory (D.view (disk_of old)) (D.view (gates.disk_of_log l)) (D.images (gates.disk_of_log l)) (D.since (disk_of old)) (D.since (gates.disk_of_log l)) (limit_of old) log None (in_writing new) c.in-Err.stop) (sym c.in-Err.ensures.log)
           (unwritten_none D.tells D.tells_images D.takes_memory (D.view (disk_of old)) (D.images (disk_of old)) (D.since (disk_of old)) (limit_of old) log None (in_writing new) c.in-Err.stop none cause
@@ -33,9 +33,9 @@ returns-in-Err-clause-stopped g c = λ log has in_time.
     }
 
 pub returns-in-Ok-write-clause-step : goal.returns-in-Ok-write-clause-step
-returns-in-Ok-write-clause-step g c = λ log n has in_time.
-    subst (λ (b : Batch). IsStepOf (partition_number_of c.args.self.now) n log c.args.moment c.args.begin c.args.command b) (sym c.in-Ok-write.ensures.same)
-    (c.in-Ok.ensures.step log n (has_kept log c.args.self.now _ refl refl refl refl has) in_time)
+returns-in-Ok-write-clause-step g c = λ log has in_time.
+    subst (λ (b : Batch). IsStepOf (partition_number_of c.args.self.now) (partitions_of c.args.self.now) log c.args.moment c.args.begin c.args.command b) (sym c.in-Ok-write.ensures.same)
+    (c.in-Ok.ensures.step log (has_kept log c.args.self.now _ refl refl refl refl has) in_time)
 
 pub returns-in-Ok-write-clause-log : goal.returns-in-Ok-write-clause-log
 returns-in-Ok-write-clause-log g c = λ log has.
@@ -52,7 +52,7 @@ returns-in-Err-write-clause-stopped g c = λ log has in_time.
     let left = c.in-Err-write.ensures.stopped log ahead none in
     record {
       refused = Some c.in-Ok.batch;
-      next = λ n batch e. subst (λ (b : Batch). IsStepOf (partition_number_of c.args.self.now) n log c.args.moment c.args.begin c.args.command b) (let same : c.in-Ok.batch ≡ batch = cc in same) (c.in-Ok.ensures.step log n held in_time);
+      next = λ batch e. subst (λ (b : Batch). IsStepOf (partition_number_of c.args.self.now) (partitions_of c.args.self.now) log c.args.moment c.args.begin c.args.command b) (let same : c.in-Ok.batch ≡ batch = cc in same) (c.in-Ok.ensures.step log held in_time);
       unwritten = subst (λ (l : GateLog g.row.D.Denot D). IsUnwritten D.tells D.tells_images D.takes_memory (D.view (gates.disk_of_log l)) (D.view (disk_of c.write.new.self)) (D.images (disk_of c.write.new.self)) (D.since (gates.disk_of_log l)) (D.since (disk_of c.write.new.self)) (gates.limit_of_log l) log (Some c.in-Ok.batch) (in_writing c.write.new.self) c.in-Err-write.stop) c.in-Ok.ensures.log left;
     }
 
@@ -70,6 +70,7 @@ invariant_of-self-in-Ok-write g c = record {
   whole = search rules;
   sound = search rules;
   limited = search rules;
+  counted = search rules;
   resting = λ live. c.in-Ok-write.ensures.resting ∙ (c.in-Ok.ensures.in_writing ∙ c.args.self.now.resting c.requires.live);
   reached = λ live. subst IsReached (sym c.write.ensures.state) c.in-Ok.ensures.reached;
 }

@@ -31,6 +31,7 @@ invariant_of-self-in-Err-append g c = record {
   whole = λ live. absurd (false≢true (sym c.requires.stopped ∙ sym c.in-Ok.ensures.live ∙ live));
   sound = λ live. absurd (false≢true (sym c.requires.stopped ∙ sym c.in-Ok.ensures.live ∙ live));
   limited = search rules;
+  counted = search rules;
   resting = λ live. absurd (false≢true (sym c.requires.stopped ∙ sym c.in-Ok.ensures.live ∙ live));
   reached = λ live. absurd (false≢true (sym c.requires.stopped ∙ sym c.in-Ok.ensures.live ∙ live));
 }

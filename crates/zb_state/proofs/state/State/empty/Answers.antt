@@ -10,6 +10,7 @@ returns-clause-reached c = ∣ (
     counter = refl;
     messages = sym c.empty.ensures;
     definitions = sym c.new.ensures.items;
+    distributions = sym c.new-2.ensures.items;
     begun = refl;
     jobs = sym c.empty-2.ensures;
     timers = sym c.empty-3.ensures;

@@ -41,6 +41,7 @@ returns-in_ok-add-in-Published c =
         counter = c.in_ok-note_waits.ensures.counter;
         messages = rw c.in-Published.is (added ∙ stands_last old.place old.counter c.args.counter s.counter old.messages c.in-Published.message c.in_ok-note_waits.ensures.counter draws old.in_order);
         definitions = rw (c.in-Published.is, c.note_waits.ensures.definitions) (sym (append-nil old.definitions.items));
+        distributions = rw (c.in-Published.is, c.note_waits.ensures.distributions) refl;
         begun = rw c.in-Published.is refl;
         jobs = c.in_ok-note_waits.ensures.jobs;
         timers = c.in_ok-note_waits.ensures.timers;

@@ -1,0 +1,10 @@
+use Rattle.std.proofs.Common.{List}
+use Rattle.zb_world.specs.Entries.{Entry}
+use Rattle.zb_engine.specs.Solo.{Start, HasMade}
+use Rattle.zb_engine.proofs.AskingLemmas.{ticking}
+use Rattle.zb_engine.proofs.NextLemmas.{AreMade}
+use Rattle.zb_engine.proofs.asking.tick.Given as goal
+
+-- so many batches were made
+abbrev pub invariant-loop-done : goal.invariant-loop-done
+invariant-loop-done g l = (start : Start g.row.D.Denot) (made : List Entry) → HasMade start made l.fn.solo → AreMade start made (ticking start made l.reading) l.reading l.done l.solo

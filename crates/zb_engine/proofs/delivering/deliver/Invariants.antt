@@ -1,0 +1,9 @@
+use Rattle.std.proofs.Common.{List}
+use Rattle.zb_world.specs.Entries.{Entry}
+use Rattle.zb_engine.specs.Solo.{Start, HasMade}
+use Rattle.zb_engine.proofs.DeliveryLemmas.{IsWorking}
+use Rattle.zb_engine.proofs.delivering.deliver.Given as goal
+
+-- so many units were done, and their answers are in hand
+abbrev pub invariant-loop-done : goal.invariant-loop-done
+invariant-loop-done g l = (start : Start g.row.D.Denot) (made : List Entry) → HasMade start made l.fn.solo → IsWorking start made l.reading l.done l.hand.items l.solo

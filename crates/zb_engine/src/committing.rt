@@ -1,0 +1,66 @@
+// A command at one of the partitions.
+ghost use Rattle.std.specs.Prelude.{◌≡◌, ◌≤◌, List, max, Some, IfOk, IfErr};
+ghost use Rattle.zb_world.specs.Entries.{Entry};
+ghost use Rattle.zb_rules.specs.Own.{IsSupported};
+ghost use Rattle.zb_engine.specs.Solo.{Start, many_in, HasMade, IsPlaced, IsTurnedAway, partitions_in, stamps_in, kept_in};
+
+use crate::Solo;
+use std::alloc::{AllocError, Global};
+use zb_disk::Disk;
+use zb_model::{Batch, Command, Moment, PartitionId, Stop};
+
+impl<D: Disk> Solo<D> {
+    /// Submits a command at a partition, at a reading of the clock, and notes the place of its batch. After an `Err` it has
+    /// stopped.
+    pub(crate) fn commit(
+        &mut self,
+        alloc: Global,
+        reading: Moment,
+        partition: PartitionId,
+        command: Command,
+    ) -> Result<Batch, Stop>
+        requires known { (start : Start D) × (made : List Entry) × HasMade start made self.old × (partition ≤ many_in start) }
+        requires run { IsSupported command }
+        ensures placed { (start : Start D) (made : List Entry) → HasMade start made self.old
+            → IfOk result (λ batch. IsPlaced start made reading (partition, command) batch self.new) }
+        ensures stopped { (start : Start D) (made : List Entry) → HasMade start made self.old
+            → IfErr result (λ stop. IsTurnedAway start made reading (partition, command) stop self.new) }
+    {
+        let index = partition.number() as usize - 1;
+        let place = self.place;
+        let Some(next) = place.checked_add(1) else {
+            return Err(self.keep(partition, Stop::Memory));
+        };
+        match self.stamps[index].reserve(1) {
+            Ok(()) => {}
+            Err(AllocError) => return Err(self.keep(partition, Stop::Memory)),
+        }
+        let moment = later_of(self.partitions[index].last_moment(), reading);
+        match self.partitions[index].submit(alloc, moment, place, command) {
+            Ok(batch) => {
+                self.stamps[index].push_reserved(place);
+                self.place = next;
+                Ok(batch)
+            }
+            Err(stop) => Err(self.keep(partition, stop)),
+        }
+    }
+
+    /// Keeps the stop that ended the run.
+    pub(crate) fn keep(&mut self, partition: PartitionId, stop: Stop) -> Stop
+        ensures stop { result ≡ stop }
+        ensures partitions { partitions_in self.new ≡ partitions_in self.old }
+        ensures stamps { stamps_in self.new ≡ stamps_in self.old }
+        ensures kept { kept_in self.new ≡ Some (partition, stop) }
+    {
+        self.kept = Some((partition, stop));
+        stop
+    }
+}
+
+// The later one of the last moment of a log and a reading of the clock.
+fn later_of(last: Moment, reading: Moment) -> Moment
+    ensures { result ≡ max last reading }
+{
+    last.max(reading)
+}

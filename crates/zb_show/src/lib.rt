@@ -1,0 +1,13 @@
+//! Shows the log of a partition, a line for each record.
+#![tactic(auto)]
+
+mod fault;
+mod lines;
+mod names;
+mod parts;
+mod printing;
+mod show;
+
+pub use lines::{put_batch, records_in};
+pub use names::{command_key, command_names, element_of, event_key, event_names, rejection_name};
+pub use show::{Shown, show_log};
