@@ -8,5 +8,6 @@ mod running;
 mod top;
 
 pub use run::{Cause, Closed};
+pub use running::{Ran, serve_by};
 pub use top::{plan_for, serve, serve_alone};
 pub use zb_session::Session;

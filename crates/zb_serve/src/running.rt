@@ -31,6 +31,7 @@ use zb_store::Volume;
 use zb_words::{ClockKind, ServePlan};
 
 /// How a run of one session ended.
+#[derive(Drop)]
 pub struct Ran<D> {
     pub cause: Cause,
     /// The files of each partition.
@@ -41,8 +42,9 @@ pub struct Ran<D> {
     pub units: u64,
 }
 
-/// Runs one session over the partitions of these volumes, by a plan.
-pub fn run<S: Source, K: Sink, D: Disk, C: Clock>(
+/// Serves one session over the partitions of these volumes by a plan, as `serve_alone` does by words, and hands the
+/// volumes back with why it ended. What the run is is said as there.
+pub fn serve_by<S: Source, K: Sink, D: Disk, C: Clock>(
     alloc: Global,
     plan: &ServePlan,
     session: &mut Session<S, K>,

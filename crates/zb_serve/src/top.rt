@@ -10,7 +10,7 @@ ghost use Rattle.zb_serve.specs.Cause.{status_of};
 ghost use Rattle.zb_serve.specs.Closing.{Closes, clock_at_hand};
 
 use crate::run::{Cause, Closed};
-use crate::running::{Ran, run};
+use crate::running::{Ran, serve_by};
 use std::alloc::Global;
 use std::sync::Wait;
 use std::thread::Threads;
@@ -86,7 +86,7 @@ pub fn serve_alone<S: Source, K: Sink, D: Disk, C: Clock>(
         volumes,
         stamps,
         units,
-    } = run(alloc, &plan, &mut sessions[0], volumes, clock);
+    } = serve_by(alloc, &plan, &mut sessions[0], volumes, clock);
     closed(cause, stamps, units, sessions, volumes)
 }
 

@@ -10,4 +10,5 @@ mod show;
 
 pub use lines::{put_batch, records_in};
 pub use names::{command_key, command_names, element_of, event_key, event_names, rejection_name};
+pub use printing::read_batch;
 pub use show::{Shown, show_log};

@@ -89,8 +89,8 @@ fn print_frame<D: Disk, K: Sink>(
     Ok(position + records_in(&batch))
 }
 
-// The batch in this frame.
-fn read_batch<D: Disk>(
+/// The batch in this frame of a log. It costs a step for each of its bytes, and the memory for it.
+pub fn read_batch<D: Disk>(
     alloc: Global,
     i: u64,
     log: &mut GateLog<D>,

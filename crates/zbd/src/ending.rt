@@ -8,7 +8,8 @@ use zb_store::Volume;
 // How the program is called, as it is told where other words were given.
 const USAGE: &str =
     "usage: zbd serve [--partitions N] [--dir D] [--clock real|manual] [--limit n] [--units n] [--] [FILE..]
-       zbd log [--partitions N] [--dir D] --partition P";
+       zbd log [--partitions N] [--dir D] --partition P
+       zbd gen --number n --requests r [--partitions N]";
 
 // What the client can't know where a run broke off.
 const IN_DOUBT: &str = "a request without a reply may be stored";
@@ -37,7 +38,6 @@ pub fn report_shown(
     volume: &Volume<FileDisk>,
 ) -> io::Result<()> {
     match status {
-        0 => Ok(()),
         4 => {
             eprintln!(rt; "zbd: DiskFault")?;
             report_faults_of(rt, directory, partition, volume)
@@ -46,6 +46,14 @@ pub fn report_shown(
             "zbd: BadLog
 zbd: {directory}/{partition}.{LOG} can't be read; it was left as it is"
         ),
+        _ => report_status(rt, status),
+    }
+}
+
+/// Tells what an exit status means that no file stands behind, unless all was written.
+pub fn report_status(rt: &HostRuntime, status: u8) -> io::Result<()> {
+    match status {
+        0 => Ok(()),
         6 => eprintln!(rt;
             "zbd: SinkFault
 zbd: standard output failed"

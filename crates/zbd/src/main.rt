@@ -4,11 +4,13 @@
 
 mod ending;
 mod files;
+mod generating;
 mod serving;
 mod showing;
 mod start_error;
 mod streams;
 
+use generating::generate_plan;
 use serving::{refuse, serve_plan};
 use showing::show_plan;
 use start_error::StartError;
@@ -39,7 +41,8 @@ fn run<H: Threads + Wait + Sync>(handles: &H, rt: &HostRuntime) -> Result<u8, St
     match plan_of(alloc, &words) {
         Ok(Plan::Serve(plan)) => serve_plan(handles, rt, &words, &plan),
         Ok(Plan::Log(plan)) => show_plan(rt, &words, &plan),
-        Ok(Plan::Gen(_)) | Err(PlanFault::Usage) => refuse(handles, rt, &words),
+        Ok(Plan::Gen(_)) => Ok(generate_plan(rt, &words)),
+        Err(PlanFault::Usage) => refuse(handles, rt, &words),
         Err(PlanFault::Memory) => Err(StartError::no_memory()),
     }
 }

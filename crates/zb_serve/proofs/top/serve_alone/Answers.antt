@@ -14,9 +14,9 @@ use Rattle.zb_serve.proofs.top.serve_alone.Goals as goal
 pub returns-clause-closed : goal.returns-clause-closed
 returns-clause-closed g c =
     let planned : IsPlanned (map string_bytes c.args.words.now) (length c.args.sessions.items) (length c.args.volumes.items) c.in-Ok.plan = search rules in
-    let said = c.run-cause.ensures in
+    let said = c.serve_by-cause.ensures in
     let session = one_member c.args.sessions.items c.index_mut.result.now planned.one_session c.index_mut.ensures.value in
-    let sessions = ap (λ v. v.items) c.closed-2.ensures.sessions ∙ one_set c.args.sessions.items _ c.run-cause.new.session session in
+    let sessions = ap (λ v. v.items) c.closed-2.ensures.sessions ∙ one_set c.args.sessions.items _ c.serve_by-cause.new.session session in
     let volumes = ap (λ v. v.items) c.closed-2.ensures.volumes in
     let stamps = ap (λ v. v.items) c.closed-2.ensures.stamps in
     let ran = said.run in
@@ -36,7 +36,7 @@ returns-clause-closed g c =
         planned,
         rw (c.closed-2.ensures.cause, c.closed-2.ensures.stamps, c.closed-2.ensures.units)
             (run_single (devices_of g.S.Source g.K.Sink g.D.Disk) (setting_of c.in-Ok.plan g.C.Clock.tells (g.C.Clock.moments c.args.clock.now))
-            c.index_mut.result.now c.run-cause.new.session _ _ c.args.volumes.items c.run-cause.result.volumes.items _ _ _ _ session sessions volumes ran),
+            c.index_mut.result.now c.serve_by-cause.new.session _ _ c.args.volumes.items c.serve_by-cause.result.volumes.items _ _ _ _ session sessions volumes ran),
       );
     }
 
@@ -65,4 +65,4 @@ returns-in-Err-clause-closed g c =
 -- the words are one plan
 pub returns-clause-untouched : goal.returns-clause-untouched
 returns-clause-untouched g c = λ plan is by_hand.
-    c.run-cause.ensures.untouched (ap (λ (p : ServePlan). p.clock) (one_served (map string_bytes c.args.words.now) c.in-Ok.plan plan c.in-Ok.ensures.planned.words is) ∙ by_hand)
+    c.serve_by-cause.ensures.untouched (ap (λ (p : ServePlan). p.clock) (one_served (map string_bytes c.args.words.now) c.in-Ok.plan plan c.in-Ok.ensures.planned.words is) ∙ by_hand)

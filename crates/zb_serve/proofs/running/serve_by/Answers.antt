@@ -2,7 +2,7 @@ use Rattle.std.proofs.Common.{◌∙◌, ap, refl, arith}
 use Rattle.zb_serve.specs.Ends.{all_told}
 use Rattle.zb_serve.specs.Served.{slots_of_all}
 use Rattle.zb_serve.proofs.OpeningLemmas.{begun_count, all_spared, all_safe, all_many, all_slots}
-use Rattle.zb_serve.proofs.running.run.Goals as goal
+use Rattle.zb_serve.proofs.running.serve_by.Goals as goal
 
 pub serve_engine-requires-clause-made : goal.serve_engine-requires-clause-made
 serve_engine-requires-clause-made g c =

@@ -1,0 +1,53 @@
+-- What it means that a workload was served, and that it is told what came of it.
+use Rattle.std.specs.Prelude.{◌≡◌, ◌^◌, ℕ, List, [], ◌++◌, length, IsTrue}
+use Rattle.std.specs.List.{AllZip, AllByRecursion}
+use Rattle.zb_disk.specs.declared.disk.Disk.{Ghosts}
+use Rattle.zb_model.specs.declared.record.Batch.{Batch}
+use Rattle.zb_store.specs.Stands.{Stands}
+use Rattle.zb_store.specs.declared.volume.Volume.{Volume}
+use Rattle.zb_partition.specs.Log.{bodies_of, AreBatches}
+use Rattle.zb_words.specs.Plan.{IsPlan}
+use Rattle.zb_words.specs.declared.plan.GenPlan.{GenPlan}
+use Rattle.zb_words.specs.declared.plan.Plan.TheVariants as plans
+use Rattle.zb_gen.specs.Workload.{workload}
+use Rattle.zb_session.specs.Hours.{manual}
+use Rattle.zb_session.specs.Session.{SessionEnds}
+use Rattle.zb_serve.specs.Ends.{Told, logs_ends, crashes_of}
+use Rattle.zb_serve.specs.Running.{ends_alone}
+use Rattle.zb_serve.specs.Served.{answer_of_run, IsRun}
+use Rattle.zb_serve.specs.Setting.{RunSetting}
+use Rattle.zb_serve.specs.declared.run.Cause.TheVariants as causes
+use Rattle.zb_tally.specs.Counts.{tally_from}
+use Rattle.zb_tally.specs.Summary.{summary}
+
+-- what the run of a workload goes by: a clock that its requests move, and logs and units as a server has them at most, and by default (own)
+abbrev pub workload_setting : RunSetting
+workload_setting = record { hours = manual; limit = 2 ^ 32; units = 1000 }
+
+-- these volumes are left of a run of the server that was done: of one session, whose source had the lines of the
+-- workload, over so many empty volumes (own)
+pub record IsWorkloadServed {D : Type 0} (disks : Ghosts D) (plan : GenPlan) (back : List (Volume D)) : Type 0 where
+  pub told : Told
+  pub tells : IsTrue told.source × IsTrue told.sink × IsTrue told.disk
+  pub session : SessionEnds
+  pub input : session.source.left ≡ workload plan.number plan.requests
+  pub volumes : List (Volume D)
+  pub many : length volumes ≡ plan.partitions
+  pub empty : AllByRecursion (λ volume. (disks.view volume.log).contents ≡ []) volumes
+  pub stamps : List (List ℕ)
+  pub units : ℕ
+  pub run : IsRun told workload_setting (ends_alone session (logs_ends disks volumes back)) (crashes_of disks volumes back) (answer_of_run causes.Done stamps units)
+
+-- each of these logs is the one that the file of a volume stands for (own)
+abbrev pub AreLogsOf : {D : Type 0} → Ghosts D → List (Volume D) → List (List Batch) → Type 0
+AreLogsOf disks volumes logs = AllZip (λ volume log. Stands (disks.view volume.log).contents (bodies_of log) × AreBatches log) volumes logs
+
+-- the words ask for a workload, and what came of it was written: the counts of the logs that its run left (own)
+pub record PrintsSummary {D : Type 0} (disks : Ghosts D) (words : List (List ℕ)) (before after : List ℕ) : Type 0 where
+  pub plan : GenPlan
+  pub asked : IsPlan words (plans.Gen plan)
+  pub back : List (Volume D)
+  pub served : IsWorkloadServed disks plan back
+  pub logs : List (List Batch)
+  pub are : AreLogsOf disks back logs
+  pub lines : after ≡ before ++ summary plan.requests (tally_from 1 logs)

@@ -1,0 +1,10 @@
+//! Serves a workload, in memory, and tells what came of it.
+#![tactic(auto)]
+
+mod counting;
+mod printing;
+mod serving;
+mod tally;
+
+pub use serving::{Generated, generate};
+pub use tally::Tally;
