@@ -39,24 +39,6 @@ fn goes_on(rt: &impl Abort, alloc: Global, game: &mut Game, key: Key) -> bool {
     }
 }
 
-// How many forced moves there are until the game is quiet.
-fn forced_moves(rt: &impl Abort, alloc: Global, last: NodeKind) -> u64 {
-    let mut game = started(rt, alloc, last);
-    let mut count = 0;
-    for at in 0..20 {
-        if goes_on(rt, alloc, &mut game, Key::new(at + 3)) {
-            count = at + 1;
-        }
-    }
-    count
-}
-
-#[test]
-fn goes_on_until_a_node_waits(rt: HostRuntime) {
-    assert!(rt; forced_moves(&rt, rt.alloc(), NodeKind::EndEvent) == 12);
-    assert!(rt; forced_moves(&rt, rt.alloc(), NodeKind::ServiceTask) == 8);
-}
-
 #[test]
 fn refuses_a_cell_that_is_not_there(rt: HostRuntime) {
     let alloc = rt.alloc();

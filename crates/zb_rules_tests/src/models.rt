@@ -111,25 +111,6 @@ pub fn drawn(
     process(rt, alloc, made, drawn)
 }
 
-/// The process `p`: start event `s`, end event `e`, and so many flows between them.
-pub fn many_flows(rt: &impl Abort, alloc: Global, count: u32) -> Model {
-    let mut nodes = List::empty(alloc);
-    nodes
-        .push(node(rt, alloc, "s", NodeKind::StartEvent))
-        .expect(rt, "memory");
-    nodes
-        .push(node(rt, alloc, "e", NodeKind::EndEvent))
-        .expect(rt, "memory");
-    let mut flows = List::empty(alloc);
-    for n in 0..count {
-        let id = format!(in alloc; "{n}").expect(rt, "memory");
-        flows
-            .push(flow(rt, alloc, id.as_str(), "s", "e"))
-            .expect(rt, "memory");
-    }
-    process(rt, alloc, nodes, flows)
-}
-
 /// The command that makes an instance of the latest version of `p`, with the variable `amount`, which is 7.
 pub fn begun(rt: &impl Abort, alloc: Global) -> ProcessInstanceCreationCreate {
     let mut variables = Vars::empty(alloc);

@@ -1,4 +1,4 @@
-use crate::models::{begun, straight, wanted};
+use crate::models::{begun, straight};
 use std::alloc::Global;
 use std::process::Abort;
 use zb_model::{Command, Moment, NodeKind, Outcome, PartitionId};
@@ -11,25 +11,6 @@ fn has_events(outcome: &Outcome, count: usize) -> bool {
         Outcome::Accepted(events) => events.as_slice().len() == count,
         Outcome::Rejected(_) => false,
     }
-}
-
-// Whether the outcome is a rejection for this reason.
-fn is_rejected(outcome: &Outcome, reason: &str) -> bool {
-    match outcome {
-        Outcome::Rejected(rejection) => rejection.reason.as_str() == reason,
-        Outcome::Accepted(_) => false,
-    }
-}
-
-#[test]
-fn a_message_is_published_once(rt: HostRuntime) {
-    let alloc = rt.alloc();
-    let mut state = State::empty(alloc, PartitionId::new(1));
-    let command = Command::MessagePublish(wanted(&rt, alloc));
-    let first = outcome_of(alloc, &mut state, 1, Moment::new(0), &command).expect(&rt, "memory");
-    assert!(rt; has_events(&first, 1));
-    let second = outcome_of(alloc, &mut state, 1, Moment::new(0), &command).expect(&rt, "memory");
-    assert!(rt; is_rejected(&second, "message paid o-1 x is buffered"));
 }
 
 #[test]
