@@ -44,6 +44,7 @@ pub struct Ran<D> {
 
 /// Serves one session over the partitions of these volumes by a plan, as `serve_alone` does by words, and hands the
 /// volumes back with why it ended. What the run is is said as there.
+/// There are 1 to 16 volumes, and a log may have at most 2^32 bytes.
 pub fn serve_by<S: Source, K: Sink, D: Disk, C: Clock>(
     alloc: Global,
     plan: &ServePlan,

@@ -1,7 +1,7 @@
 -- Counting, one member more at a time.
-use Rattle.std.proofs.Common.{◌≡◌, ◌≤◌, ◌<◌, ◌+◌, ◌-◌, ℕ, zero, suc, List, [], ◌∷◌, ◌++◌, length, take, drop, slice_get, cond, count_by, Bool, true, false, not, Some, refl, sym, ap, ◌∙◌, subst, arith, length-append}
+use Rattle.std.proofs.Common.{◌≡◌, ◌≤◌, ◌<◌, ◌+◌, ◌-◌, ℕ, suc, List, [], ◌∷◌, ◌++◌, length, take, drop, slice_get, cond, count_by, Bool, true, false, not, Some, refl, sym, ap, ◌∙◌, subst, arith, length-append}
 use Rattle.std.specs.List.{range_with_len, AllByRecursion}
-use Rattle.std.proofs.lemmas.List.{take_more}
+use Rattle.std.proofs.lemmas.List.{take_more, drop-drop}
 use Rattle.std.proofs.lemmas.List.Sums.{sum_by-append}
 use Rattle.std.proofs.lemmas.Option.{slice_get_within, get_or_from_slice_get}
 use Rattle.zb_disk.specs.declared.disk.Disk.{Ghosts}
@@ -12,14 +12,10 @@ use Rattle.zb_store.specs.Stands.{Stands}
 use Rattle.zb_store.specs.declared.volume.Volume.{Volume}
 use Rattle.zb_partition.specs.Log.{bodies_of, AreBatches}
 use Rattle.zb_engine.proofs.ListLemmas.{range_with_len_more}
+use Rattle.zb_engine.proofs.MadeLemmas.{all_more}
 use Rattle.zb_tally.specs.Counts.{is_accepted, tally_with, no_tally, both_tallies, tally_of_log, tally_from}
 use Rattle.zb_tally.specs.Served.{AreLogsOf}
 use Rattle.zb_tally.specs.declared.tally.Tally.{Tally}
-
--- all of some, and one more
-pub all_more : {A : Type 0} (P : A → Type 0) (xs : List A) (x : A) → AllByRecursion P xs → P x → AllByRecursion P (xs ++ x ∷ [])
-all_more P [] x all one = (one, tt)
-all_more P (y ∷ ys) x all one = (all.0, all_more P ys x all.1 one)
 
 -- one more at most
 pub more_at_most : (so : Bool) (count more : ℕ) → more ≡ cond so (count + 1) count → more ≤ count + 1
@@ -117,15 +113,7 @@ all_pushed P old new x is all one = subst (AllByRecursion P) (sym is) (all_more 
 
 -- what follows the first of those that are left
 tail_of : {A : Type 0} (i : ℕ) (xs : List A) (x : A) (ys : List A) → drop i xs ≡ x ∷ ys → drop (i + 1) xs ≡ ys
-tail_of i [] x ys is = none_left i is
-  where
-    none_left : (k : ℕ) → drop k [] ≡ x ∷ ys → drop (k + 1) [] ≡ ys
-    none_left zero is = absurd (cc)
-    none_left (suc k) is = absurd (cc)
-tail_of zero (y ∷ xs) x ys is = let same : xs ≡ ys = cc in same
-tail_of (suc i) (y ∷ xs) x ys is =
-    let on : suc i + 1 ≡ suc (i + 1) = omega arith in
-    ap (λ k. drop k (y ∷ xs)) on ∙ tail_of i xs x ys is
+tail_of i xs x ys is = sym (drop-drop 1 i xs) ∙ ap (drop 1) is
 
 -- the logs of volumes, of which the first one is taken away
 module _ {D : Type 0} (disks : Ghosts D) where

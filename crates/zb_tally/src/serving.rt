@@ -31,7 +31,7 @@ const PIECE: usize = 65_536;
 #[derive(Drop)]
 pub struct Generated<K> {
     /// 0 where what came of it was written, 2 where the words ask for no workload, 6 where the sink failed, and 7 where
-    /// memory was wanting.
+    /// memory was wanting or a log was full.
     pub status: u8,
     pub sink: K,
 }
