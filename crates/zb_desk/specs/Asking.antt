@@ -1,6 +1,6 @@
 -- What asking for a request leads to, and what doing units of work does.
 use Rattle.std.specs.Prelude.{◌≡◌, ℕ, List, ◌++◌, length, Option, Some}
-use Rattle.zb_world.specs.Entries.{Entry}
+use Rattle.zb_world.specs.declared.entry.Entry.{Entry}
 use Rattle.zb_wire.specs.declared.request.Request.{Request}
 use Rattle.zb_desk.specs.declared.answered.Answered.{Answered}
 use Rattle.zb_desk.specs.Serial.{Basis, units_in, IsNextEntry, AreMadeFor, IsCarriedOut, IsNextUnit, AreUnits, AreAllUnits}

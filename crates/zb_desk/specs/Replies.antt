@@ -1,7 +1,7 @@
 -- The reply to a request, by its entries alone.
 use Rattle.std.specs.Prelude.{ℕ, List, [], ◌∷◌, length, Option, Some, None}
 use Rattle.zb_model.specs.declared.record.Command.{Command}
-use Rattle.zb_world.specs.Entries.{Entry}
+use Rattle.zb_world.specs.declared.entry.Entry.{Entry}
 use Rattle.zb_wire.specs.declared.request.Request.{Request}
 use Rattle.zb_wire.specs.declared.request.Request.TheVariants as requests
 use Rattle.zb_wire.specs.Asked.{command_of}

@@ -17,7 +17,8 @@ use Rattle.zb_views.specs.Standing.{begun_by}
 use Rattle.zb_record.specs.Packets.{answer_packet, kept_by, outbox_of, is_by_packet}
 use Rattle.zb_rules.specs.Step.{IsStep, EachOn, AreStepsOn}
 use Rattle.zb_rules.specs.StepLaws.{each_on_more, are_steps_more}
-use Rattle.zb_world.specs.Entries.{Entry, IsPartitionOf, part_of, parts_of}
+use Rattle.zb_world.specs.Entries.{IsPartitionOf, part_of, parts_of}
+use Rattle.zb_world.specs.declared.entry.Entry.{Entry}
 use Rattle.zb_world.specs.EntryLaws.{part_of_joined, part_of_its, part_of_other}
 use Rattle.zb_world.specs.History.{IsSentAmong, IsEntryOf, IsHistory}
 use Rattle.zb_world.specs.HistoryLaws.{history_more, history_within}

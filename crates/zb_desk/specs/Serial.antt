@@ -12,7 +12,8 @@ use Rattle.zb_record.specs.Packets.{first_packet, answer_packet, is_answer, is_b
 use Rattle.zb_rules.specs.Step.{EachOn}
 use Rattle.zb_rules.specs.Due.{due_command}
 use Rattle.zb_rules.specs.Continue.{is_quiet}
-use Rattle.zb_world.specs.Entries.{Entry, part_of}
+use Rattle.zb_world.specs.Entries.{part_of}
+use Rattle.zb_world.specs.declared.entry.Entry.{Entry}
 use Rattle.zb_wire.specs.declared.request.Request.{Request}
 use Rattle.zb_wire.specs.declared.request.Request.TheVariants as requests
 use Rattle.zb_wire.specs.Asked.{command_of, partition_asked}

@@ -14,7 +14,7 @@ use Rattle.zb_rules.specs.Due.{due_command}
 use Rattle.zb_rules.specs.DueLaws.{due_command_has}
 use Rattle.zb_rules.specs.Step.{EachOn}
 use Rattle.zb_rules.specs.StepLaws.{each_on_front, each_on_all, each_on_joined}
-use Rattle.zb_world.specs.Entries.{Entry}
+use Rattle.zb_world.specs.declared.entry.Entry.{Entry}
 use Rattle.zb_wire.specs.declared.request.Request.{Request}
 use Rattle.zb_wire.specs.declared.request.Request.TheVariants as requests
 use Rattle.zb_desk.specs.UnitLaws.{AllHave, first_has, answers_have, unit_has}

@@ -1,6 +1,6 @@
 ghost use Rattle.std.specs.Prelude.{◌≡◌, ℕ, List, length, Option, IfOk, IfErr};
 ghost use Rattle.zb_model.specs.declared.stop.Stop.{Stop as Halt};
-ghost use Rattle.zb_world.specs.Entries.{Entry};
+ghost use Rattle.zb_world.specs.declared.entry.Entry.{Entry};
 ghost use Rattle.zb_desk.specs.Serial.{Basis};
 ghost use Rattle.zb_desk.specs.Asking.{IsAsked, IsCut};
 

@@ -11,7 +11,8 @@ use Rattle.zb_rules.specs.DueLaws.{due_command_is_run}
 use Rattle.zb_rules.specs.Own.{IsSupported}
 use Rattle.zb_rules.specs.Step.{EachOn}
 use Rattle.zb_rules.specs.StepLaws.{each_on_none, each_on_more}
-use Rattle.zb_world.specs.Entries.{Entry, as_entry}
+use Rattle.zb_world.specs.Entries.{as_entry}
+use Rattle.zb_world.specs.declared.entry.Entry.{Entry}
 use Rattle.zb_base.specs.Key.{home_of}
 use Rattle.zb_record.specs.Partitions.{partition_of_key}
 use Rattle.zb_wire.specs.Asked.{command_of, key_named, partition_asked}

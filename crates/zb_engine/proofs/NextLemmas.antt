@@ -5,7 +5,8 @@ use Rattle.zb_model.specs.declared.record.Batch.{Batch}
 use Rattle.zb_model.specs.declared.record.Command.{Command}
 use Rattle.zb_rules.specs.Step.{EachOn}
 use Rattle.zb_rules.specs.StepLaws.{each_on_none, each_on_more}
-use Rattle.zb_world.specs.Entries.{Entry, as_entry}
+use Rattle.zb_world.specs.Entries.{as_entry}
+use Rattle.zb_world.specs.declared.entry.Entry.{Entry}
 use Rattle.zb_desk.specs.Serial.{IsEntryBy}
 use Rattle.zb_engine.specs.Solo.{Start, logs_in, HasMade, IsPlaced}
 use Rattle.zb_engine.specs.declared.solo.Solo.{Solo}

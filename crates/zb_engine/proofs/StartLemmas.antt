@@ -6,7 +6,8 @@ use Rattle.zb_disk.specs.declared.disk.Disk.{Ghosts}
 use Rattle.zb_model.specs.declared.record.Batch.{Batch}
 use Rattle.zb_store.specs.Stands.{Stands}
 use Rattle.zb_rules.specs.StepLaws.{are_steps_none, each_on_none}
-use Rattle.zb_world.specs.Entries.{Entry, places_of}
+use Rattle.zb_world.specs.Entries.{places_of}
+use Rattle.zb_world.specs.declared.entry.Entry.{Entry}
 use Rattle.zb_partition.specs.Log.{bodies_of, AreBatches}
 use Rattle.zb_partition.specs.Partition.{frames_of}
 use Rattle.zb_partition.specs.declared.partition.Partition.{Partition}

@@ -7,7 +7,8 @@ use Rattle.zb_model.specs.declared.record.Command.{Command}
 use Rattle.zb_model.specs.declared.stop.Stop.{Stop}
 use Rattle.zb_store.specs.Stands.{Stands}
 use Rattle.zb_rules.specs.Step.{IsStep, EachOn}
-use Rattle.zb_world.specs.Entries.{Entry, IsPartitionOf, part_of, stamps_of, as_entry}
+use Rattle.zb_world.specs.Entries.{IsPartitionOf, part_of, stamps_of, as_entry}
+use Rattle.zb_world.specs.declared.entry.Entry.{Entry}
 use Rattle.zb_partition.specs.Log.{bodies_of}
 use Rattle.zb_partition.specs.Partition.{disk_of, slots_of}
 use Rattle.zb_partition.specs.declared.partition.Partition.{Partition}

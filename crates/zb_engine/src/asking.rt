@@ -1,6 +1,6 @@
 // Requests.
 ghost use Rattle.std.specs.Prelude.{List, IsSome, IfOk, IfErr};
-ghost use Rattle.zb_world.specs.Entries.{Entry};
+ghost use Rattle.zb_world.specs.declared.entry.Entry.{Entry};
 ghost use Rattle.zb_wire.specs.declared.request.Request.TheVariants as requests;
 ghost use Rattle.zb_wire.specs.Asked.{command_of};
 ghost use Rattle.zb_desk.specs.Asking.{IsAsked, IsCut};

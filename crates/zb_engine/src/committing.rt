@@ -1,6 +1,6 @@
 // A command at one of the partitions.
 ghost use Rattle.std.specs.Prelude.{◌≡◌, ◌≤◌, List, max, Some, IfOk, IfErr};
-ghost use Rattle.zb_world.specs.Entries.{Entry};
+ghost use Rattle.zb_world.specs.declared.entry.Entry.{Entry};
 ghost use Rattle.zb_rules.specs.Own.{IsSupported};
 ghost use Rattle.zb_engine.specs.Solo.{Start, many_in, HasMade, IsPlaced, IsTurnedAway, partitions_in, stamps_in, kept_in};
 

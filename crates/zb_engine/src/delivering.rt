@@ -3,7 +3,7 @@ ghost use Rattle.std.specs.Prelude.{◌≡◌, ◌≤◌, ℕ, List, ◌++◌, d
 ghost use Rattle.zb_model.specs.declared.record.Batch.{Batch as Record};
 ghost use Rattle.zb_views.specs.Standing.{begun_by};
 ghost use Rattle.zb_record.specs.Packets as packets;
-ghost use Rattle.zb_world.specs.Entries.{Entry};
+ghost use Rattle.zb_world.specs.declared.entry.Entry.{Entry};
 ghost use Rattle.zb_desk.specs.Asking.{IsDelivered, IsDeliveryCut};
 ghost use Rattle.zb_desk.specs.Serial.{answers_in_hand, unit_in_logs};
 ghost use Rattle.zb_rules.specs.Own.{IsSupported};

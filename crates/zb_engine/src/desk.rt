@@ -1,6 +1,6 @@
 // What the engine is to those who ask it, and to the one who closes it.
 ghost use Rattle.std.specs.Prelude.{◌≡◌, ◌≤◌, List, map, IfOk, IfErr};
-ghost use Rattle.zb_world.specs.Entries.{Entry};
+ghost use Rattle.zb_world.specs.declared.entry.Entry.{Entry};
 ghost use Rattle.zb_desk.specs.Asking.{IsDelivered, IsDeliveryCut};
 ghost use Rattle.zb_engine.specs.Solo.{Start, many_in, basis_in, HasMade, HasEnded, partitions_in, stamps_in, kept_in};
 

@@ -1,7 +1,7 @@
 // What comes next: which partition has something due, is to go on, or has sent a packet.
 ghost use Rattle.std.specs.Prelude.{◌≡◌, ◌≤◌, ◌+◌, List, IfOk, Some, option_map};
 ghost use Rattle.zb_model.specs.declared.record.Command.TheVariants as commands;
-ghost use Rattle.zb_world.specs.Entries.{Entry};
+ghost use Rattle.zb_world.specs.declared.entry.Entry.{Entry};
 ghost use Rattle.zb_desk.specs.Serial.{due_in_logs, going_on, first_sent};
 ghost use Rattle.zb_engine.specs.Solo.{Start, logs_in, many_in, HasMade};
 
@@ -9,6 +9,7 @@ use crate::Solo;
 use std::alloc::{AllocError, Global};
 use zb_disk::Disk;
 use zb_model::{Command, Moment, Packet, PartitionId};
+use zb_world::partition_at;
 
 impl<D: Disk> Solo<D> {
     /// The command that is due first at a reading of the clock, at the first partition that has one. It asks the partitions
@@ -19,7 +20,7 @@ impl<D: Disk> Solo<D> {
     {
         for index in 0..self.partitions.len() {
             if let Some(command) = self.partitions[index].due(reading) {
-                return Some((number_of(index), command));
+                return Some((partition_at(index), command));
             }
         }
         None
@@ -33,7 +34,7 @@ impl<D: Disk> Solo<D> {
     {
         for index in 0..self.partitions.len() {
             if !self.partitions[index].quiet() {
-                return Some(number_of(index));
+                return Some(partition_at(index));
             }
         }
         None
@@ -51,12 +52,4 @@ impl<D: Disk> Solo<D> {
         }
         Ok(None)
     }
-}
-
-// The number of the partition at a place in their list.
-fn number_of(index: usize) -> PartitionId
-    requires { index + 1 ≤ 16 }
-    ensures { result ≡ index + 1 }
-{
-    PartitionId::new(index as u32 + 1)
 }

@@ -1,5 +1,5 @@
-//! Tests of what no clause says of the game, the faults of models, the jobs, the state and a step: each public call
-//! with ample memory.
+//! Tests of what no clause says of the faults of models, the game, the state and a step: those calls with ample memory
+//! that no line leads to.
 #![tactic(auto)]
 
 #[cfg(test)]
@@ -7,10 +7,6 @@ mod checks;
 #[cfg(test)]
 mod games;
 #[cfg(test)]
-mod jobs;
-#[cfg(test)]
 mod models;
-#[cfg(test)]
-mod states;
 #[cfg(test)]
 mod steps;

@@ -1,9 +1,9 @@
-use crate::models::{begun, straight};
-use std::alloc::Global;
-use std::process::Abort;
-use zb_model::{Command, Moment, NodeKind, Outcome, PartitionId};
+use crate::models::straight;
+use zb_model::{Batch, Command, Key, Moment, NodeKind, Outcome, PartitionId};
+use zb_record::answer_packet;
 use zb_state::State;
 use zb_step::outcome_of;
+use zb_world::{Entry, sent_in};
 
 // Whether the outcome is of so many events.
 fn has_events(outcome: &Outcome, count: usize) -> bool {
@@ -14,19 +14,29 @@ fn has_events(outcome: &Outcome, count: usize) -> bool {
 }
 
 #[test]
-fn an_instance_goes_on_by_itself(rt: HostRuntime) {
+fn a_definition_is_on_its_way(rt: HostRuntime) {
     let alloc = rt.alloc();
-    let mut state = State::empty(alloc, PartitionId::new(1));
-    let model = straight(&rt, alloc, NodeKind::EndEvent);
-    let deploy = Command::DeploymentCreate(model);
-    let first = outcome_of(alloc, &mut state, 1, Moment::new(0), &deploy).expect(&rt, "memory");
-    assert!(rt; has_events(&first, 2));
-    // Three events of its own, one of them for its variable, and twelve that are forced.
-    let create = Command::ProcessInstanceCreationCreate(begun(&rt, alloc));
-    let second = outcome_of(alloc, &mut state, 1, Moment::new(0), &create).expect(&rt, "memory");
-    assert!(rt; has_events(&second, 15));
-    assert!(rt; state.quiet());
-    assert!(rt; state.greatest_version("p") == 1);
-    assert!(rt; state.definition_for("p", 0).is_some());
-    let _game = state.game(alloc).expect(&rt, "memory");
+    let partition = PartitionId::new(1);
+    let moment = Moment::new(0);
+    let mut state = State::empty(alloc, partition);
+    let model = straight(&rt, alloc, NodeKind::StartEvent, NodeKind::EndEvent);
+    let command = Command::DeploymentCreate(model);
+    // The process, its deployment, and that it sets out for each of two other partitions.
+    let outcome = outcome_of(alloc, &mut state, 3, moment, &command).expect(&rt, "memory");
+    assert!(rt; has_events(&outcome, 4));
+    let game = state.game(alloc).expect(&rt, "memory");
+    assert!(rt; game.is_process_of(Key::make(partition, 1), "p"));
+    let packets = state.outbox(alloc, 3).expect(&rt, "memory");
+    assert!(rt; packets.len() == 2);
+    let batch = Batch {
+        moment,
+        begin: 0,
+        command,
+        outcome,
+    };
+    let entries = [Entry { partition, batch }];
+    assert!(rt; sent_in(alloc, &entries, 3, &packets[1]).expect(&rt, "memory"));
+    let answer = answer_packet(&packets[1].command, PartitionId::new(3), 3);
+    let answer = answer.expect(&rt, "an answer");
+    assert!(rt; !sent_in(alloc, &entries, 3, &answer).expect(&rt, "memory"));
 }

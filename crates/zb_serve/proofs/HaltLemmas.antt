@@ -18,7 +18,8 @@ use Rattle.zb_partition.specs.Log.{bodies_of}
 use Rattle.zb_partition.specs.Partition.{disk_of, slots_of, in_writing}
 use Rattle.zb_partition.specs.declared.partition.Partition.{Partition}
 use Rattle.zb_partition.specs.Stopping.{IsStopCause}
-use Rattle.zb_world.specs.Entries.{Entry, IsPartitionOf, places_of, stamps_of}
+use Rattle.zb_world.specs.Entries.{IsPartitionOf, places_of, stamps_of}
+use Rattle.zb_world.specs.declared.entry.Entry.{Entry}
 use Rattle.zb_wire.specs.declared.request.Request.{Request}
 use Rattle.zb_wire.specs.declared.request.LineFault.{LineFault}
 use Rattle.zb_desk.specs.Numbered.{EachFrom}

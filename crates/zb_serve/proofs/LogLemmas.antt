@@ -13,7 +13,8 @@ use Rattle.zb_partition.specs.Log.{bodies_of, IsApplied}
 use Rattle.zb_partition.specs.Partition.{disk_of, in_writing}
 use Rattle.zb_partition.specs.declared.partition.Partition.{Partition}
 use Rattle.zb_partition.specs.Stopping.{frame_of, HasRoomFor, IsLeft, IsHurt, IsStopCause}
-use Rattle.zb_world.specs.Entries.{Entry, part_of}
+use Rattle.zb_world.specs.Entries.{part_of}
+use Rattle.zb_world.specs.declared.entry.Entry.{Entry}
 use Rattle.zb_engine.specs.Ledger.{Opening, HasAccount, HasStopped}
 use Rattle.zb_engine.specs.Solo.{account_in, IsBatchOf}
 use Rattle.zb_engine.proofs.LogLemmas.{file_stands, crash_stands}

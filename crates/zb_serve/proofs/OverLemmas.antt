@@ -5,7 +5,8 @@ use Rattle.std.proofs.lemmas.List.{length-map}
 use Rattle.std.proofs.lemmas.List.Elements.{All-nil, All-cons}
 use Rattle.zb_model.specs.declared.record.Batch.{Batch}
 use Rattle.zb_rules.specs.Step.{EachOn, IsStep, AreStepsOn}
-use Rattle.zb_world.specs.Entries.{Entry, IsPartitionOf, part_of, parts_of, stamps_of}
+use Rattle.zb_world.specs.Entries.{IsPartitionOf, part_of, parts_of, stamps_of}
+use Rattle.zb_world.specs.declared.entry.Entry.{Entry}
 use Rattle.zb_world.specs.History.{IsHistory}
 use Rattle.zb_lines.specs.Taken.{TakesBytes}
 use Rattle.zb_desk.specs.Numbered.{EachFrom}

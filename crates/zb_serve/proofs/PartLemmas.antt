@@ -2,7 +2,8 @@
 use Rattle.std.proofs.Common.{◌≡◌, ℕ, zero, suc, ◌+◌, List, [], ◌∷◌, length, map, slice_get, Some, refl, sym, ap, ◌∙◌, subst, arith}
 use Rattle.std.specs.List.{AllZip, range_with_len}
 use Rattle.zb_model.specs.declared.record.Batch.{Batch}
-use Rattle.zb_world.specs.Entries.{Entry, part_of, parts_of}
+use Rattle.zb_world.specs.Entries.{part_of, parts_of}
+use Rattle.zb_world.specs.declared.entry.Entry.{Entry}
 use Rattle.zb_serve.proofs.ListLemmas.{some_same}
 
 -- the part of a number, among parts that begin at another

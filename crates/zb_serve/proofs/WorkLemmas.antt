@@ -1,7 +1,7 @@
 -- Whether units of work are done behind a session that ended so.
 use Rattle.std.proofs.Common.{◌≡◌, List, Bool, IsTrue, IsFalse, Option, None, refl, sym, ◌∙◌}
 use Rattle.std.proofs.lemmas.Bool.{false≢true}
-use Rattle.zb_world.specs.Entries.{Entry}
+use Rattle.zb_world.specs.declared.entry.Entry.{Entry}
 use Rattle.zb_session.specs.Session.{CutsOff, Facts, LeavesDesk}
 use Rattle.zb_session.specs.declared.session.End.{End}
 use Rattle.zb_session.specs.declared.session.End.TheVariants as endings

@@ -3,7 +3,8 @@ use Rattle.std.specs.Prelude.{◌≡◌, ℕ, List, ◌++◌, length, slice_get,
 use Rattle.std.specs.List.{AllZip}
 use Rattle.zb_model.specs.declared.record.Batch.{Batch}
 use Rattle.zb_store.specs.Stands.{Stands}
-use Rattle.zb_world.specs.Entries.{Entry, parts_of}
+use Rattle.zb_world.specs.Entries.{parts_of}
+use Rattle.zb_world.specs.declared.entry.Entry.{Entry}
 use Rattle.zb_world.specs.History.{IsHistory, IsCutAt}
 use Rattle.zb_world.specs.Once.{HappensOnce}
 use Rattle.zb_partition.specs.Log.{bodies_of}

@@ -8,7 +8,8 @@ use Rattle.zb_store.specs.Calls.{IsByFirstCall}
 use Rattle.zb_store.specs.Log.{extent}
 use Rattle.zb_store.specs.Stands.{Stands}
 use Rattle.zb_rules.specs.Step.{IsStep, AreStepsOn}
-use Rattle.zb_world.specs.Entries.{Entry, is_of, part_of}
+use Rattle.zb_world.specs.Entries.{is_of, part_of}
+use Rattle.zb_world.specs.declared.entry.Entry.{Entry}
 use Rattle.zb_partition.specs.Log.{bodies_of, AreBatches, IsApplied}
 use Rattle.zb_partition.specs.Stopping.{frame_of, HasRoomFor}
 use Rattle.zb_serve.specs.Ends.{LogEnds, Told, Crashes}

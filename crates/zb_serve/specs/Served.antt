@@ -4,7 +4,8 @@ use Rattle.std.specs.Prelude.{Bool, All, IsTrue, IsFalse, IsSome, Option, Some, 
 use Rattle.std.specs.List.{flat_map, AllByRecursion}
 use Rattle.zb_disk.specs.Cause.{Rose}
 use Rattle.zb_model.specs.declared.record.Batch.{Batch}
-use Rattle.zb_world.specs.Entries.{Entry, IsPartitionOf, parts_of, stamps_of}
+use Rattle.zb_world.specs.Entries.{IsPartitionOf, parts_of, stamps_of}
+use Rattle.zb_world.specs.declared.entry.Entry.{Entry}
 use Rattle.zb_world.specs.History.{IsHistory}
 use Rattle.zb_wire.specs.declared.request.Request.{Request}
 use Rattle.zb_wire.specs.Request.{request_of}

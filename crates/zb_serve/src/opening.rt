@@ -14,6 +14,7 @@ use zb_engine::Solo;
 use zb_model::PartitionId;
 use zb_partition::{OpenFault, Partition};
 use zb_store::Volume;
+use zb_world::partition_at;
 
 /// Opens the log of each volume, in order, up to the first one that can't be opened, and makes the
 /// engine over them, with the room that the volumes had. At an error it tells why the run ends, and
@@ -69,7 +70,7 @@ fn open_all<D: Disk>(
         return Err((Cause::Memory, volumes));
     };
     for index in 0..count {
-        let place = number_of(index);
+        let place = partition_at(index);
         let volume = volumes.remove(0);
         match Partition::open(alloc, volume, place, count as u32, limit) {
             Ok(partition) => partitions.push_reserved(partition),
@@ -80,14 +81,6 @@ fn open_all<D: Disk>(
         }
     }
     Ok((partitions, volumes))
-}
-
-// The number of the partition at a place in their list.
-fn number_of(index: usize) -> PartitionId
-    requires { index + 1 ≤ 16 }
-    ensures { result ≡ index + 1 }
-{
-    PartitionId::new(index as u32 + 1)
 }
 
 // Why an opening of the log of this partition ends the run.

@@ -5,7 +5,7 @@ ghost use Rattle.zb_words.specs.declared.plan.ClockKind.TheVariants as kinds;
 ghost use Rattle.zb_session.specs.Hours.{Hours};
 ghost use Rattle.zb_wire.specs.declared.request.Request.{Request as Asked};
 ghost use Rattle.zb_wire.specs.declared.request.LineFault.{LineFault};
-ghost use Rattle.zb_world.specs.Entries.{Entry};
+ghost use Rattle.zb_world.specs.declared.entry.Entry.{Entry};
 ghost use Rattle.zb_session.specs.Session.{session_ends, streams_of, LeavesDesk};
 ghost use Rattle.zb_session.specs.Serving.{AreAt, began_of, clocks_of, service_of, IsOver};
 ghost use Rattle.zb_engine.specs.Solo.{Start, basis_in, many_in, HasMade, partitions_in, stamps_in, kept_in};

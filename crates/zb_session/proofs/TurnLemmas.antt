@@ -8,7 +8,7 @@ use Rattle.zb_lines.specs.Taken.{TakesBytes}
 use Rattle.zb_lines.specs.TakenLaws.{takes_on, takes_nothing}
 use Rattle.zb_lines.specs.Line.{IsOneLine, ended}
 use Rattle.zb_rules.specs.StepLaws.{each_on_none, each_on_more}
-use Rattle.zb_world.specs.Entries.{Entry}
+use Rattle.zb_world.specs.declared.entry.Entry.{Entry}
 use Rattle.zb_desk.specs.Numbered.{EachFrom}
 use Rattle.zb_session.specs.Hours.{given_of}
 use Rattle.zb_session.specs.Answer.{IsAnswer, entries_made, IsServed, AreSerial}

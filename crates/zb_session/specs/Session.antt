@@ -7,7 +7,7 @@ use Rattle.zb_outside.specs.Stream.{SourceView, SinkView}
 use Rattle.zb_outside.specs.declared.sink.Sink as sink_trait
 use Rattle.zb_lines.specs.Taken.{TakesBytes}
 use Rattle.zb_lines.specs.Line.{AreLines}
-use Rattle.zb_world.specs.Entries.{Entry}
+use Rattle.zb_world.specs.declared.entry.Entry.{Entry}
 use Rattle.zb_wire.specs.declared.request.Request.{Request}
 use Rattle.zb_wire.specs.Request.{request_of}
 use Rattle.zb_desk.specs.Numbered.{EachFrom}

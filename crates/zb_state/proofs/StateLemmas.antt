@@ -16,7 +16,8 @@ use Rattle.zb_views.specs.Messages.{buffered, is_past_deadline, without_message}
 use Rattle.zb_views.specs.MessageLaws.{buffered_published, buffered_expired}
 use Rattle.zb_views.specs.ViewLaws.{definitions_more, begun_more, buffered_kept, greatest_counter_more}
 use Rattle.zb_rules.specs.GrowthLaws.{board_of_more}
-use Rattle.zb_views.specs.Definitions.{definition_told}
+use Rattle.zb_views.specs.Definitions.{definition_told, definitions}
+use Rattle.zb_definitions.specs.Kept.{KeepsDefinitions}
 use Rattle.zb_views.specs.Standing.{standing_by}
 use Rattle.zb_views.specs.StandingLaws.{standing_more}
 use Rattle.zb_views.specs.declared.distribution.Distribution.{Distribution}
@@ -186,7 +187,9 @@ state_more es e found old mid new by is same applied played change counter noted
   applied = rw (noted.place, same.place, all_apply_more old.place [] es e) (both_true is.applied applied);
   counter = rw (noted.place, same.place, counter_more old.place es e, is.counter) (sym (rw (counter, same.counter, same.place) at noted.counter));
   messages = rw (messages_more es e, is.messages) (sym (rw (change, same.messages) at noted.messages));
-  definitions = rw (definitions_more es e, is.definitions, definition_made e) (sym (rw (change, same.definitions) at noted.definitions));
+  definitions =
+      let kept = noted.definitions (definitions es) (subst (KeepsDefinitions (definitions es)) (sym same.definitions) is.definitions) in
+      rw (definitions_more es e, definition_made e) (rw change at kept);
   distributions = rw (distributions_more es e, is.distributions) (sym (rw (change, same.distributions) at noted.distributions));
   begun = begun_more es e ∙ (instance_made e ∙ sym (rw change at noted.begun));
   jobs = rw (jobs_noted es e found by, is.jobs) (sym (rw same.jobs at noted.jobs));

@@ -1,5 +1,5 @@
 -- What contracts see of a state.
-use Rattle.std.specs.Prelude.{◌≡◌, ℕ, max, List, [], ◌++◌, true, Option, Some, None, IsTrue}
+use Rattle.std.specs.Prelude.{◌≡◌, ℕ, max, List, [], true, Option, Some, None, IsTrue}
 use Rattle.zb_model.specs.declared.record.Event.{Event}
 use Rattle.zb_state.specs.declared.state.State.{State}
 use Rattle.zb_state.specs.declared.change.Change.{Change}
@@ -13,6 +13,7 @@ use Rattle.zb_views.specs.Messages.{buffered}
 use Rattle.zb_views.specs.Definitions.{definitions}
 use Rattle.zb_views.specs.Distributions.{distributions}
 use Rattle.zb_views.specs.Begin.{begun}
+use Rattle.zb_definitions.specs.Kept.{KeepsDefinitions, KeepsMoreDefinitions}
 use Rattle.zb_rules.specs.Applies.{applies, all_apply}
 use Rattle.zb_rules.specs.Making.{Making}
 use Rattle.zb_rules.specs.Shown.{board_of}
@@ -26,7 +27,7 @@ pub record IsStateOf (es : List Event) (state : State) : Type 0 where
   pub applied : IsTrue (all_apply state.place [] es)
   pub counter : greatest_counter state.place es ≡ state.counter
   pub messages : buffered es ≡ state.messages
-  pub definitions : definitions es ≡ state.definitions.items
+  pub definitions : KeepsDefinitions (definitions es) state.definitions
   pub distributions : distributions es ≡ state.distributions.items
   pub begun : begun es ≡ state.begun
   pub jobs : jobs es ≡ state.jobs
@@ -51,7 +52,7 @@ pub record IsSameBeside (old new : State) : Type 0 where
   pub place : new.place ≡ old.place
   pub counter : new.counter ≡ old.counter
   pub messages : new.messages ≡ old.messages
-  pub definitions : new.definitions.items ≡ old.definitions.items
+  pub definitions : new.definitions ≡ old.definitions
   pub distributions : new.distributions.items ≡ old.distributions.items
   pub begun : new.begun ≡ old.begun
   pub jobs : new.jobs ≡ old.jobs
@@ -63,7 +64,7 @@ pub record IsNoted (n : ℕ) (change : Change) (found : Option Event) (old new :
   pub place : new.place ≡ old.place
   pub counter : new.counter ≡ max old.counter n
   pub messages : new.messages ≡ with_change change old.messages
-  pub definitions : new.definitions.items ≡ old.definitions.items ++ definition_of_change change
+  pub definitions : KeepsMoreDefinitions (definition_of_change change) old.definitions new.definitions
   pub distributions : new.distributions.items ≡ distributions_with change old.distributions.items
   pub begun : new.begun ≡ instance_of_change change
   pub jobs : new.jobs ≡ jobs_with found old.jobs

@@ -3,7 +3,6 @@
 
 mod buffered;
 mod change;
-mod definitions;
 mod distributions;
 mod keys;
 mod moves;

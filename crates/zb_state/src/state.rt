@@ -40,13 +40,14 @@ mod timers;
 
 use crate::buffered::{self, Buffered};
 use crate::change::{Change, copied_change};
+use crate::distributions;
 use crate::keys::greatest_counter_of;
 use crate::moves::{may_show, play};
 use crate::turn::{Turn, turn_by};
-use crate::{definitions, distributions};
 use std::alloc::{AllocError, Global};
 use std::mem;
 use zb_check::{ModelFault, check};
+use zb_definitions::Definitions;
 use zb_game::Game;
 use zb_graph::Graph;
 use zb_jobs::Jobs;
@@ -57,7 +58,7 @@ use zb_model::{
 use zb_table::Table;
 use zb_timers::Timers;
 use zb_tokens::{Incident, Mover, Phase};
-use zb_views::{Begun, Definition, Distribution};
+use zb_views::{Begun, Distribution};
 
 /// What the events of a partition's log come to. Its clauses hold for all lists of events of which it is
 /// the state.
@@ -68,8 +69,8 @@ pub struct State {
     counter: u64,
     // The buffered messages.
     messages: Table<Buffered>,
-    // The definitions, in the order in which they were made.
-    definitions: Vec<Definition>,
+    // The definitions that were made.
+    definitions: Definitions,
     // The distributions that are under way, in the order in which they began.
     distributions: Vec<Distribution>,
     // The instance that the last event began, if it began one.
@@ -103,7 +104,7 @@ impl State {
             place,
             counter: 0,
             messages: Table::empty(alloc),
-            definitions: Vec::new(alloc),
+            definitions: Definitions::empty(alloc),
             distributions: Vec::new(alloc),
             begun: None,
             jobs: Jobs::empty(alloc),
@@ -205,26 +206,26 @@ impl State {
         buffered::deadline_of(key, &self.messages)
     }
 
-    /// The key of the definition that is asked for: version 0 is the latest one. It goes through all
-    /// definitions.
+    /// The key of the definition that is asked for: version 0 is the latest one. It takes the logarithm of how many
+    /// versions the process has, on average.
     pub fn definition_for(&self, process: &str, version: u32) -> Option<Key>
         ensures { (es : List Event) → IsStateOf es self.now → result ≡ option_map (λ d. d.key) (definition_for process.now version es) }
     {
-        definitions::definition_for(process, version, &self.definitions)
+        self.definitions.definition_for(process, version)
     }
 
-    /// Whether a definition has this key. It goes through all definitions.
+    /// Whether a definition has this key. It takes the logarithm of how many there are.
     pub fn has_definition(&self, key: Key) -> bool
         ensures { (es : List Event) → IsStateOf es self.now → result ≡ has_definition key es }
     {
-        definitions::has_key(key, &self.definitions)
+        self.definitions.contains(key)
     }
 
-    /// The greatest version of a process, or 0. It goes through all definitions.
+    /// The greatest version of a process, or 0. It takes constant time on average.
     pub fn greatest_version(&self, process: &str) -> u32
         ensures { (es : List Event) → IsStateOf es self.now → result ≡ greatest_version process.now (definitions es) }
     {
-        definitions::greatest_version(process, &self.definitions)
+        self.definitions.greatest_version(process)
     }
 
     /// The game of the events: a copy of it, which costs as much as it has parts.
@@ -606,6 +607,7 @@ impl State {
     // Takes in the greatest counter of an event, and what it changes beside the game. After a refusal the
     // state is only dropped.
     #[inline(always)]
+    #[tactic(auto, using(zb_definitions::proofs::KeepLemmas::kept))]
     fn note(
         &mut self,
         alloc: Global,
@@ -623,7 +625,7 @@ impl State {
         self.begun = None;
         match change {
             Change::Defined(definition) => {
-                self.definitions.push(definition)?;
+                self.definitions.push(alloc, definition)?;
                 Ok(())
             }
             Change::Begun(instance) => {

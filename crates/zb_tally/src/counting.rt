@@ -17,6 +17,7 @@ use zb_model::{Batch, Event, Key, Outcome, PartitionId};
 use zb_show::read_batch;
 use zb_state::State;
 use zb_store::{GateLog, Volume, one_reading};
+use zb_world::partition_at;
 
 /// The most bytes that a log may have.
 pub const LIMIT: u64 = 4_294_967_296;
@@ -31,18 +32,10 @@ pub fn count_all<D: Disk + Drop>(alloc: Global, mut volumes: Vec<Volume<D>>) -> 
     let mut tally = Tally::none();
     for index in 0..volumes.len() {
         let Volume { log, .. } = volumes.remove(0);
-        let counted = count_log(alloc, number_of(index), log)?;
+        let counted = count_log(alloc, partition_at(index), log)?;
         tally = tally.joined(counted)?;
     }
     Some(tally)
-}
-
-// The number of the partition at a place in their list.
-fn number_of(index: usize) -> PartitionId
-    requires { index + 1 ≤ 16 }
-    ensures { result ≡ index + 1 }
-{
-    PartitionId::new(index as u32 + 1)
 }
 
 // What is counted in the log of this partition.

@@ -9,7 +9,8 @@ use Rattle.zb_model.specs.declared.record.Event.TheVariants as events
 use Rattle.zb_model.specs.declared.record.Outcome.TheVariants as outcomes
 use Rattle.zb_model.specs.declared.record.RejectionKind.TheVariants as kinds
 use Rattle.zb_rules.specs.Expire.{no_message}
-use Rattle.zb_world.specs.Entries.{Entry, part_of, places_of, happenings}
+use Rattle.zb_world.specs.Entries.{part_of, places_of, happenings}
+use Rattle.zb_world.specs.declared.entry.Entry.{Entry}
 use Rattle.zb_world.specs.History.{IsEntryOf, IsHistory}
 use Rattle.zb_world.specs.Once.{correlates, HappensOnce}
 use Rattle.zb_world.specs.HistoryLaws.{history_none, history_more}

@@ -4,11 +4,7 @@ use Rattle.std.specs.List.{filter, flat_map, enumerate_from, range_with_len}
 use Rattle.zb_model.specs.declared.record.Event.{Event}
 use Rattle.zb_model.specs.declared.record.Batch.{Batch}
 use Rattle.zb_views.specs.View.{events_in}
-
--- an entry: a batch, and the partition that made it (own)
-pub record Entry : Type 0 where
-  pub partition : ℕ
-  pub batch : Batch
+use Rattle.zb_world.specs.declared.entry.Entry.{Entry}
 
 -- a number of n partitions, which are numbered from 1 on (Zeebe)
 abbrev pub IsPartitionOf : ℕ → ℕ → Type 0

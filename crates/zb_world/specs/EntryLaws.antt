@@ -6,7 +6,8 @@ use Rattle.std.proofs.lemmas.Bool.Decides.{nat_tests}
 use Rattle.std.proofs.lemmas.List.{map-append}
 use Rattle.std.proofs.lemmas.List.Elements.{filter-append, All-head, All-tail}
 use Rattle.zb_model.specs.declared.record.Batch.{Batch}
-use Rattle.zb_world.specs.Entries.{Entry, IsPartitionOf, is_of, part_of, places_of, as_entry, entries_of}
+use Rattle.zb_world.specs.Entries.{IsPartitionOf, is_of, part_of, places_of, as_entry, entries_of}
+use Rattle.zb_world.specs.declared.entry.Entry.{Entry}
 
 -- the parts of two lists, one behind the other
 pub part_of_joined : (p : ℕ) (a b : List Entry) → part_of p (a ++ b) ≡ part_of p a ++ part_of p b

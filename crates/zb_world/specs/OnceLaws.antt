@@ -24,7 +24,8 @@ use Rattle.zb_rules.specs.StepLaws.{each_on_all, all_apply_on}
 use Rattle.zb_rules.specs.JobEnds.{is_end_of}
 use Rattle.zb_rules.specs.JobEndsLaws.{ended_once, ended_home}
 use Rattle.zb_rules.specs.TimerEndsLaws.{timer_ended_once, timer_ended_home}
-use Rattle.zb_world.specs.Entries.{Entry, part_of, happenings, AtMostOne}
+use Rattle.zb_world.specs.Entries.{part_of, happenings, AtMostOne}
+use Rattle.zb_world.specs.declared.entry.Entry.{Entry}
 use Rattle.zb_world.specs.History.{IsEntryOf, IsHistory}
 use Rattle.zb_world.specs.Once.{correlates, HappensOnce}
 use Rattle.zb_world.specs.EntryLaws.{part_of_joined, part_of_its, part_of_other}

@@ -32,7 +32,8 @@ use Rattle.zb_rules.specs.SendingLaws.{sends, IsDeployment, SendsWhatItMakes, ou
 use Rattle.zb_rules.specs.Shown.{board_of}
 use Rattle.zb_rules.specs.SoundLaws.{board_is_there}
 use Rattle.zb_rules.specs.StepLaws.{each_on_all}
-use Rattle.zb_world.specs.Entries.{Entry, part_of}
+use Rattle.zb_world.specs.Entries.{part_of}
+use Rattle.zb_world.specs.declared.entry.Entry.{Entry}
 use Rattle.zb_world.specs.History.{IsSentAmong, IsEntryOf, IsHistory}
 use Rattle.zb_world.specs.EntryLaws.{part_of_joined, part_of_its, part_of_other}
 use Rattle.zb_world.specs.HistoryLaws.{history_more, parts_are_steps, sent_still}

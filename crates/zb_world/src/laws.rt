@@ -2,7 +2,8 @@ ghost use Rattle.std.specs.Prelude.{◌≡◌, ◌≤◌, ◌+◌, ℕ, List, []
 ghost use Rattle.std.specs.List.{range_with_len, AllByRecursion};
 ghost use Rattle.zb_model.specs.declared.record.Batch.{Batch};
 ghost use Rattle.zb_rules.specs.Step.{EachOn, AreStepsOn};
-ghost use Rattle.zb_world.specs.Entries.{Entry, IsPartitionOf, part_of, places_of, entries_of};
+ghost use Rattle.zb_world.specs.Entries.{IsPartitionOf, part_of, places_of, entries_of};
+ghost use Rattle.zb_world.specs.declared.entry.Entry.{Entry};
 ghost use Rattle.zb_views.specs.View.{events_of};
 ghost use Rattle.zb_record.specs.Packets.{outbox_of};
 ghost use Rattle.zb_world.specs.History.{IsSentAmong, IsEntryOf, IsHistory, IsCutAt};

@@ -7,7 +7,7 @@ ghost use Rattle.zb_views.specs.Distributions.{is_distributed_to, is_distributed
 ghost use Rattle.zb_record.specs.Packets.{packets_for, outbox_of, first_packet};
 ghost use Rattle.zb_state.specs.State.{partition_of, IsStateOf};
 
-use crate::{State, definitions, distributions};
+use crate::{State, distributions};
 use std::alloc::{AllocError, Global};
 use zb_model::{Key, Packet};
 use zb_record::distribute;
@@ -29,7 +29,7 @@ impl State {
     }
 
     /// The packets that the partition, of so many, has sent and that no event has ended, in the order in which they were
-    /// sent. Each costs a walk over the definitions, and a copy of its model.
+    /// sent. Each costs the logarithm of how many definitions there are, and a copy of its model.
     pub fn outbox(&self, alloc: Global, partitions: u32) -> Result<Vec<Packet>, AllocError>
         requires { partitions ≤ 16 }
         ensures { (es : List Event) → IsStateOf es self.now
@@ -44,7 +44,8 @@ impl State {
         Ok(packets)
     }
 
-    /// The first one of these packets. It costs a walk over the definitions, and a copy of its model.
+    /// The first one of these packets. It costs the logarithm of how many definitions
+    /// there are, and a copy of its model.
     pub fn first_packet(&self, alloc: Global, partitions: u32) -> Result<Option<Packet>, AllocError>
         requires { partitions ≤ 16 }
         ensures { (es : List Event) → IsStateOf es self.now
@@ -70,7 +71,7 @@ impl State {
             → IfOk result (λ packet. packets_for (partition_of self.now) partitions es distribution ≡ begun_by packet) }
     {
         let key = distribution.definition;
-        let Some(version) = definitions::version_under(key, &self.definitions) else {
+        let Some(version) = self.definitions.version_under(key) else {
             return Ok(None);
         };
         let Some(graph) = self.game.model(key) else {

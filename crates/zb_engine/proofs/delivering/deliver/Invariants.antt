@@ -1,5 +1,5 @@
 use Rattle.std.proofs.Common.{List}
-use Rattle.zb_world.specs.Entries.{Entry}
+use Rattle.zb_world.specs.declared.entry.Entry.{Entry}
 use Rattle.zb_engine.specs.Solo.{Start, HasMade}
 use Rattle.zb_engine.proofs.DeliveryLemmas.{IsWorking}
 use Rattle.zb_engine.proofs.delivering.deliver.Given as goal

@@ -43,8 +43,8 @@ returns-in-Err-clause-unopened g c = λ told tells.
     let has = subst (λ volumes. HasOpened n c.args.limit c.args.volumes.items volumes partitions) split c.loop-index.invariant.has in
     let said = c.in-Err.ensures in
     subst (λ cause. FailsToOpen told (logs_ends g.D.Disk c.args.volumes.items c.hand_back-volumes.result.items) cause) (sym c.open_cause.ensures)
-    (fails_refused g.D.Disk n c.args.limit c.args.volumes.items left partitions c.remove-volume.result c.in-Err.volume c.number_of-place.result c.in-Err.fault has
-    (omega (arith, c.number_of-place.ensures, c.loop-index.invariant.opened, c.loop-index.partitions.ok)) (record { opens = said.opens; slots = said.slots }) (λ t frame e. said.bad t frame e) said.cause
+    (fails_refused g.D.Disk n c.args.limit c.args.volumes.items left partitions c.remove-volume.result c.in-Err.volume c.partition_at-place.result c.in-Err.fault has
+    (omega (arith, c.partition_at-place.ensures, c.loop-index.invariant.opened, c.loop-index.partitions.ok)) (record { opens = said.opens; slots = said.slots }) (λ t frame e. said.bad t frame e) said.cause
     c.hand_back-volumes.result.items c.hand_back-volumes.ensures told tells)
 
 pub loop-index-preserved : goal.loop-index-preserved
@@ -52,7 +52,7 @@ loop-index-preserved g c =
     let n = length c.args.volumes.items in
     let left = c.remove-volume.new.self.items in
     let partitions = c.loop-index.partitions.items in
-    let number = c.number_of-place.result in
+    let number = c.partition_at-place.result in
     let split = first_removed c.loop-index.volumes.items left c.remove-volume.result (omega (arith, c.loop-index-test.true, c.len-count.ensures, c.loop-index.invariant.many, c.loop-index.volumes.ok)) c.remove-volume.ensures.value c.remove-volume.ensures.items in
     let has = subst (λ volumes. HasOpened n c.args.limit c.args.volumes.items volumes partitions) split c.loop-index.invariant.has in
     let said = c.in-Ok-open.ensures in
@@ -60,7 +60,7 @@ loop-index-preserved g c =
     record { has = said.opened.1.has; live = said.live; place = said.place; partitions = omega (arith, said.partitions, c.len-count.ensures, c.args.volumes.ok, c.requires.few); most = said.limit } in
     let opened = opened_over c.remove-volume.result n c.args.limit number said.opened.0 c.in-Ok-open.partition is_open said.opened.1.stood said.opened.1.applied said.opens said.steady
     (λ tells. said.settled tells said.opened.0 (said.opened.1.stood (g.met.D.Disk.images_told tells))) said.slots in
-    let more = opened_more n c.args.limit c.args.volumes.items partitions c.remove-volume.result left c.in-Ok-open.partition number has (omega (arith, c.number_of-place.ensures, c.loop-index.invariant.opened, c.loop-index.partitions.ok)) opened in
+    let more = opened_more n c.args.limit c.args.volumes.items partitions c.remove-volume.result left c.in-Ok-open.partition number has (omega (arith, c.partition_at-place.ensures, c.loop-index.invariant.opened, c.loop-index.partitions.ok)) opened in
     record {
       many = omega (arith, c.loop-index.invariant.many, c.remove-volume.ensures.len);
       room = c.remove-volume.ensures.capacity ∙ c.loop-index.invariant.room;

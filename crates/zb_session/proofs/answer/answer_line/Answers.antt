@@ -1,7 +1,7 @@
 use Rattle.std.proofs.Common.{◌≡◌, ℕ, ◌++◌, List, [], length, Some, None, Result, Ok, Err, refl, sym, ap, ◌∙◌, subst, inr, rules}
 use Rattle.zb_reply.specs.Reply.{line_of}
 use Rattle.std.proofs.lemmas.Result.{on_ok_weaker, IfErr-weaker}
-use Rattle.zb_world.specs.Entries.{Entry}
+use Rattle.zb_world.specs.declared.entry.Entry.{Entry}
 use Rattle.zb_wire.specs.RequestLaws.{Tells-fault}
 use Rattle.zb_wire.specs.declared.request.LineFault.TheVariants as faults
 use Rattle.zb_wire.specs.declared.request.Request.{Request}

@@ -1,4 +1,4 @@
-use Rattle.std.proofs.Common.{subst}
+use Rattle.std.proofs.Common.{◌≡◌, ◌++◌, OnOk, sym, subst}
 use Rattle.std.proofs.Math.Logic.{∥∥₁_map}
 use Rattle.zb_state.specs.State.{partition_of, AdmitsMade}
 use Rattle.zb_step.specs.declared.behind.Behind.{Behind}
@@ -31,3 +31,9 @@ put_interrupted-requires c =
 
 pub returns-in-Nothing-clause-reached : goal.returns-in-Nothing-clause-reached
 returns-in-Nothing-clause-reached c = ∥∥₁_map c.requires (λ r. (r.0, r.1))
+
+pub returns-in-Interrupt-clause-put : goal.returns-in-Interrupt-clause-put
+returns-in-Interrupt-clause-put c = λ es is.
+    let p = partition_of c.args.state.now in
+    let Puts : Behind → Type 0 = λ b. OnOk c.put_interrupted.result (c.put_interrupted.new.out ≡ c.args.out.now ++ made_behind p c.args.moment b es) in
+    subst Puts (sym c.in-Interrupt.is) (c.put_interrupted.ensures.put es is)

@@ -26,7 +26,7 @@ loop-index-preserved g c =
           let was = before.counted tells logs are in
           let one = first_log g.D.Disk c.remove-log.result left c.loop-index.index logs (subst (λ volumes. AreLogsOf g.D.Disk volumes (drop c.loop-index.index logs)) split was.0) in (
             one.rest,
-            counted_on c.loop-index.index c.number_of.result c.loop-index.tally c.in_ok-counted.counted c.in_ok-tally.tally _ one.log logs c.number_of.ensures
+            counted_on c.loop-index.index c.partition_at.result c.loop-index.tally c.in_ok-counted.counted c.in_ok-tally.tally _ one.log logs c.partition_at.ensures
                 (c.in_ok-counted.ensures tells one.log one.stands one.fits) c.in_ok-tally.ensures one.first was.1,
           );
     }

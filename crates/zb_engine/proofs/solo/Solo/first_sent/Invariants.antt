@@ -1,5 +1,5 @@
 use Rattle.std.proofs.Common.{◌≡◌, ◌+◌, List, drop}
-use Rattle.zb_world.specs.Entries.{Entry}
+use Rattle.zb_world.specs.declared.entry.Entry.{Entry}
 use Rattle.zb_desk.specs.Serial.{first_sent}
 use Rattle.zb_engine.specs.Solo.{Start, many_in, logs_in, HasMade}
 use Rattle.zb_engine.proofs.solo.Solo.first_sent.Given as goal

@@ -13,7 +13,7 @@ returns-then-not-quiet g c = λ start made has.
     let within : index < length (partitions_in c.args.self.now) = omega (arith, c.loop-index-test.true, c.len-index-end.ensures, c.args.self.now.partitions.ok.0) in
     let s = stands_at start made c.args.self.now has index c.index.result.now within in
     let quiet = c.quiet.ensures (log_behind (1 + index) s.log made) (subst (λ (p : Partition _ _). HasLog (log_behind (1 + index) s.log made) p) (sym c.index.ensures) s.has) in
-    let number : c.number_of.result ≡ 1 + index = omega (arith, c.number_of.ensures) in
+    let number : c.partition_at.result ≡ 1 + index = omega (arith, c.partition_at.ensures) in
     ap (λ p. Some (p, commands.ProcessInstanceBatchContinue)) number
     ∙ sym (c.loop-index.invariant start made has ∙ (going_on_here index (logs_in start) s.log made s.first
     ∙ ap (λ q. if q then going_on (1 + (index + 1)) (drop (index + 1) (logs_in start)) made else Some (1 + index, commands.ProcessInstanceBatchContinue)) (sym quiet ∙ c.if-not-quiet.true)))

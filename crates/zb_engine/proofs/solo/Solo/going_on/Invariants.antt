@@ -1,5 +1,5 @@
 use Rattle.std.proofs.Common.{◌≡◌, ◌+◌, List, drop}
-use Rattle.zb_world.specs.Entries.{Entry}
+use Rattle.zb_world.specs.declared.entry.Entry.{Entry}
 use Rattle.zb_desk.specs.Serial.{going_on}
 use Rattle.zb_engine.specs.Solo.{Start, logs_in, HasMade}
 use Rattle.zb_engine.proofs.solo.Solo.going_on.Given as goal

@@ -13,7 +13,7 @@ returns-in-Some g c = λ start made has.
     let within : index < length (partitions_in c.args.self.now) = omega (arith, c.loop-index-test.true, c.len-index-end.ensures, c.args.self.now.partitions.ok.0) in
     let s = stands_at start made c.args.self.now has index c.index.result.now within in
     let due = c.due.ensures (log_behind (1 + index) s.log made) (subst (λ (p : Partition _ _). HasLog (log_behind (1 + index) s.log made) p) (sym c.index.ensures) s.has) in
-    let number : c.number_of.result ≡ 1 + index = omega (arith, c.number_of.ensures) in
+    let number : c.partition_at.result ≡ 1 + index = omega (arith, c.partition_at.ensures) in
     ap (λ p. Some (p, c.in-Some.command)) number
     ∙ sym (c.loop-index.invariant start made has ∙ (due_here index (logs_in start) s.log made s.first c.args.reading
     ∙ ap (λ found. option_or (option_map (λ command. (1 + index, command)) found) (due_in_logs c.args.reading (1 + (index + 1)) (drop (index + 1) (logs_in start)) made)) (sym due ∙ c.in-Some.is)))

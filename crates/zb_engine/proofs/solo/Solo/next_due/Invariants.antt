@@ -1,5 +1,5 @@
 use Rattle.std.proofs.Common.{◌≡◌, ◌+◌, List, drop}
-use Rattle.zb_world.specs.Entries.{Entry}
+use Rattle.zb_world.specs.declared.entry.Entry.{Entry}
 use Rattle.zb_desk.specs.Serial.{due_in_logs}
 use Rattle.zb_engine.specs.Solo.{Start, logs_in, HasMade}
 use Rattle.zb_engine.proofs.solo.Solo.next_due.Given as goal

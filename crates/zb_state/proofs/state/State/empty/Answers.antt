@@ -9,12 +9,12 @@ returns-clause-reached c = ∣ (
     applied = refl;
     counter = refl;
     messages = sym c.empty.ensures;
-    definitions = sym c.new.ensures.items;
-    distributions = sym c.new-2.ensures.items;
+    definitions = c.empty-2.ensures;
+    distributions = sym c.new.ensures.items;
     begun = refl;
-    jobs = sym c.empty-2.ensures;
-    timers = sym c.empty-3.ensures;
+    jobs = sym c.empty-3.ensures;
+    timers = sym c.empty-4.ensures;
     called_off = refl;
-    game = ap (λ (b : Board). Some b) (sym c.empty-4.ensures);
+    game = ap (λ (b : Board). Some b) (sym c.empty-5.ensures);
   },
 ) ∣₁

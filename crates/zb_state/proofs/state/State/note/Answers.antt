@@ -1,4 +1,5 @@
-use Rattle.std.proofs.Common.{◌∙◌, sym, refl, append-nil, arith}
+use Rattle.std.proofs.Common.{◌∙◌, refl, arith}
+use Rattle.zb_definitions.proofs.KeepLemmas.{keeps_same}
 use Rattle.zb_state.proofs.StateLemmas.{below_added, below_expired, stands_last}
 use Rattle.zb_state.proofs.state.State.note.Goals as goal
 
@@ -40,7 +41,7 @@ returns-in_ok-add-in-Published c =
         place = c.note_waits.ensures.place;
         counter = c.in_ok-note_waits.ensures.counter;
         messages = rw c.in-Published.is (added ∙ stands_last old.place old.counter c.args.counter s.counter old.messages c.in-Published.message c.in_ok-note_waits.ensures.counter draws old.in_order);
-        definitions = rw (c.in-Published.is, c.note_waits.ensures.definitions) (sym (append-nil old.definitions.items));
+        definitions = keeps_same old.definitions s.definitions _ c.note_waits.ensures.definitions (rw c.in-Published.is refl);
         distributions = rw (c.in-Published.is, c.note_waits.ensures.distributions) refl;
         begun = rw c.in-Published.is refl;
         jobs = c.in_ok-note_waits.ensures.jobs;
