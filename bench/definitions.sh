@@ -8,7 +8,7 @@ set -euo pipefail
 top=$(cd "$(dirname "$0")/.." && pwd)
 few=${1:-500}
 many=${2:-20000}
-lines=5000
+lines=20000
 memory=$(mktemp -d "${3:-/dev/shm}/bench.XXXXXX")
 trap 'rm -rf "$memory"' EXIT
 [ -n "${ZBD:-}" ] || "$top/zbd" >/dev/null 2>&1 </dev/null || true
