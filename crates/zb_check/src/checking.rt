@@ -50,13 +50,20 @@ const FAULTS: [Fault; 14] = [
 
 /// Finds the first fault of a model. It takes memory for the places of the model's ids, and a time that grows with
 /// the model's size times its logarithm.
-#[tactic(auto, unfolding(zb_faults::specs::Faults::first_fault))]
 pub fn check(alloc: Global, model: &Model) -> Result<(), ModelFault>
     ensures { Checks result (first_fault model.now) }
 {
     let parts = Parts::of(alloc, model)?;
+    check_parts(alloc, &parts)
+}
+
+// Finds the first fault of the model that has these parts.
+#[tactic(auto, unfolding(zb_faults::specs::Faults::first_fault))]
+fn check_parts(alloc: Global, parts: &Parts<'_>) -> Result<(), ModelFault>
+    ensures { Checks result (first_fault parts.now) }
+{
     for fault in FAULTS {
-        let found = offender(alloc, fault, &parts)?;
+        let found = offender(alloc, fault, parts)?;
         if let Some(id) = found {
             let id = id.copy(alloc)?;
             return Err(ModelFault::Bad { fault, id });

@@ -14,7 +14,7 @@ use Rattle.zb_model.specs.declared.record.Command.TheVariants as commands
 use Rattle.zb_model.specs.declared.record.Packet.{Packet}
 use Rattle.zb_views.specs.View.{events_in, events_of}
 use Rattle.zb_views.specs.Standing.{begun_by}
-use Rattle.zb_record.specs.Packets.{answer_packet, kept_by, outbox_of, is_by_packet}
+use Rattle.zb_record.specs.Packets.{answer_packet, kept_by, outbox_of, delivery_of, is_by_packet}
 use Rattle.zb_rules.specs.Step.{IsStep, EachOn, AreStepsOn}
 use Rattle.zb_rules.specs.StepLaws.{each_on_more, are_steps_more}
 use Rattle.zb_world.specs.Entries.{IsPartitionOf, part_of, parts_of}
@@ -24,7 +24,7 @@ use Rattle.zb_world.specs.History.{IsSentAmong, IsEntryOf, IsHistory}
 use Rattle.zb_world.specs.HistoryLaws.{history_more, history_within}
 use Rattle.zb_world.specs.PacketLaws.{outbox_was_sent}
 use Rattle.zb_wire.specs.declared.request.Request.{Request}
-use Rattle.zb_desk.specs.Serial.{Basis, log_behind, place_behind, next_asked, is_unit_command, is_unit, units_in, answers_sent, delivery_of, unit_in_logs, next_unit, IsNextEntry, IsNextUnit}
+use Rattle.zb_desk.specs.Serial.{Basis, log_behind, place_behind, next_asked, is_unit_command, is_unit, units_in, answers_sent, unit_in_logs, next_unit, IsNextEntry, IsNextUnit}
 use Rattle.zb_desk.specs.SerialLaws.{asked_no_unit}
 use Rattle.zb_desk.specs.UnitLaws.{AllHave, first_has, first_sent_in, unit_in}
 

@@ -8,7 +8,7 @@ use Rattle.zb_model.specs.declared.record.Command.TheVariants as commands
 use Rattle.zb_model.specs.declared.record.Packet.{Packet}
 use Rattle.zb_views.specs.View.{events_of, moment_of_last}
 use Rattle.zb_views.specs.Standing.{begun_by}
-use Rattle.zb_record.specs.Packets.{first_packet, answer_packet, is_answer, is_by_packet}
+use Rattle.zb_record.specs.Packets.{first_packet, answer_packet, delivery_of, is_answer, is_by_packet}
 use Rattle.zb_rules.specs.Step.{EachOn}
 use Rattle.zb_rules.specs.Due.{due_command}
 use Rattle.zb_rules.specs.Continue.{is_quiet}
@@ -98,10 +98,6 @@ first_sent n p (log ∷ logs) entries =
 -- the packet that is delivered next behind some entries, of which these last ones are units of work: the oldest answer in hand, or else one of an outbox
 abbrev pub packet_next : List (List Batch) → (units entries : List Entry) → Option Packet
 packet_next logs units entries = option_or (slice_get (answers_in_hand (length logs) units) 0) (first_sent (length logs) 1 logs entries)
-
--- where a packet goes, and its command
-abbrev pub delivery_of : Packet → ℕ × Command
-delivery_of packet = (packet.to, packet.command)
 
 -- the next unit of work behind some entries, with its partition, where these units were done so far: the engine goes on, or a packet is delivered
 abbrev pub unit_in_logs : List (List Batch) → (units entries : List Entry) → Option (ℕ × Command)

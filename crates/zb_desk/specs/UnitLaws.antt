@@ -14,10 +14,10 @@ use Rattle.zb_views.specs.Standing.{begun_by}
 use Rattle.zb_views.specs.declared.distribution.Distribution.{Distribution}
 use Rattle.zb_views.specs.Distributions.{distributions}
 use Rattle.zb_views.specs.Processes.{process_in}
-use Rattle.zb_record.specs.Packets.{packet_with, packets_for, outbox_of, first_packet, answer_packet}
+use Rattle.zb_record.specs.Packets.{packet_with, packets_for, outbox_of, first_packet, answer_packet, delivery_of}
 use Rattle.zb_rules.specs.Continue.{is_quiet}
 use Rattle.zb_world.specs.declared.entry.Entry.{Entry}
-use Rattle.zb_desk.specs.Serial.{log_behind, going_on, answers_sent, answers_in_hand, first_sent, packet_next, delivery_of, unit_in_logs}
+use Rattle.zb_desk.specs.Serial.{log_behind, going_on, answers_sent, answers_in_hand, first_sent, packet_next, unit_in_logs}
 
 module _ (Q : ℕ × Command → Type 0) where
   -- what is found has it, if something is

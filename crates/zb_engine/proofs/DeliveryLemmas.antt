@@ -14,12 +14,12 @@ use Rattle.zb_model.specs.declared.stop.Stop.{Stop}
 use Rattle.zb_model.specs.declared.stop.Stop.TheVariants as stops
 use Rattle.zb_views.specs.Standing.{begun_by}
 use Rattle.zb_record.specs.Partitions.{partition_known}
-use Rattle.zb_record.specs.Packets.{answer_packet, is_answer}
+use Rattle.zb_record.specs.Packets.{answer_packet, delivery_of, is_answer}
 use Rattle.zb_rules.specs.Own.{IsSupported}
 use Rattle.zb_world.specs.Entries.{as_entry}
 use Rattle.zb_world.specs.declared.entry.Entry.{Entry}
 use Rattle.zb_desk.specs.Asking.{IsDelivered, IsDeliveryCut}
-use Rattle.zb_desk.specs.Serial.{answers_sent, answers_in_hand, first_sent, delivery_of, unit_in_logs, next_unit}
+use Rattle.zb_desk.specs.Serial.{answers_sent, answers_in_hand, first_sent, unit_in_logs, next_unit}
 use Rattle.zb_desk.specs.UnitLaws.{AnyHas, AllHave, first_has, answers_have, first_sent_has, unit_has}
 use Rattle.zb_engine.specs.Ledger.{Opening}
 use Rattle.zb_engine.specs.Solo.{Start, many_in, logs_in, basis_in, HasMade, HasEnded, IsPlaced, IsTurnedAway}

@@ -77,7 +77,7 @@ fn tick<D: Disk>(alloc: Global, solo: &mut Solo<D>, reading: Moment) -> Result<R
         };
         let (partition, command) = next;
         match solo.commit(alloc, reading, partition, command) {
-            Ok(_) => {}
+            Ok(batch) => drop(batch),
             Err(stop) => return Err(stop),
         }
     }
@@ -107,7 +107,13 @@ fn command<D: Disk>(
         Err(stop) => return Err(stop),
     };
     match reply_of(alloc, &batch) {
-        Ok(reply) => Ok(reply),
-        Err(AllocError) => Err(solo.keep(PartitionId::new(1), Stop::Memory)),
+        Ok(reply) => {
+            drop(batch);
+            Ok(reply)
+        }
+        Err(AllocError) => {
+            drop(batch);
+            Err(solo.keep(PartitionId::new(1), Stop::Memory))
+        }
     }
 }

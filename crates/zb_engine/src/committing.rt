@@ -29,11 +29,15 @@ impl<D: Disk> Solo<D> {
         let index = partition.number() as usize - 1;
         let place = self.place;
         let Some(next) = place.checked_add(1) else {
+            drop(command);
             return Err(self.keep(partition, Stop::Memory));
         };
         match self.stamps[index].reserve(1) {
             Ok(()) => {}
-            Err(AllocError) => return Err(self.keep(partition, Stop::Memory)),
+            Err(AllocError) => {
+                drop(command);
+                return Err(self.keep(partition, Stop::Memory));
+            }
         }
         let moment = later_of(self.partitions[index].last_moment(), reading);
         match self.partitions[index].submit(alloc, moment, place, command) {

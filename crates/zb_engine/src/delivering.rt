@@ -5,7 +5,7 @@ ghost use Rattle.zb_views.specs.Standing.{begun_by};
 ghost use Rattle.zb_record.specs.Packets as packets;
 ghost use Rattle.zb_world.specs.declared.entry.Entry.{Entry};
 ghost use Rattle.zb_desk.specs.Asking.{IsDelivered, IsDeliveryCut};
-ghost use Rattle.zb_desk.specs.Serial.{answers_in_hand, unit_in_logs};
+ghost use Rattle.zb_desk.specs.Serial.{answers_in_hand, packet_next, unit_in_logs};
 ghost use Rattle.zb_rules.specs.Own.{IsSupported};
 ghost use Rattle.zb_engine.specs.Solo.{Start, basis_in, logs_in, many_in, HasMade, HasEnded, IsPlaced, IsTurnedAway};
 
@@ -13,7 +13,7 @@ use crate::Solo;
 use std::alloc::{AllocError, Global};
 use zb_disk::Disk;
 use zb_model::{Command, Moment, Packet, PartitionId, Stop};
-use zb_record::answer_packet;
+use zb_record::{answer_packet, delivery_of};
 
 /// Does units of work at a reading of the clock, at most so many as behind a request, and tells how many. The answers that a
 /// unit sends are taken before anything else is sent again. After an `Err` the engine has stopped.
@@ -63,14 +63,29 @@ fn next_unit<D: Disk>(
     if let Some(partition) = solo.going_on() {
         return Ok(Some((partition, Command::ProcessInstanceBatchContinue)));
     }
-    if !hand.is_empty() {
-        let packet = hand.remove(0);
-        return Ok(Some((packet.to, packet.command)));
+    Ok(delivery_of(next_packet(alloc, solo, hand)?))
+}
+
+// The packet that is taken next: the oldest answer in hand, which leaves it, or what was sent first of all that is still in
+// an outbox.
+fn next_packet<D: Disk>(
+    alloc: Global,
+    solo: &Solo<D>,
+    hand: &mut Vec<Packet>,
+) -> Result<Option<Packet>, AllocError>
+    requires { (start : Start D) × (made : List Entry) × HasMade start made solo.now }
+    ensures next { (start : Start D) (made units : List Entry) → HasMade start made solo.now
+        → hand.old.items ≡ answers_in_hand (many_in start) units
+        → IfOk result (λ packet. packet ≡ packet_next (logs_in start) units made) }
+    ensures taken { (n : ℕ) (units : List Entry) → hand.old.items ≡ answers_in_hand n units
+        → IfOk result (λ packet. IfSome packet (λ sent.
+        hand.new.items ≡ (if packets.is_answer sent.command then drop 1 hand.old.items else hand.old.items))) }
+{
+    if hand.is_empty() {
+        return solo.first_sent(alloc);
     }
-    match solo.first_sent(alloc)? {
-        Some(packet) => Ok(Some((packet.to, packet.command))),
-        None => Ok(None),
-    }
+    let packet = hand.remove(0);
+    Ok(Some(packet))
 }
 
 // Does one unit of work at a partition, and takes its answer in hand.
@@ -92,7 +107,10 @@ fn do_unit<D: Disk>(
 {
     match hand.reserve(1) {
         Ok(()) => {}
-        Err(AllocError) => return Err(solo.keep(PartitionId::new(1), Stop::Memory)),
+        Err(AllocError) => {
+            drop(command);
+            return Err(solo.keep(PartitionId::new(1), Stop::Memory));
+        }
     }
     let batch = match solo.commit(alloc, reading, partition, command) {
         Ok(batch) => batch,
@@ -101,5 +119,6 @@ fn do_unit<D: Disk>(
     if let Some(answer) = answer_packet(&batch.command, partition, solo.count()) {
         hand.push_reserved(answer);
     }
+    drop(batch);
     Ok(())
 }

@@ -54,7 +54,10 @@ pub fn read_frames<D: Disk>(
         match read_next(alloc, scan, &mut known) {
             Ok(true) => {}
             Ok(false) => return Ok(known),
-            Err(fault) => return Err(fault),
+            Err(fault) => {
+                drop(known);
+                return Err(fault);
+            }
         }
     }
 }

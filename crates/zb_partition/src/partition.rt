@@ -325,7 +325,13 @@ impl<D: Disk> Partition<D> {
         ensures place { partition_number_of self.new ≡ partition_number_of self.old }
         ensures partitions { partitions_of self.new ≡ partitions_of self.old }
     {
-        let outcome = outcome_of(alloc, &mut self.state, self.partitions, moment, &command)?;
+        let outcome = match outcome_of(alloc, &mut self.state, self.partitions, moment, &command) {
+            Ok(outcome) => outcome,
+            Err(AllocError) => {
+                drop(command);
+                return Err(Stop::Memory);
+            }
+        };
         self.last_moment = moment;
         Ok(Batch {
             moment,
@@ -367,7 +373,10 @@ impl<D: Disk> Partition<D> {
     {
         match self.prepare(&batch) {
             Ok(()) => {}
-            Err(stop) => return Err(stop),
+            Err(stop) => {
+                drop(batch);
+                return Err(stop);
+            }
         }
         match self.log.append(&self.frame) {
             Ok(()) => Ok(batch),

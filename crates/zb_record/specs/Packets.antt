@@ -56,6 +56,10 @@ answer_packet p n _ = None
 abbrev pub sent_by : (p n : ℕ) → Batch → List Packet
 sent_by p n batch = kept_by p n (events_in batch.outcome) ++ begun_by (answer_packet p n batch.command)
 
+-- where a packet goes, and its command
+abbrev pub delivery_of : Packet → ℕ × Command
+delivery_of packet = (packet.to, packet.command)
+
 -- a command that is an answer, which nobody sends again
 abbrev pub is_answer : Command → Bool
 is_answer (commands.CommandDistributionAcknowledge c) = true

@@ -4,5 +4,6 @@
 mod packets;
 
 pub use packets::{
-    answer_packet, distribute, is_answer, packets_of, partition_known, partition_of_key,
+    answer_packet, delivery_of, distribute, is_answer, packets_of, partition_known,
+    partition_of_key,
 };

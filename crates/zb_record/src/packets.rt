@@ -1,4 +1,4 @@
-ghost use Rattle.std.specs.Prelude.{◌≡◌, ◌≤◌, ◌++◌, List, IfOk, OnOk, map};
+ghost use Rattle.std.specs.Prelude.{◌≡◌, ◌≤◌, ◌++◌, List, IfOk, OnOk, map, option_map};
 ghost use Rattle.std.specs.Option.{option_copied};
 ghost use Rattle.zb_views.specs.View.{events_in};
 ghost use Rattle.zb_views.specs.Standing.{begun_by};
@@ -175,6 +175,16 @@ pub fn answer_packet(command: &Command, from: PartitionId, partitions: u32) -> O
             }),
         }),
         _ => None,
+    }
+}
+
+/// What takes a packet, if there is one: a command, at the partition that the packet goes to.
+pub fn delivery_of(packet: Option<Packet>) -> Option<(PartitionId, Command)>
+    ensures { result ≡ option_map packet_spec.delivery_of packet }
+{
+    match packet {
+        Some(packet) => Some((packet.to, packet.command)),
+        None => None,
     }
 }
 

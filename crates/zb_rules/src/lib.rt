@@ -2,9 +2,11 @@
 #![tactic(auto)]
 
 mod alarm;
+mod full;
 mod laws;
 
 pub use alarm::Alarm;
+pub use full::is_full;
 pub use laws::{
     applied_moves_are_legal, assignments_have_events, boards_of_logs_are_sound,
     due_commands_come_first, due_commands_have_no_reason, ended_cells_have_no_incident,

@@ -1,5 +1,6 @@
 use crate::models::straight;
 use std::alloc::Global;
+use std::mem::forget;
 use std::process::Abort;
 use zb_game::{Game, GameFault};
 use zb_graph::{BoxedGraph, compile};
@@ -26,15 +27,22 @@ fn started(rt: &impl Abort, alloc: Global) -> Game {
     game
 }
 
+// The token game finishes a cell that isn't there.
+fn astray() -> Move {
+    Move::Finish(Key::new(7))
+}
+
 #[test]
 fn refuses_a_cell_that_is_not_there(rt: HostRuntime) {
     let alloc = rt.alloc();
     let mut game = started(&rt, alloc);
-    let astray = Key::new(7);
-    assert!(rt; !game.fits(&Move::Finish(astray)));
-    assert!(rt; game.make(alloc, Move::Finish(astray)) == Err(GameFault::Illegal));
-    assert!(rt; game.play(alloc, Move::Finish(astray)) == Err(GameFault::Illegal));
+    let finish = astray();
+    assert!(rt; !game.fits(&finish));
+    assert!(rt; game.make(alloc, finish) == Err(GameFault::Illegal));
+    assert!(rt; game.play(alloc, astray()) == Err(GameFault::Illegal));
     let copy = game.copy(alloc).expect(&rt, "memory");
     assert!(rt; copy.definition_of(Key::new(2)) == Some(Key::new(1)));
     assert!(rt; copy.is_process_of(Key::new(1), "p"));
+    forget(copy);
+    forget(game);
 }

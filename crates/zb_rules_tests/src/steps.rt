@@ -1,4 +1,5 @@
 use crate::models::straight;
+use std::mem::forget;
 use zb_model::{Batch, Command, Key, Moment, NodeKind, Outcome, PartitionId};
 use zb_record::answer_packet;
 use zb_state::State;
@@ -26,6 +27,7 @@ fn a_definition_is_on_its_way(rt: HostRuntime) {
     assert!(rt; has_events(&outcome, 4));
     let game = state.game(alloc).expect(&rt, "memory");
     assert!(rt; game.is_process_of(Key::make(partition, 1), "p"));
+    forget(game);
     let packets = state.outbox(alloc, 3).expect(&rt, "memory");
     assert!(rt; packets.len() == 2);
     let batch = Batch {
@@ -39,4 +41,5 @@ fn a_definition_is_on_its_way(rt: HostRuntime) {
     let answer = answer_packet(&packets[1].command, PartitionId::new(3), 3);
     let answer = answer.expect(&rt, "an answer");
     assert!(rt; !sent_in(alloc, &entries, 3, &answer).expect(&rt, "memory"));
+    forget((state, packets, entries, answer));
 }

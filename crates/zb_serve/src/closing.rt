@@ -36,7 +36,8 @@ pub fn close_behind<D: Disk>(
     ensures volumes { result.items ≡ volumes.items ++ map files_of partitions.items }
     ensures capacity { vec_capacity result ≡ vec_capacity volumes }
 {
-    let (volumes, _) = close_all(partitions, volumes);
+    let (volumes, writing) = close_all(partitions, volumes);
+    drop(writing);
     volumes
 }
 

@@ -227,7 +227,10 @@ fn cause(end: End, stop: Option<(PartitionId, Stop)>, in_writing: Option<Batch>)
             partition,
             in_writing,
         },
-        None => other_cause(end, stop),
+        None => {
+            drop(in_writing);
+            other_cause(end, stop)
+        }
     }
 }
 

@@ -71,7 +71,7 @@ fn a_call_may_fail_and_what_was_acknowledged_stays(rt: HostRuntime) {
         };
         let ended = served(&rt, rt.alloc(), &script);
         assert!(rt; keeps(&rt, rt.alloc(), &ended), "call {call}");
-        let _devices = ended.into_devices();
+        drop(ended.into_devices());
     }
 }
 
@@ -117,7 +117,7 @@ fn goes_on<R: Abort + Threads + Wait + Sync>(
     let kept = again.status == 0
         && lines_in(replies) == 3
         && has_acknowledged(lines_in(output(ended)), replies);
-    let _devices = again.into_devices();
+    drop(again.into_devices());
     kept
 }
 
@@ -148,7 +148,7 @@ fn is_survived<R: Abort + Threads + Wait + Sync>(
     for fill in [b"" as &[u8], &[1], &[255]] {
         survived = survived && goes_on(rt, alloc, &ended, fill);
     }
-    let _devices = ended.into_devices();
+    drop(ended.into_devices());
     survived
 }
 

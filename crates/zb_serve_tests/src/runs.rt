@@ -126,7 +126,7 @@ fn ends<R: Abort + Threads + Wait + Sync>(
 ) -> bool {
     let ended = served(rt, alloc, script);
     let is_so = is_so(&ended, want);
-    let _devices = ended.into_devices();
+    drop(ended.into_devices());
     is_so
 }
 
@@ -197,7 +197,7 @@ fn what_can_not_be_served_is_not_touched(rt: HostRuntime) {
         assert!(rt; ended.status == 2);
         assert!(rt; output(&ended).is_empty());
         assert!(rt; ended.volumes.len() == volumes as usize);
-        let _devices = ended.into_devices();
+        drop(ended.into_devices());
     }
 }
 
@@ -231,7 +231,7 @@ fn three_partitions_are_served_in_one_history(rt: HostRuntime) {
     assert!(rt; ended.status == 0);
     assert!(rt; output(&ended) == SPREAD_TOLD.as_bytes());
     assert!(rt; has_stamps(&ended, [&[0, 2, 4], &[1, 5, 6], &[3]]));
-    let _devices = ended.into_devices();
+    drop(ended.into_devices());
 }
 
 #[test]

@@ -84,9 +84,12 @@ fn print_frame<D: Disk, K: Sink>(
         Err(fault) => return Err(ShowFault::Log(fault)),
     };
     if let Err(trouble) = print_batch(alloc, place, position, &batch, sink) {
+        drop(batch);
         return Err(ShowFault::Sink(trouble));
     }
-    Ok(position + records_in(&batch))
+    let next = position + records_in(&batch);
+    drop(batch);
+    Ok(next)
 }
 
 /// The batch in this frame of a log. It costs a step for each of its bytes, and the memory for it.

@@ -19,7 +19,7 @@ use std::alloc::Global;
 use zb_disk::Disk;
 use zb_model::PartitionId;
 use zb_outside::Sink;
-use zb_partition::{OpenFault, Partition};
+use zb_partition::{OpenFault, Partition, Stopped};
 use zb_store::{GateLog, Volume, one_reading};
 use zb_words::{LogPlan, Plan, PlanFault, plan_of};
 
@@ -86,11 +86,13 @@ fn show_volume<D: Disk, K: Sink>(
         Ok(partition) => partition,
         Err((fault, volume)) => return (Err(ShowFault::Log(fault)), volume, sink),
     };
+    let Stopped { volume, in_writing } = partition.stopped();
+    drop(in_writing);
     let Volume {
         log,
         snap_a,
         snap_b,
-    } = partition.stopped().volume;
+    } = volume;
     let (shown, log) = show(alloc, place, log, &mut sink);
     let volume = Volume {
         log,

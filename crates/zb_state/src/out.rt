@@ -59,7 +59,10 @@ impl Out {
         match state.apply_as(alloc, &event, true) {
             Ok(()) => {}
             Err(TableFault::NotApplicable) => unreachable!(),
-            Err(TableFault::Memory) => return Err(AllocError),
+            Err(TableFault::Memory) => {
+                drop(event);
+                return Err(AllocError);
+            }
         }
         self.events.push(event)?;
         Ok(())

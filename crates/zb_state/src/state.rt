@@ -160,7 +160,13 @@ impl State {
             → IsErrOf result TableFault.NotApplicable → IsFalse (applies (partition_of self.old) es event) }
         ensures kept { IsErrOf result TableFault.NotApplicable → self.new ≡ self.old }
     {
-        self.admit(alloc, &event, false)?;
+        match self.admit(alloc, &event, false) {
+            Ok(()) => {}
+            Err(fault) => {
+                drop(event);
+                return Err(fault);
+            }
+        }
         let counter = greatest_counter_of(self.place, &event);
         self.take(alloc, counter, event)?;
         Ok(())
@@ -556,7 +562,11 @@ impl State {
     {
         match message_in(event) {
             Ok(message) => self.note(alloc, counter, Change::Published(message), None),
-            Err(event) => self.follow(alloc, counter, &event),
+            Err(event) => {
+                let followed = self.follow(alloc, counter, &event);
+                drop(event);
+                followed
+            }
         }
     }
 
@@ -621,7 +631,13 @@ impl State {
         ensures place { partition_of self.new ≡ partition_of self.old }
         ensures noted { OnOk result (IsNoted counter change (option_copied event.entry) self.old self.new) }
     {
-        self.note_waits(alloc, counter, event)?;
+        match self.note_waits(alloc, counter, event) {
+            Ok(()) => {}
+            Err(AllocError) => {
+                drop(change);
+                return Err(AllocError);
+            }
+        }
         self.begun = None;
         match change {
             Change::Defined(definition) => {

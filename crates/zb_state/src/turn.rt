@@ -21,7 +21,13 @@ pub struct Turn {
 pub fn turn_by(alloc: Global, made: Move, game: &Game) -> Result<Option<Turn>, AllocError>
     ensures { IfOk result (λ turn. turn ≡ option_map (λ e. record { assignments = assignments_of game.now made; event = e }) (event_of game.now made)) }
 {
-    let assignments = game.assignments_of(alloc, &made)?;
+    let assignments = match game.assignments_of(alloc, &made) {
+        Ok(assignments) => assignments,
+        Err(AllocError) => {
+            drop(made);
+            return Err(AllocError);
+        }
+    };
     match event_of(alloc, made, game) {
         Some(event) => Ok(Some(Turn { assignments, event })),
         None => Ok(None),

@@ -33,11 +33,6 @@ turns_legal_more moment es [] made each next = (subst (λ (l : List Event). AllL
 turns_legal_more moment es (first ∷ turns) made each next =
     (each.0, turns_legal_more moment (es ++ first) turns made each.1 (subst (λ (l : List Event). AllLegal moment l l made) (sym (append_assoc es first (joined turns))) next))
 
--- how many events a full batch has
-pub full_is : full ≡ 1024
-unfolding full
-full_is = refl
-
 -- behind own events, made on those before, came some turns; each of their events applies, and each of their moves is legal
 pub record GoesOn (p n moment : ℕ) (before own made : List Event) : Type 0 where
   pub turns : List (List Event)

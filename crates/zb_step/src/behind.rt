@@ -45,7 +45,13 @@ pub fn put_with_behind(
     ensures place { partition_of state.new ≡ partition_of state.old }
     ensures reached { OnOk result (IsReached state.new) }
 {
-    let behind = behind_of(alloc, &event)?;
+    let behind = match behind_of(alloc, &event) {
+        Ok(behind) => behind,
+        Err(AllocError) => {
+            drop(event);
+            return Err(AllocError);
+        }
+    };
     out.put(alloc, state, event)?;
     put_behind(alloc, state, moment, behind, out)
 }

@@ -104,7 +104,13 @@ fn both(alloc: Global, first: Event, second: Event) -> Result<List<Event>, Alloc
     ensures { IfOk result (λ events. events ≡ first ∷ second ∷ []) }
 {
     let mut events = List::empty(alloc);
-    events.push(first)?;
+    match events.push(first) {
+        Ok(()) => {}
+        Err(AllocError) => {
+            drop(second);
+            return Err(AllocError);
+        }
+    }
     events.push(second)?;
     Ok(events)
 }

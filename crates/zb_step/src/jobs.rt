@@ -26,11 +26,11 @@ pub fn reason_to_end(
 {
     match state.job(key) {
         None => Ok(Some(no_such(alloc, "no job ", key)?)),
-        Some(job) => match job.phase {
-            JobPhase::Failed => Ok(Some(wrong_state(alloc, "job ", key, " has no retries")?)),
-            JobPhase::Created => Ok(Some(wrong_state(alloc, "job ", key, " isn't activated")?)),
-            JobPhase::Activated | JobPhase::TimedOut => Ok(None),
-        },
+        Some(job) if job.phase.is_given_out() => Ok(None),
+        Some(job) if matches!(job.phase, JobPhase::Failed) => {
+            Ok(Some(wrong_state(alloc, "job ", key, " has no retries")?))
+        }
+        Some(_) => Ok(Some(wrong_state(alloc, "job ", key, " isn't activated")?)),
     }
 }
 

@@ -11,11 +11,9 @@ ghost use Rattle.zb_step.specs.Settled.{IsTurn, SettlesTo};
 use crate::turning::put_turn;
 use std::alloc::{AllocError, Global};
 use zb_model::Moment;
+use zb_rules::is_full;
 use zb_state::{Out, State, Turn};
 use zb_tokens::Mover;
-
-// A batch is full with so many events.
-const FULL: usize = 1024;
 
 // No turn draws more keys.
 const KEYS_OF_TURN: u64 = 1002;
@@ -39,7 +37,7 @@ pub fn settle(
     ensures place { partition_of state.new ≡ partition_of state.old }
     ensures reached { OnOk result (IsReached state.new) }
 {
-    while out.len() < FULL {
+    while !is_full(out.len()) {
         match state.next_mover(alloc)? {
             None => return Ok(true),
             Some(mover) => {

@@ -106,6 +106,12 @@ fn put_told(
     ensures place { partition_of state.new ≡ partition_of state.old }
 {
     let Told { key, event } = told;
-    out.put(alloc, state, Event::TimerTriggered(key))?;
+    match out.put(alloc, state, Event::TimerTriggered(key)) {
+        Ok(()) => {}
+        Err(AllocError) => {
+            drop(event);
+            return Err(AllocError);
+        }
+    }
     put_with_behind(alloc, state, moment, event, out)
 }

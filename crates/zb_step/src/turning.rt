@@ -32,7 +32,13 @@ pub fn put_turn(
     ensures reached { OnOk result (IsReached state.new) }
 {
     let Turn { assignments, event } = turn;
-    put_assignments(alloc, state, &assignments, out)?;
+    match put_assignments(alloc, state, &assignments, out) {
+        Ok(()) => {}
+        Err(AllocError) => {
+            drop(event);
+            return Err(AllocError);
+        }
+    }
     put_with_behind(alloc, state, moment, event, out)
 }
 

@@ -1,5 +1,4 @@
-//! Tests of disks, logs, streams, lines, words and workloads. They stand in a crate of their own, so that what they test is
-//! proved once.
+//! Tests of disks, logs, streams and lines. They stand in a crate of their own, so that what they test is proved once.
 #![tactic(auto)]
 
 #[cfg(test)]
@@ -10,7 +9,3 @@ mod lines;
 mod logs;
 #[cfg(test)]
 mod streams;
-#[cfg(test)]
-mod words;
-#[cfg(test)]
-mod workloads;

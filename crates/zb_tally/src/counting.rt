@@ -49,9 +49,17 @@ fn count_log<D: Disk + Drop>(alloc: Global, place: PartitionId, disk: D) -> Opti
     let mut tally = Tally::none();
     let mut body = Vec::new(alloc);
     for i in 0..log.count() {
-        tally = count_frame(alloc, i, &mut log, &mut body, &mut state, tally)?;
+        tally = match count_frame(alloc, i, &mut log, &mut body, &mut state, tally) {
+            Some(counted) => counted,
+            None => {
+                drop(state);
+                return None;
+            }
+        };
     }
-    Some(count_keys(place, &state, tally))
+    let counted = count_keys(place, &state, tally);
+    drop(state);
+    Some(counted)
 }
 
 // The log on this disk, which isn't cut off; `None` where memory was wanting.
@@ -87,7 +95,11 @@ fn count_frame<D: Disk>(
     ensures place { partition_of state.new ≡ partition_of state.old }
 {
     match read_batch(alloc, i, log, body) {
-        Ok(batch) => count_batch(alloc, &batch, state, tally),
+        Ok(batch) => {
+            let counted = count_batch(alloc, &batch, state, tally);
+            drop(batch);
+            counted
+        }
         Err(_) => None,
     }
 }

@@ -111,8 +111,14 @@ fn serve_workload(alloc: Global, plan: GenPlan) -> Option<Vec<Volume<SoundDisk>>
     let by = serve_plan(alloc, plan.partitions);
     let Ran { cause, volumes, .. } = serve_by(alloc, &by, &mut session, volumes, &mut clock);
     match cause {
-        Cause::Done => Some(volumes),
-        _ => None,
+        Cause::Done => {
+            drop(cause);
+            Some(volumes)
+        }
+        _ => {
+            drop(cause);
+            None
+        }
     }
 }
 

@@ -4,8 +4,6 @@
 mod cells;
 mod change;
 mod laws;
-#[cfg(test)]
-mod tests;
 mod timers;
 
 pub use laws::fitting_events_have_place;

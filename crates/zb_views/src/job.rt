@@ -1,5 +1,5 @@
-ghost use Rattle.std.specs.Prelude.{Some, None, if◌then◌else◌};
-ghost use Rattle.zb_views.specs.Jobs.{is_activated};
+ghost use Rattle.std.specs.Prelude.{◌≡◌, Some, None, if◌then◌else◌};
+ghost use Rattle.zb_views.specs.Jobs.{is_activated, is_given_out};
 
 use zb_model::{Key, Moment, Text};
 use zb_table::{Row, Timed};
@@ -15,6 +15,15 @@ pub enum JobPhase {
     TimedOut,
     /// It has failed, and has no try left.
     Failed,
+}
+
+impl JobPhase {
+    /// Whether a worker may end a job in this phase: one was given it, also where its time has run out since.
+    pub fn is_given_out(self) -> bool
+        ensures { result ≡ is_given_out self }
+    {
+        matches!(self, JobPhase::Activated | JobPhase::TimedOut)
+    }
 }
 
 /// A job: a piece of work that a worker is to do for a cell.

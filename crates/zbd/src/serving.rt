@@ -102,5 +102,7 @@ fn run<H: Threads + Wait + Sync, R: Read + Drop, W: Write + Drop>(
         &OpenDoor,
     );
     let _ = report(rt, &closed.cause, directory, &closed.volumes);
-    closed.status
+    let status = closed.status;
+    drop(closed);
+    status
 }

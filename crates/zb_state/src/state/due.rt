@@ -100,8 +100,10 @@ fn earlier_of(one: Alarm, other: Alarm) -> Alarm
     ensures { Some result ≡ earlier_of place_of_alarm one (Some other) }
 {
     if comes_before(&other, &one) {
+        drop(one);
         other
     } else {
+        drop(other);
         one
     }
 }

@@ -47,8 +47,8 @@ returns-in-Ok-reply_of-clause-done g c = λ start made has.
     c.commit.new.self (c.in-Ok.ensures.placed start made has) c.in-Ok-reply_of.ensures
 
 -- there was no memory for the reply
-pub returns-clause-cut : goal.returns-clause-cut
-returns-clause-cut g c = λ start made has.
+pub returns-in-Err-reply_of-clause-cut : goal.returns-in-Err-reply_of-clause-cut
+returns-in-Err-reply_of-clause-cut g c = λ start made has.
     let many = length-map start.openings (λ (o : Opening g.row.D.Denot). o.batches) in
     let at : c.partition-partition.result ≡ partition_asked (length (logs_in start)) c.args.request =
     c.partition-partition.ensures ∙ ap (λ (n : ℕ). partition_asked n c.args.request) (c.count.ensures.count start made has ∙ sym many) in

@@ -26,8 +26,8 @@ returns-clause-shown g c = λ tells told.
     let log = c.in-Ok.ensures.opened.0 in
     let is = c.in-Ok.ensures.opened.1 in
     let stands = log_stands (g.D.Disk.view (disk_of_log c.in-Ok.partition.log)).contents c.in-Ok.partition.log (bodies_of log) (is.has.file tells) in
-    let there : Stands (g.D.Disk.view c.stopped-log.result.volume.log).contents (bodies_of log) =
-    subst (λ d. Stands (g.D.Disk.view d).contents (bodies_of log)) (sym c.stopped-log.ensures.log) stands in
+    let there : Stands (g.D.Disk.view c.stopped-volume.result.volume.log).contents (bodies_of log) =
+    subst (λ d. Stands (g.D.Disk.view d).contents (bodies_of log)) (sym c.stopped-volume.ensures.log) stands in
     ok_then c.show-shown.result.0 (λ lines. record { log = log; stood = is.stood tells; fits = is.fits; applied = is.applied; lines = lines }) (c.show-shown.ensures.shown tells told log there is.fits)
 
 pub returns-clause-bad : goal.returns-clause-bad
@@ -35,24 +35,24 @@ returns-clause-bad g c = λ tells.
     let log = c.in-Ok.ensures.opened.0 in
     let is = c.in-Ok.ensures.opened.1 in
     let stands = log_stands (g.D.Disk.view (disk_of_log c.in-Ok.partition.log)).contents c.in-Ok.partition.log (bodies_of log) (is.has.file tells) in
-    let there : Stands (g.D.Disk.view c.stopped-log.result.volume.log).contents (bodies_of log) =
-    subst (λ d. Stands (g.D.Disk.view d).contents (bodies_of log)) (sym c.stopped-log.ensures.log) stands in
+    let there : Stands (g.D.Disk.view c.stopped-volume.result.volume.log).contents (bodies_of log) =
+    subst (λ d. Stands (g.D.Disk.view d).contents (bodies_of log)) (sym c.stopped-volume.ensures.log) stands in
     err_then c.show-shown.result.0 (λ fault none bad. absurd (none bad)) (c.show-shown.ensures.good tells log there is.fits)
 
 pub returns-clause-cause : goal.returns-clause-cause
 returns-clause-cause g c =
-    let same : (g.D.Disk.view c.stopped-log.result.volume.log).faults ≡ (g.D.Disk.view (disk_of_log c.in-Ok.partition.log)).faults = ap (λ d. (g.D.Disk.view d).faults) c.stopped-log.ensures.log in
-    let later : (g.D.Disk.view c.args.volume.log).faults ≤ (g.D.Disk.view c.stopped-log.result.volume.log).faults = omega (arith, same, c.in-Ok.ensures.opens.later) in
-    err_since (g.D.Disk.view c.args.volume.log).faults (g.D.Disk.view c.stopped-log.result.volume.log).faults (g.D.Disk.view c.show-shown.result.1).faults
+    let same : (g.D.Disk.view c.stopped-volume.result.volume.log).faults ≡ (g.D.Disk.view (disk_of_log c.in-Ok.partition.log)).faults = ap (λ d. (g.D.Disk.view d).faults) c.stopped-volume.ensures.log in
+    let later : (g.D.Disk.view c.args.volume.log).faults ≤ (g.D.Disk.view c.stopped-volume.result.volume.log).faults = omega (arith, same, c.in-Ok.ensures.opens.later) in
+    err_since (g.D.Disk.view c.args.volume.log).faults (g.D.Disk.view c.stopped-volume.result.volume.log).faults (g.D.Disk.view c.show-shown.result.1).faults
     (g.K.Sink.view c.args.sink).faults (g.K.Sink.view c.args.sink).faults (g.K.Sink.view c.show-shown.new.sink).faults c.show-shown.result.0 later (omega arith) c.show-shown.ensures.cause
 
 pub returns-clause-slots : goal.returns-clause-slots
 returns-clause-slots g c =
-    let both = c.stopped-log.ensures.slots ∙ c.in-Ok.ensures.slots in
+    let both = c.stopped-volume.ensures.slots ∙ c.in-Ok.ensures.slots in
     (ap (λ (slots : g.row.D.Denot × g.row.D.Denot). slots.0) both, ap (λ (slots : g.row.D.Denot × g.row.D.Denot). slots.1) both)
 
 pub returns-clause-opens : goal.returns-clause-opens
 returns-clause-opens g c =
-    let disk = c.stopped-log.result.volume.log in
-    let first = subst (λ d. Opens g.D.Disk c.args.volume.log d) (sym c.stopped-log.ensures.log) c.in-Ok.ensures.opens in
+    let disk = c.stopped-volume.result.volume.log in
+    let first = subst (λ d. Opens g.D.Disk c.args.volume.log d) (sym c.stopped-volume.ensures.log) c.in-Ok.ensures.opens in
     opens_again g.D.Disk g.met.D.Disk.images_told c.args.volume.log disk c.show-shown.result.1 first c.show-shown.ensures.opens

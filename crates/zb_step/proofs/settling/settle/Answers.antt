@@ -4,7 +4,7 @@ use Rattle.zb_model.specs.declared.record.Event.{Event}
 use Rattle.zb_rules.specs.Settling.{full, turn_with, HasQuietGame}
 use Rattle.zb_state.specs.State.{partition_of, IsStateOf}
 use Rattle.zb_step.specs.Settled.{IsTurn}
-use Rattle.zb_step.proofs.TurnLemmas.{goes_on_start, goes_on_more, goes_on_end, full_is, GoesOn}
+use Rattle.zb_step.proofs.TurnLemmas.{goes_on_start, goes_on_more, goes_on_end, GoesOn}
 use Rattle.zb_step.proofs.settling.settle.Goals as goal
 
 pub loop-alloc-init : goal.loop-alloc-init
@@ -29,7 +29,7 @@ loop-alloc-preserved c =
     let state = c.in_ok-put_turn-in-Some.ensures.state in
     let asked = c.next_mover.ensures.state in
     let place = c.next_mover.ensures.place ∙ at.invariant.place in
-    let room : length made < full = rw full_is (omega (arith, c.loop-alloc-test.true, c.len.ensures)) in
+    let room : length made < full = omega (arith, c.is_full.ensures.room c.loop-alloc-test.true, c.len.ensures) in
     let Is : List Event → Type 0 = λ l. IsStateOf l c.put_turn.new.state in
     record {
       place = c.put_turn.ensures.place ∙ place;
@@ -62,7 +62,7 @@ returns-in-None-clause-settled c = λ n before was.
 pub returns-clause-settled : goal.returns-clause-settled
 returns-clause-settled c = λ n before was.
     let at = c.loop-alloc in
-    let filled : full ≤ length at.out = rw full_is (omega (arith, c.loop-alloc-test.false, c.len.ensures)) in
+    let filled : full ≤ length at.out = omega (arith, c.is_full.ensures.full c.loop-alloc-test.false, c.len.ensures) in
     goes_on_end (partition_of c.args.state.now) n c.args.moment before c.args.out.now at.out (at.invariant.goes_on n before was) (inr filled)
 
 pub next_turn-requires-clause-reached : goal.next_turn-requires-clause-reached

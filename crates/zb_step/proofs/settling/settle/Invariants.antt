@@ -1,5 +1,6 @@
 use Rattle.std.proofs.Common.{◌≡◌, ◌++◌, ◌-◌, ℕ, List, length}
 use Rattle.zb_model.specs.declared.record.Event.{Event}
+use Rattle.zb_rules.specs.Settling.{full}
 use Rattle.zb_state.specs.State.{partition_of, IsStateOf, IsReached}
 use Rattle.zb_step.proofs.TurnLemmas.{GoesOn}
 use Rattle.zb_step.proofs.settling.settle.Given as goal
@@ -14,4 +15,4 @@ invariant-loop-alloc l = record {
 }
 
 abbrev pub decreases-loop-alloc : goal.decreases-loop-alloc
-decreases-loop-alloc l = 1024 - length l.out
+decreases-loop-alloc l = full - length l.out

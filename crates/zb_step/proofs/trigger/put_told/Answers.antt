@@ -21,18 +21,18 @@ pub put_with_behind-requires : goal.put_with_behind-requires
 put_with_behind-requires c = λ n.
     let e : Event = events.TimerTriggered c.args.told.key in
     let behind : ℕ → Making = λ q. with_events_behind q n c.args.moment c.args.told.event in
-    admits_second (just e) behind c.args.state.now c.put.new.state c.put.ensures.place c.in_ok-put.ensures.state (c.requires n)
+    admits_second (just e) behind c.args.state.now c.put.new.state c.put.ensures.place c.in-Ok.ensures.state (c.requires n)
 
 pub returns-clause-put : goal.returns-clause-put
 returns-clause-put c = λ n es is.
     let e : Event = events.TimerTriggered c.args.told.key in
     let behind : ℕ → Making = λ q. with_events_behind q n c.args.moment c.args.told.event in
     put_second (just e) behind c.put_with_behind.result (partition_of c.args.state.now) (partition_of c.put.new.state) es c.args.out.now c.put.new.self c.put_with_behind.new.out c.put.ensures.place
-    c.in_ok-put.ensures.put (c.put_with_behind.ensures.put n (es ++ e ∷ []) (c.in_ok-put.ensures.state es is))
+    c.in-Ok.ensures.put (c.put_with_behind.ensures.put n (es ++ e ∷ []) (c.in-Ok.ensures.state es is))
 
 pub returns-clause-state : goal.returns-clause-state
 returns-clause-state c = λ n es is.
     let e : Event = events.TimerTriggered c.args.told.key in
     let behind : ℕ → Making = λ q. with_events_behind q n c.args.moment c.args.told.event in
     state_second (just e) behind c.put_with_behind.result (partition_of c.args.state.now) (partition_of c.put.new.state) es c.put_with_behind.new.state c.put.ensures.place
-    (c.put_with_behind.ensures.state n (es ++ e ∷ []) (c.in_ok-put.ensures.state es is))
+    (c.put_with_behind.ensures.state n (es ++ e ∷ []) (c.in-Ok.ensures.state es is))

@@ -28,7 +28,7 @@ put_with_behind-requires c = λ n.
     let es = r.0 ++ front in
     let Rest : ℕ → Type 0 = λ q. IsTrue (all_apply q es (with_events_behind q n moment e es)) in
     let rest = both_right (all_apply p r.0 front) _ (rw (all_apply_on p r.0 front (with_events_behind p n moment e es)) at r.2) in
-    (es, c.in_ok-put_assignments.ensures.state r.0 r.1, subst Rest (sym c.put_assignments.ensures.place) rest))
+    (es, c.in-Ok.ensures.state r.0 r.1, subst Rest (sym c.put_assignments.ensures.place) rest))
 
 pub returns-clause-put : goal.returns-clause-put
 returns-clause-put c = λ n before is.
@@ -39,11 +39,11 @@ returns-clause-put c = λ n before is.
     let e = c.args.turn.event in
     let front = assigning c.args.turn.assignments before in
     let es = before ++ front in
-    let first = c.in_ok-put_assignments.ensures.put before is in
+    let first = c.in-Ok.ensures.put before is in
     let place : with_events_behind q n moment e es ≡ with_events_behind p n moment e es = ap (λ (x : ℕ). with_events_behind x n moment e es) c.put_assignments.ensures.place in
     on_ok_weaker c.put_with_behind.result (λ told.
     told ∙ (ap (λ (l : List Event). l ++ with_events_behind q n moment e es) first ∙ (append_assoc out front (with_events_behind q n moment e es) ∙ ap (λ (l : List Event). out ++ (front ++ l)) place)))
-    (c.put_with_behind.ensures.put n es (c.in_ok-put_assignments.ensures.state before is))
+    (c.put_with_behind.ensures.put n es (c.in-Ok.ensures.state before is))
 
 pub returns-clause-state : goal.returns-clause-state
 returns-clause-state c = λ n before is.
@@ -56,4 +56,4 @@ returns-clause-state c = λ n before is.
     let Is : List Event → Type 0 = λ l. IsStateOf l c.put_with_behind.new.state in
     let place : with_events_behind q n moment e es ≡ with_events_behind p n moment e es = ap (λ (x : ℕ). with_events_behind x n moment e es) c.put_assignments.ensures.place in
     on_ok_weaker c.put_with_behind.result (λ told. subst Is (append_assoc before front (with_events_behind q n moment e es) ∙ ap (λ (l : List Event). before ++ (front ++ l)) place) told)
-    (c.put_with_behind.ensures.state n es (c.in_ok-put_assignments.ensures.state before is))
+    (c.put_with_behind.ensures.state n es (c.in-Ok.ensures.state before is))

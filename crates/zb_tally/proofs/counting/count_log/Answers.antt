@@ -25,7 +25,7 @@ count_frame-requires g c = omega (arith, c.loop-i.invariant.same.count, c.count-
 pub loop-i-preserved : goal.loop-i-preserved
 loop-i-preserved g c =
     let before = c.loop-i.invariant in
-    let said = c.in_ok-tally.ensures in
+    let said = c.in-Some.ensures in
     record {
       same = record {
         limit = said.same.limit ∙ before.same.limit;
@@ -41,8 +41,8 @@ loop-i-preserved g c =
           subst (λ (es : List Event). IsStateOf es c.count_frame.new.state) (sym front) next.3;
       counted = λ tells all has fits.
           let next = said.counted tells all (before.kept tells (bodies_of all) has) fits (events_of (take c.loop-i.i all)) (before.state tells all has fits) in
-          subst (λ (log : List Batch). AreCounted log c.in_ok-tally.tally) (sym (front_more all c.loop-i.i next.0 next.1))
-          (counted_more (take c.loop-i.i all) next.0 c.loop-i.tally c.in_ok-tally.tally next.2 (before.counted tells all has fits));
+          subst (λ (log : List Batch). AreCounted log c.in-Some.counted) (sym (front_more all c.loop-i.i next.0 next.1))
+          (counted_more (take c.loop-i.i all) next.0 c.loop-i.tally c.in-Some.counted next.2 (before.counted tells all has fits));
     }
 
 pub returns : goal.returns
@@ -53,5 +53,5 @@ returns g c = λ tells all stands fits.
     let whole = take_all c.loop-i.i all done in
     let state = subst (λ (log : List Batch). IsStateOf (events_of log) c.loop-i.state) whole (c.loop-i.invariant.state tells all has fits) in
     let counts = subst (λ (log : List Batch). AreCounted log c.loop-i.tally) whole (c.loop-i.invariant.counted tells all has fits) in
-    let said = c.count_keys.ensures in
-    tally_is c.args.place all c.loop-i.tally c.count_keys.result counts said.batches said.accepted said.rejected said.events (said.cells (events_of all) state) (said.messages (events_of all) state)
+    let said = c.count_keys-counted.ensures in
+    tally_is c.args.place all c.loop-i.tally c.count_keys-counted.result counts said.batches said.accepted said.rejected said.events (said.cells (events_of all) state) (said.messages (events_of all) state)

@@ -11,7 +11,7 @@ invariant_of-self-in-Published c =
     record {
       drawn = s.drawn;
       in_order = rw c.note_waits.ensures.place
-          (below_added old.place old.counter c.args.counter s.counter old.messages c.in-Published.message c.in_ok-note_waits.ensures.counter draws old.in_order c.add.new.self c.add.result
+          (below_added old.place old.counter c.args.counter s.counter old.messages c.in-Published.message c.in-Ok.ensures.counter draws old.in_order c.add.new.self c.add.result
           (rw (c.new.ensures, c.note_waits.ensures.messages) at c.add.ensures.ok) (rw c.note_waits.ensures.messages at c.add.ensures.err));
       jobs_in_order = s.jobs_in_order;
       timers_in_order = s.timers_in_order;
@@ -39,14 +39,14 @@ returns-in_ok-add-in-Published c =
       place = c.note_waits.ensures.place;
       noted = record {
         place = c.note_waits.ensures.place;
-        counter = c.in_ok-note_waits.ensures.counter;
-        messages = rw c.in-Published.is (added ∙ stands_last old.place old.counter c.args.counter s.counter old.messages c.in-Published.message c.in_ok-note_waits.ensures.counter draws old.in_order);
+        counter = c.in-Ok.ensures.counter;
+        messages = rw c.in-Published.is (added ∙ stands_last old.place old.counter c.args.counter s.counter old.messages c.in-Published.message c.in-Ok.ensures.counter draws old.in_order);
         definitions = keeps_same old.definitions s.definitions _ c.note_waits.ensures.definitions (rw c.in-Published.is refl);
         distributions = rw (c.in-Published.is, c.note_waits.ensures.distributions) refl;
         begun = rw c.in-Published.is refl;
-        jobs = c.in_ok-note_waits.ensures.jobs;
-        timers = c.in_ok-note_waits.ensures.timers;
-        called_off = c.in_ok-note_waits.ensures.called_off;
+        jobs = c.in-Ok.ensures.jobs;
+        timers = c.in-Ok.ensures.timers;
+        called_off = c.in-Ok.ensures.called_off;
         game = c.note_waits.ensures.game;
       };
     }
