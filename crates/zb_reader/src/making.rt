@@ -1,4 +1,4 @@
-ghost use Rattle.std.specs.Prelude.{◌≡◌, List, IfOk, option_map, option_and_then};
+ghost use Rattle.std.specs.Prelude.{◌≡◌, List, IfOk, OnOk, option_map, option_and_then};
 ghost use Rattle.serde_json.specs.Data.{Data};
 ghost use Rattle.serde_json.specs.View.{view, items_view};
 ghost use Rattle.serde_json.specs.Find.{get};
@@ -44,22 +44,60 @@ impl FromJson for Node {
     ghost made = { spec.node_in };
 
     fn make(alloc: Global, value: &Json) -> Result<Node, AllocError> {
-        Ok(Node {
-            id: text_at(alloc, value, "id")?,
-            kind: kind_in(value).unwrap_or(NodeKind::EndEvent),
-            parent: text_at(alloc, value, "parent")?,
-            attached: text_at(alloc, value, "attachedToRef")?,
-            cancel: flag_in(value, "cancelActivity", may_hold(value, "cancelActivity")),
-            otherwise: text_at(alloc, value, "default")?,
-            name: Text::of(alloc, name_in(value))?,
-            expr: source_in(alloc, expr_text(value))?,
-            retries: retries_in(value),
-            handler: flag_in(value, "isForCompensation", false),
-            multi: multi_at(alloc, value)?,
-            inputs: list_at::<Mapping>(alloc, value, "inputs")?,
-            outputs: list_at::<Mapping>(alloc, value, "outputs")?,
-        })
+        let mut node = bare_node(alloc, value);
+        match fill_node(alloc, value, &mut node) {
+            Ok(()) => Ok(node),
+            Err(AllocError) => {
+                drop(node);
+                Err(AllocError)
+            }
+        }
     }
+}
+
+// A node with what wants no memory, and with no text, expression or list.
+fn bare_node(alloc: Global, value: &Json) -> Node
+    ensures kind { result.kind ≡ (spec.node_in (view value.now)).kind }
+    ensures cancel { result.cancel ≡ (spec.node_in (view value.now)).cancel }
+    ensures retries { result.retries ≡ (spec.node_in (view value.now)).retries }
+    ensures handler { result.handler ≡ (spec.node_in (view value.now)).handler }
+{
+    Node {
+        id: Text::empty(alloc),
+        kind: kind_in(value).unwrap_or(NodeKind::EndEvent),
+        parent: Text::empty(alloc),
+        attached: Text::empty(alloc),
+        cancel: flag_in(value, "cancelActivity", may_hold(value, "cancelActivity")),
+        otherwise: Text::empty(alloc),
+        name: Text::empty(alloc),
+        expr: None,
+        retries: retries_in(value),
+        handler: flag_in(value, "isForCompensation", false),
+        multi: None,
+        inputs: List::empty(alloc),
+        outputs: List::empty(alloc),
+    }
+}
+
+// Fills in its texts, its expression and its lists. After a refusal the node is only dropped.
+fn fill_node(alloc: Global, value: &Json, node: &mut Node) -> Result<(), AllocError>
+    ensures { OnOk result (node.new ≡ record (spec.node_in (view value.now)) {
+      kind = node.old.kind;
+      cancel = node.old.cancel;
+      retries = node.old.retries;
+      handler = node.old.handler;
+    }) }
+{
+    node.id = text_at(alloc, value, "id")?;
+    node.parent = text_at(alloc, value, "parent")?;
+    node.attached = text_at(alloc, value, "attachedToRef")?;
+    node.otherwise = text_at(alloc, value, "default")?;
+    node.name = Text::of(alloc, name_in(value))?;
+    node.expr = source_in(alloc, expr_text(value))?;
+    node.multi = multi_at(alloc, value)?;
+    node.inputs = list_at::<Mapping>(alloc, value, "inputs")?;
+    node.outputs = list_at::<Mapping>(alloc, value, "outputs")?;
+    Ok(())
 }
 
 impl FromJson for Flow {
