@@ -2,4 +2,4 @@ pub mod EditLemmas
 pub mod OrderedLemmas
 pub mod SplitLemmas
 pub mod GreatestLemmas
-pub mod CountedLemmas
+pub mod KeptLemmas

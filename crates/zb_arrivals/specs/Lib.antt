@@ -1,2 +1,2 @@
-pub mod Counted
+pub mod InOrder
 pub mod Newer

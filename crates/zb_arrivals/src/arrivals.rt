@@ -6,12 +6,11 @@ ghost use Rattle.zb_tokens.specs.Edits.{edited, without_first};
 ghost use Rattle.zb_tokens.specs.Forced.{greatest};
 
 use crate::copies::copy_of;
-use crate::edit::Edit;
 use crate::others::{self, HasKey};
 use std::alloc::{AllocError, Global};
 use std::marker::Model;
 use zb_base::{Key, TryCopy};
-use zb_table::{Query, Row, Table};
+use zb_table::{Edit, Query, Row, Table};
 
 // How many rows memory has room for, at most.
 const MOST: usize = usize::MAX / 2;
@@ -23,8 +22,6 @@ const MOST: usize = usize::MAX / 2;
 pub struct Arrivals<R: Row> {
     // Those that came in the order of their keys.
     ordered: Table<R>,
-    // How many these are.
-    count: usize,
     // A number above their keys.
     next: u64,
     // Those that came from the first on that didn't.
@@ -33,13 +30,13 @@ pub struct Arrivals<R: Row> {
 
 impl<R: Row> Model for Arrivals<R> {
     ghost use Rattle.std.specs.Prelude as prelude;
-    ghost use Rattle.zb_arrivals.specs.Counted.{IsCounted};
+    ghost use Rattle.zb_arrivals.specs.InOrder.{IsInOrder};
 
     ghost Value = { prelude.List R };
 
     ghost view = { λ a. prelude.◌++◌ a.ordered a.others.items };
 
-    ghost invariant = { λ a. IsCounted R.key_in a.next a.count a.ordered };
+    ghost invariant = { λ a. IsInOrder R.key_in a.next a.ordered };
 }
 
 impl<R: Row> Arrivals<R> {
@@ -49,7 +46,6 @@ impl<R: Row> Arrivals<R> {
     {
         Arrivals {
             ordered: Table::empty(alloc),
-            count: 0,
             next: 0,
             others: Vec::new(alloc),
         }
@@ -59,7 +55,7 @@ impl<R: Row> Arrivals<R> {
     pub fn len(&self) -> usize
         ensures { result ≡ length self.now }
     {
-        self.count + self.others.len()
+        self.ordered.len() + self.others.len()
     }
 
     /// The first row with this key. It takes the logarithm of how many rows there are.
@@ -88,11 +84,10 @@ impl<R: Row> Arrivals<R> {
         let key = row.key();
         match key.number().checked_add(1) {
             Some(next) if is_behind(key, self.next, &self.others) => {
-                if self.count == MOST {
+                if self.ordered.len() == MOST {
                     return Err(AllocError);
                 }
                 self.ordered.add(row)?;
-                self.count += 1;
                 self.next = next;
                 Ok(())
             }
@@ -104,17 +99,14 @@ impl<R: Row> Arrivals<R> {
     }
 
     /// Edits the first row with this key, if there is one. After a refusal the rows are only dropped. It takes the
-    /// logarithm of how many rows there are, on average.
+    /// logarithm of how many rows there are, and what the edit takes.
     pub fn edit<E: Edit<R>>(&mut self, key: Key, edit: E) -> Result<(), AllocError>
         ensures { OnOk result (self.new ≡ option_map_or (λ rows. rows) (edited (λ r. R.key_in r == key) (E.edits edit) self.old) self.old) }
     {
-        let Some(row) = self.ordered.take(key) else {
-            return others::edit(&HasKey { key }, edit, &mut self.others);
-        };
-        self.count -= 1;
-        self.ordered.add(edit.edit(row)?)?;
-        self.count += 1;
-        Ok(())
+        if self.ordered.contains(key) {
+            return self.ordered.edit(key, edit);
+        }
+        others::edit(&HasKey { key }, edit, &mut self.others)
     }
 
     /// Takes away the first row with this key, if there is one. It takes the logarithm of how many rows there are, on
@@ -123,7 +115,7 @@ impl<R: Row> Arrivals<R> {
         ensures { self.new ≡ without_first (λ r. R.key_in r == key) self.old }
     {
         match self.ordered.take(key) {
-            Some(_row) => self.count -= 1,
+            Some(_row) => {}
             None => others::remove_first(&HasKey { key }, &mut self.others),
         }
     }
@@ -163,7 +155,6 @@ impl<R: Row + TryCopy> TryCopy for Arrivals<R> {
     fn copy(&self, alloc: Global) -> Result<Arrivals<R>, AllocError> {
         Ok(Arrivals {
             ordered: self.ordered.copy(alloc)?,
-            count: self.count,
             next: self.next,
             others: copy_of(alloc, &self.others)?.into_vec(),
         })

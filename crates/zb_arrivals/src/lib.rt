@@ -3,9 +3,7 @@
 
 mod arrivals;
 mod copies;
-mod edit;
 mod others;
 
 pub use arrivals::Arrivals;
 pub use copies::copy_of;
-pub use edit::Edit;

@@ -6,10 +6,9 @@ ghost use Rattle.zb_tokens.specs.Edits.{edited, without_first};
 ghost use Rattle.zb_tokens.specs.Forced.{greatest};
 ghost use Rattle.zb_arrivals.specs.Newer.{newer_of};
 
-use crate::Edit;
 use std::alloc::AllocError;
 use zb_base::Key;
-use zb_table::{Query, Row};
+use zb_table::{Edit, Query, Row};
 
 /// Whether a row has this key.
 #[derive(Drop)]

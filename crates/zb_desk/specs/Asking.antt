@@ -4,14 +4,14 @@ use Rattle.zb_world.specs.declared.entry.Entry.{Entry}
 use Rattle.zb_wire.specs.declared.request.Request.{Request}
 use Rattle.zb_desk.specs.declared.answered.Answered.{Answered}
 use Rattle.zb_desk.specs.Serial.{Basis, units_in, IsNextEntry, AreMadeFor, IsCarriedOut, IsNextUnit, AreUnits, AreAllUnits}
-use Rattle.zb_desk.specs.Replies.{reply_to}
+use Rattle.zb_desk.specs.Replies.{IsReply}
 
 -- behind earlier entries a request was carried out at a reading: its entries are there too, and this is what it is answered, with
 -- the units of work that were done behind it
 pub record IsAsked (basis : Basis) (request : Request) (reading : ℕ) (earlier : List Entry) (has : List Entry → Type 0) (answered : Answered) : Type 0 where
   pub entries : List Entry
   pub done : IsCarriedOut basis request reading earlier entries
-  pub told : reply_to request reading entries ≡ Some answered.reply
+  pub told : IsReply (length basis.logs) request reading entries answered.reply
   pub units : answered.units ≡ length (units_in entries)
   pub holds : has (earlier ++ entries)
 

@@ -1,15 +1,20 @@
 -- What a request asks for, and the units of work behind it.
-use Rattle.std.proofs.Common.{append_assoc, ◌≡◌, ◌<◌, ◌≤◌, ◌+◌, ℕ, suc, List, [], ◌∷◌, ◌++◌, length, Option, Some, None, option_map, refl, sym, ap, ◌∙◌, subst, arith}
+use Rattle.std.proofs.Common.{append_assoc, ◌≡◌, ◌<◌, ◌≤◌, ◌+◌, ◌-◌, ℕ, suc, List, [], ◌∷◌, ◌++◌, length, slice_get, IsTrue, Option, Some, None, option_map, refl, sym, ap, ◌∙◌, subst, arith}
 use Rattle.std.specs.Option.{option_map_or}
+use Rattle.std.specs.List.{AllByRecursion}
+use Rattle.std.proofs.lemmas.Option.{slice_get_within}
 use Rattle.zb_disk.specs.declared.disk.Disk.{Ghosts}
 use Rattle.zb_model.specs.declared.record.Batch.{Batch}
 use Rattle.zb_model.specs.declared.record.Command.{Command}
+use Rattle.zb_model.specs.declared.record.Event.{Event}
+use Rattle.zb_model.specs.declared.record.Outcome.TheVariants as outcomes
+use Rattle.zb_model.specs.declared.record.Rejection.{Rejection}
 use Rattle.zb_model.specs.declared.stop.Stop.{Stop}
 use Rattle.zb_views.specs.View.{events_of}
 use Rattle.zb_rules.specs.Due.{due_command}
-use Rattle.zb_rules.specs.DueLaws.{due_command_is_run}
+use Rattle.zb_rules.specs.DueLaws.{due_command_unrefused, due_command_has, due_command_is_run}
 use Rattle.zb_rules.specs.Own.{IsSupported}
-use Rattle.zb_rules.specs.Step.{EachOn}
+use Rattle.zb_rules.specs.Step.{IsAcceptance, IsOutcomeBy, IsStep, EachOn}
 use Rattle.zb_rules.specs.StepLaws.{each_on_none, each_on_more}
 use Rattle.zb_world.specs.Entries.{as_entry}
 use Rattle.zb_world.specs.declared.entry.Entry.{Entry}
@@ -22,15 +27,16 @@ use Rattle.zb_reply.specs.Reply.{answer_of}
 use Rattle.zb_reply.specs.declared.reply.Reply.{Reply}
 use Rattle.zb_reply.specs.declared.reply.Reply.TheVariants as replies
 use Rattle.zb_desk.specs.Asking.{IsAsked, IsCut, IsDelivered, IsDeliveryCut}
-use Rattle.zb_desk.specs.Replies.{reply_if}
-use Rattle.zb_desk.specs.Serial.{most_due, log_behind, due_in_logs, next_by, next_asked, IsEntryBy}
+use Rattle.zb_desk.specs.Replies.{is_by_time, IsTicked, IsReplyIf}
+use Rattle.zb_desk.specs.Serial.{most_due, log_behind, due_in_logs, next_by, next_asked, asked_in, IsEntryBy}
 use Rattle.zb_desk.specs.SerialLaws.{IsNextAsked, AreAsked, made_by_asking, next_by_asking, made_with_units, carried_out, next_of_unit, parted}
 use Rattle.zb_desk.specs.UnitLaws.{AnyHas, either_has}
-use Rattle.zb_engine.specs.Solo.{Start, logs_in, basis_in, HasMade, HasEnded, IsPlaced, IsTurnedAway, IsDone, IsCutOff}
+use Rattle.zb_engine.specs.Solo.{Start, many_in, logs_in, basis_in, HasMade, HasEnded, IsPlaced, IsTurnedAway, IsDone, IsCutOff}
 use Rattle.zb_engine.specs.declared.solo.Solo.{Solo}
 use Rattle.zb_engine.proofs.DeliveryLemmas.{lt_is, not_lt, partition_known_within}
 use Rattle.zb_engine.proofs.ListLemmas.{append_none}
-use Rattle.zb_engine.proofs.NextLemmas.{AreMade, entry_next}
+use Rattle.zb_engine.proofs.MadeLemmas.{all_more}
+use Rattle.zb_engine.proofs.NextLemmas.{AreMade, entry_next, command_is, next_none, next_more}
 
 -- what is due in one of some logs
 module _ (Q : ℕ × Command → Type 0) where
@@ -42,19 +48,25 @@ module _ (Q : ℕ × Command → Type 0) where
   none_due next is = absurd (cc)
 
   pub due_has : (reading p : ℕ) (logs : List (List Batch)) (entries : List Entry)
-      → ((k : ℕ) (log : List Batch) (command : Command) → k < p + length logs → due_command reading (events_of log) ≡ Some command → Q (k, command)) → AnyHas Q (due_in_logs reading p logs entries)
+      → ((k : ℕ) (log : List Batch) (command : Command) → slice_get logs k ≡ Some log → due_command reading (events_of (log_behind (p + k) log entries)) ≡ Some command → Q (p + k, command)) → AnyHas Q (due_in_logs reading p logs entries)
   due_has reading p [] entries each = none_due
   due_has reading p (log ∷ logs) entries each =
+      let here : p + 0 ≡ p = omega arith in
       either_has Q (option_map (λ command. (p, command)) (due_command reading (events_of (log_behind p log entries)))) (due_in_logs reading (suc p) logs entries)
-      (due_one p (due_command reading (events_of (log_behind p log entries))) (λ command is. each p (log_behind p log entries) command (omega arith) is))
-      (due_has reading (suc p) logs entries (λ k one command below is. each k one command (omega (arith, below)) is))
+      (due_one p (due_command reading (events_of (log_behind p log entries)))
+      (subst (λ (q : ℕ). (command : Command) → due_command reading (events_of (log_behind q log entries)) ≡ Some command → Q (q, command)) here (λ command is. each 0 log command refl is)))
+      (due_has reading (suc p) logs entries (λ k one command at is.
+      let on : p + suc k ≡ suc p + k = omega arith in
+      subst (λ (q : ℕ). due_command reading (events_of (log_behind q one entries)) ≡ Some command → Q (q, command)) on (each (suc k) one command at) is))
 
 -- is run, at a partition that there is
 pub due_is_run : (reading : ℕ) (logs : List (List Batch)) (entries : List Entry) (next : ℕ × Command) → due_in_logs reading 1 logs entries ≡ Some next → IsSupported next.1
-due_is_run reading logs entries next is = due_has (λ next. IsSupported next.1) reading 1 logs entries (λ k log command below is. due_command_is_run reading (events_of log) command is) next is
+due_is_run reading logs entries next is =
+    due_has (λ next. IsSupported next.1) reading 1 logs entries (λ k log command at is. due_command_is_run reading (events_of (log_behind (1 + k) log entries)) command is) next is
 
 pub due_is_within : (reading : ℕ) (logs : List (List Batch)) (entries : List Entry) (next : ℕ × Command) → due_in_logs reading 1 logs entries ≡ Some next → next.0 ≤ length logs
-due_is_within reading logs entries next is = due_has (λ next. next.0 ≤ length logs) reading 1 logs entries (λ k log command below is. omega (arith, below)) next is
+due_is_within reading logs entries next is =
+    due_has (λ next. next.0 ≤ length logs) reading 1 logs entries (λ k log command at is. omega (arith, slice_get_within logs k log at)) next is
 
 -- the partition that a request asks is there
 home_within : (key : List ℕ) (n : ℕ) → 1 ≤ n → home_of key n ≤ n
@@ -78,10 +90,6 @@ asks_first logs request reading earlier command is = ap (λ (c : Option Command)
 -- and for no more
 asks_once : (logs : List (List Batch)) (request : Request) (reading : ℕ) (earlier : List Entry) (command : Command) (entry : Entry) → command_of request ≡ Some command → next_asked logs request reading earlier (entry ∷ []) ≡ None
 asks_once logs request reading earlier command entry is = ap (λ (c : Option Command). next_by c logs request reading earlier (entry ∷ [])) is
-
--- its reply is that of its batch
-replies_once : (request : Request) (reading : ℕ) (command : Command) (entry : Entry) → command_of request ≡ Some command → reply_if (command_of request) request reading (entry ∷ []) ≡ answer_of entry.batch
-replies_once request reading command entry is = ap (λ (c : Option Command). reply_if c request reading (entry ∷ [])) is
 
 -- the entry of the command that a request asks for
 module _ (logs : List (List Batch)) (made : List Entry) (request : Request) (reading : ℕ) (command : Command) (p : ℕ) (asks : command_of request ≡ Some command) (at : p ≡ partition_asked (length logs) request) where
@@ -113,11 +121,17 @@ module _ {D : Type 0} {disks : Ghosts D} (start : Start D) (made : List Entry) (
         each_on_more (IsNextAsked (logs_in start) request reading made) [] [] (as_entry p batch) (each_on_none (IsNextAsked (logs_in start) request reading made) []) (asked_by (logs_in start) made request reading command p asks at (as_entry p batch) placed.by)
 
     -- it is all that the request asks for, and answers it
-    pub command_done : (batch : Batch) (reply : Reply) (solo : Solo D disks) → IsPlaced start made reading (p, command) batch solo → answer_of batch ≡ Some reply → IsDone start made request reading reply solo
-    command_done batch reply solo placed answered = record {
+    pub command_done : (batch : Batch) (reply : Reply) (solo : Solo D disks) → length (logs_in start) ≡ many_in start → IsPlaced start made reading (p, command) batch solo → answer_of batch ≡ Some reply → IsDone start made request reading reply solo
+    command_done batch reply solo many placed answered = record {
       own = as_entry p batch ∷ [];
       done = record { made = command_asked batch solo placed; all = asks_once (logs_in start) request reading made command (as_entry p batch) asks };
-      told = replies_once request reading command (as_entry p batch) asks ∙ answered;
+      told = subst (λ (c : Option Command). IsReplyIf c (many_in start) request reading (as_entry p batch ∷ []) reply) (sym asks) (record {
+        entry = as_entry p batch;
+        one = refl;
+        is_its = sym (command_is (logs_in start) p command reading made batch placed.by);
+        is_there = at ∙ ap (λ (n : ℕ). partition_asked n request) many;
+        told = answered;
+      });
       holds = placed.holds;
     }
 
@@ -128,14 +142,15 @@ module _ {D : Type 0} {disks : Ghosts D} (start : Start D) (made : List Entry) (
         (subst (λ (es : List Entry). HasEnded start es away.unlogged stop solo) (append_none made) away.holds)
 
   -- the units of work behind what it asked for were done
-  pub answered_by : (own : List Entry) (asked : AreAsked (logs_in start) request reading made own) (reply : Reply) (units : ℕ) (solo : Solo D disks) → reply_if (command_of request) request reading own ≡ Some reply
+  pub answered_by : (own : List Entry) (asked : AreAsked (logs_in start) request reading made own) (reply : Reply) (units : ℕ) (solo : Solo D disks) → length (logs_in start) ≡ many_in start → IsReplyIf (command_of request) (many_in start) request reading own reply
       → IsDelivered (basis_in start) reading (made ++ own) (λ es. HasMade start es solo) units → IsAsked (basis_in start) request reading made (λ es. HasMade start es solo) (record { reply = reply; units = units })
-  answered_by own asked reply units solo told w =
+  answered_by own asked reply units solo many told w =
       let parts = parted (basis_in start) request reading made own w.units asked w.done.made in
       record {
         entries = own ++ w.units;
         done = carried_out (basis_in start) request reading made own w.units asked w.done;
-        told = ap (λ (es : List Entry). reply_if (command_of request) request reading es) parts.1 ∙ told;
+        told = subst (λ (n : ℕ). IsReplyIf (command_of request) n request reading (asked_in (own ++ w.units)) reply) (sym many)
+            (subst (λ (es : List Entry). IsReplyIf (command_of request) (many_in start) request reading es reply) (sym parts.1) told);
         units = w.told ∙ ap length (sym parts.0);
         holds = subst (λ (es : List Entry). HasMade start es solo) (append_assoc made own w.units) w.holds;
       }
@@ -157,13 +172,49 @@ module _ {D : Type 0} {disks : Ghosts D} (start : Start D) (made : List Entry) (
 
 -- a request that asks for nothing
 pub nothing_done : {D : Type 0} {disks : Ghosts D} (start : Start D) (made : List Entry) (request : Request) (reading : ℕ) (reply : Reply) (solo : Solo D disks) → next_asked (logs_in start) request reading made [] ≡ None
-    → reply_if (command_of request) request reading [] ≡ Some reply → HasMade start made solo → IsDone start made request reading reply solo
+    → IsReplyIf (command_of request) (many_in start) request reading [] reply → HasMade start made solo → IsDone start made request reading reply solo
 nothing_done start made request reading reply solo none told has = record {
   own = [];
   done = record { made = each_on_none (IsNextAsked (logs_in start) request reading made) []; all = none };
   told = told;
   holds = subst (λ (es : List Entry). HasMade start es solo) (append_none made) has;
 }
+
+-- a command that time made due has no reason against it, so its batch was accepted
+module _ {D : Type 0} {disks : Ghosts D} (start : Start D) (made : List Entry) (reading p : ℕ) (command : Command) (batch : Batch) (solo : Solo D disks) where
+  accepted_by : (before : List Event) (reason : Option Rejection) → reason ≡ None → IsOutcomeBy reason batch.outcome (IsAcceptance p (many_in start) batch.moment before batch.command batch.outcome)
+      → (es : List Event) × (batch.outcome ≡ outcomes.Accepted es)
+  accepted_by before None none by = (by.own ++ by.rest, by.accepted)
+  accepted_by before (Some rejection) none by = absurd (cc)
+
+  ticked_on : (log : List Batch) → due_command reading (events_of log) ≡ Some batch.command → reading ≤ batch.moment → IsStep p (many_in start) log batch → IsTicked (as_entry p batch)
+  ticked_on log due later step =
+      let accepted = accepted_by (events_of log) _ (due_command_unrefused reading (events_of log) batch.moment batch.command later due) step.outcome in
+      record {
+        by_time = due_command_has reading (events_of log) (λ (c : Command). IsTrue (is_by_time c)) (λ key. refl) (λ key. refl) (λ key. refl) batch.command due;
+        made = accepted.0;
+        accepted = accepted.1;
+      }
+
+  -- it is due in the log of its partition
+  abbrev IsDueIn : ℕ × Command → Type 0
+  IsDueIn next = (log : List Batch) → 1 ≤ next.0 → slice_get (logs_in start) (next.0 - 1) ≡ Some log → due_command reading (events_of (log_behind next.0 log made)) ≡ Some next.1
+
+  due_here : (k : ℕ) (log : List Batch) (c : Command) → slice_get (logs_in start) k ≡ Some log → due_command reading (events_of (log_behind (1 + k) log made)) ≡ Some c → IsDueIn (1 + k, c)
+  due_here k log c at is other some found =
+      let place : 1 + k - 1 ≡ k = omega arith in
+      let one : Some log ≡ Some other = sym at ∙ (ap (λ (i : ℕ). slice_get (logs_in start) i) (sym place) ∙ found) in
+      let same : log ≡ other = cc in
+      subst (λ (l : List Batch). due_command reading (events_of (log_behind (1 + k) l made)) ≡ Some c) same is
+
+  pub due_ticked : due_in_logs reading 1 (logs_in start) made ≡ Some (p, command) → IsPlaced start made reading (p, command) batch solo → IsTicked (as_entry p batch)
+  due_ticked due placed =
+      let step = placed.step in
+      let same : command ≡ batch.command = command_is (logs_in start) p command reading made batch placed.by in
+      let moment = placed.by.moment in
+      let later : reading ≤ batch.moment = omega (arith, moment.3) in
+      let of_log : due_command reading (events_of (log_behind p step.0 made)) ≡ Some command = due_has IsDueIn reading 1 (logs_in start) made due_here (p, command) due step.0 step.1 step.2 in
+      ticked_on (log_behind p step.0 made) (of_log ∙ ap (λ (c : Command). Some c) same) later step.3
 
 -- a tick asks for what is due, until it made the most
 module _ {D : Type 0} (start : Start D) (made : List Entry) (reading : ℕ) where
@@ -178,28 +229,46 @@ module _ {D : Type 0} (start : Start D) (made : List Entry) (reading : ℕ) wher
 
 -- and so does its engine
 module _ {D : Type 0} {disks : Ghosts D} (start : Start D) (made : List Entry) (reading : ℕ) where
-  ticked : (done : ℕ) (solo : Solo D disks) (w : AreMade start made (ticking start made reading) reading done solo) → ticking start made reading w.more ≡ None → IsDone start made requests.Tick reading (replies.Tick done) solo
+  -- so many were made so far, each of which time made due, and was accepted
+  pub record AreTicked (done : ℕ) (solo : Solo D disks) : Type 0 where
+    pub are : AreMade start made (ticking start made reading) reading done solo
+    pub each : AllByRecursion IsTicked are.more
+
+  pub ticked_none : (solo : Solo D disks) → HasMade start made solo → AreTicked 0 solo
+  ticked_none solo has = record { are = next_none start made (ticking start made reading) reading solo has; each = tt }
+
+  -- and one more
+  pub ticked_more : (done : ℕ) (old new : Solo D disks) (w : AreTicked done old) (p : ℕ) (command : Command) (batch : Batch) → done < most_due → due_behind start made reading w.are.more ≡ Some (p, command)
+      → IsPlaced start (made ++ w.are.more) reading (p, command) batch new → AreTicked (done + 1) new
+  ticked_more done old new w p command batch few comes placed =
+      let within : length w.are.more < most_due = omega (arith, few, w.are.counted) in
+      record {
+        are = next_more start made (ticking start made reading) reading done old new w.are p command batch (ticking_is start made reading w.are.more within ∙ comes) placed;
+        each = all_more IsTicked w.are.more (as_entry p batch) w.each (due_ticked start (made ++ w.are.more) reading p command batch new comes placed);
+      }
+
+  ticked : (done : ℕ) (solo : Solo D disks) (w : AreTicked done solo) → ticking start made reading w.are.more ≡ None → IsDone start made requests.Tick reading (replies.Tick done) solo
   ticked done solo w none = record {
-    own = w.more;
-    done = record { made = w.each; all = none };
-    told = ap (λ (n : ℕ). Some (replies.Tick n)) (sym w.counted);
-    holds = w.holds;
+    own = w.are.more;
+    done = record { made = w.are.each; all = none };
+    told = (w.each, ap (λ (n : ℕ). replies.Tick n) w.are.counted);
+    holds = w.are.holds;
   }
 
-  pub tick_done : (done : ℕ) (solo : Solo D disks) (w : AreMade start made (ticking start made reading) reading done solo) → done < most_due → due_behind start made reading w.more ≡ None → IsDone start made requests.Tick reading (replies.Tick done) solo
+  pub tick_done : (done : ℕ) (solo : Solo D disks) (w : AreTicked done solo) → done < most_due → due_behind start made reading w.are.more ≡ None → IsDone start made requests.Tick reading (replies.Tick done) solo
   tick_done done solo w few none =
-      let within : length w.more < most_due = omega (arith, few, w.counted) in
-      ticked done solo w (ticking_is start made reading w.more within ∙ none)
+      let within : length w.are.more < most_due = omega (arith, few, w.are.counted) in
+      ticked done solo w (ticking_is start made reading w.are.more within ∙ none)
 
-  pub tick_full : (done : ℕ) (solo : Solo D disks) (w : AreMade start made (ticking start made reading) reading done solo) → most_due ≤ done → IsDone start made requests.Tick reading (replies.Tick done) solo
+  pub tick_full : (done : ℕ) (solo : Solo D disks) (w : AreTicked done solo) → most_due ≤ done → IsDone start made requests.Tick reading (replies.Tick done) solo
   tick_full done solo w full =
-      let past : most_due ≤ length w.more = omega (arith, full, w.counted) in
-      ticked done solo w (rw (not_lt (length w.more) most_due past) refl)
+      let past : most_due ≤ length w.are.more = omega (arith, full, w.are.counted) in
+      ticked done solo w (rw (not_lt (length w.are.more) most_due past) refl)
 
   -- or it was cut off
-  pub tick_cut : (done : ℕ) (old new : Solo D disks) (w : AreMade start made (ticking start made reading) reading done old) (p : ℕ) (command : Command) (stop : Stop) → done < most_due → due_behind start made reading w.more ≡ Some (p, command)
-      → IsTurnedAway start (made ++ w.more) reading (p, command) stop new → IsCutOff start made requests.Tick reading stop new
+  pub tick_cut : (done : ℕ) (old new : Solo D disks) (w : AreTicked done old) (p : ℕ) (command : Command) (stop : Stop) → done < most_due → due_behind start made reading w.are.more ≡ Some (p, command)
+      → IsTurnedAway start (made ++ w.are.more) reading (p, command) stop new → IsCutOff start made requests.Tick reading stop new
   tick_cut done old new w p command stop few comes away =
-      let within : length w.more < most_due = omega (arith, few, w.counted) in
-      cut_asking start made requests.Tick reading w.more away.unlogged stop new w.each
-      (λ entry is. entry_next (logs_in start) (ticking start made reading w.more) reading (made ++ w.more) entry (p, command) (ticking_is start made reading w.more within ∙ comes) (away.by entry is)) away.holds
+      let within : length w.are.more < most_due = omega (arith, few, w.are.counted) in
+      cut_asking start made requests.Tick reading w.are.more away.unlogged stop new w.are.each
+      (λ entry is. entry_next (logs_in start) (ticking start made reading w.are.more) reading (made ++ w.are.more) entry (p, command) (ticking_is start made reading w.are.more within ∙ comes) (away.by entry is)) away.holds

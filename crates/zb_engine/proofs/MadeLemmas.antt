@@ -6,14 +6,15 @@ use Rattle.zb_model.specs.declared.record.Batch.{Batch}
 use Rattle.zb_model.specs.declared.record.Command.{Command}
 use Rattle.zb_model.specs.declared.stop.Stop.{Stop}
 use Rattle.zb_model.specs.declared.stop.Stop.TheVariants as stops
+use Rattle.zb_rules.specs.Step.{IsStep}
 use Rattle.zb_rules.specs.StepLaws.{each_on_more}
 use Rattle.zb_world.specs.Entries.{IsPartitionOf, part_of, places_of, stamps_of, as_entry}
 use Rattle.zb_world.specs.declared.entry.Entry.{Entry}
 use Rattle.zb_world.specs.EntryLaws.{part_of_joined, part_of_its, part_of_other, places_of_joined, places_of_its, places_of_other}
 use Rattle.zb_partition.specs.declared.partition.Partition.{Partition}
 use Rattle.zb_desk.specs.Numbered.{EachFrom}
-use Rattle.zb_desk.specs.Serial.{place_behind, IsEntryBy}
-use Rattle.zb_engine.specs.Ledger.{Opening, Account, account_of, log_of, HasAccount, IsCommitted, HasStopped, HasRefused}
+use Rattle.zb_desk.specs.Serial.{log_behind, place_behind, IsEntryBy}
+use Rattle.zb_engine.specs.Ledger.{Opening, Account, account_of, HasAccount, IsCommitted, HasStopped, HasRefused}
 use Rattle.zb_engine.specs.Solo.{Start, many_in, logs_in, place_at_start, account_in, HasPart, partitions_in, stamps_in, kept_in, HasMade, IsBatchOf, IsLeftPart, HasEnded, IsPlaced, IsTurnedAway}
 use Rattle.zb_engine.specs.declared.solo.Solo.{Solo}
 use Rattle.zb_engine.proofs.LogLemmas.{stopped_resting}
@@ -62,6 +63,9 @@ module _ {D : Type 0} {disks : Ghosts D} (start : Start D) (made : List Entry) (
   of_it : IsPartitionOf n p
   of_it = (omega (arith, numbered), omega (arith, numbered, within, as_many))
 
+  opened_at : (x : Opening D) → slice_get start.openings index ≡ Some x → slice_get (logs_in start) (p - 1) ≡ Some x.batches
+  opened_at x at = ap (λ i. slice_get (logs_in start) i) (let i : p - 1 ≡ index = omega (arith, numbered) in i) ∙ slice_get_made (λ (o : Opening D). o.batches) start.openings index x at
+
   -- how its log was opened, and what it holds
   pub its_part : (d : Partition D disks) → (x : Opening D) × (slice_get start.openings index ≡ Some x) × HasPart n made p x (get_or (partitions_in old) index d)
   its_part d = each_from_at (HasPart n made) p 1 start.openings (partitions_in old) index d numbered within has.parts
@@ -94,13 +98,14 @@ module _ {D : Type 0} {disks : Ghosts D} (start : Start D) (made : List Entry) (
         let at_place : place_at_start start + length made ≡ old.place = omega (arith, has.place) in
         record {
           step = (
-            log_of (account_in p x.0 made),
-            subst (λ (m : ℕ). Rattle.zb_rules.specs.Step.IsStep p m (log_of (account_in p x.0 made)) batch) x.2.0.1
-                (subst (λ (q : ℕ). Rattle.zb_rules.specs.Step.IsStep q x.0.partitions (log_of (account_in p x.0 made)) batch) x.2.0.0 done.step),
+            x.0.batches,
+            of_it.0,
+            opened_at x.0 x.1,
+            subst (λ (m : ℕ). IsStep p m (log_behind p x.0.batches made) batch) x.2.0.1 (subst (λ (q : ℕ). IsStep q x.0.partitions (log_behind p x.0.batches made) batch) x.2.0.0 done.step),
           );
           by = record {
             command = ap (λ c. Some (p, c)) (sym done.is);
-            moment = (x.0.batches, of_it.0, ap (λ i. slice_get (logs_in start) i) (let i : p - 1 ≡ index = omega (arith, numbered) in i) ∙ slice_get_made (λ (o : Opening D). o.batches) start.openings index x.0 x.1, done.moment);
+            moment = (x.0.batches, of_it.0, opened_at x.0 x.1, done.moment);
             begin = done.begin ∙ has.place;
           };
           holds = record {
@@ -187,7 +192,7 @@ module _ {D : Type 0} {disks : Ghosts D} (start : Start D) (made : List Entry) (
           let next = told.next batch some in
           subst (λ (e : Entry). IsEntryBy (logs_in start) (Some (p, command)) reading made e) same (record {
             command = ap (λ c. Some (p, c)) (sym next.command);
-            moment = (x.0.batches, of_it.0, ap (λ i. slice_get (logs_in start) i) (let i : p - 1 ≡ index = omega (arith, numbered) in i) ∙ slice_get_made (λ (o : Opening D). o.batches) start.openings index x.0 x.1, next.moment);
+            moment = (x.0.batches, of_it.0, opened_at x.0 x.1, next.moment);
             begin = next.begin ∙ has.place;
           })
 

@@ -15,9 +15,9 @@ use Rattle.zb_partition.specs.declared.partition.Partition.{Partition}
 use Rattle.zb_wire.specs.declared.request.Request.{Request}
 use Rattle.zb_reply.specs.declared.reply.Reply.{Reply}
 use Rattle.zb_wire.specs.Asked.{command_of}
-use Rattle.zb_desk.specs.Numbered.{EachFrom}
-use Rattle.zb_desk.specs.Replies.{reply_if}
-use Rattle.zb_desk.specs.Serial.{Basis, basis_of, place_behind, IsEntryBy, AreMadeFor, IsNextEntry}
+use Rattle.zb_desk.specs.Numbered.{EachFrom, OfNumber}
+use Rattle.zb_desk.specs.Replies.{IsReplyIf}
+use Rattle.zb_desk.specs.Serial.{Basis, basis_of, log_behind, place_behind, IsEntryBy, AreMadeFor, IsNextEntry}
 use Rattle.zb_desk.specs.SerialLaws.{AreAsked}
 use Rattle.zb_engine.specs.Ledger.{Opening, Account, account_of, slots_in, WasOpened, IsOpen, LeftSince, HasAccount, HasStopped}
 use Rattle.zb_engine.specs.declared.solo.Solo.{Solo}
@@ -122,9 +122,10 @@ pub record HasEnded {D : Type 0} {disks : Ghosts D} (start : Start D) (entries :
   pub stamped : stamps_in solo ≡ stamps_of (many_in start) (place_at_start start) entries
   pub kept : kept_in solo ≡ Some (at, stop)
 
--- behind these entries a command was submitted at a reading of the clock at a partition, and this is its batch
+-- behind these entries a command was submitted at a reading of the clock at a partition, and this is its batch, a step on
+-- the log that the partition has then
 pub record IsPlaced {D : Type 0} {disks : Ghosts D} (start : Start D) (entries : List Entry) (reading : ℕ) (next : ℕ × Command) (batch : Batch) (solo : Solo D disks) : Type 0 where
-  pub step : (log : List Batch) × IsStep next.0 (many_in start) log batch
+  pub step : OfNumber (logs_in start) next.0 (λ opened. IsStep next.0 (many_in start) (log_behind next.0 opened entries) batch)
   pub by : IsEntryBy (logs_in start) (Some next) reading entries (as_entry next.0 batch)
   pub holds : HasMade start (entries ++ as_entry next.0 batch ∷ []) solo
 
@@ -138,7 +139,7 @@ pub record IsTurnedAway {D : Type 0} {disks : Ghosts D} (start : Start D) (entri
 pub record IsDone {D : Type 0} {disks : Ghosts D} (start : Start D) (earlier : List Entry) (request : Request) (reading : ℕ) (reply : Reply) (solo : Solo D disks) : Type 0 where
   pub own : List Entry
   pub done : AreAsked (logs_in start) request reading earlier own
-  pub told : reply_if (command_of request) request reading own ≡ Some reply
+  pub told : IsReplyIf (command_of request) (many_in start) request reading own reply
   pub holds : HasMade start (earlier ++ own) solo
 
 -- a request stopped the engine once it had made these entries, and the one that isn't in its log, if there is one

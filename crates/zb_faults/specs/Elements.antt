@@ -1,5 +1,5 @@
 -- The nodes and flows of a model, and what kinds of nodes there are (BPMN 2.0.2, chapter 10).
-use Rattle.std.specs.Prelude.{ℕ, List, ◌∷◌, ◌++◌, map, count_by, Bool, true, false, Option, is_some, option_map}
+use Rattle.std.specs.Prelude.{ℕ, List, ◌∷◌, ◌++◌, map, count_by, Bool, true, false, ◌&&◌, Option, is_some, option_map}
 use Rattle.std.specs.Option.{option_map_or}
 use Rattle.std.specs.List.{find, list_any}
 use Rattle.std.specs.Str.{bytes_eq}
@@ -59,6 +59,10 @@ is_boundary kinds.MessageBoundaryEvent = true
 is_boundary kinds.ErrorBoundaryEvent = true
 is_boundary kinds.CompensationBoundaryEvent = true
 is_boundary kind = false
+
+-- a node is a boundary event of the activity with an id: by its kind, and attached to that (BPMN 2.0.2, 10.5.4)
+abbrev pub is_boundary_of : List ℕ → Node → Bool
+is_boundary_of id n = is_boundary n.kind && bytes_eq n.attached id
 
 -- an event at which an error of an activity is caught (BPMN 2.0.2, 10.5.5)
 abbrev pub is_error_boundary : NodeKind → Bool

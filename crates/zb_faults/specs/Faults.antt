@@ -7,7 +7,7 @@ use Rattle.zb_process.specs.declared.model.Model.{Model}
 use Rattle.zb_process.specs.declared.model.Node.{Node}
 use Rattle.zb_process.specs.declared.model.Flow.{Flow}
 use Rattle.zb_process.specs.declared.model.NodeKind.{NodeKind}
-use Rattle.zb_faults.specs.Elements.{ids_of, node_with, flow_with, is_at, incoming, outgoing, is_start, is_message_start, is_end_kind, is_boundary, is_error_boundary, is_compensation_boundary, is_catch, is_subprocess, is_service_task, is_activity, is_exclusive_gateway, is_event_gateway}
+use Rattle.zb_faults.specs.Elements.{ids_of, node_with, flow_with, is_at, incoming, outgoing, is_start, is_message_start, is_end_kind, is_boundary, is_boundary_of, is_error_boundary, is_compensation_boundary, is_catch, is_subprocess, is_service_task, is_activity, is_exclusive_gateway, is_event_gateway}
 use Rattle.zb_faults.specs.declared.fault.Fault.{Fault}
 use Rattle.zb_faults.specs.declared.fault.Fault.TheVariants as faults
 
@@ -127,7 +127,7 @@ compensates nodes id = list_any (λ b. is_compensation_boundary b.kind && bytes_
 
 -- one of these nodes is a boundary event of this activity
 abbrev pub has_boundary : List Node → List ℕ → Bool
-has_boundary nodes id = list_any (λ b. is_boundary b.kind && bytes_eq b.attached id) nodes
+has_boundary nodes id = list_any (is_boundary_of id) nodes
 
 -- a node may undo an activity of a scope: a service task for that, without flows, boundary events and repetition (BPMN 2.0.2, 10.7.1)
 abbrev pub is_handler_in : Model → List ℕ → Node → Bool

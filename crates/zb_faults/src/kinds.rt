@@ -1,8 +1,8 @@
 // What kinds of nodes there are (BPMN 2.0.2, chapter 10).
 ghost use Rattle.std.specs.Prelude.{◌≡◌};
-ghost use Rattle.zb_faults.specs.Elements.{is_start, is_message_start, is_end_kind, is_boundary, is_error_boundary, is_compensation_boundary, is_catch, is_subprocess, is_service_task, is_activity, is_exclusive_gateway, is_event_gateway, is_parallel_gateway, is_terminate_end};
+ghost use Rattle.zb_faults.specs.Elements.{is_start, is_message_start, is_end_kind, is_boundary, is_boundary_of, is_error_boundary, is_compensation_boundary, is_catch, is_subprocess, is_service_task, is_activity, is_exclusive_gateway, is_event_gateway, is_parallel_gateway, is_terminate_end};
 
-use zb_process::NodeKind;
+use zb_process::{Node, NodeKind};
 
 /// Whether a node starts a process or a scope.
 pub fn is_start(kind: NodeKind) -> bool
@@ -40,6 +40,13 @@ pub fn is_boundary(kind: NodeKind) -> bool
             | NodeKind::ErrorBoundaryEvent
             | NodeKind::CompensationBoundaryEvent
     )
+}
+
+/// Whether a node is a boundary event of the activity with an id.
+pub fn is_boundary_of(id: &str, node: &Node) -> bool
+    ensures { result ≡ is_boundary_of id.now node.now }
+{
+    is_boundary(node.kind) && node.attached.as_str() == id
 }
 
 /// Whether an event catches an error of an activity.

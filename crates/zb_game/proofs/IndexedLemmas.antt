@@ -1,8 +1,10 @@
 -- What is kept stays right as the board changes.
-use Rattle.std.proofs.Common.{◌≡◌, ℕ, zero, suc, ◌+◌, ◌-◌, ◌^◌, ◌<◌, ◌≤◌, ◌==◌, List, [], ◌∷◌, ◌++◌, length, All, get_or, slice_set, remove, take, drop, filter, Bool, true, false, not, ◌||◌, cond, if◌then◌else◌, Some, option_map, refl, sym, ap, ◌∙◌, subst, arith}
+use Rattle.std.proofs.Common.{◌≡◌, ℕ, zero, suc, ◌+◌, ◌-◌, ◌^◌, ◌<◌, ◌≤◌, ◌==◌, List, [], ◌∷◌, ◌++◌, length, All, get_or, slice_set, remove, take, drop, filter, Bool, true, false, not, ◌||◌, cond, if◌then◌else◌, Some, None, option_map, refl, sym, ap, ◌∙◌, subst, arith, nat_cmp}
+use Rattle.std.specs.BTreeMap.{is_at}
 use Rattle.std.specs.List.{find}
 use Rattle.std.specs.Option.{option_map_or}
 use Rattle.std.proofs.lemmas.Bool.Decides.{nat_tests}
+use Rattle.std.proofs.lemmas.List.Folds.{find-append}
 use Rattle.std.proofs.lemmas.List.Elements.{All-push, All-set, All-weaker, All-append, All-take, All-drop, All-cons}
 use Rattle.zb_process.specs.declared.model.Model.{Model}
 use Rattle.zb_base.specs.declared.vars.Variable.{Variable}
@@ -13,7 +15,7 @@ use Rattle.zb_places.proofs.HeldLemmas.{number_in, scope_of, tokens_more}
 use Rattle.zb_table.proofs.Ascending.{ascend_more, ascend_set, ascend_remove, finds_own, finds_more, not_below, lower}
 use Rattle.zb_tokens.specs.declared.board.Cell.{Cell}
 use Rattle.zb_tokens.specs.declared.board.Incident.{Incident}
-use Rattle.zb_tokens.specs.Incidents.{is_stuck}
+use Rattle.zb_tokens.specs.Incidents.{incident_at, incident_on, is_stuck}
 use Rattle.zb_tokens.specs.declared.board.Token.{Token}
 use Rattle.zb_tokens.specs.declared.board.Deployed.{Deployed}
 use Rattle.zb_tokens.specs.declared.board.Phase.{Phase}
@@ -24,10 +26,12 @@ use Rattle.zb_game.specs.declared.tallies.Tally.{Tally}
 use Rattle.zb_places.specs.Places.{held_tokens, count_in_scope, IsFewer}
 use Rattle.zb_game.specs.Tallies.{tally_of, cells_in, tokens_in, incidents_on}
 use Rattle.zb_game.specs.Searches.{scope_model, needs}
+use Rattle.zb_game.specs.Kept.{number_under}
 use Rattle.zb_game.specs.Indexed.{IsIndexed, rests_in, is_resting, stays_out, is_awake, is_kept}
-use Rattle.zb_arrivals.proofs.EditLemmas.{mapped_from}
+use Rattle.zb_arrivals.proofs.EditLemmas.{mapped_from, found_place}
 use Rattle.zb_places.proofs.CountLemmas.{passing_more, passing_fewer, passing_same, passing_within}
-use Rattle.zb_game.proofs.TallyLemmas.{stuck_counted}
+use Rattle.zb_game.proofs.TallyLemmas.{stuck_counted, counted_none, none_counted, unmapped, found_without}
+use Rattle.zb_game.proofs.KeptLemmas.{same_number, none_behind}
 use Rattle.zb_game.proofs.RestLemmas.{fuller, fuller_by_child, IsSeen, IsCalling, seen_on}
 use Rattle.zb_game.proofs.ComingLemmas.{all_met, awaited_model, awaited_cell, awaited_set, awaited_away, awaited_more, awaited_fewer, awaited_looked}
 
@@ -57,7 +61,7 @@ apart_gone low (x ∷ cells) (suc i) c up within at =
     let other : (x.key == c.key) ≡ false = grind (arith, nat_tests, above, key) in
     All-cons (λ (y : Cell). (y.key == c.key) ≡ false) x (remove cells i) other (apart_gone (x.key + 1) cells i c up.1 (omega (arith, within)) at)
 
-module _ (b : Board) (rows : List (Held Token)) (inside stuck : List Tally) (ready calling coming : List ℕ) (kept : IsIndexed b rows inside stuck ready calling coming) where
+module _ (b : Board) (rows : List (Held Token)) (inside : List Tally) (stuck : List (ℕ × ℕ)) (ready calling coming : List ℕ) (kept : IsIndexed b rows inside stuck ready calling coming) where
   -- a scope that something is in has a number, and there is one more
   pub some_cell : (i : ℕ) (c : Cell) → i < length b.cells → c ≡ get_or b.cells i c → 1 ≤ tally_of inside c.scope
   some_cell i c within at =
@@ -73,14 +77,15 @@ module _ (b : Board) (rows : List (Held Token)) (inside stuck : List Tally) (rea
   calls_as i c within at = subst (IsCalling calling) (sym at) (kept.called i c within)
 
   -- a model more
-  pub kept_model : (d : Deployed) → are_below (λ (x : Deployed). x.key) d.key b.models ≡ true → IsIndexed (record b { models = b.models ++ d ∷ [] }) rows inside stuck ready calling coming
-  kept_model d below =
+  pub kept_model : (d : Deployed) → IsIndexed (record b { models = b.models ++ d ∷ [] }) rows inside stuck ready calling coming
+  kept_model d =
       let after : Board = record b { models = b.models ++ d ∷ [] } in
       record {
-        models_ascend = ascend_more (λ (x : Deployed). x.key) 0 b.models d (omega arith) kept.models_ascend below;
         cells_ascend = kept.cells_ascend;
         tokens_ascend = kept.tokens_ascend;
         cells_right = kept.cells_right;
+        incidents_ascend = kept.incidents_ascend;
+        alone = kept.alone;
         stuck_right = kept.stuck_right;
         awake = All-weaker (IsSeen b ready) (IsSeen after ready) (λ c. seen_on b after ready ready c refl (stays c.definition) (λ is. is, λ is. is) (λ is. is)) b.cells kept.awake;
         called = kept.called;
@@ -102,10 +107,11 @@ module _ (b : Board) (rows : List (Held Token)) (inside stuck : List Tally) (rea
       let after : Board = record b { cells = b.cells ++ c ∷ [] } in
       let numbers : (k : ℕ) → cells_in after k ≡ cells_in b k + (if c.scope == k then 1 else 0) = λ k. passing_more (λ (x : Cell). x.scope == k) b.cells c in
       record {
-        models_ascend = kept.models_ascend;
         cells_ascend = ascend_more (λ (x : Cell). x.key) 0 b.cells c (omega arith) kept.cells_ascend below;
         tokens_ascend = kept.tokens_ascend;
         cells_right = λ k. omega (arith, more k, kept.cells_right k, numbers k);
+        incidents_ascend = kept.incidents_ascend;
+        alone = kept.alone;
         stuck_right = kept.stuck_right;
         awake = All-push (IsSeen after ready') b.cells c
             (All-weaker (IsSeen b ready) (IsSeen after ready') (λ x. seen_on b after ready ready' x refl (λ m is. is) (fuller b after x.key (omega (arith, numbers x.key)) (omega arith)) (still x.key)) b.cells kept.awake)
@@ -123,10 +129,11 @@ module _ (b : Board) (rows : List (Held Token)) (inside stuck : List Tally) (rea
       let after : Board = record b { cells = slice_set b.cells i c' } in
       let numbers : (k : ℕ) → cells_in after k ≡ cells_in b k = λ k. passing_same (λ (x : Cell). x.scope == k) b.cells i c c' within at (ap (λ (s : ℕ). s == k) scope) in
       record {
-        models_ascend = kept.models_ascend;
         cells_ascend = ascend_set (λ (x : Cell). x.key) 0 b.cells i c c' at key kept.cells_ascend;
         tokens_ascend = kept.tokens_ascend;
         cells_right = λ k. kept.cells_right k ∙ sym (numbers k);
+        incidents_ascend = kept.incidents_ascend;
+        alone = kept.alone;
         stuck_right = kept.stuck_right;
         awake = All-set (IsSeen after ready') b.cells i c' seen'
             (All-weaker (IsSeen b ready) (IsSeen after ready') (λ x. seen_on b after ready ready' x refl (λ m is. is) (fuller b after x.key (omega (arith, numbers x.key)) (omega arith)) (still x.key)) b.cells kept.awake);
@@ -167,10 +174,11 @@ module _ (b : Board) (rows : List (Held Token)) (inside stuck : List Tally) (rea
       let seen_left : All (IsSeen b ready) left = All-append (IsSeen b ready) (take i b.cells) (drop (suc i) b.cells) (All-take (IsSeen b ready) i b.cells kept.awake) (All-drop (IsSeen b ready) (suc i) b.cells kept.awake) in
       let calling_left : All (IsCalling calling) left = All-append (IsCalling calling) (take i b.cells) (drop (suc i) b.cells) (All-take (IsCalling calling) i b.cells kept.called) (All-drop (IsCalling calling) (suc i) b.cells kept.called) in
       record {
-        models_ascend = kept.models_ascend;
         cells_ascend = ascend_remove (λ (x : Cell). x.key) 0 b.cells i kept.cells_ascend;
         tokens_ascend = kept.tokens_ascend;
         cells_right = counts;
+        incidents_ascend = kept.incidents_ascend;
+        alone = kept.alone;
         stuck_right = kept.stuck_right;
         awake = λ k d there.
             let x = get_or left k d in
@@ -189,10 +197,11 @@ module _ (b : Board) (rows : List (Held Token)) (inside stuck : List Tally) (rea
       let after : Board = record b { tokens = held_tokens (rows ++ h ∷ []) } in
       let numbers : (k : ℕ) → tokens_in after k ≡ tokens_in b k + (if h.row.scope == k then 1 else 0) = λ k. ap (count_in_scope k) (tokens_more rows h ∙ ap (λ (ts : List Token). ts ++ h.row ∷ []) (sym their)) ∙ passing_more (λ (x : Token). x.scope == k) b.tokens h.row in
       record {
-        models_ascend = kept.models_ascend;
         cells_ascend = kept.cells_ascend;
         tokens_ascend = up;
         cells_right = kept.cells_right;
+        incidents_ascend = kept.incidents_ascend;
+        alone = kept.alone;
         stuck_right = kept.stuck_right;
         awake = All-weaker (IsSeen b ready) (IsSeen after ready) (λ x. seen_on b after ready ready x refl (λ m is. is) (fuller b after x.key (omega arith) (omega (arith, numbers x.key))) (λ is. is)) b.cells kept.awake;
         called = kept.called;
@@ -207,10 +216,11 @@ module _ (b : Board) (rows : List (Held Token)) (inside stuck : List Tally) (rea
       let after : Board = record b { tokens = held_tokens left } in
       let others : (k : ℕ) → (scope == k) ≡ false → tokens_in b k ≤ tokens_in after k = λ k other. (let n = fewer.elsewhere k other in let all = ap (count_in_scope k) their in omega (arith, n, all)) in
       record {
-        models_ascend = kept.models_ascend;
         cells_ascend = kept.cells_ascend;
         tokens_ascend = subst (λ (l : List (Held Token)). Ascend number_in 0 l) (sym fewer.among) (ascend_filter number_in fewer.stays 0 rows kept.tokens_ascend);
         cells_right = kept.cells_right;
+        incidents_ascend = kept.incidents_ascend;
+        alone = kept.alone;
         stuck_right = kept.stuck_right;
         awake = All-weaker (IsSeen b ready) (IsSeen after ready') (λ x. seen_of after scope ready' x refl (λ far. (omega arith, others x.key far)) (still x.key)
             (λ none is. subst (λ (n : ℕ). is_kept ready' n ≡ true) is (woken (kept.cells_right scope ∙ none))) (λ m is. is)) b.cells kept.awake;
@@ -222,10 +232,11 @@ module _ (b : Board) (rows : List (Held Token)) (inside stuck : List Tally) (rea
   pub kept_looked_token : (number : ℕ) (coming' : List ℕ) → option_map_or (λ h. stays_out b h.row) (row_at number_in number rows) true ≡ true
       → ((k : ℕ) → (k == number) ≡ false → is_kept coming k ≡ true → is_kept coming' k ≡ true) → IsIndexed b rows inside stuck ready calling coming'
   kept_looked_token number coming' rests still = record {
-    models_ascend = kept.models_ascend;
     cells_ascend = kept.cells_ascend;
     tokens_ascend = kept.tokens_ascend;
     cells_right = kept.cells_right;
+    incidents_ascend = kept.incidents_ascend;
+    alone = kept.alone;
     stuck_right = kept.stuck_right;
     awake = kept.awake;
     called = kept.called;
@@ -235,10 +246,11 @@ module _ (b : Board) (rows : List (Held Token)) (inside stuck : List Tally) (rea
   -- a cell that was looked at, and rests or isn't there
   pub kept_looked : (key : ℕ) (ready' : List ℕ) → is_awake b key ≡ false → ((k : ℕ) → (k == key) ≡ false → is_kept ready k ≡ true → is_kept ready' k ≡ true) → IsIndexed b rows inside stuck ready' calling coming
   kept_looked key ready' rests still = record {
-    models_ascend = kept.models_ascend;
     cells_ascend = kept.cells_ascend;
     tokens_ascend = kept.tokens_ascend;
     cells_right = kept.cells_right;
+    incidents_ascend = kept.incidents_ascend;
+    alone = kept.alone;
     stuck_right = kept.stuck_right;
     awake = λ k d within moves.
         still (get_or b.cells k d).key (other k d within moves) (kept.awake k d within moves);
@@ -296,38 +308,70 @@ module _ (b : Board) (rows : List (Held Token)) (inside stuck : List Tally) (rea
       by_stuck true t moves f = absurd (cc)
       by_stuck false t moves f = let free : t ≡ false = f refl in rw free (sym (same_phase incidents c c.phase) ∙ moves)
 
-  -- an incident more
-  pub kept_raised : (i : Incident) (stuck' : List Tally) → ((k : ℕ) → tally_of stuck' k ≡ tally_of stuck k + (if i.cell == k then 1 else 0))
+  -- the incident on a cell is the one with the key that is kept for it
+  pub incident_kept : (cell key : ℕ) → number_under stuck cell ≡ Some key → incident_at b key ≡ incident_on b cell
+  incident_kept cell key is =
+      let r = mapped_from (λ (x : Incident). x.key) (incident_on b cell) key (sym (kept.stuck_right cell) ∙ is) in
+      let its = found_place (λ (x : Incident). x.cell == cell) b.incidents r.0 r.1 in
+      let own : find (λ (x : Incident). x.key == r.0.key) b.incidents ≡ Some r.0 =
+      subst (λ (x : Incident). find (λ (y : Incident). y.key == x.key) b.incidents ≡ Some x) (sym its.2) (finds_own (λ (x : Incident). x.key) 0 b.incidents its.0 r.0 its.1 kept.incidents_ascend) in
+      subst (λ (k : ℕ). incident_at b k ≡ Some r.0) r.2 own ∙ sym r.1
+
+  -- and where none is kept there is none
+  pub none_kept : (cell : ℕ) → number_under stuck cell ≡ None → incident_on b cell ≡ None
+  none_kept cell is = unmapped (λ (x : Incident). x.key) (incident_on b cell) (sym (kept.stuck_right cell) ∙ is)
+
+  -- an incident more, on a cell on which there is none
+  pub kept_raised : (i : Incident) (stuck' : List (ℕ × ℕ)) → are_below (λ (x : Incident). x.key) i.key b.incidents ≡ true → incident_on b i.cell ≡ None
+      → ((k : ℕ) → number_under stuck' k ≡ cond (is_at (nat_cmp i.cell) k) (Some i.key) (number_under stuck k))
       → IsIndexed (record b { incidents = b.incidents ++ i ∷ [] }) rows inside stuck' ready calling coming
-  kept_raised i stuck' more =
+  kept_raised i stuck' below free puts =
       let after : Board = record b { incidents = b.incidents ++ i ∷ [] } in
       let numbers : (k : ℕ) → incidents_on after k ≡ incidents_on b k + (if i.cell == k then 1 else 0) = λ k. passing_more (λ (x : Incident). x.cell == k) b.incidents i in
       record {
-        models_ascend = kept.models_ascend;
         cells_ascend = kept.cells_ascend;
         tokens_ascend = kept.tokens_ascend;
+        incidents_ascend = ascend_more (λ (x : Incident). x.key) 0 b.incidents i (omega arith) kept.incidents_ascend below;
+        alone = λ k. one_at k (i.cell == k) refl (numbers k);
         cells_right = kept.cells_right;
-        stuck_right = λ k. omega (arith, more k, kept.stuck_right k, numbers k);
+        stuck_right = λ k. puts k ∙ (ap (λ (t : Bool). cond t (Some i.key) (number_under stuck k)) (same_number i.cell k) ∙ on_cell k (i.cell == k) refl);
         awake = All-weaker (IsSeen b ready) (IsSeen after ready) (λ x seen moves. seen (moved_before (b.incidents ++ i ∷ []) x (omega (arith, numbers x.key)) moves)) b.cells kept.awake;
         called = kept.called;
         awaited = kept.awaited;
       }
+    where
+      none_at : (k : ℕ) → (i.cell == k) ≡ true → incident_on b k ≡ None
+      none_at k is =
+          let same : i.cell ≡ k = grind (arith, nat_tests) in
+          subst (λ (n : ℕ). incident_on b n ≡ None) same free
+
+      one_at : (k : ℕ) (t : Bool) → (i.cell == k) ≡ t → incidents_on (record b { incidents = b.incidents ++ i ∷ [] }) k ≡ incidents_on b k + (if t then 1 else 0) → incidents_on (record b { incidents = b.incidents ++ i ∷ [] }) k ≤ 1
+      one_at k true is number = omega (arith, number, none_counted b k (none_at k is))
+      one_at k false is number = omega (arith, number, kept.alone k)
+
+      on_cell : (k : ℕ) (t : Bool) → (i.cell == k) ≡ t → cond t (Some i.key) (number_under stuck k) ≡ option_map (λ (x : Incident). x.key) (find (λ (x : Incident). x.cell == k) (b.incidents ++ i ∷ []))
+      on_cell k true is =
+          let none : find (λ (x : Incident). x.cell == k) b.incidents ≡ None = none_at k is in
+          rw (find-append (λ (x : Incident). x.cell == k) b.incidents (i ∷ []), none, is) refl
+      on_cell k false is =
+          rw (find-append (λ (x : Incident). x.cell == k) b.incidents (i ∷ []), is) (kept.stuck_right k ∙ ap (option_map (λ (x : Incident). x.key)) (none_behind (find (λ (x : Incident). x.cell == k) b.incidents)))
 
   -- an incident fewer, and its cell seen
-  pub kept_repaired : (i : ℕ) (x : Incident) (stuck' : List Tally) (ready' : List ℕ) → i < length b.incidents → x ≡ get_or b.incidents i x
-      → ((k : ℕ) → tally_of stuck k ≡ tally_of stuck' k + (if x.cell == k then 1 else 0))
+  pub kept_repaired : (i : ℕ) (x : Incident) (stuck' : List (ℕ × ℕ)) (ready' : List ℕ) → i < length b.incidents → x ≡ get_or b.incidents i x
+      → ((k : ℕ) → number_under stuck' k ≡ cond (is_at (nat_cmp x.cell) k) None (number_under stuck k))
       → ((k : ℕ) → is_kept ready k ≡ true → is_kept ready' k ≡ true) → is_kept ready' x.cell ≡ true
       → IsIndexed (record b { incidents = remove b.incidents i }) rows inside stuck' ready' calling coming
-  kept_repaired i x stuck' ready' within at fewer still woken =
+  kept_repaired i x stuck' ready' within at takes still woken =
       let left : List Incident = remove b.incidents i in
       let after : Board = record b { incidents = left } in
       let numbers : (k : ℕ) → incidents_on b k ≡ incidents_on after k + (if x.cell == k then 1 else 0) = λ k. passing_fewer (λ (y : Incident). y.cell == k) b.incidents i x within at in
       record {
-        models_ascend = kept.models_ascend;
         cells_ascend = kept.cells_ascend;
         tokens_ascend = kept.tokens_ascend;
+        incidents_ascend = ascend_remove (λ (y : Incident). y.key) 0 b.incidents i kept.incidents_ascend;
+        alone = λ k. omega (arith, numbers k, kept.alone k);
         cells_right = kept.cells_right;
-        stuck_right = λ k. omega (arith, fewer k, kept.stuck_right k, numbers k);
+        stuck_right = λ k. takes k ∙ (ap (λ (t : Bool). cond t None (number_under stuck k)) (same_number x.cell k) ∙ on_cell k (x.cell == k) refl (numbers k));
         awake = All-weaker (IsSeen b ready) (IsSeen after ready') (λ c seen moves. by_cell left c (x.cell == c.key) refl (numbers c.key) seen moves) b.cells kept.awake;
         called = kept.called;
         awaited = kept.awaited;
@@ -339,12 +383,9 @@ module _ (b : Board) (rows : List (Held Token)) (inside stuck : List Tally) (rea
           subst (λ (k : ℕ). is_kept ready' k ≡ true) is woken
       by_cell left c false other number seen moves = still c.key (seen (moved_before left c (omega (arith, number)) moves))
 
-  -- an incident is counted
-  pub some_incident : (i : ℕ) (x : Incident) → i < length b.incidents → x ≡ get_or b.incidents i x → 1 ≤ tally_of stuck x.cell
-  some_incident i x within at =
-      let same : (x.cell == x.cell) ≡ true = grind (arith, nat_tests) in
-      let some = rw same at (passing_fewer (λ (y : Incident). y.cell == x.cell) b.incidents i x within at) in
-      omega (arith, kept.stuck_right x.cell, some)
-
-  pub more_incidents : (cell : ℕ) → length b.incidents < 2 ^ 64 - 1 → tally_of stuck cell < 2 ^ 64 - 1
-  more_incidents cell incidents = omega (arith, kept.stuck_right cell, incidents, passing_within (λ (x : Incident). x.cell == cell) b.incidents)
+      on_cell : (k : ℕ) (t : Bool) → (x.cell == k) ≡ t → incidents_on b k ≡ incidents_on (record b { incidents = remove b.incidents i }) k + (if t then 1 else 0)
+          → cond t None (number_under stuck k) ≡ option_map (λ (y : Incident). y.key) (find (λ (y : Incident). y.cell == k) (remove b.incidents i))
+      on_cell k true is number =
+          let none : find (λ (y : Incident). y.cell == k) (remove b.incidents i) ≡ None = counted_none (record b { incidents = remove b.incidents i }) k (omega (arith, number, kept.alone k)) in
+          rw none refl
+      on_cell k false is number = rw (found_without (λ (y : Incident). y.cell == k) b.incidents i x within at is) (kept.stuck_right k)

@@ -8,6 +8,7 @@ pub mod TallyLemmas
 pub mod SweepLemmas
 pub mod UnseenLemmas
 pub mod KeyLemmas
+pub mod KeptLemmas
 pub mod RestLemmas
 pub mod IndexedLemmas
 pub mod ReadyLemmas

@@ -5,9 +5,8 @@ use Rattle.zb_base.specs.Results.{◌>>=◌}
 use Rattle.zb_base.specs.declared.value.Value.{Value}
 use Rattle.zb_duration.specs.declared.form.TimeForm.{TimeForm}
 use Rattle.zb_process.specs.declared.model.Node.{Node}
-use Rattle.zb_process.specs.Tree.{Tree}
 use Rattle.zb_tokens.specs.declared.board.Opening.{Opening}
-use Rattle.zb_tokens.specs.Catches.{opening_by, openings_in, time_of}
+use Rattle.zb_tokens.specs.Catches.{opening_by, openings_in, time_form}
 use Rattle.zb_tokens.specs.Incidents.{Hindrance}
 use Rattle.zb_game.specs.Opens.{opening_at}
 
@@ -36,26 +35,26 @@ module _ (names : List ℕ → Option Value) (moment : ℕ) (n : Node) (ns : Lis
       subst (λ (y : Option Opening). behind made (rest >>= (λ os. Ok (x ∷ os))) ≡ behind (made ++ if_any y) rest) same (one_more x made rest)
   with_one (Err e) rest o is = absurd (cc)
 
-  by_time : (time : Option (TimeForm × Tree)) (rest : Result (List Opening) Hindrance) (o : Option Opening) → option_map_or (λ t. opening_by names moment n.id t >>= (λ x. Ok (Some x))) time (Ok None) ≡ Ok o
-      → behind made (option_map_or (λ t. opening_by names moment n.id t >>= (λ x. rest >>= (λ os. Ok (x ∷ os)))) time rest) ≡ behind (made ++ if_any o) rest
-  by_time None rest o is =
+  by_form : (form : Option TimeForm) (rest : Result (List Opening) Hindrance) (o : Option Opening) → option_map_or (λ f. opening_by names moment n f >>= (λ x. Ok (Some x))) form (Ok None) ≡ Ok o
+      → behind made (option_map_or (λ f. opening_by names moment n f >>= (λ x. rest >>= (λ os. Ok (x ∷ os)))) form rest) ≡ behind (made ++ if_any o) rest
+  by_form None rest o is =
       let same : None ≡ o = cc in
       subst (λ (y : Option Opening). behind made rest ≡ behind (made ++ if_any y) rest) same (ap (λ (l : List Opening). behind l rest) (sym (append-nil made)))
-  by_time (Some t) rest o is = with_one (opening_by names moment n.id t) rest o is
+  by_form (Some f) rest o is = with_one (opening_by names moment n f) rest o is
 
   -- a node at which a timer opens, or none does, makes that one more
   pub opened_more : (o : Option Opening) → opening_at names moment n ≡ Ok o → behind made (openings_in names moment (n ∷ ns)) ≡ behind (made ++ if_any o) (openings_in names moment ns)
-  opened_more o is = by_time (time_of n) (openings_in names moment ns) o is
+  opened_more o is = by_form (time_form n.kind) (openings_in names moment ns) o is
 
   stops_at : (made_here : Result Opening Hindrance) (rest : Result (List Opening) Hindrance) (e : Hindrance) → (made_here >>= (λ x. Ok (Some x))) ≡ Err e → behind made (made_here >>= (λ x. rest >>= (λ os. Ok (x ∷ os)))) ≡ Err e
   stops_at (Ok x) rest e is = absurd (cc)
   stops_at (Err f) rest e is = let same : f ≡ e = cc in ap Err same
 
-  stops_by_time : (time : Option (TimeForm × Tree)) (rest : Result (List Opening) Hindrance) (e : Hindrance) → option_map_or (λ t. opening_by names moment n.id t >>= (λ x. Ok (Some x))) time (Ok None) ≡ Err e
-      → behind made (option_map_or (λ t. opening_by names moment n.id t >>= (λ x. rest >>= (λ os. Ok (x ∷ os)))) time rest) ≡ Err e
-  stops_by_time None rest e is = absurd (cc)
-  stops_by_time (Some t) rest e is = stops_at (opening_by names moment n.id t) rest e is
+  stops_by_form : (form : Option TimeForm) (rest : Result (List Opening) Hindrance) (e : Hindrance) → option_map_or (λ f. opening_by names moment n f >>= (λ x. Ok (Some x))) form (Ok None) ≡ Err e
+      → behind made (option_map_or (λ f. opening_by names moment n f >>= (λ x. rest >>= (λ os. Ok (x ∷ os)))) form rest) ≡ Err e
+  stops_by_form None rest e is = absurd (cc)
+  stops_by_form (Some f) rest e is = stops_at (opening_by names moment n f) rest e is
 
   -- one at which none can is why there are none
   pub opened_stops : (e : Hindrance) → opening_at names moment n ≡ Err e → behind made (openings_in names moment (n ∷ ns)) ≡ Err e
-  opened_stops e is = stops_by_time (time_of n) (openings_in names moment ns) e is
+  opened_stops e is = stops_by_form (time_form n.kind) (openings_in names moment ns) e is

@@ -146,7 +146,7 @@ among_kept p key (x ∷ cells) c found it = by_key (x.key == key) (p x) refl ref
     by_key false true other passes found later = rw other (later found)
     by_key false false other fails found later = later found
 
-module _ (b : Board) (rows : List (Held Token)) (inside stuck : List Tally) (ready calling coming : List ℕ) (kept : IsIndexed b rows inside stuck ready calling coming) (free : (c : Cell) → is_doomed b c ≡ false) where
+module _ (b : Board) (rows : List (Held Token)) (inside : List Tally) (stuck : List (ℕ × ℕ)) (ready calling coming : List ℕ) (kept : IsIndexed b rows inside stuck ready calling coming) (free : (c : Cell) → is_doomed b c ≡ false) where
   -- the key of a forced cell is among the ready ones, and one of a forced cell
   abbrev IsFound : ℕ → Type 0
   IsFound n = (is_kept ready n ≡ true) × (is_forced_at b n ≡ true)
@@ -219,7 +219,7 @@ module _ (b : Board) (t : Triggered) where
           or_left (comes_about_at b t k) (list_any (comes_about_at b t) keys) (subst (λ (n : ℕ). comes_about_at b t n ≡ true) (sym one) comes)
       by_test false other there later = or_right (comes_about_at b t k) (list_any (comes_about_at b t) keys) (later there)
 
-  module _ (rows : List (Held Token)) (inside stuck : List Tally) (ready calling coming : List ℕ) (kept : IsIndexed b rows inside stuck ready calling coming) where
+  module _ (rows : List (Held Token)) (inside : List Tally) (stuck : List (ℕ × ℕ)) (ready calling coming : List ℕ) (kept : IsIndexed b rows inside stuck ready calling coming) where
     -- its cell doesn't rest
     awake_by : (c : Cell) → comes_about_by b t c ≡ true → is_resting b c ≡ false
     awake_by c comes =

@@ -1,5 +1,5 @@
 -- What a game keeps beside its board, so that a move needs no walk.
-use Rattle.std.specs.Prelude.{◌≡◌, ℕ, ◌==◌, List, All, Bool, true, false, ◌&&◌, ◌||◌, not, is_some, if◌then◌else◌}
+use Rattle.std.specs.Prelude.{◌≡◌, ℕ, ◌≤◌, ◌==◌, List, All, Bool, true, false, ◌&&◌, ◌||◌, not, is_some, if◌then◌else◌, option_map}
 use Rattle.std.specs.List.{list_any}
 use Rattle.std.specs.Option.{option_map_or}
 use Rattle.zb_process.specs.declared.model.Model.{Model}
@@ -12,10 +12,11 @@ use Rattle.zb_tokens.specs.declared.board.Phase.TheVariants as phases
 use Rattle.zb_tokens.specs.Edits.{is_none_of}
 use Rattle.zb_tokens.specs.Board.{Board, cell_at, model_under, is_at, is_scope_in, is_empty, has_child}
 use Rattle.zb_tokens.specs.Doom.{calls_off}
-use Rattle.zb_tokens.specs.Incidents.{is_stuck}
+use Rattle.zb_tokens.specs.Incidents.{incident_on, is_stuck}
 use Rattle.zb_tokens.specs.Marks.{error_of, has_come_about}
 use Rattle.zb_tokens.specs.MoveFinish.{rests_at}
 use Rattle.zb_places.specs.Places.{comes_in}
+use Rattle.zb_game.specs.Kept.{number_under}
 use Rattle.zb_game.specs.Tallies.{tally_of, cells_in, incidents_on}
 use Rattle.zb_game.specs.declared.tallies.Tally.{Tally}
 
@@ -52,15 +53,16 @@ stays_out b t = option_map_or (λ c. option_map_or (λ m. not (comes_in m b.toke
 abbrev pub is_kept : List ℕ → ℕ → Bool
 is_kept keys key = list_any (λ k. k == key) keys
 
--- what is kept is right, where the tokens have these numbers: keys and numbers ascend, the counts of cells and incidents are those of the board,
--- each cell that doesn't rest is among the ready ones, each that calls off what is in it among those that do, and each
--- token that doesn't rest among the coming ones (own)
-pub record IsIndexed (b : Board) (rows : List (Held Token)) (inside stuck : List Tally) (ready calling coming : List ℕ) : Type 0 where
-  pub models_ascend : Ascend (λ d. d.key) 0 b.models
+-- what is kept is right, where the tokens have these numbers: keys and numbers ascend, no two incidents stand on one cell, the counts of cells are those
+-- of the board, the key of the incident on each cell is kept, each cell that doesn't rest is among the ready ones, each that calls off what is in it among
+-- those that do, and each token that doesn't rest among the coming ones (own)
+pub record IsIndexed (b : Board) (rows : List (Held Token)) (inside : List Tally) (stuck : List (ℕ × ℕ)) (ready calling coming : List ℕ) : Type 0 where
   pub cells_ascend : Ascend (λ c. c.key) 0 b.cells
   pub tokens_ascend : Ascend (λ h. h.number) 0 rows
+  pub incidents_ascend : Ascend (λ i. i.key) 0 b.incidents
+  pub alone : (cell : ℕ) → incidents_on b cell ≤ 1
   pub cells_right : (scope : ℕ) → tally_of inside scope ≡ cells_in b scope
-  pub stuck_right : (cell : ℕ) → tally_of stuck cell ≡ incidents_on b cell
+  pub stuck_right : (cell : ℕ) → number_under stuck cell ≡ option_map (λ i. i.key) (incident_on b cell)
   pub awake : All (λ c. is_resting b c ≡ false → is_kept ready c.key ≡ true) b.cells
   pub called : All (λ c. calls_off c ≡ true → is_kept calling c.key ≡ true) b.cells
   pub awaited : All (λ h. stays_out b h.row ≡ false → is_kept coming h.number ≡ true) rows

@@ -1,4 +1,4 @@
--- How many cells and tokens are in each scope, and how many incidents on each cell.
+-- How many cells and tokens are in each scope, and how many incidents stand on each cell.
 use Rattle.std.specs.Prelude.{ℕ, ◌==◌, List, filter, length}
 use Rattle.std.specs.Option.{option_map_or}
 use Rattle.zb_table.specs.Rows.{row_at}

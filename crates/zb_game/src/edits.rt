@@ -6,9 +6,9 @@ ghost use Rattle.zb_tokens.specs.MoveAssign.{with_variable};
 ghost use Rattle.zb_tokens.specs.MoveLeave.{with_end};
 
 use std::alloc::{AllocError, Global};
-use zb_arrivals::Edit;
 use zb_base::{Key, List, Text, Value, Vars};
 use zb_instance_records::Role;
+use zb_table::Edit;
 use zb_tokens::{Cell, Mark, Phase};
 
 /// A cell that begins. It takes no memory.

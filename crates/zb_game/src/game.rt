@@ -42,15 +42,17 @@ mod trigger;
 mod visible;
 mod work;
 
+use crate::models::Models;
 use crate::tallies::Tally;
 use std::alloc::{AllocError, AllocFailed, Global};
+use std::collections::BTreeMap;
 use std::marker::Model;
-use zb_arrivals::{Arrivals, copy_of};
+use zb_arrivals::Arrivals;
 use zb_base::{Key, TryCopy};
 use zb_graph::Graph;
 use zb_groups::Groups;
-use zb_table::{Table, row_among};
-use zb_tokens::{Cell, Deployed, Incident, Move, Token};
+use zb_table::Table;
+use zb_tokens::{Cell, Incident, Move, Token};
 
 /// Why a move was not made.
 #[derive(Clone, Copy, Debug, PartialEq, Eq)]
@@ -79,17 +81,17 @@ impl<T: Drop> From<AllocFailed<T>> for GameFault {
 /// A game of tokens: the models, the cells, the tokens and the incidents on a board.
 #[derive(Drop)]
 pub struct Game {
-    models: Vec<Deployed>,
+    models: Models,
     cells: Arrivals<Cell>,
     tokens: Groups<Token>,
     incidents: Arrivals<Incident>,
-    // Whether the keys of the models and of the cells ascend, and what is kept below is right. Where it isn't set,
-    // models are searched for, and what is kept below counts no more.
+    // Whether the keys of the cells and of the incidents ascend, no two incidents stand on one cell, and what is kept
+    // below is right. Where it isn't set, what is kept below counts no more.
     ascends: bool,
     // How many cells are in each scope.
     inside: Table<Tally>,
-    // How many incidents stand on each cell.
-    stuck: Table<Tally>,
+    // The key of the incident on each cell on which one stands.
+    stuck: BTreeMap<Key, Key>,
     // The keys of the cells that may go on by themselves, as if nobody were called off.
     ready: Table<Key>,
     // The keys of the cells that call off what is in them.
@@ -112,7 +114,7 @@ impl Model for Game {
     ghost coded = { board_code deployed.the_row.coded cell.the_row.coded token.the_row.coded incident.the_row.coded };
 
     ghost view = { λ g. record {
-      models = g.models.items;
+      models = g.models;
       cells = g.cells;
       tokens = held_tokens g.tokens;
       incidents = g.incidents;
@@ -122,23 +124,23 @@ impl Model for Game {
     ghost use Rattle.zb_game.specs.Indexed.{IsIndexed};
 
     ghost invariant = { λ g. IsTrue g.ascends → IsIndexed (record {
-      models = g.models.items;
+      models = g.models;
       cells = g.cells;
       tokens = held_tokens g.tokens;
       incidents = g.incidents;
-    }) g.tokens g.inside g.stuck g.ready g.calling g.coming };
+    }) g.tokens g.inside g.stuck.entries g.ready g.calling g.coming };
 }
 
 impl TryCopy for Game {
     fn copy(&self, alloc: Global) -> Result<Game, AllocError> {
         Ok(Game {
-            models: copy_of(alloc, &self.models)?.into_vec(),
+            models: self.models.copy(alloc)?,
             cells: self.cells.copy(alloc)?,
             tokens: self.tokens.copy(alloc)?,
             incidents: self.incidents.copy(alloc)?,
             ascends: self.ascends,
             inside: self.inside.copy(alloc)?,
-            stuck: self.stuck.copy(alloc)?,
+            stuck: self.stuck.clone()?,
             ready: self.ready.copy(alloc)?,
             calling: self.calling.copy(alloc)?,
             coming: self.coming.copy(alloc)?,
@@ -152,24 +154,25 @@ impl Game {
         ensures { result ≡ empty_board }
     {
         Game {
-            models: Vec::new(alloc),
+            models: Models::empty(alloc),
             cells: Arrivals::empty(alloc),
             tokens: Groups::empty(alloc),
             incidents: Arrivals::empty(alloc),
             ascends: true,
             inside: Table::empty(alloc),
-            stuck: Table::empty(alloc),
+            stuck: BTreeMap::new(alloc),
             ready: Table::empty(alloc),
             calling: Table::empty(alloc),
             coming: Table::empty(alloc),
         }
     }
 
-    /// Whether a move fits the board. Where the keys of the models and of the cells ascend, a cell, an incident or a
-    /// model costs the logarithm of how many there are, what is in a cell that of how many scopes there are, and whether
-    /// an incident stands on a cell that of on how many cells one does; where they don't, each is searched for from the
-    /// front. An entry goes through the tokens in its scope up to the first that has come; at a gateway where flows join,
-    /// for each of them, where so many tokens are in the scope, and through pairs of the flows. Where a cell is
+    /// Whether a move fits the board. A model costs the logarithm of how many there are, in whatever order their keys
+    /// come. Where the keys of the cells and of the incidents ascend and no two incidents stand on one cell, as in every
+    /// game of a log, a cell or an incident costs that too, what is in a cell the logarithm of how many scopes there are,
+    /// and whether an incident stands on a cell that of how many incidents there are; elsewhere each is searched for from
+    /// the front. An entry goes through the tokens in its scope up to the first that has come; at a gateway where flows
+    /// join, for each of them, where so many tokens are in the scope, and through pairs of the flows. Where a cell is
     /// terminating or ended, an entry and a halt go up the scopes too. Leaving goes through the flows out of a node, and an
     /// assignment through the variables of a cell. A node or a flow of a model is found by its id in constant time, on
     /// average.
@@ -199,7 +202,7 @@ impl Game {
     /// Plays a move, whether it fits or not; its texts go onto the board. `Illegal` says that its effect names a cell,
     /// a token, a model or an incident that isn't there, and nothing has changed; where all are there, only `Memory`
     /// is answered for a fault. After `Memory` the game is only dropped. What a move names is found as `fits` does. A
-    /// new cell, model or incident takes constant time, and one that changes or goes the logarithm of how many there are,
+    /// new cell takes constant time, a new model or incident, and what changes or goes, the logarithm of how many there are,
     /// on average. Where a token comes, it goes through those in its scope, and looks again at those that need one like
     /// it; where one goes, at those that may enter by themselves. Each look costs what an entry does in `fits`. A halt
     /// and a terminate end go through all cells, where the scope that they empty has any, once more for each that leaves
@@ -244,7 +247,7 @@ impl Game {
         }
     }
 
-    /// The definition of a cell. It takes the logarithm of how many cells there are, where their keys ascend.
+    /// The definition of a cell. It is found as in `fits`.
     pub fn definition_of(&self, cell: Key) -> Option<Key>
         ensures { result ≡ option_map (λ c. c.definition) (cell_at self.now cell) }
     {
@@ -254,8 +257,7 @@ impl Game {
         }
     }
 
-    /// Whether the process of a definition has this id. It takes the logarithm of how many models there are, where
-    /// their keys ascend.
+    /// Whether the process of a definition has this id. It takes the logarithm of how many models there are.
     pub fn is_process_of(&self, definition: Key, id: &str) -> bool
         ensures { result ≡ option_map_or (λ m. bytes_eq m.process id.now) (model_under self.now definition) false }
     {
@@ -272,12 +274,11 @@ impl Game {
         self.cells.get(key)
     }
 
-    /// The model of a definition, as a graph. It takes the logarithm of how many models there are, where their keys
-    /// ascend.
+    /// The model of a definition, as a graph. It takes the logarithm of how many models there are.
     pub fn model(&self, definition: Key) -> Option<&Graph>
         ensures { option_copied result ≡ model_under self.now definition }
     {
-        match row_among(definition, &self.models, self.ascends) {
+        match self.models.get(definition) {
             Some(deployed) => Some(deployed.model.graph()),
             None => None,
         }

@@ -10,6 +10,7 @@ mod kinds;
 mod lasts;
 mod lookups;
 mod marks;
+mod models;
 mod tallies;
 mod unseen;
 

@@ -1,4 +1,4 @@
-// How many there are of what has a key: cells in a scope, incidents on a cell.
+// How many there are of what has a key: cells in a scope.
 ghost use Rattle.std.specs.Prelude.{◌≡◌, ℕ, ◌+◌, ◌-◌, ◌^◌, ◌<◌, ◌≤◌, ◌==◌, OnOk, if◌then◌else◌};
 ghost use Rattle.zb_game.specs.Tallies.{tally_of};
 

@@ -3,6 +3,7 @@ use Rattle.std.specs.Prelude.{ℕ, List, [], slice_get}
 use Rattle.std.specs.Option.{option_map_or}
 use Rattle.std.specs.Str.{bytes_eq}
 use Rattle.zb_process.specs.declared.model.Model.{Model}
+use Rattle.zb_faults.specs.Elements.{is_boundary_of}
 use Rattle.zb_graph.specs.Places.{places}
 
 -- the id of the node at a place (own)
@@ -19,4 +20,4 @@ ins_of m id = places (λ f. bytes_eq f.to id) m.flows
 
 -- the boundary events at the activity with an id, in the order of the model (BPMN 2.0.2, 10.5.6)
 abbrev pub bounds_of : Model → List ℕ → List ℕ
-bounds_of m id = places (λ n. bytes_eq n.attached id) m.nodes
+bounds_of m id = places (is_boundary_of id) m.nodes

@@ -2,7 +2,7 @@ ghost use Rattle.std.specs.Prelude.{◌≡◌, ◌<◌, ◌^◌, ◌&&◌, List,
 ghost use Rattle.std.specs.List.{find};
 ghost use Rattle.std.specs.Option.{option_and_then, option_copied, option_map};
 ghost use Rattle.std.specs.Str.{bytes_eq};
-ghost use Rattle.zb_faults.specs.Elements.{is_start};
+ghost use Rattle.zb_faults.specs.Elements.{is_boundary_of, is_start};
 ghost use Rattle.zb_graph.specs.Places.{places};
 ghost use Rattle.zb_graph.specs.Links.{bounds_of, id_at, ins_of, outs_of};
 ghost use Rattle.zb_graph.specs.Codes.{codes_of, codes_of_node, inputs_at, outputs_at};
@@ -191,7 +191,7 @@ impl Graph {
     /// The numbers of the boundary events at the activity with an id, in the order of the model.
     pub fn bounds_of(&self, id: &str) -> &[u32]
         ensures places { result.now ≡ bounds_of self.now id.now }
-        ensures nodes { map (slice_get self.now.nodes) result.now ≡ map Some (filter (λ n. bytes_eq n.attached id.now) self.now.nodes) }
+        ensures nodes { map (slice_get self.now.nodes) result.now ≡ map Some (filter (is_boundary_of id.now) self.now.nodes) }
     {
         self.bounds.at(id)
     }

@@ -2,9 +2,9 @@
 ghost use Rattle.std.specs.Prelude.{◌≡◌, ◌&&◌, ℕ, List, Bool, false};
 ghost use Rattle.std.specs.Option.{option_map_or};
 ghost use Rattle.std.specs.Str.{bytes_eq};
-ghost use Rattle.zb_faults.specs.Elements.{is_start};
+ghost use Rattle.zb_faults.specs.Elements.{is_boundary_of, is_start};
 
-use zb_faults::is_start;
+use zb_faults::{is_boundary, is_start};
 use zb_process::{Flow, Node};
 
 /// A name that the items of a list may have.
@@ -26,14 +26,18 @@ impl Label<Node> for NodeId {
     }
 }
 
-/// The activity at whose boundary a node stands.
+/// The activity at whose boundary an event stands.
 pub struct Host;
 
 impl Label<Node> for Host {
-    ghost has_name = { λ n name. bytes_eq n.attached name };
+    ghost has_name = { λ n name. is_boundary_of name n };
 
     fn name(node: &Node) -> Option<&str> {
-        Some(node.attached.as_str())
+        if is_boundary(node.kind) {
+            Some(node.attached.as_str())
+        } else {
+            None
+        }
     }
 }
 

@@ -48,8 +48,8 @@ impl<R: Grouped> Groups<R> {
     }
 
     /// Adds a row behind the others, under the number that is told. After a refusal the rows are only dropped. It takes
-    /// constant time where the group has rows or its key is greater than all, and else a step for each group with a
-    /// greater one.
+    /// the logarithm of how many groups there are where the group has rows, constant time where its key is greater than
+    /// all, and else a step for each group with a greater one.
     pub fn push(&mut self, alloc: Global, row: R) -> Result<Key, AllocError>
         ensures row { IfOk result (λ number. self.new ≡ self.old ++ record { number = number; row = row } ∷ []) }
         ensures order { Ascend (λ h. h.number) 0 self.new }
@@ -126,19 +126,19 @@ impl<R: Grouped> Groups<R> {
         ensures left { OnOk result (self.new ≡ without (λ h. h.number) number self.old) }
     {
         let whole = mem::replace(self, Groups::empty(alloc));
-        let (left, row) = whole.without(alloc, number)?;
+        let (left, row) = whole.without(number)?;
         *self = left;
         Ok(row)
     }
 
     // These rows but the one with a number, and that.
-    fn without(mut self, alloc: Global, number: Key) -> Result<(Groups<R>, Option<R>), AllocError>
+    fn without(mut self, number: Key) -> Result<(Groups<R>, Option<R>), AllocError>
         ensures row { IfOk result (λ left. left.1 ≡ option_map (λ h. h.row) (row_at (λ h. h.number) number self)) }
         ensures left { IfOk result (λ left. left.0 ≡ without (λ h. h.number) number self) }
     {
         match self.rows.take(number) {
             Some(held) => {
-                leave(alloc, &mut self.members, held.row.group(), number)?;
+                leave(&mut self.members, held.row.group(), number)?;
                 Ok((self, Some(held.row)))
             }
             None => Ok((self, None)),

@@ -4,7 +4,7 @@ ghost use Rattle.zb_groups.specs.Groups.{numbers_kept};
 
 use std::alloc::{AllocError, Global};
 use zb_base::{Key, List, TryCopy};
-use zb_table::{Row, Table};
+use zb_table::{Edit, Row, Table};
 
 /// A group, and the numbers of the rows in it.
 #[derive(Drop)]
@@ -30,7 +30,40 @@ impl TryCopy for Members {
     }
 }
 
-/// Adds a number to a group. It costs what `Table::add` and `Table::take` do.
+// A number comes into a group.
+#[derive(Drop)]
+struct Joined {
+    number: Key,
+}
+
+impl Edit<Members> for Joined {
+    ghost edits = { λ e m. record m { numbers = m.numbers ++ e.number ∷ [] } };
+
+    fn edit(self, mut row: Members) -> Result<Members, AllocError> {
+        row.numbers.push(self.number)?;
+        Ok(row)
+    }
+}
+
+// A number goes from a group.
+#[derive(Drop)]
+struct Left {
+    number: Key,
+}
+
+impl Edit<Members> for Left {
+    ghost edits = { λ e m. record m { numbers = filter (λ n. not (n == e.number)) m.numbers } };
+
+    fn edit(self, row: Members) -> Result<Members, AllocError> {
+        let Members { group, numbers } = row;
+        let mut numbers = numbers.into_vec();
+        numbers.retain(|kept| *kept != self.number);
+        let numbers = List::from_vec(numbers);
+        Ok(Members { group, numbers })
+    }
+}
+
+/// Adds a number to a group. Where the group is there it costs what `Table::edit` does, and else what `Table::add` does.
 pub fn join(
     alloc: Global,
     members: &mut Table<Members>,
@@ -39,28 +72,24 @@ pub fn join(
 ) -> Result<(), AllocError>
     ensures { OnOk result ((key : ℕ) → numbers_kept members.new key ≡ (if group == key then numbers_kept members.old key ++ number ∷ [] else numbers_kept members.old key)) }
 {
-    let mut numbers = numbers_taken(alloc, members, group);
+    if members.contains(group) {
+        return members.edit(group, Joined { number });
+    }
+    let mut numbers = List::empty(alloc);
     numbers.push(number)?;
     members.add(Members { group, numbers })
 }
 
-/// Takes a number from a group. It goes through the numbers of the group, and costs what `Table::add` and
-/// `Table::take` do.
-pub fn leave(
-    alloc: Global,
-    members: &mut Table<Members>,
-    group: Key,
-    number: Key,
-) -> Result<(), AllocError>
+/// Takes a number from a group. It goes through the numbers of the group, and costs what `Table::edit` does; where none
+/// is left, what `Table::remove` does as well.
+pub fn leave(members: &mut Table<Members>, group: Key, number: Key) -> Result<(), AllocError>
     ensures { OnOk result ((key : ℕ) → numbers_kept members.new key ≡ (if group == key then filter (λ n. not (n == number)) (numbers_kept members.old key) else numbers_kept members.old key)) }
 {
-    let mut numbers = numbers_taken(alloc, members, group).into_vec();
-    numbers.retain(|kept| *kept != number);
-    if numbers.is_empty() {
-        return Ok(());
+    members.edit(group, Left { number })?;
+    if numbers_kept(members, group).is_empty() {
+        members.remove(group);
     }
-    let numbers = List::from_vec(numbers);
-    members.add(Members { group, numbers })
+    Ok(())
 }
 
 /// Takes out the numbers of a group. It costs what `Table::take` does.

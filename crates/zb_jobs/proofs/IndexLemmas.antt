@@ -133,3 +133,22 @@ module _ (rows : List Job) (cells : BTreeMap ℕ ℕ) (waiting : Waiting) (right
       waits_by kind false u other waits =
           let old : bytes_eq job.kind kind ≡ false = ap (λ (l : List ℕ). bytes_eq l kind) (sym kinds) ∙ other in
           right.waits kind ∙ sym (offered_stays kind f key keeps only 0 rows job right.ascend at (rw old (nothing (is_activatable job.phase))) (rw other (nothing (is_activatable (f job).phase))))
+
+-- a job that was changed is found where the one that it was is
+pub found_before : (f : Job → Job) (key : ℕ) (rows : List Job) (job : Job) → ((j : Job) → (f j).key ≡ j.key) → find (λ j. j.key == key) (map f rows) ≡ Some job
+    → (before : Job) × (find (λ j. j.key == key) rows ≡ Some before) × (f before ≡ job)
+found_before f key rows job keeps is =
+    by_found (find (λ (j : Job). j.key == key) rows) refl (sym (found_mapped (λ (j : Job). j.key == key) f rows (λ j. ap (λ (n : ℕ). n == key) (keeps j))) ∙ is)
+  where
+    by_found : (found : Option Job) → find (λ j. j.key == key) rows ≡ found → option_map f found ≡ Some job → (before : Job) × (find (λ j. j.key == key) rows ≡ Some before) × (f before ≡ job)
+    by_found None at made = absurd (cc)
+    by_found (Some j) at made = (j, at, cc)
+
+-- and none is where none was
+pub none_before : (f : Job → Job) (key : ℕ) (rows : List Job) → ((j : Job) → (f j).key ≡ j.key) → find (λ j. j.key == key) (map f rows) ≡ None → find (λ j. j.key == key) rows ≡ None
+none_before f key rows keeps is =
+    by_found (find (λ (j : Job). j.key == key) rows) (sym (found_mapped (λ (j : Job). j.key == key) f rows (λ j. ap (λ (n : ℕ). n == key) (keeps j))) ∙ is)
+  where
+    by_found : (found : Option Job) → option_map f found ≡ None → found ≡ None
+    by_found None made = refl
+    by_found (Some j) made = absurd (cc)

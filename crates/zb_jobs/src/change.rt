@@ -5,6 +5,7 @@ ghost use Rattle.zb_views.specs.JobLaws.{job_changed, says_nothing_of_jobs};
 
 use std::alloc::{AllocError, Global};
 use zb_model::{Event, JobCreated, Moment, TryCopy};
+use zb_table::Edit;
 use zb_views::{Job, JobPhase};
 
 /// The job that is made, as it is first. It costs a copy of its type.
@@ -21,8 +22,22 @@ pub fn made(alloc: Global, made: &JobCreated) -> Result<Job, AllocError>
     })
 }
 
-/// The job as the event says.
-pub fn changed(mut job: Job, event: &Event) -> Job
+/// A job becomes what an event says.
+#[derive(Drop)]
+pub struct AsTold<'a> {
+    pub event: &'a Event,
+}
+
+impl<'a> Edit<Job> for AsTold<'a> {
+    ghost edits = { λ e j. job_changed e.event.now j };
+
+    fn edit(self, row: Job) -> Result<Job, AllocError> {
+        Ok(changed(row, self.event))
+    }
+}
+
+// The job as the event says.
+fn changed(mut job: Job, event: &Event) -> Job
     ensures { result ≡ job_changed event.now job }
 {
     match event {

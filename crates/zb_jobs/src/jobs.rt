@@ -6,7 +6,7 @@ ghost use Rattle.zb_views.specs.Jobs.{job_behind, is_offered};
 ghost use Rattle.zb_views.specs.JobLaws.{job_changed, jobs_by};
 ghost use Rattle.zb_jobs.specs.Table.{job_of_cell, HaveOwnCells, has_place_for, ChangesOnly, place_of_job, due_job};
 
-use crate::change::{changed, made, says_nothing_of_jobs};
+use crate::change::{AsTold, made, says_nothing_of_jobs};
 use crate::places::offer;
 use crate::waiting::Waiting;
 use std::alloc::{AllocError, Global};
@@ -131,7 +131,7 @@ impl Jobs {
         self.waiting
             .join(alloc, created.kind.as_str(), created.key)?;
         let job = made(alloc, created)?;
-        self.rows.add(alloc, job)?;
+        self.rows.add(job)?;
         Ok(self)
     }
 
@@ -184,14 +184,11 @@ impl Jobs {
         requires { ChangesOnly key event.now }
         ensures { IfOk result (λ jobs. jobs ≡ map (job_changed event.now) self) }
     {
-        match self.rows.take(key) {
-            Some(job) => {
-                let after = changed(job, event);
-                offer(alloc, &mut self.waiting, &after)?;
-                self.rows.add(alloc, after)?;
-                Ok(self)
-            }
-            None => Ok(self),
-        }
+        self.rows.edit(alloc, key, AsTold { event })?;
+        let Some(job) = self.rows.get(key) else {
+            return Ok(self);
+        };
+        offer(alloc, &mut self.waiting, job)?;
+        Ok(self)
     }
 }

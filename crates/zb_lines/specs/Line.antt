@@ -1,5 +1,5 @@
 -- The lines of a stream: bytes up to a newline (RFC 8259 texts, one a line).
-use Rattle.std.specs.Prelude.{◌≡◌, ◌≢◌, ◌<◌, ℕ, List, [], ◌∷◌, ◌++◌, length, take, Result, Ok, Err}
+use Rattle.std.specs.Prelude.{◌≡◌, ◌≢◌, ◌<◌, ℕ, List, [], ◌∷◌, ◌++◌, length, take, Bool, true, Result, Ok, Err}
 use Rattle.std.specs.List.{flat_map, AllByRecursion}
 use Rattle.zb_lines.specs.declared.reader.Next.{Next}
 use Rattle.zb_lines.specs.declared.reader.Next.TheVariants as nexts
@@ -33,10 +33,10 @@ Comes most (Ok nexts.Full) bytes left shown = IsOneLine bytes
 Comes most (Err troubles.Failed) bytes left shown = IsOneLine bytes
 Comes most (Err troubles.Memory) bytes left shown = Unit {0}
 
--- the stream has ended
-abbrev pub IsAtEnd : Result Next Trouble → Type 0
-IsAtEnd (Ok nexts.Line) = ⊥
-IsAtEnd (Ok nexts.Last) = Unit {0}
-IsAtEnd (Ok nexts.End) = Unit {0}
-IsAtEnd (Ok nexts.Full) = ⊥
-IsAtEnd (Err e) = ⊥
+-- whether a source has told its end once its stream went on so: at the end of the stream it has, and else where it had before
+abbrev pub has_ended : Result Next Trouble → (before : Bool) → Bool
+has_ended (Ok nexts.Line) before = before
+has_ended (Ok nexts.Last) before = true
+has_ended (Ok nexts.End) before = true
+has_ended (Ok nexts.Full) before = before
+has_ended (Err e) before = before

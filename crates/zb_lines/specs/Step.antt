@@ -30,10 +30,10 @@ pub record KeepsRoom {T E : Type 0} (most len capacity len' capacity' : ℕ) (re
 
 -- the source gave the next piece, had ended, wasn't asked or was refused, and what it gave is off the budget
 abbrev pub Refills : {E : Type 0} → Bool → Result Supply E → SourceView → SourceView → ℕ → ℕ → List ℕ → Type 0
-Refills tells (Ok supplies.Piece) old new budget budget' held = TakesBytes tells old new held × (budget ≡ budget' + length held) × (0 < length held)
-Refills tells (Ok supplies.End) old new budget budget' held = TakesBytes tells old new [] × (budget ≡ budget') × (held ≡ []) × (IsTrue tells → new.left ≡ [])
-Refills tells (Ok supplies.Spent) old new budget budget' held = TakesBytes tells old new [] × (budget ≡ budget') × (budget' ≡ 0)
-Refills tells (Err e) old new budget budget' held = TakesBytes tells old new [] × (budget ≡ budget')
+Refills tells (Ok supplies.Piece) old new budget budget' held = TakesBytes tells old new held × (budget ≡ budget' + length held) × (0 < length held) × (new.ended ≡ old.ended)
+Refills tells (Ok supplies.End) old new budget budget' held = TakesBytes tells old new [] × (budget ≡ budget') × (held ≡ []) × IsTrue new.ended
+Refills tells (Ok supplies.Spent) old new budget budget' held = TakesBytes tells old new [] × (budget ≡ budget') × (budget' ≡ 0) × (new.ended ≡ old.ended)
+Refills tells (Err e) old new budget budget' held = TakesBytes tells old new [] × (budget ≡ budget') × (new.ended ≡ old.ended)
 
 -- within a line: what the source gave since the call, and what of the line has been gone through
 pub record ReadsLine (tells : Bool) (old new : SourceView) (budget budget' most : ℕ) (first held shown : List ℕ) (is_begun : Bool) : Type 0 where

@@ -1,7 +1,7 @@
 ghost use Rattle.std.specs.Prelude.{◌≡◌, ◌↔◌, ◌++◌, ◌+◌, ◌≤◌, ◌<◌, ℕ, List, [], Ok, MatchOption, IfOk, OnOk, OnErr, IsErrOf, IsTrue, length, vec_len, vec_capacity, take};
 ghost use Rattle.zb_outside.specs.Cause.{StreamFaultsRose, HasStreamCause, UnlessStreamFailed};
 ghost use Rattle.zb_lines.specs.Taken.{TakesBytes};
-ghost use Rattle.zb_lines.specs.Line.{Comes, IsAtEnd, IsOneLine};
+ghost use Rattle.zb_lines.specs.Line.{Comes, IsOneLine, has_ended};
 ghost use Rattle.zb_lines.specs.Step.{kept, BreaksAt, HandsOut, KeepsRoom, Refills};
 
 use memchr::memchr;
@@ -83,7 +83,7 @@ impl LineReader {
             × Comes most result (self.old ++ more) self.new line.new.items }
         ensures full { result ≡ Ok Next.Full → budget.new ≡ 0 }
         ensures unasked { budget.old ≡ 0 → S.view source.new ≡ S.view source.old }
-        ensures at_end { IsAtEnd result → IsTrue S.tells → (S.view source.new).left ≡ [] }
+        ensures ended { (S.view source.new).ended ≡ has_ended result (S.view source.old).ended }
         ensures later { (S.view source.old).faults ≤ (S.view source.new).faults }
         // A line that has room for `most` bytes keeps it, and then the reader wants no memory of its own.
         ensures room { vec_capacity line.old ≤ vec_capacity line.new }
@@ -169,8 +169,10 @@ fn read_within<S: Source>(
     ensures fits { IfOk result (λ count. count ≤ length piece.new) }
     ensures taken { IfOk result (λ count. TakesBytes S.tells (S.view source.old) (S.view source.new) (take count piece.new)) }
     ensures spent { IfOk result (λ count. budget.old ≡ budget.new + count) }
-    ensures end { IsTrue S.tells → IfOk result (λ count. count ≡ 0 → (S.view source.new).left ≡ []) }
+    ensures ended { IfOk result (λ count. count ≡ 0 → IsTrue (S.view source.new).ended) }
+    ensures goes_on { IfOk result (λ count. 0 < count → (S.view source.new).ended ≡ (S.view source.old).ended) }
     ensures refused { OnErr result (TakesBytes S.tells (S.view source.old) (S.view source.new) []) }
+    ensures unended { OnErr result ((S.view source.new).ended ≡ (S.view source.old).ended) }
     ensures unspent { OnErr result (budget.new ≡ budget.old) }
     ensures cause { HasStreamCause S.counts_failures S.takes_memory (S.view source.old).faults (S.view source.new).faults result }
 {

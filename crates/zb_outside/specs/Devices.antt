@@ -1,8 +1,9 @@
 -- What contracts see of the streams and the clock in memory.
-use Rattle.std.specs.Prelude.{ℕ, List}
+use Rattle.std.specs.Prelude.{ℕ, ◌+◌, List}
 use Rattle.zb_outside.specs.declared.mem_source.MemSource.{MemSource}
 use Rattle.zb_outside.specs.declared.mem_sink.MemSink.{MemSink}
 use Rattle.zb_outside.specs.declared.list_clock.ListClock.{ListClock}
+use Rattle.zb_outside.specs.Clock.{told_at}
 
 -- how many bytes a source gives at most a read
 abbrev pub piece_of : MemSource → ℕ
@@ -28,6 +29,6 @@ calls_made sink = sink.calls
 abbrev pub moments_listed : ListClock → List ℕ
 moments_listed clock = clock.moments.items
 
--- how often the clock was read
-abbrev pub readings_made : ListClock → ℕ
-readings_made clock = clock.readings
+-- what it will read after so many readings more
+abbrev pub upcoming_in : ListClock → ℕ → ℕ
+upcoming_in clock k = told_at clock.moments.items (k + clock.readings)

@@ -1,4 +1,5 @@
 pub mod Stream
 pub mod Cause
 pub mod Clock
+pub mod ClockLaws
 pub mod Devices

@@ -1,17 +1,17 @@
-ghost use Rattle.std.specs.Prelude.{◌≡◌, ℕ, List, Bool, IsTrue, Contains};
+ghost use Rattle.std.specs.Prelude.{◌≡◌, ◌+◌, ℕ, Bool, IsTrue};
 
 use zb_base::Moment;
 
 /// A clock, which can't fail.
 pub trait Clock {
-    /// The moments that it may read.
-    ghost moments: { Self → List ℕ };
+    /// What it will read after so many readings more.
+    ghost upcoming: { Self → ℕ → ℕ };
 
-    /// Whether those moments are told.
+    /// Whether that is told.
     ghost tells: { Bool };
 
-    /// A reading.
+    /// The next reading. The one behind it comes next then.
     fn now(&mut self) -> Moment
-        ensures reading { IsTrue tells → Contains (moments self.old) result }
-        ensures same { moments self.new ≡ moments self.old };
+        ensures reading { IsTrue tells → result ≡ upcoming self.old 0 }
+        ensures onward { (k : ℕ) → upcoming self.new k ≡ upcoming self.old (k + 1) };
 }

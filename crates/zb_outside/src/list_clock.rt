@@ -1,4 +1,4 @@
-ghost use Rattle.std.specs.Prelude.{◌≡◌, ◌<◌, ◌+◌, ◌-◌, ◌^◌, Contains, true};
+ghost use Rattle.std.specs.Prelude.{◌≡◌, ◌+◌, ℕ, Contains, true};
 ghost use Rattle.zb_outside.specs.Clock.{clock_moments, told_at};
 
 use crate::Clock;
@@ -12,14 +12,13 @@ pub struct ListClock {
 }
 
 impl ListClock {
-    ghost use Rattle.zb_outside.specs.Devices.{moments_listed, readings_made};
+    ghost use Rattle.zb_outside.specs.Devices.{moments_listed};
 
     /// A clock that reads these moments one after another, and then its last one again and again. Of
     /// an empty list it reads the start of 1970.
     pub fn new(moments: Vec<Moment>) -> ListClock
         ensures moments { moments_listed result ≡ moments.items }
-        ensures told { ⟦<ListClock as Clock>⟧.moments result ≡ clock_moments moments.items }
-        ensures readings { readings_made result ≡ 0 }
+        ensures told { (k : ℕ) → ⟦<ListClock as Clock>⟧.upcoming result k ≡ told_at moments.items k }
     {
         ListClock {
             moments,
@@ -29,17 +28,17 @@ impl ListClock {
 }
 
 impl Clock for ListClock {
-    ghost use Rattle.zb_outside.specs.Devices.{moments_listed, readings_made};
+    ghost use Rattle.zb_outside.specs.Devices.{moments_listed, upcoming_in};
 
-    ghost moments = { λ c. clock_moments c.moments.items };
+    ghost upcoming = { upcoming_in };
 
     ghost tells = { true };
 
     fn now(&mut self) -> Moment
-        ensures reading { Contains (clock_moments (moments_listed self.old)) result }
-        ensures place { result ≡ told_at (moments_listed self.old) (readings_made self.old) }
-        ensures counted { readings_made self.old < 2 ^ 64 - 1 → readings_made self.new ≡ readings_made self.old + 1 }
-        ensures same { self.new.moments ≡ self.old.moments }
+        ensures reading { result ≡ upcoming_in self.old 0 }
+        ensures onward { (k : ℕ) → upcoming_in self.new k ≡ upcoming_in self.old (k + 1) }
+        ensures listed { Contains (clock_moments (moments_listed self.old)) result }
+        ensures same { moments_listed self.new ≡ moments_listed self.old }
     {
         let number = self.readings;
         self.readings = self.readings.saturating_add(1);

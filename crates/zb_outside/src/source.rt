@@ -1,12 +1,13 @@
-ghost use Rattle.std.specs.Prelude.{◌≡◌, ◌<◌, ◌≤◌, ◌+◌, ◌^◌, ◌++◌, Bool, IsTrue, length, take, IfOk, OnErr, []};
-ghost use Rattle.zb_outside.specs.Stream.{SourceView};
+ghost use Rattle.std.specs.Prelude.{◌≡◌, ◌<◌, ◌≤◌, ◌+◌, ◌^◌, ◌++◌, Bool, IsTrue, length, take, IfOk, OnErr, ◌||◌, []};
+ghost use Rattle.zb_outside.specs.Stream.{SourceView, tells_end};
 ghost use Rattle.zb_outside.specs.Cause.{HasStreamCause};
 
 use crate::Trouble;
 
 /// Bytes that are read in order.
 pub trait Source {
-    /// The source as plain data: the bytes that are left, how many it has given, its count of faults.
+    /// The source as plain data: the bytes that are left, how many it has given, whether it has told its
+    /// end, its count of faults.
     ghost view: { Self → SourceView };
 
     /// Whether the bytes that are left are told.
@@ -25,11 +26,22 @@ pub trait Source {
         ensures fits { IfOk result (λ n. n ≤ length piece.new) }
         ensures given { IfOk result (λ n. (view self.new).given ≡ (view self.old).given + n) }
         ensures taken { IsTrue tells → IfOk result (λ n. (view self.old).left ≡ take n piece.new ++ (view self.new).left) }
-        ensures end { IsTrue tells → IfOk result (λ n. n ≡ 0 → 0 < length piece.new → (view self.new).left ≡ []) }
+        ensures ended { IfOk result (λ n. (view self.new).ended ≡ ((view self.old).ended || tells_end (length piece.new) n)) }
         ensures refused { OnErr result ((view self.new).given ≡ (view self.old).given) }
+        ensures unended { OnErr result ((view self.new).ended ≡ (view self.old).ended) }
         ensures stays { IsTrue tells → OnErr result ((view self.new).left ≡ (view self.old).left) }
         ensures cause { HasStreamCause counts_failures takes_memory (view self.old).faults (view self.new).faults result };
 
     /// A source fails before it has given 2^63 bytes.
     ghost bounded: { (source : Self) → (view source).given < 2 ^ 63 };
+
+    /// A source that has told its end has nothing left.
+    ghost over: { (source : Self) → IsTrue tells → IsTrue (view source).ended → (view source).left ≡ [] };
+}
+
+// Whether a read that gave so many bytes for a piece with so much room tells the end.
+pub(crate) fn tells_end(room: usize, count: usize) -> bool
+    ensures { result ≡ tells_end room count }
+{
+    room > 0 && count == 0
 }

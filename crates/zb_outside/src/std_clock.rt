@@ -1,4 +1,4 @@
-ghost use Rattle.std.specs.Prelude.{◌≡◌, ◌≤◌, [], false};
+ghost use Rattle.std.specs.Prelude.{◌≤◌, false};
 ghost use Rattle.zb_base.specs.Moment.{last_moment};
 
 use crate::Clock;
@@ -23,7 +23,7 @@ impl<T: time::Clock> StdClock<T> {
 }
 
 impl<T: time::Clock> Clock for StdClock<T> {
-    ghost moments = { λ _. [] };
+    ghost upcoming = { λ _ _. 0 };
 
     ghost tells = { false };
 

@@ -1,6 +1,7 @@
 -- Plays worked out by hand: of one start event, one flow and one end event; of its distribution to three partitions; with two end events; of a fork and a join; of a subprocess that a terminate
 -- end event ends; of one that is cancelled while a task waits in it; the variables that an update sets; of choices at an exclusive gateway, with their incidents; of
--- what a subprocess takes in and gives out, with its incidents; and of a job that is given out, taken back and completed, that fails, or in which an error is thrown.
+-- what a subprocess takes in and gives out, with its incidents; of a job that is given out, taken back and completed, that fails, or in which an error is thrown; and of what no request makes,
+-- but a log may have.
 use Rattle.std.proofs.Common.{◌≡◌, ℕ, List, [], ◌∷◌, ◌++◌, Bool, true, false, ◌+◌, Some, None, refl}
 use Rattle.std.specs.Prelude.{codes, pos}
 use Rattle.std.specs.Fmt.{digits}
@@ -9,7 +10,7 @@ use Rattle.zb_process.specs.declared.model.Node.{Node}
 use Rattle.zb_process.specs.declared.model.Flow.{Flow}
 use Rattle.zb_process.specs.declared.model.Mapping.{Mapping}
 use Rattle.zb_process.specs.declared.operator.Operator.TheVariants as operators
-use Rattle.zb_process.specs.Tree.{Tree, Int, Name, Binary}
+use Rattle.zb_process.specs.Tree.{Tree, Int, Text, Name, Binary}
 use Rattle.zb_process.specs.declared.model.NodeKind.{NodeKind}
 use Rattle.zb_process.specs.declared.model.NodeKind.TheVariants as kinds
 use Rattle.zb_instance_records.specs.declared.deployment.DeploymentDistribute.{DeploymentDistribute}
@@ -972,3 +973,61 @@ error_again = refl
 
 error_applies : all_apply 1 given (error_resolved ++ error_stops (key 9) ∷ []) ≡ true
 error_applies = refl
+
+-- what no request makes, but a log may have: a catch event whose timer has no expression, which has no value, so an incident stands on its cell
+abbrev timeless : Model
+timeless = record process {
+  nodes = node (codes "s") kinds.StartEvent ∷ node (codes "c") kinds.DurationCatchEvent ∷ node (codes "e") kinds.EndEvent ∷ [];
+  flows = flow (codes "f") (codes "s") (codes "c") ∷ flow (codes "g") (codes "c") (codes "e") ∷ [];
+}
+
+timeless_is_good : first_fault timeless ≡ None
+unfolding first_fault
+timeless_is_good = refl
+
+abbrev timeless_stops : List Event
+timeless_stops =
+    activated (key 3) ∷ passes (key 4) (key 3) (codes "s") [] (codes "f" ∷ [])
+    ++ (taken (key 4) (codes "f") ∷ activating (key 5) (key 3) (codes "c") (codes "f") ∷ stops (key 6) incidents.ExtractValueError (codes "UNKNOWN") ∷ [])
+
+timeless_play : turns many (begun_of timeless) ≡ timeless_stops
+unfolding turn
+timeless_play = refl
+
+timeless_applies : all_apply 1 [] (begun_of timeless ++ timeless_stops) ≡ true
+unfolding first_fault
+timeless_applies = refl
+
+-- and one that is spelled as attached to a task, which is no boundary event of that: no timer opens at the task, nor may one
+abbrev beside : Model
+beside = record process {
+  nodes = node (codes "s") kinds.StartEvent ∷ record (node (codes "t") kinds.ServiceTask) { name = codes "pay"; retries = 3 }
+      ∷ record (node (codes "c") kinds.DurationCatchEvent) { attached = codes "t"; cancel = true; expr = Some (Text (codes "PT1S")) } ∷ node (codes "e") kinds.EndEvent ∷ [];
+  flows = flow (codes "f") (codes "s") (codes "t") ∷ flow (codes "g") (codes "t") (codes "c") ∷ flow (codes "h") (codes "c") (codes "e") ∷ [];
+}
+
+beside_is_good : first_fault beside ≡ None
+unfolding first_fault
+beside_is_good = refl
+
+abbrev beside_plays : List Event
+beside_plays =
+    activated (key 3) ∷ passes (key 4) (key 3) (codes "s") [] (codes "f" ∷ [])
+    ++ (taken (key 4) (codes "f") ∷ activating (key 5) (key 3) (codes "t") (codes "f") ∷ activated (key 5) ∷ job_made (key 6) (key 5) ∷ [])
+
+beside_play : turns many (begun_of beside) ≡ beside_plays
+unfolding turn
+beside_play = refl
+
+beside_opens_none : all_apply 1 (begun_of beside ++ beside_plays) (events.TimerCreated (record { key = key 7; cell = key 5; node = codes "c"; due = 1000 }) ∷ []) ≡ false
+beside_opens_none = refl
+
+-- a message has the names of its variables in their order, each once
+abbrev told : List Variable → Event
+told variables = events.MessagePublished (record { key = key 1; name = codes "paid"; correlation_key = codes "o-1"; id = []; deadline = 1000; variables = variables })
+
+told_in_order : all_apply 1 [] (told (value 97 ∷ value 98 ∷ []) ∷ []) ≡ true
+told_in_order = refl
+
+told_twice : all_apply 1 [] (told (value 97 ∷ value 97 ∷ []) ∷ []) ≡ false
+told_twice = refl

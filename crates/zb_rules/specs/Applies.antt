@@ -3,6 +3,7 @@ use Rattle.std.specs.Prelude.{ℕ, ◌+◌, ◌^◌, ◌==◌, nat_lt, List, [],
 use Rattle.std.specs.Option.{option_map_or}
 use Rattle.std.specs.List.{list_any}
 use Rattle.std.specs.Str.{bytes_eq}
+use Rattle.zb_base.specs.Vars.{is_ascending}
 use Rattle.zb_instance_records.specs.declared.instance.ElementActivating.{ElementActivating}
 use Rattle.zb_instance_records.specs.declared.instance.Role.{Role}
 use Rattle.zb_instance_records.specs.declared.instance.Role.TheVariants as roles
@@ -81,7 +82,7 @@ holds_own p before (events.SequenceFlowTaken e) = true
 holds_own p before (events.VariableCreated e) = true
 holds_own p before (events.VariableUpdated e) = true
 holds_own p before (events.VariableDocumentUpdated key) = holds_of_game (has_cell key) before
-holds_own p before (events.MessagePublished m) = is_fresh p before m.key
+holds_own p before (events.MessagePublished m) = is_fresh p before m.key && is_ascending m.variables
 holds_own p before (events.MessageExpired key) = is_buffered key before
 holds_own p before (events.JobCreated e) = is_fresh p before e.key && begins_job e.cell before
 holds_own p before (events.JobActivated e) = hands_out e before

@@ -2,7 +2,6 @@
 use Rattle.std.proofs.Common.{◌≡◌, ◌⊎◌, ℕ, ◌+◌, ◌≤◌, ◌<◌, ◌==◌, List, [], ◌∷◌, filter, length, get_or, All, Bool, true, false, ◌&&◌, ◌||◌, not, if◌then◌else◌, IsTrue, IsFalse, is_some, Option, Some, None, option_map, option_and_then, refl, inl, inr, ⊎_elim, sym, ap, ◌∙◌, subst, arith}
 use Rattle.std.specs.Option.{option_map_or, option_or}
 use Rattle.std.specs.List.{find, list_any}
-use Rattle.std.specs.Str.{bytes_eq}
 use Rattle.std.proofs.lemmas.Bool.{or_parts}
 use Rattle.std.proofs.lemmas.Bool.Decides.{nat_tests}
 use Rattle.std.proofs.lemmas.List.Elements.{All-nil, All-cons}
@@ -10,7 +9,7 @@ use Rattle.zb_process.specs.declared.model.Model.{Model}
 use Rattle.zb_process.specs.declared.model.Node.{Node}
 use Rattle.zb_process.specs.declared.model.NodeKind.{NodeKind}
 use Rattle.zb_process.specs.declared.model.NodeKind.TheVariants as kinds
-use Rattle.zb_faults.specs.Elements.{is_activity, is_catch, is_event_gateway, is_service_task}
+use Rattle.zb_faults.specs.Elements.{is_activity, is_boundary_of, is_catch, is_event_gateway, is_service_task}
 use Rattle.zb_tokens.specs.declared.board.Cell.{Cell}
 use Rattle.zb_tokens.specs.declared.board.Mark.{Mark}
 use Rattle.zb_tokens.specs.declared.board.Phase.{Phase}
@@ -73,7 +72,7 @@ activity_of b code c event is = by_model (model_under b c.definition) is
 
     by_node : (m : Model) (found : Option Node) → node_of b c ≡ found → option_and_then (error_event m code) found ≡ Some event → (x : Node) × (node_of b c ≡ Some x) × IsTrue (is_activity x.kind)
     by_node m None at is = absurd (cc)
-    by_node m (Some n) at is = by_kind n (is_activity n.kind) (first_for code (filter (λ x. bytes_eq x.attached n.id) m.nodes)) at refl is
+    by_node m (Some n) at is = by_kind n (is_activity n.kind) (first_for code (filter (is_boundary_of n.id) m.nodes)) at refl is
 
     by_model : (found : Option Model) → option_and_then (λ m. option_and_then (error_event m code) (node_of b c)) found ≡ Some event → (x : Node) × (node_of b c ≡ Some x) × IsTrue (is_activity x.kind)
     by_model None is = absurd (cc)

@@ -11,12 +11,11 @@ use Rattle.zb_process.specs.declared.model.Flow.{Flow}
 use Rattle.zb_process.specs.declared.model.Model.{Model}
 use Rattle.zb_process.specs.declared.model.Node.{Node}
 use Rattle.zb_tokens.specs.declared.board.Opening.{Opening}
-use Rattle.zb_process.specs.Expr.{ValueFault, value_of}
-use Rattle.zb_process.specs.Tree.{Tree}
+use Rattle.zb_process.specs.Expr.{ValueFault}
 use Rattle.zb_duration.specs.Due.{due_of}
 use Rattle.zb_duration.specs.declared.fault.DueFault.{DueFault}
 use Rattle.zb_duration.specs.declared.form.TimeForm.{TimeForm}
-use Rattle.zb_tokens.specs.Catches.{text_told, time_hindrance, time_of, due_by, awaited, opening_by, openings_in, openings_by, seen_with, opened_with}
+use Rattle.zb_tokens.specs.Catches.{text_told, time_hindrance, time_form, value_given, due_by, awaited, opening_by, openings_in, openings_by, seen_with, opened_with}
 use Rattle.zb_instance_records.specs.declared.happening.IncidentKind.TheVariants as kinds
 use Rattle.zb_tokens.specs.declared.board.Cell.{Cell}
 use Rattle.zb_tokens.specs.declared.board.Token.{Token}
@@ -98,20 +97,20 @@ due_tells_none : (r : Result ℕ DueFault) → TellsOfNone (result_map_both (λ 
 due_tells_none (Ok due) = tt
 due_tells_none (Err fault) = refl
 
-opening_tells_none : (names : List ℕ → Option Value) (moment : ℕ) (node : List ℕ) (time : TimeForm × Tree) → TellsOfNone (opening_by names moment node time)
-opening_tells_none names moment node time = then_tells_none (due_by names moment time.0 time.1) (λ due. Ok (record { node = node; due = due }))
-    (then_tells_none (result_map_both (λ text. text) hindrance_of (value_of names time.1 >>= text_told)) (λ text. result_map_both (λ due. due) time_hindrance (due_of time.0 text moment)) (fault_tells_none _)
-    (λ text. due_tells_none (due_of time.0 text moment))) (λ due. tt)
+opening_tells_none : (names : List ℕ → Option Value) (moment : ℕ) (n : Node) (form : TimeForm) → TellsOfNone (opening_by names moment n form)
+opening_tells_none names moment n form = then_tells_none (due_by names moment form n.expr) (λ due. Ok (record { node = n.id; due = due }))
+    (then_tells_none (result_map_both (λ text. text) hindrance_of (value_given names n.expr >>= text_told)) (λ text. result_map_both (λ due. due) time_hindrance (due_of form text moment)) (fault_tells_none _)
+    (λ text. due_tells_none (due_of form text moment))) (λ due. tt)
 
-time_tells_none : (names : List ℕ → Option Value) (moment : ℕ) (n : Node) (time : Option (TimeForm × Tree)) (rest : Result (List Opening) Hindrance) → TellsOfNone rest
-    → TellsOfNone (option_map_or (λ (x : TimeForm × Tree). opening_by names moment n.id x >>= (λ (o : Opening). rest >>= (λ os. Ok (o ∷ os)))) time rest)
+time_tells_none : (names : List ℕ → Option Value) (moment : ℕ) (n : Node) (form : Option TimeForm) (rest : Result (List Opening) Hindrance) → TellsOfNone rest
+    → TellsOfNone (option_map_or (λ (x : TimeForm). opening_by names moment n x >>= (λ (o : Opening). rest >>= (λ os. Ok (o ∷ os)))) form rest)
 time_tells_none names moment n None rest none = none
-time_tells_none names moment n (Some time) rest none = then_tells_none (opening_by names moment n.id time) (λ (o : Opening). rest >>= (λ os. Ok (o ∷ os))) (opening_tells_none names moment n.id time)
+time_tells_none names moment n (Some form) rest none = then_tells_none (opening_by names moment n form) (λ (o : Opening). rest >>= (λ os. Ok (o ∷ os))) (opening_tells_none names moment n form)
     (λ o. then_tells_none rest (λ os. Ok (o ∷ os)) none (λ os. tt))
 
 each_tells_none : (names : List ℕ → Option Value) (moment : ℕ) (ns : List Node) → TellsOfNone (openings_in names moment ns)
 each_tells_none names moment [] = tt
-each_tells_none names moment (n ∷ ns) = time_tells_none names moment n (time_of n) (openings_in names moment ns) (each_tells_none names moment ns)
+each_tells_none names moment (n ∷ ns) = time_tells_none names moment n (time_form n.kind) (openings_in names moment ns) (each_tells_none names moment ns)
 
 node_tells_none : (names : List ℕ → Option Value) (moment : ℕ) (m : Model) (c : Cell) (found : Option Node) → TellsOfNone (option_map_or (λ n. openings_in names moment (awaited m c n)) found (Ok []))
 node_tells_none names moment m c None = tt

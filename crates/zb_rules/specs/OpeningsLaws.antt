@@ -10,13 +10,12 @@ use Rattle.zb_base.specs.Results.{◌>>=◌}
 use Rattle.zb_base.specs.declared.value.Value.{Value}
 use Rattle.zb_process.specs.declared.model.Model.{Model}
 use Rattle.zb_process.specs.declared.model.Node.{Node}
-use Rattle.zb_process.specs.Tree.{Tree}
 use Rattle.zb_duration.specs.declared.form.TimeForm.{TimeForm}
 use Rattle.zb_faults.specs.Faults.{is_well_formed, most_nodes}
 use Rattle.zb_tokens.specs.declared.board.Cell.{Cell}
 use Rattle.zb_tokens.specs.declared.board.Opening.{Opening}
 use Rattle.zb_tokens.specs.Board.{Board, model_under, node_with, is_root}
-use Rattle.zb_tokens.specs.Catches.{time_of, due_by, waits_itself, waits_beside, awaited, opening_by, openings_in, openings_of, is_timed_at, awaits_time}
+use Rattle.zb_tokens.specs.Catches.{time_form, due_by, waits_itself, waits_beside, awaited, opening_by, openings_in, openings_of, is_timed_at, awaits_time}
 use Rattle.zb_tokens.specs.GameLaws.{found_passes}
 use Rattle.zb_tokens.specs.Incidents.{Hindrance}
 use Rattle.zb_tokens.specs.LeaveLaws.{same_bytes}
@@ -43,17 +42,17 @@ module _ (names : List ℕ → Option Value) (moment : ℕ) (P : List ℕ → Ty
   due_opened most node (Err hindrance) rest os its behind is = absurd (cc)
   due_opened most node (Ok at) rest os its behind is = joined most (record { node = node; due = at }) rest os its behind is
 
-  time_opened : (most : ℕ) (n : Node) (time : Option (TimeForm × Tree)) (rest : Result (List Opening) Hindrance) (os : List Opening) → (IsTrue (is_some time) → P n.id) → ((later : List Opening) → rest ≡ Ok later → Are most later)
-      → option_map_or (λ (x : TimeForm × Tree). opening_by names moment n.id x >>= (λ (o : Opening). rest >>= (λ later. Ok (o ∷ later)))) time rest ≡ Ok os → Are (most + 1) os
+  time_opened : (most : ℕ) (n : Node) (form : Option TimeForm) (rest : Result (List Opening) Hindrance) (os : List Opening) → (IsTrue (is_some form) → P n.id) → ((later : List Opening) → rest ≡ Ok later → Are most later)
+      → option_map_or (λ (x : TimeForm). opening_by names moment n x >>= (λ (o : Opening). rest >>= (λ later. Ok (o ∷ later)))) form rest ≡ Ok os → Are (most + 1) os
   time_opened most n None rest os its behind is = let r = behind os is in (r.0, omega (arith, r.1))
-  time_opened most n (Some time) rest os its behind is = due_opened most n.id (due_by names moment time.0 time.1) rest os (its refl) behind is
+  time_opened most n (Some form) rest os its behind is = due_opened most n.id (due_by names moment form n.expr) rest os (its refl) behind is
 
-  -- each is of one of the nodes, which has a time
-  pub opened_from : (ns : List Node) (os : List Opening) → All (λ (n : Node). IsTrue (is_some (time_of n)) → P n.id) ns → openings_in names moment ns ≡ Ok os → Are (length ns) os
+  -- each is of one of the nodes, which has a timer
+  pub opened_from : (ns : List Node) (os : List Opening) → All (λ (n : Node). IsTrue (is_some (time_form n.kind)) → P n.id) ns → openings_in names moment ns ≡ Ok os → Are (length ns) os
   opened_from [] os each is = no_openings 0 os (Ok []) refl is
   opened_from (n ∷ ns) os each is =
-      let r = time_opened (length ns) n (time_of n) (openings_in names moment ns) os (All-head (λ (x : Node). IsTrue (is_some (time_of x)) → P x.id) n ns each)
-      (λ later its. opened_from ns later (All-tail (λ (x : Node). IsTrue (is_some (time_of x)) → P x.id) n ns each) its) is in
+      let r = time_opened (length ns) n (time_form n.kind) (openings_in names moment ns) os (All-head (λ (x : Node). IsTrue (is_some (time_form x.kind)) → P x.id) n ns each)
+      (λ later its. opened_from ns later (All-tail (λ (x : Node). IsTrue (is_some (time_form x.kind)) → P x.id) n ns each) its) is in
       (r.0, omega (arith, r.1))
 
 -- no more pass than there are
@@ -65,10 +64,10 @@ fewer_kept keep (x ∷ xs) = by_test (keep x) (fewer_kept keep xs)
     by_test true later = omega (arith, later)
     by_test false later = omega (arith, later)
 
--- in a model without faults, a cell at a node waits for the time of each of the nodes whose events it waits for
+-- in a model without faults, a cell at a node waits for the timer of each of the nodes whose events it waits for
 module _ (m : Model) (formed : IsTrue (is_well_formed m)) (c : Cell) (n : Node) (at : node_with m c.node ≡ Some n) where
   abbrev Timed : Node → Type 0
-  Timed x = IsTrue (is_some (time_of x)) → IsTrue (is_timed_at m c n x.id)
+  Timed x = IsTrue (is_some (time_form x.kind)) → IsTrue (is_timed_at m c n x.id)
 
   own_timed : IsTrue (waits_itself c n) → Timed n
   own_timed itself timed =
@@ -83,7 +82,7 @@ module _ (m : Model) (formed : IsTrue (is_well_formed m)) (c : Cell) (n : Node) 
   its_own false is = (All-nil Timed, omega arith)
 
   one_beside : (x : Node) → node_with m x.id ≡ Some x → waits_beside m n x ≡ true → Timed x
-  one_beside x found its timed = rw found (and_from ((bytes_eq c.node x.id && waits_itself c n) || waits_beside m n x) (is_some (time_of x)) (or_right (bytes_eq c.node x.id && waits_itself c n) (waits_beside m n x) its) timed)
+  one_beside x found its timed = rw found (and_from ((bytes_eq c.node x.id && waits_itself c n) || waits_beside m n x) (is_some (time_form x.kind)) (or_right (bytes_eq c.node x.id && waits_itself c n) (waits_beside m n x) its) timed)
 
   beside_timed : All Timed (filter (waits_beside m n) m.nodes)
   beside_timed =
@@ -102,7 +101,7 @@ module _ (m : Model) (formed : IsTrue (is_well_formed m)) (c : Cell) (n : Node) 
       let nodes = nodes_few m formed in
       (All-append Timed here others own.0 beside_timed, omega (arith, whole, own.1, few, nodes))
 
--- the timers of a cell open at nodes for whose time it waits, and there are few
+-- the timers of a cell open at nodes for whose timer it waits, and there are few
 module _ (b : Board) (moment : ℕ) (c : Cell) (formed : (m : Model) → model_under b c.definition ≡ Some m → IsTrue (is_well_formed m)) (os : List Opening) where
   abbrev Awaited : List ℕ → Type 0
   Awaited id = IsTrue (awaits_time b c id)
@@ -115,7 +114,7 @@ module _ (b : Board) (moment : ℕ) (c : Cell) (formed : (m : Model) → model_u
   at_node m (Some n) stands at is =
       let inner = by_root (is_root c) refl at in
       let all = all_timed m (formed m stands) c n inner in
-      let each : All (λ (x : Node). IsTrue (is_some (time_of x)) → Awaited x.id) (awaited m c n) = λ k d within timed. rw (at, stands) (all.0 k d within timed) in
+      let each : All (λ (x : Node). IsTrue (is_some (time_form x.kind)) → Awaited x.id) (awaited m c n) = λ k d within timed. rw (at, stands) (all.0 k d within timed) in
       let r = opened_from names moment Awaited (awaited m c n) os each is in
       (r.0, omega (arith, r.1, all.1))
     where

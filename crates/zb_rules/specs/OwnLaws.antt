@@ -1,8 +1,10 @@
 -- The own events of each command apply, where there is no reason against it.
 use Rattle.std.proofs.Common.{◌≡◌, ℕ, ◌+◌, ◌≤◌, ◌==◌, List, [], ◌∷◌, ◌++◌, Bool, true, false, ◌||◌, if◌then◌else◌, IsTrue, not, Some, None, option_and_then, refl, sym, ap, ◌∙◌, subst, arith}
 use Rattle.std.specs.List.{list_any}
+use Rattle.std.proofs.lemmas.Bool.{and_from}
 use Rattle.std.proofs.lemmas.Bool.Decides.{nat_tests}
 use Rattle.std.proofs.lemmas.List.Folds.{list_any-append}
+use Rattle.zb_base.specs.Vars.{is_ascending}
 use Rattle.zb_model.specs.declared.record.Event.{Event}
 use Rattle.zb_model.specs.declared.record.Event.TheVariants as events
 use Rattle.zb_exchange_records.specs.declared.message.MessagePublish.{MessagePublish}
@@ -62,11 +64,12 @@ module _ (p : ℕ) (es : List Event) (b : Board) (is : board_of es ≡ Some b) (
       rw second refl
 
   -- the own events of a message apply
-  pub publish_applies : (moment : ℕ) (c : MessagePublish) → HasKeys p es 2 → IsTrue (all_apply p es (published_under (next_key p es) moment c))
-  publish_applies moment c keys =
+  pub publish_applies : (moment : ℕ) (c : MessagePublish) → HasKeys p es 2 → IsTrue (is_ascending c.variables) → IsTrue (all_apply p es (published_under (next_key p es) moment c))
+  publish_applies moment c keys ordered =
       let one : HasKeys p es 1 = omega arith in
       let m = message_under (next_key p es) moment c in
-      let first : IsTrue (applies p es (events.MessagePublished m)) = silent_applies p es b (events.MessagePublished m) is (fresh_from p es one) refl in
+      let own : IsTrue (holds_own p es (events.MessagePublished m)) = and_from (is_fresh p es (next_key p es)) (is_ascending c.variables) (fresh_from p es one) ordered in
+      let first : IsTrue (applies p es (events.MessagePublished m)) = silent_applies p es b (events.MessagePublished m) is own refl in
       rw (first, expires_by (c.time_to_live == 0) m) refl
 
   -- an expiry

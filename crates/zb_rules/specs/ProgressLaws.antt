@@ -422,7 +422,7 @@ own_apply_by p n es b moment (commands.TimerTrigger key) own is apply k knows ke
 own_apply_by p n es b moment (commands.IncidentResolve key) own is apply k knows keys ordered supported none made =
     subst (λ (x : List Event). IsTrue (all_apply p es x)) (let same : resolved key es ≡ own = cc in same) (resolve_applies p es b is key none)
 own_apply_by p n es b moment (commands.MessagePublish c) own is apply k knows keys ordered supported none made =
-    subst (λ (x : List Event). IsTrue (all_apply p es x)) (let same : published_under (next_key p es) moment c ≡ own = cc in same) (publish_applies p es b is knows moment c keys)
+    subst (λ (x : List Event). IsTrue (all_apply p es x)) (let same : published_under (next_key p es) moment c ≡ own = cc in same) (publish_applies p es b is knows moment c keys ordered)
 own_apply_by p n es b moment (commands.MessageExpire key) own is apply k knows keys ordered supported none made =
     subst (λ (x : List Event). IsTrue (all_apply p es x)) (let same : expired key ≡ own = cc in same) (expire_applies p es b is knows key moment none)
 own_apply_by p n es b moment commands.ProcessInstanceBatchContinue own is apply k knows keys ordered supported none made =

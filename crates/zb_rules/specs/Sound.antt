@@ -118,6 +118,7 @@ keys_of_turn = most_nodes + 2
 -- the names of a command's variables ascend
 abbrev pub HasOrderedNames : Command → Type 0
 HasOrderedNames (commands.ProcessInstanceCreationCreate c) = IsTrue (is_ascending c.variables)
+HasOrderedNames (commands.MessagePublish c) = IsTrue (is_ascending c.variables)
 HasOrderedNames _ = Unit {0}
 
 -- the move of a mover behind these events of partition p, on their board at a moment, and the event of it: the events in front of that apply,

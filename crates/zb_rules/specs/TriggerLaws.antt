@@ -14,6 +14,7 @@ use Rattle.zb_model.specs.declared.record.Event.TheVariants as events
 use Rattle.zb_model.specs.declared.record.RejectionKind.TheVariants as kinds
 use Rattle.zb_views.specs.declared.timer.Timer.{Timer}
 use Rattle.zb_views.specs.Timers.{timers, timer_at}
+use Rattle.zb_faults.specs.Elements.{is_boundary_of}
 use Rattle.zb_tokens.specs.declared.board.Cell.{Cell}
 use Rattle.zb_tokens.specs.declared.board.Move.TheVariants as moves
 use Rattle.zb_tokens.specs.declared.board.Phase.{Phase}
@@ -72,9 +73,9 @@ module _ (b : Board) (t : Triggered) (c : Cell) (found : cell_at b t.cell ≡ So
   abbrev placed : Board
   placed = with_token c.scope (spots.BeforeNode t.node) b
 
-  node_interrupts : (m : Model) (n : Node) → node_with m t.node ≡ Some n → (n.cancel && bytes_eq n.attached c.node) ≡ true → list_any (interrupts placed c) (filter (λ x. bytes_eq x.attached c.node) m.nodes) ≡ true
+  node_interrupts : (m : Model) (n : Node) → node_with m t.node ≡ Some n → (n.cancel && is_boundary_of c.node n) ≡ true → list_any (interrupts placed c) (filter (is_boundary_of c.node) m.nodes) ≡ true
   node_interrupts m n at ends =
-      let parts = and_parts n.cancel (bytes_eq n.attached c.node) ends in
+      let parts = and_parts n.cancel (is_boundary_of c.node n) ends in
       let named : bytes_eq n.id t.node ≡ true = found_passes (λ (x : Node). bytes_eq x.id t.node) m.nodes n at in
       let one = (bytes_eq-Decides n.id t.node).0 named in
       let token : Token = record { scope = c.scope; spot = spots.BeforeNode t.node } in
@@ -83,13 +84,13 @@ module _ (b : Board) (t : Triggered) (c : Cell) (found : cell_at b t.cell ≡ So
       let stands : list_any (stands_at c.scope (spots.BeforeNode n.id)) (b.tokens ++ token ∷ []) ≡ true =
       list_any-append (stands_at c.scope (spots.BeforeNode n.id)) b.tokens (token ∷ []) ∙ or_right (list_any (stands_at c.scope (spots.BeforeNode n.id)) b.tokens) _ (rw (same, its) refl) in
       let cancels = parts.0 in
-      any_kept (λ x. bytes_eq x.id t.node) (λ x. bytes_eq x.attached c.node) (interrupts placed c) m.nodes n at parts.1 (rw (cancels, stands) refl)
+      any_kept (λ x. bytes_eq x.id t.node) (is_boundary_of c.node) (interrupts placed c) m.nodes n at parts.1 (rw (cancels, stands) refl)
 
-  by_node : (m : Model) (at : Option Node) → node_with m t.node ≡ at → IsTrue (option_map_or (λ n. n.cancel && bytes_eq n.attached c.node) at false) → list_any (interrupts placed c) (filter (λ x. bytes_eq x.attached c.node) m.nodes) ≡ true
+  by_node : (m : Model) (at : Option Node) → node_with m t.node ≡ at → IsTrue (option_map_or (λ n. n.cancel && is_boundary_of c.node n) at false) → list_any (interrupts placed c) (filter (is_boundary_of c.node) m.nodes) ≡ true
   by_node m None at ends = absurd (cc)
   by_node m (Some n) at ends = node_interrupts m n at ends
 
-  by_model : (m : Option Model) → model_under b c.definition ≡ m → IsTrue (option_map_or (λ x. option_map_or (λ n. n.cancel && bytes_eq n.attached c.node) (node_with x t.node) false) m false) → is_interrupted placed c ≡ true
+  by_model : (m : Option Model) → model_under b c.definition ≡ m → IsTrue (option_map_or (λ x. option_map_or (λ n. n.cancel && is_boundary_of c.node n) (node_with x t.node) false) m false) → is_interrupted placed c ≡ true
   by_model None stands ends = absurd (cc)
   by_model (Some m) stands ends = rw stands (by_node m (node_with m t.node) refl ends)
 

@@ -11,7 +11,7 @@ use Rattle.zb_partition.specs.Log.{bodies_of}
 use Rattle.zb_wire.specs.Request.{request_of}
 use Rattle.zb_desk.specs.Numbered.{OfNumber}
 use Rattle.zb_desk.specs.Serial.{Basis, IsNextEntry, AreMadeFor, IsNextUnit, AreUnits}
-use Rattle.zb_session.specs.Hours.{given_of, IsReadingOf}
+use Rattle.zb_session.specs.Hours.{given_of, moved_by, IsReadingOf}
 use Rattle.zb_session.specs.Answer.{Answer, found_in, entries_made}
 use Rattle.zb_session.specs.Session.{SessionEnds, SessionRun, CutsOff, IsLeftUndone, most_taken}
 use Rattle.zb_session.specs.declared.session.End.{End}
@@ -143,7 +143,7 @@ module _ (course : Course) (sides : SessionEnds) where
                 request = cut.request;
                 asks = subst (λ (n : ℕ). request_of (given_of course.setting.hours n (length run.served + 1)) first.line ≡ Ok cut.request) many cut.asks;
                 reading = cut.reading;
-                read = subst (λ (answers : List Answer). IsReadingOf course.setting.hours (found_in answers ++ Ok cut.request ∷ []) cut.reading) alone cut.read;
+                read = subst (λ (answers : List Answer). IsReadingOf course.setting.hours (found_in answers) (moved_by (Ok cut.request)) cut.reading) alone cut.read;
                 made = subst (λ (answers : List Answer). AreMadeFor basis cut.request cut.reading (entries_made answers) rest) alone cut.made;
                 next = λ entry is. subst (λ (answers : List Answer). IsNextEntry basis cut.request cut.reading (entries_made answers) rest entry) alone (cut.next entry is);
                 why = why cuts;
@@ -153,7 +153,7 @@ module _ (course : Course) (sides : SessionEnds) where
         ))
 
     -- units of work behind the last line that were cut off
-    pub undone_work : (closing : List Entry) (reading : ℕ) → IsReadingOf course.setting.hours (found_in run.answers) reading → AreUnits basis reading (entries_made run.answers) closing
+    pub undone_work : (closing : List Entry) (reading : ℕ) → IsReadingOf course.setting.hours (found_in run.answers) 0 reading → AreUnits basis reading (entries_made run.answers) closing
         → ((entry : Entry) → course.unlogged ≡ Some entry → IsNextUnit basis reading (entries_made run.answers) closing entry) → IsWhyUndone course.cause course.unlogged
         → IsUndone course basis (run ∷ []) [] closing
     undone_work closing reading read made next why =
@@ -161,7 +161,7 @@ module _ (course : Course) (sides : SessionEnds) where
           refl,
           record {
             reading = reading;
-            read = subst (λ (answers : List Answer). IsReadingOf course.setting.hours (found_in answers) reading) alone read;
+            read = subst (λ (answers : List Answer). IsReadingOf course.setting.hours (found_in answers) 0 reading) alone read;
             made = subst (λ (answers : List Answer). AreUnits basis reading (entries_made answers) closing) alone made;
             next = λ entry is. subst (λ (answers : List Answer). IsNextUnit basis reading (entries_made answers) closing entry) alone (next entry is);
             why = why;
@@ -169,7 +169,7 @@ module _ (course : Course) (sides : SessionEnds) where
         ))
 
     -- and units of work that were done
-    pub closing_of : (closing : List Entry) (reading : ℕ) → IsReadingOf course.setting.hours (found_in run.answers) reading → AreUnits basis reading (entries_made run.answers) closing
+    pub closing_of : (closing : List Entry) (reading : ℕ) → IsReadingOf course.setting.hours (found_in run.answers) 0 reading → AreUnits basis reading (entries_made run.answers) closing
         → AreClosing course basis (answers_of (run ∷ [])) closing
     closing_of closing reading read made =
-        inr (reading, subst (λ (answers : List Answer). IsReadingOf course.setting.hours (found_in answers) reading) alone read, subst (λ (answers : List Answer). AreUnits basis reading (entries_made answers) closing) alone made)
+        inr (reading, subst (λ (answers : List Answer). IsReadingOf course.setting.hours (found_in answers) 0 reading) alone read, subst (λ (answers : List Answer). AreUnits basis reading (entries_made answers) closing) alone made)

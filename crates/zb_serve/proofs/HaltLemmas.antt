@@ -1,5 +1,5 @@
 -- How a run is told that ends by itself, or by a stop of one of its partitions.
-use Rattle.std.proofs.Common.{◌≡◌, ◌⊎◌, ℕ, zero, suc, ◌<◌, ◌≤◌, List, [], ◌∷◌, ◌++◌, length, map, take, slice_get, IsTrue, IsFalse, Option, Some, None, Result, Ok, Err, ◌-◌, refl, sym, ap, ◌∙◌, subst, inl, inr, arith}
+use Rattle.std.proofs.Common.{◌≡◌, ℕ, zero, suc, ◌<◌, ◌≤◌, List, [], ◌∷◌, ◌++◌, length, map, take, slice_get, IsTrue, IsFalse, Option, Some, None, Result, Ok, Err, ◌-◌, refl, sym, ap, ◌∙◌, subst, inl, inr, arith}
 use Rattle.std.specs.Option.{option_or}
 use Rattle.std.specs.List.{AllByRecursion}
 use Rattle.std.proofs.lemmas.Bool.{false≢true}
@@ -36,8 +36,8 @@ use Rattle.zb_engine.specs.declared.solo.Solo.{Solo}
 use Rattle.zb_serve.specs.Setting.{RunSetting}
 use Rattle.zb_serve.specs.Ends.{Told, LogEnds, RunEnds, logs_ends, Crashes, crashes_of}
 use Rattle.zb_serve.specs.Log.{Course, course_of, OpenedLog, log_in, batch_of, IsLog}
-use Rattle.zb_serve.specs.Served.{IsWhyUndone, IsUntroubled, Serves, batches_of, cuts_off, answer_of_run, HasRun, IsRun, slots_of_all}
-use Rattle.zb_serve.specs.Cause.{rank_of, comes_before}
+use Rattle.zb_serve.specs.Served.{IsWhyUndone, IsUntroubled, Serves, batches_of, answer_of_run, HasRun, IsRun, slots_of_all}
+use Rattle.zb_serve.specs.Cause.{rank_of, comes_before, cuts_off}
 use Rattle.zb_serve.specs.Opening.{volumes_in, IsBegunOver}
 use Rattle.zb_serve.specs.WorkOff.{facts_in, Behind, behind_of, AreWorkedOff, AreWorkCut, IsWorkedOff}
 use Rattle.zb_serve.specs.Running.{told_by, ends_alone, files_of, first_writing, stop_cause_of, cause_of}
@@ -195,13 +195,13 @@ uncut_cause writing endings.InputFull uncut = refl
 own_end : (end : End) → (CutsOff end → ⊥) → end ≡ endings.Stopped → ⊥
 own_end end uncut is = uncut (subst CutsOff (sym is) tt)
 
--- a stop does, and comes before a sink's fault
+-- a stop does, and isn't told behind a sink's fault
 stop_cuts : (writing : Option Batch) (at : ℕ) (stop : Stop) → IsTrue (cuts_off (stop_cause_of writing (Some (at, stop))))
 stop_cuts writing at stops.Memory = refl
 stop_cuts writing at stops.DiskFault = refl
 stop_cuts writing at (stops.LogFull n frame most) = refl
 
-stop_first : (writing : Option Batch) (at : ℕ) (stop : Stop) → IsTrue (comes_before (stop_cause_of writing (Some (at, stop))) (causes.SinkFault 1))
+stop_first : (writing : Option Batch) (at : ℕ) (stop : Stop) → IsFalse (comes_before (causes.SinkFault 1) (stop_cause_of writing (Some (at, stop))))
 stop_first writing at stops.Memory = refl
 stop_first writing at stops.DiskFault = refl
 stop_first writing at (stops.LogFull n frame most) = refl
@@ -320,7 +320,7 @@ module _ {D : Type 0} {disks : Ghosts D} (streams : Streams) (hours : Hours) (im
     c = course c_entries c_unlogged c_cause
 
     run_is : (end : End) (run : SessionRun) (rest closing : List Entry) (units : ℕ)
-        → (end ≡ endings.SinkFault → (c_cause ≡ causes.SinkFault 1) ⊎ IsTrue (comes_before c_cause (causes.SinkFault 1))) → (end ≡ endings.Memory → c_cause ≡ causes.Memory)
+        → (end ≡ endings.SinkFault → IsFalse (comes_before (causes.SinkFault 1) c_cause)) → (end ≡ endings.Memory → IsTrue (cuts_off c_cause))
         → (IsTrue (cuts_off c_cause) → units ≡ 0)
         → c_entries ≡ entries_made run.answers ++ (rest ++ closing)
         → AllByRecursion (λ entry. IsPartitionOf n entry.partition) c_entries
@@ -361,7 +361,7 @@ module _ {D : Type 0} {disks : Ghosts D} (streams : Streams) (hours : Hours) (im
     made_over writing end run rest closing units own is_end split unsettled come =
         let cause = cause_of writing None end in
         run_is entries None cause made_many end run rest closing units
-        (λ e. inl (ap (cause_of writing None) e)) (λ e. ap (cause_of writing None) e) unsettled split h.within
+        (λ e. subst (λ (ended : End). IsFalse (comes_before (causes.SinkFault 1) (cause_of writing None ended))) (sym e) refl) (λ e. subst (λ (ended : End). IsTrue (cuts_off (cause_of writing None ended))) (sym e) refl) unsettled split h.within
         (λ k o p at_o at_p.
         let part = part_at k o p at_o at_p in
         account_log streams images_told setting n entries None cause crashes (suc k) o p part.0.0 part.0.1 (limit_at k o at_o) (told_at k o p at_o at_p) part.1 refl
@@ -436,13 +436,12 @@ module _ {D : Type 0} {disks : Ghosts D} (streams : Streams) (hours : Hours) (im
         let p = member_at ps (h.at - 1) (omega (arith, h.of.0, h.of.1, ended_many)) in
         why_at (h.at - 1) o.0 p.0 here p.1 (left_at (h.at - 1) o.0 p.0 o.1 p.1)
 
-    ended_over : (end : End) (run : SessionRun) (rest closing : List Entry) → (end ≡ endings.Memory → ⊥)
-        → entries ≡ entries_made run.answers ++ (rest ++ closing)
+    ended_over : (end : End) (run : SessionRun) (rest closing : List Entry) → entries ≡ entries_made run.answers ++ (rest ++ closing)
         → HasCome streams (course entries unlogged ended_cause) sides run end rest closing 0 (stamps_in solo) (logs_in start)
         → Runs ended_cause 0
-    ended_over end run rest closing other split come =
+    ended_over end run rest closing split come =
         run_is entries unlogged ended_cause ended_many end run rest closing 0
-        (λ e. inr (stop_first (first_writing ps) h.at stop)) (λ e. absurd (other e)) (λ cut. refl) split h.within
+        (λ e. stop_first (first_writing ps) h.at stop) (λ e. stop_cuts (first_writing ps) h.at stop) (λ cut. refl) split h.within
         (λ k o p at_o at_p. log_by k o p at_o at_p (left_at k o p at_o at_p))
         (named_stop streams disks n sides run (first_writing ps) h.at h.of stop)
         (λ before k o p at_o at_p. steady_by before k o p at_o at_p (left_at k o p at_o at_p))
@@ -488,7 +487,7 @@ module _ {D : Type 0} {disks : Ghosts D} (streams : Streams) (hours : Hours) (im
         by_end endings.Stopped is cut (stop, h) =
             let cause = ended_cause entries unlogged stop h in
             subst (λ (k : Option (ℕ × Stop)). Runs (stop_cause_of (first_writing ps) k) 0) (sym h.kept)
-            (ended_over entries unlogged stop h end run rest [] (λ e. let no : endings.Stopped ≡ endings.Memory = sym is ∙ e in cc (no)) split
+            (ended_over entries unlogged stop h end run rest [] split
             (record {
               served = served;
               undone = undone_of (course entries unlogged cause) sides basis many_logs run rest end undone (λ c. why_ended entries unlogged stop h);
@@ -562,7 +561,7 @@ module _ {D : Type 0} {disks : Ghosts D} (streams : Streams) (hours : Hours) (im
         let made : AreUnits basis w.reading (entries_made run.answers) d.units = subst (λ (es : List Entry). AreUnits basis w.reading es d.units) behind d.made in
         let next : (entry : Entry) → d.unlogged ≡ Some entry → IsNextUnit basis w.reading (entries_made run.answers) d.units entry = λ entry is. subst (λ (es : List Entry). IsNextUnit basis w.reading es d.units entry) behind (d.next entry is) in
         subst (λ (k : Option (ℕ × Stop)). Runs (stop_cause_of writing k) 0) (sym h.kept)
-        (ended_over entries d.unlogged w.stop h end run [] d.units (λ e. uncut (subst CutsOff (sym e) tt)) refl
+        (ended_over entries d.unlogged w.stop h end run [] d.units refl
         (record {
           served = served;
           undone = undone_work (course entries d.unlogged (ended_cause entries d.unlogged w.stop h)) sides basis many_logs run d.units w.reading w.read made next (why_ended entries d.unlogged w.stop h);

@@ -1,5 +1,5 @@
 -- How the logs of a run are opened, and how its volumes are handed back where one can't be.
-use Rattle.std.proofs.Common.{◌≡◌, ◌⊎◌, ℕ, zero, suc, ◌+◌, ◌<◌, ◌≤◌, List, [], ◌∷◌, ◌++◌, length, map, slice_get, get_or, Bool, true, false, IsTrue, Some, refl, sym, ap, ◌∙◌, subst, arith, inl, ⊎_elim, append_assoc, append-nil}
+use Rattle.std.proofs.Common.{◌≡◌, ◌⊎◌, ℕ, zero, suc, ◌+◌, ◌<◌, ◌≤◌, List, [], ◌∷◌, ◌++◌, length, map, drop, slice_get, get_or, Bool, true, false, IsTrue, Some, refl, sym, ap, ◌∙◌, subst, arith, inl, ⊎_elim, append_assoc, append-nil}
 use Rattle.std.specs.List.{AllByRecursion, AllZip, remove}
 use Rattle.std.proofs.lemmas.Bool.{false≢true}
 use Rattle.std.proofs.lemmas.List.{length-map}
@@ -21,7 +21,7 @@ use Rattle.zb_desk.specs.Numbered.{EachFrom, OfNumber}
 use Rattle.zb_engine.specs.Ledger.{Opening, slots_in, IsOpen}
 use Rattle.zb_engine.specs.Solo.{Start, start_of, many_in, IsFreshPart}
 use Rattle.zb_serve.specs.Ends.{Told, LogEnds, logs_ends, IsSafe}
-use Rattle.zb_serve.specs.Served.{AreGoodBelow, FailsToOpen, IsUntroubled, IsSpared, slots_of_all}
+use Rattle.zb_serve.specs.Served.{IsGood, AreOpenedTo, FailsToOpen, IsUntroubled, IsSpared, slots_of_all}
 use Rattle.zb_serve.specs.Opening.{open_cause_of, TellsOf, IsHandedBack, IsOpenedOver, IsBegunOver}
 use Rattle.zb_serve.specs.Running.{files_of}
 use Rattle.zb_serve.specs.declared.run.Cause.TheVariants as causes
@@ -122,13 +122,59 @@ module _ {D : Type 0} (disks : Ghosts D) where
   untroubled_same told [] = tt
   untroubled_same told (volume ∷ volumes) = (λ t. refl, untroubled_same told volumes)
 
+  left_alone : (volumes : List (Volume D)) → AllByRecursion (λ ends. ends.disk_after ≡ ends.disk) (logs_ends disks volumes volumes)
+  left_alone [] = tt
+  left_alone (volume ∷ volumes) = (refl, left_alone volumes)
+
   pub fails_untouched : (told : Told) (volumes : List (Volume D)) → FailsToOpen told (logs_ends disks volumes volumes) causes.Memory
-  fails_untouched told volumes = untroubled_same told volumes
+  fails_untouched told volumes = ((0, record { below = λ number some none. absurd (omega (arith, none)); above = left_alone volumes }), untroubled_same told volumes)
 
   -- of one that was opened
   closed_back : (n limit number : ℕ) (volume : Volume D) (partition : Partition D disks) → IsOpenedOver n limit number volume partition → IsHandedBack disks volume (files_of partition)
   closed_back n limit number volume partition o =
       record { opens = o.opens; slots = o.fresh.1.slots ∙ ap slots_in o.over }
+
+  -- the logs of those that were opened are good
+  module _ (told : Told) (tells : TellsOf disks told) (n limit : ℕ) where
+    abbrev ends_opened : Volume D → Partition D disks → LogEnds
+    ends_opened volume partition = record { disk = disks.view volume.log; disk_after = disks.view (disk_of partition) }
+
+    steady_one : (number : ℕ) (volume : Volume D) (partition : Partition D disks) → IsOpenedOver n limit number volume partition → IsUntroubled told (ends_opened volume partition)
+    steady_one number volume partition o = λ t.
+        let counts : IsTrue disks.counts_failures = subst IsTrue tells.1 t in
+        o.fresh.1.steady counts ∙ ap (λ (v : Volume D). (disks.view v.log).faults) o.over
+
+    good_one : (number : ℕ) (volume : Volume D) (partition : Partition D disks) → IsOpenedOver n limit number volume partition → IsGood told number (ends_opened volume partition)
+    good_one number volume partition o =
+        let is = o.fresh.1 in
+        record {
+          untroubled = steady_one number volume partition o;
+          readable = λ t frame bad.
+              let stood = subst (λ (v : Volume D). Stands (disks.view v.log).contents (bodies_of o.opening.batches)) o.over (is.was.stood (subst IsTrue tells.0 t)) in
+              let applied = subst (λ (p : ℕ). IsApplied p o.opening.batches) o.fresh.0.0 is.was.applied in
+              none_bad number (disks.view volume.log).contents o.opening.batches frame is.is_open.has.fits applied stood bad;
+        }
+
+    good_from : (number : ℕ) (front : List (Volume D)) (partitions : List (Partition D disks)) → EachFrom (IsOpenedOver n limit) number front partitions → (olds news : List (Volume D)) → (i : ℕ) → i < length front
+        → (e : LogEnds) × (slice_get (logs_ends disks (front ++ olds) (map files_of partitions ++ news)) i ≡ Some e) × IsGood told (number + i) e
+    good_from number [] [] each olds news i within = absurd (let no : ⊥ = omega (arith, within) in no)
+    good_from number (volume ∷ front) (partition ∷ partitions) each olds news zero within =
+        let here : number ≡ number + 0 = omega arith in
+        (ends_opened volume partition, refl, subst (λ (p : ℕ). IsGood told p (ends_opened volume partition)) here (good_one number volume partition each.0))
+    good_from number (volume ∷ front) (partition ∷ partitions) each olds news (suc i) within =
+        let on : suc number + i ≡ number + suc i = omega arith in
+        subst (λ (p : ℕ). (e : LogEnds) × (slice_get (logs_ends disks (front ++ olds) (map files_of partitions ++ news)) i ≡ Some e) × IsGood told p e) on
+        (good_from (suc number) front partitions each.1 olds news i (omega (arith, within)))
+    good_from number [] (partition ∷ partitions) each olds news i within = absurd each
+    good_from number (volume ∷ front) [] each olds news i within = absurd each
+
+    good_below : (front : List (Volume D)) (partitions : List (Partition D disks)) → EachFrom (IsOpenedOver n limit) 1 front partitions → (olds news : List (Volume D)) (partition : ℕ) → partition ≡ suc (length front)
+        → (number : ℕ) → 1 ≤ number → number < partition → OfNumber (logs_ends disks (front ++ olds) (map files_of partitions ++ news)) number (IsGood told number)
+    good_below front partitions each olds news partition is zero some below = absurd (let no : ⊥ = omega (arith, some) in no)
+    good_below front partitions each olds news partition is (suc i) some below =
+        let good = good_from 1 front partitions each olds news i (omega (arith, is, below)) in
+        let here : 1 + i ≡ suc i = omega arith in
+        has_number (logs_ends disks (front ++ olds) (map files_of partitions ++ news)) i good.0 (IsGood told (suc i)) good.1 (subst (λ (p : ℕ). IsGood told p good.0) here good.2)
 
   -- of the one that was refused, and of those that are left
   module _ (n limit : ℕ) (refused back : Volume D) (handed : IsHandedBack disks refused back) (left : List (Volume D)) where
@@ -143,16 +189,10 @@ module _ {D : Type 0} (disks : Ghosts D) where
       abbrev ends : LogEnds
       ends = record { disk = disks.view refused.log; disk_after = disks.view back.log }
 
-      steady_one : (number : ℕ) (volume : Volume D) (partition : Partition D disks) → IsOpenedOver n limit number volume partition
-          → IsUntroubled told (record { disk = disks.view volume.log; disk_after = disks.view (disk_of partition) })
-      steady_one number volume partition o = λ t.
-          let counts : IsTrue disks.counts_failures = subst IsTrue tells.1 t in
-          o.fresh.1.steady counts ∙ ap (λ (v : Volume D). (disks.view v.log).faults) o.over
-
       steady_from : (number : ℕ) (front : List (Volume D)) (partitions : List (Partition D disks)) → EachFrom (IsOpenedOver n limit) number front partitions
           → IsUntroubled told ends → AllByRecursion (IsUntroubled told) (logs_ends disks (front ++ refused ∷ left) (map files_of partitions ++ back ∷ left))
       steady_from number [] [] each one = (one, untroubled_same told left)
-      steady_from number (volume ∷ front) (partition ∷ partitions) each one = (steady_one number volume partition each.0, steady_from (suc number) front partitions each.1 one)
+      steady_from number (volume ∷ front) (partition ∷ partitions) each one = (steady_one told tells n limit number volume partition each.0, steady_from (suc number) front partitions each.1 one)
       steady_from number [] (partition ∷ partitions) each one = absurd each
       steady_from number (volume ∷ front) [] each one = absurd each
 
@@ -163,44 +203,23 @@ module _ {D : Type 0} (disks : Ghosts D) where
       refused_at number [] (partition ∷ partitions) each = absurd each
       refused_at number (volume ∷ front) [] each = absurd each
 
-      -- the log of one that was opened can be read
-      good_one : (number : ℕ) (volume : Volume D) (partition : Partition D disks) → IsOpenedOver n limit number volume partition → IsTrue disks.tells
-          → (frame : ℕ) → IsBadAt number (disks.view volume.log).contents frame → ⊥
-      good_one number volume partition o t frame bad =
-          let is = o.fresh.1 in
-          let stood = subst (λ (v : Volume D). Stands (disks.view v.log).contents (bodies_of o.opening.batches)) o.over (is.was.stood t) in
-          let applied = subst (λ (p : ℕ). IsApplied p o.opening.batches) o.fresh.0.0 is.was.applied in
-          none_bad number (disks.view volume.log).contents o.opening.batches frame is.is_open.has.fits applied stood bad
-
-      good_from : (number : ℕ) (front : List (Volume D)) (partitions : List (Partition D disks)) → EachFrom (IsOpenedOver n limit) number front partitions → (i : ℕ) → i < length front
-          → (e : LogEnds) × (slice_get (logs_ends disks (front ++ refused ∷ left) (map files_of partitions ++ back ∷ left)) i ≡ Some e)
-          × (IsTrue disks.tells → (frame : ℕ) → IsBadAt (number + i) e.disk.contents frame → ⊥)
-      good_from number [] [] each i within = absurd (let no : ⊥ = omega (arith, within) in no)
-      good_from number (volume ∷ front) (partition ∷ partitions) each zero within =
-          let here : number + 0 ≡ number = omega arith in (
-            record { disk = disks.view volume.log; disk_after = disks.view (disk_of partition) },
-            refl,
-            λ t frame bad. good_one number volume partition each.0 t frame (subst (λ (p : ℕ). IsBadAt p (disks.view volume.log).contents frame) here bad),
-          )
-      good_from number (volume ∷ front) (partition ∷ partitions) each (suc i) within =
-          let on : suc number + i ≡ number + suc i = omega arith in
-          subst (λ (p : ℕ). (e : LogEnds) × (slice_get (logs_ends disks (front ++ refused ∷ left) (map files_of partitions ++ back ∷ left)) i ≡ Some e)
-          × (IsTrue disks.tells → (frame : ℕ) → IsBadAt p e.disk.contents frame → ⊥)) on
-          (good_from (suc number) front partitions each.1 i (omega (arith, within)))
-      good_from number [] (partition ∷ partitions) each i within = absurd each
-      good_from number (volume ∷ front) [] each i within = absurd each
+      -- those that are left are as they were
+      left_above : (number : ℕ) (front : List (Volume D)) (partitions : List (Partition D disks)) → EachFrom (IsOpenedOver n limit) number front partitions
+          → AllByRecursion (λ ends. ends.disk_after ≡ ends.disk) (drop (suc (length front)) (logs_ends disks (front ++ refused ∷ left) (map files_of partitions ++ back ∷ left)))
+      left_above number [] [] each = left_alone left
+      left_above number (volume ∷ front) (partition ∷ partitions) each = left_above (suc number) front partitions each.1
+      left_above number [] (partition ∷ partitions) each = absurd each
+      left_above number (volume ∷ front) [] each = absurd each
 
       module _ (front : List (Volume D)) (partitions : List (Partition D disks)) (each : EachFrom (IsOpenedOver n limit) 1 front partitions) where
         abbrev all_ends : List LogEnds
         all_ends = logs_ends disks (front ++ refused ∷ left) (map files_of partitions ++ back ∷ left)
 
-        good_below : (number : ℕ) → number ≡ suc (length front) → AreGoodBelow told all_ends number
-        good_below number is zero some below = absurd (let no : ⊥ = omega (arith, some) in no)
-        good_below number is (suc i) some below =
-            let good = good_from 1 front partitions each i (omega (arith, is, below)) in
-            let here : suc i ≡ 1 + i = omega arith in
-            has_number all_ends i good.0 (λ e. IsTrue told.disk → (frame : ℕ) → IsBadAt (suc i) e.disk.contents frame → ⊥) good.1
-            (λ t frame bad. good.2 (subst IsTrue tells.0 t) frame (subst (λ (p : ℕ). IsBadAt p good.0.disk.contents frame) here bad))
+        opened_to : (number : ℕ) → number ≡ suc (length front) → AreOpenedTo told all_ends number
+        opened_to number is = record {
+          below = good_below told tells n limit front partitions each (refused ∷ left) (back ∷ left) number is;
+          above = subst (λ (m : ℕ). AllByRecursion (λ ends. ends.disk_after ≡ ends.disk) (drop m all_ends)) (sym is) (left_above 1 front partitions each);
+        }
 
         fails_at : (number : ℕ) → number ≡ suc (length front) → (fault : OpenFault)
             → (IsTrue told.disk → (frame : ℕ) → fault ≡ faults.BadLog frame → IsBadAt number ends.disk.contents frame)
@@ -210,15 +229,15 @@ module _ {D : Type 0} (disks : Ghosts D) where
           refl,
           subst (λ (m : ℕ). OfNumber all_ends m (λ ends. Rose ends.disk.faults ends.disk_after.faults)) (sym is)
               (has_number all_ends (length front) ends (λ ends. Rose ends.disk.faults ends.disk_after.faults) (refused_at 1 front partitions each) rose),
-          good_below number is,
+          opened_to number is,
         )
         fails_at number is (faults.BadLog frame) bad rose = (
           subst (λ (m : ℕ). OfNumber all_ends m (λ ends. IsTrue told.disk → IsBadAt number ends.disk.contents frame)) (sym is)
               (has_number all_ends (length front) ends (λ ends. IsTrue told.disk → IsBadAt number ends.disk.contents frame) (refused_at 1 front partitions each) (λ t. bad t frame refl)),
-          good_below number is,
+          opened_to number is,
           steady_from 1 front partitions each (λ t. rose (subst IsTrue tells.1 t)),
         )
-        fails_at number is faults.Memory bad rose = steady_from 1 front partitions each (λ t. rose (subst IsTrue tells.1 t))
+        fails_at number is faults.Memory bad rose = ((number, opened_to number is), steady_from 1 front partitions each (λ t. rose (subst IsTrue tells.1 t)))
 
   -- where the volume with a number was refused, behind those that were opened
   pub refused_back : (n limit : ℕ) (volumes left : List (Volume D)) (partitions : List (Partition D disks)) (refused back : Volume D) → HasOpened n limit volumes (refused ∷ left) partitions
@@ -247,16 +266,34 @@ module _ {D : Type 0} (disks : Ghosts D) where
   all_closed_back n limit number [] (partition ∷ partitions) each = absurd each
   all_closed_back n limit number (volume ∷ volumes) [] each = absurd each
 
-  pub fails_closed : (n limit number : ℕ) (volumes : List (Volume D)) (partitions : List (Partition D disks)) → EachFrom (IsOpenedOver n limit) number volumes partitions
+  steady_closed : (n limit number : ℕ) (volumes : List (Volume D)) (partitions : List (Partition D disks)) → EachFrom (IsOpenedOver n limit) number volumes partitions
       → (told : Told) → TellsOf disks told → AllByRecursion (IsUntroubled told) (logs_ends disks volumes (map files_of partitions))
-  fails_closed n limit number [] [] each told tells = tt
-  fails_closed n limit number (volume ∷ volumes) (partition ∷ partitions) each told tells =
-      let o = each.0 in (
-        λ t. let counts : IsTrue disks.counts_failures = subst IsTrue tells.1 t in o.fresh.1.steady counts ∙ ap (λ (v : Volume D). (disks.view v.log).faults) o.over,
-        fails_closed n limit (suc number) volumes partitions each.1 told tells,
-      )
-  fails_closed n limit number [] (partition ∷ partitions) each told tells = absurd each
-  fails_closed n limit number (volume ∷ volumes) [] each told tells = absurd each
+  steady_closed n limit number [] [] each told tells = tt
+  steady_closed n limit number (volume ∷ volumes) (partition ∷ partitions) each told tells =
+      (steady_one told tells n limit number volume partition each.0, steady_closed n limit (suc number) volumes partitions each.1 told tells)
+  steady_closed n limit number [] (partition ∷ partitions) each told tells = absurd each
+  steady_closed n limit number (volume ∷ volumes) [] each told tells = absurd each
+
+  none_above : (olds news : List (Volume D)) → drop (suc (length olds)) (logs_ends disks olds news) ≡ []
+  none_above [] news = refl
+  none_above (old ∷ olds) [] = refl
+  none_above (old ∷ olds) (new ∷ news) = none_above olds news
+
+  pub fails_closed : (n limit : ℕ) (volumes : List (Volume D)) (partitions : List (Partition D disks)) → EachFrom (IsOpenedOver n limit) 1 volumes partitions
+      → (told : Told) → TellsOf disks told → FailsToOpen told (logs_ends disks volumes (map files_of partitions)) causes.Memory
+  fails_closed n limit volumes partitions each told tells = (
+    (
+      suc (length volumes),
+      record {
+        below = λ number some below.
+            subst (λ (news : List (Volume D)). OfNumber (logs_ends disks volumes news) number (IsGood told number)) (append-nil (map files_of partitions))
+            (subst (λ (olds : List (Volume D)). OfNumber (logs_ends disks olds (map files_of partitions ++ [])) number (IsGood told number)) (append-nil volumes)
+            (good_below told tells n limit volumes partitions each [] [] (suc (length volumes)) refl number some below));
+        above = subst (AllByRecursion (λ (ends : LogEnds). ends.disk_after ≡ ends.disk)) (sym (none_above volumes (map files_of partitions))) tt;
+      },
+    ),
+    steady_closed n limit 1 volumes partitions each told tells,
+  )
 
   -- what is known of all of them as the engine begins
   record AreBegun (n limit number : ℕ) (volumes : List (Volume D)) (partitions : List (Partition D disks)) : Type 0 where

@@ -1,5 +1,5 @@
 -- A run of one session that is over.
-use Rattle.std.proofs.Common.{◌≡◌, ◌⊎◌, ℕ, suc, ◌-◌, List, [], ◌∷◌, ◌++◌, length, slice_get, Bool, All, IsTrue, IsFalse, Some, None, refl, sym, ◌∙◌, ap, subst, inl, inr, arith}
+use Rattle.std.proofs.Common.{◌≡◌, ℕ, suc, ◌-◌, List, [], ◌∷◌, ◌++◌, length, take, slice_get, Bool, All, IsTrue, IsFalse, Option, Some, None, IfSome, refl, sym, ◌∙◌, ap, subst, inl, inr, arith}
 use Rattle.std.specs.List.{AllByRecursion}
 use Rattle.std.proofs.lemmas.List.{length-map}
 use Rattle.std.proofs.lemmas.List.Elements.{All-nil, All-cons}
@@ -20,28 +20,39 @@ use Rattle.zb_session.specs.declared.session.End.TheVariants as endings
 use Rattle.zb_serve.specs.Ends.{Told, LogEnds, Crashes}
 use Rattle.zb_serve.specs.Log.{Course, OpenedLog, log_in, batch_of, IsLog}
 use Rattle.zb_serve.specs.History.{AreCut, AreImages}
-use Rattle.zb_serve.specs.Served.{Serves, IsUndone, AreClosing, cuts_off, answers_of, batches_of}
-use Rattle.zb_serve.specs.Cause.{comes_before}
+use Rattle.zb_serve.specs.Served.{Serves, BeginsBehind, IsUndone, AreClosing, answers_of, batches_of}
+use Rattle.zb_serve.specs.Cause.{comes_before, cuts_off}
 use Rattle.zb_serve.specs.Session.{IsSent}
 use Rattle.zb_serve.specs.Running.{ends_alone}
 use Rattle.zb_serve.specs.declared.run.Cause.{Cause}
 use Rattle.zb_serve.specs.declared.run.Cause.TheVariants as causes
-use Rattle.zb_serve.proofs.ListLemmas.{append_none, member_at, place_within, unmapped_at, each_length, first_at, number_behind}
+use Rattle.zb_serve.proofs.ListLemmas.{append_none, all_by, member_at, place_within, unmapped_at, each_length, first_at, number_behind}
 use Rattle.zb_serve.proofs.HistoryLemmas.{goes_on, kept_at, cut_at_end, IsKeptAt}
 use Rattle.zb_serve.proofs.LogLemmas.{batch_left}
 use Rattle.zb_serve.proofs.EndLemmas.{IsNamed, AreNamed, whole_served, none_first}
 
 -- what the session wrote
 sent_as : (streams : Streams) (told : Told) (sides : SessionEnds) (end : End) (cause : Cause) (answers : List Answer) → told.sink_memory ≡ streams.sink_memory
-    → (end ≡ endings.SinkFault → (cause ≡ causes.SinkFault 1) ⊎ IsTrue (comes_before cause (causes.SinkFault 1))) → (end ≡ endings.Memory → cause ≡ causes.Memory)
+    → (end ≡ endings.SinkFault → IsFalse (comes_before (causes.SinkFault 1) cause)) → (end ≡ endings.Memory → IsTrue (cuts_off cause))
     → AreWritten streams sides end answers → IsSent told 1 sides cause answers
 sent_as streams told sides end cause answers memory failed forgot (inl whole) = inl whole
 sent_as streams told sides end cause answers memory failed forgot (inr (front, last, n, is, written, inl (rose, e))) = inr (front, last, n, is, written, inl (rose, failed e))
 sent_as streams told sides end cause answers memory failed forgot (inr (front, last, n, is, written, inr (takes, e))) = inr (front, last, n, is, written, inr (subst IsTrue (sym memory) takes, forgot e))
 
-all_from : (n : ℕ) (entries : List Entry) → AllByRecursion (λ entry. IsPartitionOf n entry.partition) entries → All (λ entry. IsPartitionOf n entry.partition) entries
-all_from n [] all = All-nil (λ entry. IsPartitionOf n entry.partition)
-all_from n (entry ∷ entries) all = All-cons (λ entry. IsPartitionOf n entry.partition) entry entries all.0 (all_from n entries all.1)
+all_from : (P : Entry → Type 0) (entries : List Entry) → AllByRecursion P entries → All P entries
+all_from P [] all = All-nil P
+all_from P (entry ∷ entries) all = All-cons P entry entries all.0 (all_from P entries all.1)
+
+-- what follows on others begins behind what was opened
+begins_behind : (opened : List (List Batch)) (front : List Entry) (entry : Entry) → FollowsOn opened front entry → BeginsBehind opened entry
+begins_behind opened front entry follows = omega (arith, follows.begin)
+
+all_begin : (opened : List (List Batch)) (entries : List Entry) → EachOn (FollowsOn opened) [] entries → All (BeginsBehind opened) entries
+all_begin opened entries each = all_from (BeginsBehind opened) entries (all_by (BeginsBehind opened) entries (λ k entry at. begins_behind opened (take k entries) entry (each k entry at)))
+
+last_begins : (opened : List (List Batch)) (front : List Entry) (last : Option Entry) → ((entry : Entry) → last ≡ Some entry → FollowsOn opened front entry) → IfSome last (BeginsBehind opened)
+last_begins opened front None follows = tt
+last_begins opened front (Some entry) follows = begins_behind opened front entry (follows entry refl)
 
 -- what came of the lines, over logs that were opened with these batches
 pub record HasCome (streams : Streams) (course : Course) (sides : SessionEnds) (run : SessionRun) (end : End) (rest closing : List Entry) (units : ℕ) (stamps : List (List ℕ)) (opened : List (List Batch)) : Type 0 where
@@ -121,7 +132,7 @@ module _ (course : Course) (crashes : Crashes) (ends : List LogEnds) (logs : Lis
 pub over : (streams : Streams) (course : Course) (crashes : Crashes) (sides : SessionEnds) (ends : List LogEnds) (logs : List OpenedLog) (run : SessionRun) (end : End) (rest closing : List Entry) (units : ℕ) (stamps : List (List ℕ))
     → course.told.source ≡ streams.source_tells → course.told.sink ≡ streams.sink_tells → course.told.sink_memory ≡ streams.sink_memory
     → length logs ≡ course.partitions
-    → (end ≡ endings.SinkFault → (course.cause ≡ causes.SinkFault 1) ⊎ IsTrue (comes_before course.cause (causes.SinkFault 1))) → (end ≡ endings.Memory → course.cause ≡ causes.Memory)
+    → (end ≡ endings.SinkFault → IsFalse (comes_before (causes.SinkFault 1) course.cause)) → (end ≡ endings.Memory → IsTrue (cuts_off course.cause))
     → (IsTrue (cuts_off course.cause) → units ≡ 0)
     → course.entries ≡ entries_made run.answers ++ (rest ++ closing)
     → AllByRecursion (λ entry. IsPartitionOf course.partitions entry.partition) course.entries
@@ -143,8 +154,9 @@ over streams course crashes sides ends logs run end rest closing units stamps te
       closing = closing;
       status = named.status;
       first_met = none_first course sides ends run logs named are;
-      within = all_from course.partitions course.entries within;
+      within = all_from (λ entry. IsPartitionOf course.partitions entry.partition) course.entries within;
       stamped = come.stamped;
+      begun = (all_begin (batches_of logs) course.entries come.each, last_begins (batches_of logs) course.entries course.unlogged (λ entry is. (come.last entry is).1));
       are_logs = are_logs;
       history = goes_on course.partitions (batches_of logs) course.entries serial;
       sessions = (
@@ -152,7 +164,8 @@ over streams course crashes sides ends logs run end rest closing units stamps te
           takes = subst (λ (t : Bool). TakesBytes t sides.source sides.source_after run.taken) (sym tells_source) served.takes;
           lines = served.lines;
           within = served.within;
-          to_end = λ ended t. served.to_end ended (subst IsTrue tells_source t);
+          to_end = λ ended. ((served.to_end ended).0, λ t. (served.to_end ended).1 (subst IsTrue tells_source t));
+          not_ended = served.not_ended;
           first = served.first;
           answers = subst (λ (n : ℕ). EachFrom (λ number. IsAnswer (given_of course.setting.hours n number)) 1 run.served run.answers) count served.answers;
           sent = λ t. sent_as streams course.told sides end course.cause run.answers takes_memory failed forgot (served.sent (subst IsTrue tells_sink t));

@@ -1,4 +1,4 @@
--- Why a run ends: the exit status of each cause, and which cause comes before which.
+-- Why a run ends: the exit status of each cause, which cause comes before which, and which cut a run off.
 use Rattle.std.specs.Prelude.{ℕ, nat_lt, Bool}
 use Rattle.zb_serve.specs.declared.run.Cause.{Cause}
 use Rattle.zb_serve.specs.declared.run.Cause.TheVariants as causes
@@ -31,3 +31,7 @@ rank_of causes.Done = 7
 -- whether one cause is told before another where both were met
 abbrev pub comes_before : Cause → Cause → Bool
 comes_before first second = nat_lt (rank_of first) (rank_of second)
+
+-- the cause cut the run off
+abbrev pub cuts_off : Cause → Bool
+cuts_off cause = nat_lt (rank_of cause) 4

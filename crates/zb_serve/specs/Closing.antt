@@ -12,14 +12,15 @@ use Rattle.zb_session.specs.declared.session.Session.{Session}
 use Rattle.zb_serve.specs.declared.run.Closed.{Closed}
 use Rattle.zb_serve.specs.declared.run.Cause.TheVariants as causes
 
--- a real clock at hand: whether it tells the moments that it reads, and which they may be
+-- a real clock at hand: whether it tells what it is to read, and what that is, by the number of the
+-- reading
 pub record ClockAtHand : Type 0 where
   pub tells : Bool
-  pub moments : List ℕ
+  pub upcoming : ℕ → ℕ
 
 -- the clock at hand that tells so
-abbrev pub clock_at_hand : Bool → List ℕ → ClockAtHand
-clock_at_hand tells moments = record { tells = tells; moments = moments }
+abbrev pub clock_at_hand : Bool → (ℕ → ℕ) → ClockAtHand
+clock_at_hand tells upcoming = record { tells = tells; upcoming = upcoming }
 
 -- there was no memory to read the words, and nothing was touched
 pub record IsUnheard {S K D : Type 0} (volumes : List (Volume D)) (closed : Closed S K D) : Type 0 where
@@ -53,7 +54,7 @@ pub record Closes {S K D : Type 0} (devices : Devices S K D) (clock : ClockAtHan
   pub run : closed.cause ≢ causes.Usage → IsUnheard volumes closed
       ⊎ ((plan : ServePlan)
       × IsPlanned words (length sessions) (length volumes) plan
-      × IsRun (told_of devices) (setting_of plan clock.tells clock.moments)
+      × IsRun (told_of devices) (setting_of plan clock.tells clock.upcoming)
       (ends_of devices sessions closed.sessions.items volumes closed.volumes.items)
       (crashes_of devices.disk volumes closed.volumes.items)
       (answer_of_run closed.cause (map (λ list. list.items) closed.stamps.items) closed.units))

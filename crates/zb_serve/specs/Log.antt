@@ -16,6 +16,7 @@ use Rattle.zb_serve.specs.Ends.{LogEnds, Told, Crashes}
 use Rattle.zb_desk.specs.Serial.{log_behind}
 use Rattle.zb_engine.specs.Ledger.{IsFront}
 use Rattle.zb_serve.specs.Setting.{RunSetting}
+use Rattle.zb_serve.specs.Cause.{cuts_off}
 use Rattle.zb_serve.specs.declared.run.Cause.{Cause}
 use Rattle.zb_serve.specs.declared.run.Cause.TheVariants as causes
 
@@ -61,10 +62,10 @@ abbrev pub batch_of : ℕ → Option Entry → Option Batch
 batch_of number None = None
 batch_of number (Some entry) = batch_if (is_of number entry) entry.batch
 
--- the disk failed, or its call wanted memory, which ended the run
+-- the disk failed, or its calls take memory, and the cause cut the run off
 abbrev pub IsDiskHurt : Told → LogEnds → Cause → Type 0
 IsDiskHurt told ends cause = Rose ends.disk.faults ends.disk_after.faults
-    ⊎ (IsTrue told.disk_memory × (cause ≡ causes.Memory))
+    ⊎ (IsTrue told.disk_memory × IsTrue (cuts_off cause))
 
 -- a file stands for the log, or, where the disk was hurt, for the log and the batch that was in
 -- writing, which fits its spelling

@@ -1,6 +1,6 @@
 -- What a run of the server is.
-use Rattle.std.specs.Prelude.{◌≡◌, ◌⊎◌, ◌<◌, ◌≤◌, ◌+◌, ℕ, List, [], ◌∷◌, ◌++◌, length, map, nat_lt}
-use Rattle.std.specs.Prelude.{Bool, All, IsTrue, IsFalse, IsSome, Option, Some, None, Ok}
+use Rattle.std.specs.Prelude.{◌≡◌, ◌⊎◌, ◌<◌, ◌≤◌, ◌+◌, ℕ, List, [], ◌∷◌, ◌++◌, length, map, drop}
+use Rattle.std.specs.Prelude.{All, IsTrue, IsFalse, IsSome, IfSome, Option, Some, None, Ok}
 use Rattle.std.specs.List.{flat_map, AllByRecursion}
 use Rattle.zb_disk.specs.Cause.{Rose}
 use Rattle.zb_model.specs.declared.record.Batch.{Batch}
@@ -14,12 +14,12 @@ use Rattle.zb_store.specs.declared.volume.Volume.{Volume}
 use Rattle.zb_desk.specs.Numbered.{EachFrom, OfNumber}
 use Rattle.zb_desk.specs.Serial.{Basis, basis_of, place_behind, next_unit, IsNextEntry, AreMadeFor}
 use Rattle.zb_desk.specs.Serial.{IsNextUnit, AreUnits}
-use Rattle.zb_session.specs.Hours.{given_of, IsReadingOf}
+use Rattle.zb_session.specs.Hours.{given_of, moved_by, IsReadingOf}
 use Rattle.zb_session.specs.Answer.{Answer, found_in, entries_made, AreSerial}
 use Rattle.zb_session.specs.Session.{SessionRun}
 use Rattle.zb_engine.specs.Ledger.{slots_in}
 use Rattle.zb_serve.specs.Ends.{RunEnds, LogEnds, Told, Crashes}
-use Rattle.zb_serve.specs.Cause.{rank_of, comes_before}
+use Rattle.zb_serve.specs.Cause.{comes_before, cuts_off}
 use Rattle.zb_serve.specs.Order.{WasMet}
 use Rattle.zb_serve.specs.Setting.{RunSetting}
 use Rattle.zb_serve.specs.Session.{IsSession}
@@ -44,6 +44,10 @@ MayEnd sessions partitions (causes.InputFull session) = (1 ≤ session) × (sess
 -- the batches that each of the logs had at opening
 abbrev pub batches_of : List OpenedLog → List (List Batch)
 batches_of logs = map (λ log. log.batches) logs
+
+-- an entry begins at the place behind all batches of these logs, or at a later one
+abbrev pub BeginsBehind : List (List Batch) → Entry → Type 0
+BeginsBehind logs entry = place_behind logs [] ≤ entry.batch.begin
 
 -- all answers of a run, one session's behind the other's
 abbrev pub answers_of : List SessionRun → List Answer
@@ -78,7 +82,7 @@ pub record IsUnfinished (course : Course) (basis : Basis) (answers : List Answer
   pub asks : request_of
       (given_of course.setting.hours course.partitions (length run.served + 1)) line ≡ Ok request
   pub reading : ℕ
-  pub read : IsReadingOf course.setting.hours (found_in answers ++ Ok request ∷ []) reading
+  pub read : IsReadingOf course.setting.hours (found_in answers) (moved_by (Ok request)) reading
   pub made : AreMadeFor basis request reading (entries_made answers) rest
   pub next : (entry : Entry) → course.unlogged ≡ Some entry
       → IsNextEntry basis request reading (entries_made answers) rest entry
@@ -89,7 +93,7 @@ pub record IsUnfinished (course : Course) (basis : Basis) (answers : List Answer
 pub record IsUnfinishedWork (course : Course) (basis : Basis) (answers : List Answer)
     (closing : List Entry) : Type 0 where
   pub reading : ℕ
-  pub read : IsReadingOf course.setting.hours (found_in answers) reading
+  pub read : IsReadingOf course.setting.hours (found_in answers) 0 reading
   pub made : AreUnits basis reading (entries_made answers) closing
   pub next : (entry : Entry) → course.unlogged ≡ Some entry
       → IsNextUnit basis reading (entries_made answers) closing entry
@@ -103,14 +107,10 @@ IsUndone course basis runs rest closing = ((rest ≡ []) × (course.unlogged ≡
     × ((number : ℕ) × OfNumber runs number (IsUnfinished course basis (answers_of runs) rest)))
     ⊎ ((rest ≡ []) × IsUnfinishedWork course basis (answers_of runs) closing))
 
--- the cause cut the run off
-abbrev pub cuts_off : Cause → Bool
-cuts_off cause = nat_lt (rank_of cause) 4
-
 -- the units of work behind the last line: none, or these, at one reading of the clock
 abbrev pub AreClosing : Course → Basis → List Answer → (closing : List Entry) → Type 0
 AreClosing course basis answers closing = (closing ≡ [])
-    ⊎ ((reading : ℕ) × IsReadingOf course.setting.hours (found_in answers) reading
+    ⊎ ((reading : ℕ) × IsReadingOf course.setting.hours (found_in answers) 0 reading
     × AreUnits basis reading (entries_made answers) closing)
 
 -- what a run answered: its cause, the stamps of each partition, and how many units of work were
@@ -142,6 +142,9 @@ pub record Serves (course : Course) (ends : RunEnds) (crashes : Crashes) (stamps
   pub within : All (λ entry. IsPartitionOf course.partitions entry.partition) course.entries
   pub stamped : stamps
       ≡ stamps_of course.partitions (place_behind (batches_of logs) []) course.entries
+  -- none of them begins at a place before that count, nor does the one that isn't in its log
+  pub begun : All (BeginsBehind (batches_of logs)) course.entries
+      × IfSome course.unlogged (BeginsBehind (batches_of logs))
   -- each log has what it had at opening, and behind it the batches of its partition's entries
   pub are_logs : EachFrom (IsLog course crashes) 1 ends.logs logs
   -- they are one history of the engine, where they were one at opening: each entry a step of its
@@ -172,25 +175,31 @@ pub record Serves (course : Course) (ends : RunEnds) (crashes : Crashes) (stamps
 abbrev pub IsUntroubled : Told → LogEnds → Type 0
 IsUntroubled told ends = IsTrue told.disk_counts → ends.disk_after.faults ≡ ends.disk.faults
 
--- each log of a partition below this one can be read: they are opened in order, up to the first one
--- that can't be
-abbrev pub AreGoodBelow : Told → List LogEnds → ℕ → Type 0
-AreGoodBelow told volumes partition = (number : ℕ) → 1 ≤ number → number < partition
-    → OfNumber volumes number
-    (λ ends. IsTrue told.disk → (frame : ℕ) → IsBadAt number ends.disk.contents frame → ⊥)
+-- the log of the partition with this number can be read, and no call of its disk failed
+pub record IsGood (told : Told) (number : ℕ) (ends : LogEnds) : Type 0 where
+  pub untroubled : IsUntroubled told ends
+  pub readable : IsTrue told.disk → (frame : ℕ) → IsBadAt number ends.disk.contents frame → ⊥
 
--- Opening ended the run: a disk failed, a log has a first frame that can't be read, or there was no
--- memory.
+-- Logs are opened in the order of their partitions, up to this one: each one below it is good, and
+-- each one above it is as it was.
+pub record AreOpenedTo (told : Told) (volumes : List LogEnds) (partition : ℕ) : Type 0 where
+  pub below : (number : ℕ) → 1 ≤ number → number < partition
+      → OfNumber volumes number (IsGood told number)
+  pub above : AllByRecursion (λ ends. ends.disk_after ≡ ends.disk) (drop partition volumes)
+
+-- Opening ended the run: at the first log whose disk failed or that has a frame that can't be read,
+-- or since there was no memory.
 abbrev pub FailsToOpen : Told → List LogEnds → Cause → Type 0
 FailsToOpen told volumes (causes.DiskFault partition batch) = (batch ≡ None)
     × OfNumber volumes partition (λ ends. Rose ends.disk.faults ends.disk_after.faults)
-    × AreGoodBelow told volumes partition
+    × AreOpenedTo told volumes partition
 FailsToOpen told volumes (causes.BadLog partition frame) =
     OfNumber volumes partition
     (λ ends. IsTrue told.disk → IsBadAt partition ends.disk.contents frame)
-    × AreGoodBelow told volumes partition
+    × AreOpenedTo told volumes partition
     × AllByRecursion (IsUntroubled told) volumes
-FailsToOpen told volumes causes.Memory = AllByRecursion (IsUntroubled told) volumes
+FailsToOpen told volumes causes.Memory = ((partition : ℕ) × AreOpenedTo told volumes partition)
+    × AllByRecursion (IsUntroubled told) volumes
 FailsToOpen told volumes causes.Done = ⊥
 FailsToOpen told volumes causes.Usage = ⊥
 FailsToOpen told volumes (causes.SourceFault session) = ⊥

@@ -10,17 +10,17 @@ use Rattle.zb_session.specs.Answer.{Answer, IsAnswer}
 use Rattle.zb_session.specs.Session.{SessionEnds, SessionRun, replies_of, last_line, most_taken}
 use Rattle.zb_serve.specs.Log.{Course}
 use Rattle.zb_serve.specs.Ends.{Told}
-use Rattle.zb_serve.specs.Cause.{comes_before}
+use Rattle.zb_serve.specs.Cause.{comes_before, cuts_off}
 use Rattle.zb_serve.specs.declared.run.Cause.{Cause}
 use Rattle.zb_serve.specs.declared.run.Cause.TheVariants as causes
 
 -- why a reply of the session with this number is missing, or cut short: its sink failed, and the
--- run's cause is that or one that is told before it, or its sink's calls take memory, and the cause
--- is want of it
+-- run's cause is none that is told behind that, or its sink's calls take memory, and the cause cut
+-- the run off
 abbrev pub IsCutShort : Told → (number : ℕ) → SessionEnds → Cause → Type 0
 IsCutShort told number ends cause = (Rose ends.sink.faults ends.sink_after.faults
-    × ((cause ≡ causes.SinkFault number) ⊎ IsTrue (comes_before cause (causes.SinkFault number))))
-    ⊎ (IsTrue told.sink_memory × (cause ≡ causes.Memory))
+    × IsFalse (comes_before (causes.SinkFault number) cause))
+    ⊎ (IsTrue told.sink_memory × IsTrue (cuts_off cause))
 
 -- the replies were written in order, all of them, or all but the last one and a front of that
 abbrev pub IsSent : Told → (number : ℕ) → SessionEnds → Cause → List Answer → Type 0
@@ -37,7 +37,11 @@ pub record IsSession (course : Course) (number : ℕ) (ends : SessionEnds)
   pub takes : TakesBytes course.told.source ends.source ends.source_after run.taken
   pub lines : AreLines run.taken run.lines run.rest
   pub within : length run.taken ≤ most_taken
-  pub to_end : IsTrue run.ended → IsTrue course.told.source → ends.source_after.left ≡ []
+  -- where it was read to its end, the source has told its end, and has nothing left; where not, it
+  -- has told no end since the run began
+  pub to_end : IsTrue run.ended → IsTrue ends.source_after.ended
+      × (IsTrue course.told.source → ends.source_after.left ≡ [])
+  pub not_ended : run.ended ≡ false → ends.source_after.ended ≡ ends.source.ended
   -- the served lines are the first ones, each with its answer, and the replies were written in
   -- order
   pub first : run.lines ++ last_line run.ended run.rest ≡ run.served ++ run.unserved

@@ -1,5 +1,5 @@
 -- What a run goes by.
-use Rattle.std.specs.Prelude.{ℕ, List, Bool}
+use Rattle.std.specs.Prelude.{ℕ, Bool}
 use Rattle.zb_words.specs.declared.plan.ClockKind.{ClockKind}
 use Rattle.zb_words.specs.declared.plan.ClockKind.TheVariants as kinds
 use Rattle.zb_words.specs.declared.plan.ServePlan.{ServePlan}
@@ -12,13 +12,12 @@ pub record RunSetting : Type 0 where
   pub limit : ℕ
   pub units : ℕ
 
--- the clock of a run, by its kind and by the moments that it may tell
-abbrev pub hours_of : ClockKind → Bool → List ℕ → Hours
-hours_of kinds.Manual tells moments = manual
-hours_of kinds.Real tells moments = real tells moments
+-- the clock of a run, by its kind and by what it is to read
+abbrev pub hours_of : ClockKind → Bool → (ℕ → ℕ) → Hours
+hours_of kinds.Manual tells upcoming = manual
+hours_of kinds.Real tells upcoming = real tells upcoming
 
--- what a run goes by under a plan, with a real clock at hand that may tell the moments that it
--- reads
-abbrev pub setting_of : ServePlan → Bool → List ℕ → RunSetting
-setting_of plan tells moments =
-    record { hours = hours_of plan.clock tells moments; limit = plan.limit; units = plan.units }
+-- what a run goes by under a plan, with a real clock at hand that may tell what it is to read
+abbrev pub setting_of : ServePlan → Bool → (ℕ → ℕ) → RunSetting
+setting_of plan tells upcoming =
+    record { hours = hours_of plan.clock tells upcoming; limit = plan.limit; units = plan.units }

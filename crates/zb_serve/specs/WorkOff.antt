@@ -39,7 +39,7 @@ behind_of hours found entries unlogged end =
 pub record AreWorkedOff (basis : Basis) (behind : Behind) (facts : Facts) (end : End)
     (count : ℕ) : Type 0 where
   pub reading : ℕ
-  pub read : IsReadingOf behind.hours behind.found reading
+  pub read : IsReadingOf behind.hours behind.found 0 reading
   pub delivered : IsDelivered basis reading behind.entries facts.has count
   pub same : end ≡ behind.end
 
@@ -47,7 +47,7 @@ pub record AreWorkedOff (basis : Basis) (behind : Behind) (facts : Facts) (end :
 pub record AreWorkCut (basis : Basis) (behind : Behind) (facts : Facts) (end : End)
     (count : ℕ) : Type 0 where
   pub reading : ℕ
-  pub read : IsReadingOf behind.hours behind.found reading
+  pub read : IsReadingOf behind.hours behind.found 0 reading
   pub stop : Stop
   pub cut : IsDeliveryCut basis reading behind.entries (λ made left. facts.stopped made left stop)
   pub told : (end ≡ ends.Stopped) × (count ≡ 0)

@@ -1,6 +1,7 @@
 ghost use Rattle.std.specs.Prelude.{◌≡◌, ◌≤◌, ◌^◌, List, [], None, Option, Result, map, length};
 ghost use Rattle.std.specs.Prelude.{IsTrue, IsFalse, is_some, vec_capacity};
 ghost use Rattle.std.specs.List.{AllZip};
+ghost use Rattle.zb_outside.specs.Clock.{HasGoneOn};
 ghost use Rattle.zb_words.specs.declared.plan.ClockKind.TheVariants as kinds;
 ghost use Rattle.zb_session.specs.Hours.{Hours};
 ghost use Rattle.zb_wire.specs.declared.request.Request.{Request as Asked};
@@ -62,7 +63,7 @@ pub fn serve_by<S: Source, K: Sink, D: Disk, C: Clock>(
         → AllZip (IsSafe D.Disk) volumes.items result.volumes.items }
     ensures run { IsRun
         (all_told S.tells S.counts_failures K.Sink D.Disk)
-        (setting_of plan.now C.tells (C.moments clock.old))
+        (setting_of plan.now C.tells (C.upcoming clock.old))
         (ends_alone
         (session_ends (S.view session.old.source) (S.view session.new.source)
         (K.view session.old.sink) (K.view session.new.sink))
@@ -70,7 +71,7 @@ pub fn serve_by<S: Source, K: Sink, D: Disk, C: Clock>(
         (crashes_of D.Disk volumes.items result.volumes.items)
         (answer_of_run result.cause (map (λ list. list.items) result.stamps.items) result.units) }
     ensures untouched { plan.now.clock ≡ kinds.Manual → clock.new ≡ clock.old }
-    ensures moments { C.moments clock.new ≡ C.moments clock.old }
+    ensures readings { HasGoneOn (C.upcoming clock.old) (C.upcoming clock.new) }
 {
     match open_engine(alloc, volumes, plan.limit, plan.units) {
         Ok((solo, room)) => serve_engine(alloc, plan, session, solo, room, clock),
@@ -105,7 +106,7 @@ fn serve_engine<S: Source, K: Sink, D: Disk, C: Clock>(
     ensures run { (start : Start D) (volumes : List (Volume D)) → HasMade start [] solo
         → IsBegunOver plan.now.limit plan.now.units volumes start → IsRun
         (all_told S.tells S.counts_failures K.Sink D.Disk)
-        (setting_of plan.now C.tells (C.moments clock.old))
+        (setting_of plan.now C.tells (C.upcoming clock.old))
         (ends_alone
         (session_ends (S.view session.old.source) (S.view session.new.source)
         (K.view session.old.sink) (K.view session.new.sink))
@@ -113,7 +114,7 @@ fn serve_engine<S: Source, K: Sink, D: Disk, C: Clock>(
         (crashes_of D.Disk volumes result.volumes.items)
         (answer_of_run result.cause (map (λ list. list.items) result.stamps.items) result.units) }
     ensures untouched { plan.now.clock ≡ kinds.Manual → clock.new ≡ clock.old }
-    ensures moments { C.moments clock.new ≡ C.moments clock.old }
+    ensures readings { HasGoneOn (C.upcoming clock.old) (C.upcoming clock.new) }
 {
     let mut dial = Dial::new(goes_by_hand(plan.clock));
     let end = serve_solo(alloc, session, &mut solo, &mut dial, clock);
@@ -156,15 +157,15 @@ fn work_off<D: Disk, C: Clock>(
         × (unlogged : Option Entry)
         × LeavesDesk (facts_in start solo.old) entries unlogged end
         × (IsFalse (is_cut end)
-        → AreAt hours found (clocks_of dial.now C.tells (C.moments clock.old))) }
+        → AreAt hours found (clocks_of dial.now C.tells (C.upcoming clock.old))) }
     ensures worked { (start : Start D) (hours : Hours) (found : List (Result Asked LineFault))
         (entries : List Entry) (unlogged : Option Entry)
         → LeavesDesk (facts_in start solo.old) entries unlogged end
         → (IsFalse (is_cut end)
-        → AreAt hours found (clocks_of dial.now C.tells (C.moments clock.old)))
+        → AreAt hours found (clocks_of dial.now C.tells (C.upcoming clock.old)))
         → IsWorkedOff (basis_in start) (behind_of hours found entries unlogged end)
         (facts_in start solo.new) result }
-    ensures moments { C.moments clock.new ≡ C.moments clock.old }
+    ensures readings { HasGoneOn (C.upcoming clock.old) (C.upcoming clock.new) }
     ensures untouched { (IsFalse (is_cut end) → IsTrue (is_some dial.now)) → clock.new ≡ clock.old }
 {
     if is_cut(end) {
@@ -193,15 +194,15 @@ fn serve_solo<S: Source, K: Sink, D: Disk, C: Clock>(
     clock: &mut C,
 ) -> End
     requires { (start : Start D) × (hours : Hours) × HasMade start [] solo.old
-        × AreAt hours [] (clocks_of dial.old C.tells (C.moments clock.old)) }
+        × AreAt hours [] (clocks_of dial.old C.tells (C.upcoming clock.old)) }
     ensures over { (start : Start D) (hours : Hours) → HasMade start [] solo.old
-        → AreAt hours [] (clocks_of dial.old C.tells (C.moments clock.old))
+        → AreAt hours [] (clocks_of dial.old C.tells (C.upcoming clock.old))
         → IsOver (streams_of S.tells S.counts_failures K.Sink)
         (began_of hours (basis_in start) (S.view session.old.source) (K.view session.old.sink))
         (S.view session.new.source)
-        (service_of (K.view session.new.sink) (clocks_of dial.new C.tells (C.moments clock.new))
+        (service_of (K.view session.new.sink) (clocks_of dial.new C.tells (C.upcoming clock.new))
         (facts_in start solo.new)) result }
-    ensures moments { C.moments clock.new ≡ C.moments clock.old }
+    ensures readings { HasGoneOn (C.upcoming clock.old) (C.upcoming clock.new) }
     ensures untouched { IsTrue (is_some dial.old) → clock.new ≡ clock.old }
 {
     serve_session(alloc, session, solo, dial, clock)

@@ -1,4 +1,5 @@
 ghost use Rattle.std.specs.Prelude.{◌≡◌, ◌<◌, ◌≤◌, ◌^◌, ◌↔◌, length, map, IsTrue, IfOk, IfErr, string_bytes};
+ghost use Rattle.zb_outside.specs.Clock.{HasGoneOn};
 ghost use Rattle.zb_words.specs.Plan.{IsPlan};
 ghost use Rattle.zb_words.specs.declared.plan.ClockKind.TheVariants as kinds;
 ghost use Rattle.zb_words.specs.declared.plan.Plan.TheVariants as plans;
@@ -22,7 +23,7 @@ use zb_words::{Plan, PlanFault, ServePlan, plan_of};
 
 /// Serves sessions over volumes by the words of a command line, and hands everything back with why
 /// it ended. It takes one step for each byte of the lines, four calls of a disk for each batch, and
-/// for each batch of a tick a walk over the buffered messages. So far one session can be served, over
+/// for each batch of a tick the logarithm of how much waits. So far one session can be served, over
 /// a volume for each partition, and this thread does all of it: see `serve_alone`.
 pub fn serve<R, S, K, D, C, G>(
     rt: &R,
@@ -42,7 +43,7 @@ where
     G: Door,
     requires { length sessions.items < 2 ^ 32 }
     ensures closed { Closes (devices_of S.Source K.Sink D.Disk)
-        (clock_at_hand C.tells (C.moments clock.old)) (map string_bytes words.now)
+        (clock_at_hand C.tells (C.upcoming clock.old)) (map string_bytes words.now)
         sessions.items volumes.items result }
 
     // The clock is read under a plan that goes by it alone, and not where the words can't be
@@ -50,7 +51,7 @@ where
     ensures unasked { result.cause ≡ Cause.Usage → clock.new ≡ clock.old }
     ensures untouched { (plan : ServePlan) → IsPlan (map string_bytes words.now) (plans.Serve plan)
         → plan.clock ≡ kinds.Manual → clock.new ≡ clock.old }
-    ensures moments { C.moments clock.new ≡ C.moments clock.old }
+    ensures readings { HasGoneOn (C.upcoming clock.old) (C.upcoming clock.new) }
 {
     let _ = rt;
     let _ = door;
@@ -67,7 +68,7 @@ pub fn serve_alone<S: Source, K: Sink, D: Disk, C: Clock>(
 ) -> Closed<S, K, D>
     requires { length sessions.items < 2 ^ 32 }
     ensures closed { Closes (devices_of S.Source K.Sink D.Disk)
-        (clock_at_hand C.tells (C.moments clock.old)) (map string_bytes words.now)
+        (clock_at_hand C.tells (C.upcoming clock.old)) (map string_bytes words.now)
         sessions.items volumes.items result }
 
     // The clock is read under a plan that goes by it alone, and not where the words can't be
@@ -75,7 +76,7 @@ pub fn serve_alone<S: Source, K: Sink, D: Disk, C: Clock>(
     ensures unasked { result.cause ≡ Cause.Usage → clock.new ≡ clock.old }
     ensures untouched { (plan : ServePlan) → IsPlan (map string_bytes words.now) (plans.Serve plan)
         → plan.clock ≡ kinds.Manual → clock.new ≡ clock.old }
-    ensures moments { C.moments clock.new ≡ C.moments clock.old }
+    ensures readings { HasGoneOn (C.upcoming clock.old) (C.upcoming clock.new) }
 {
     let plan = match plan_for(alloc, words, sessions.len(), volumes.len()) {
         Ok(plan) => plan,

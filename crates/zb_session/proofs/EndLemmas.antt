@@ -5,7 +5,7 @@ use Rattle.zb_outside.specs.Stream.{SourceView, SinkView}
 use Rattle.zb_outside.specs.declared.trouble.Trouble.{Trouble}
 use Rattle.zb_outside.specs.declared.trouble.Trouble.TheVariants as troubles
 use Rattle.zb_lines.specs.Taken.{TakesBytes}
-use Rattle.zb_lines.specs.Line.{IsOneLine, ended, Comes, IsAtEnd}
+use Rattle.zb_lines.specs.Line.{IsOneLine, ended, Comes, has_ended}
 use Rattle.zb_lines.specs.declared.reader.Next.{Next}
 use Rattle.zb_lines.specs.declared.reader.Next.TheVariants as nexts
 use Rattle.zb_world.specs.declared.entry.Entry.{Entry}
@@ -18,7 +18,7 @@ use Rattle.zb_session.specs.Serving.{Began, AreAt, sides_of, Service, Stand, sta
 use Rattle.zb_session.specs.declared.session.End.{End}
 use Rattle.zb_session.specs.declared.session.End.TheVariants as ends
 use Rattle.zb_session.proofs.ListLemmas.{append_none}
-use Rattle.zb_session.proofs.StreamLemmas.{IsStream, IsBehind, splits, stream_cut, stream_within, stream_end, stream_last, stream_line, stream_on}
+use Rattle.zb_session.proofs.StreamLemmas.{IsStream, IsAtItsEnd, IsBehind, splits, stream_cut, stream_within, stream_end, stream_last, stream_line, stream_on}
 use Rattle.zb_session.proofs.TurnLemmas.{past_of, behind, replied_more, serial_more, holds_more, written_more, written_whole, turn_on}
 
 -- a count that rose later rose
@@ -63,6 +63,7 @@ module _ (streams : Streams) (began : Began) (source : SourceView) (service : Se
       lines = stream.are;
       within = stream.within;
       to_end = stream.to_end;
+      not_ended = stream.not_ended;
       first = stream.first;
       answers = replied;
       serial = serial;
@@ -205,36 +206,36 @@ module _ (streams : Streams) (began : Began) (old : Stand) (s : IsServing stream
   }
 
   -- there was no memory to read on
-  pub stops_memory : (IsTrue streams.source_counts → source.faults ≡ old.source.faults) → Over ends.Memory
-  stops_memory steady =
+  pub stops_memory : source.ended ≡ old.source.ended → (IsTrue streams.source_counts → source.faults ≡ old.source.faults) → Over ends.Memory
+  stops_memory still steady =
       let split = splits (old.held ++ more) in
-      let stream = stream_cut streams.source_tells began.source source s.lines (old.held ++ more) was split in
+      let stream = stream_cut streams.source_tells began.source source s.lines (old.held ++ more) was (still ∙ s.unended) split in
       ends_by ends.Memory split.lines false stream (is_cut streams began source old.service s.lines split.lines false s.answers stream ends.Memory tt (counted ends.Memory (λ other. steady))) (λ e. absurd (cc))
 
   -- the source failed
-  stops_source : IsOneLine (old.held ++ more) → StreamFaultsRose old.source.faults source.faults → Over ends.SourceFault
-  stops_source one rose =
-      let stream = stream_within streams.source_tells began.source source s.lines (old.held ++ more) was one in
+  stops_source : source.ended ≡ old.source.ended → IsOneLine (old.held ++ more) → StreamFaultsRose old.source.faults source.faults → Over ends.SourceFault
+  stops_source still one rose =
+      let stream = stream_within streams.source_tells began.source source s.lines (old.held ++ more) was (still ∙ s.unended) one in
       ends_by ends.SourceFault [] false stream
       (is_source_fault streams began source old.service s.lines [] false s.answers stream refl (rose_since began.source.faults old.source.faults source.faults s.steady.source_later rose)
       (counted ends.SourceFault (λ other. absurd (other refl)))) (λ e. absurd (cc))
 
   -- the source could not be read on
-  pub stops_reading : (rest shown : List ℕ) (most : ℕ) (trouble : Trouble) → Comes most (Err trouble) (old.held ++ more) rest shown
+  pub stops_reading : (rest shown : List ℕ) (most : ℕ) (trouble : Trouble) → source.ended ≡ old.source.ended → Comes most (Err trouble) (old.held ++ more) rest shown
       → (IsErrOf {T = Next} (Err trouble) troubles.Failed → StreamFaultsRose old.source.faults source.faults)
       → (IsTrue streams.source_counts → UnlessStreamFailed {T = Next} (Err trouble) (source.faults ≡ old.source.faults)) → Over (source_end_of trouble)
-  stops_reading rest shown most troubles.Failed comes rose steady = stops_source comes (rose refl)
-  stops_reading rest shown most troubles.Memory comes rose steady = stops_memory steady
+  stops_reading rest shown most troubles.Failed still comes rose steady = stops_source still comes (rose refl)
+  stops_reading rest shown most troubles.Memory still comes rose steady = stops_memory still steady
 
   -- the session took as much as it may
-  pub stops_full : IsOneLine (old.held ++ more) → left ≡ 0 → (IsTrue streams.source_counts → source.faults ≡ old.source.faults) → Over ends.InputFull
-  stops_full one none steady =
-      let stream = stream_within streams.source_tells began.source source s.lines (old.held ++ more) was one in
+  pub stops_full : source.ended ≡ old.source.ended → IsOneLine (old.held ++ more) → left ≡ 0 → (IsTrue streams.source_counts → source.faults ≡ old.source.faults) → Over ends.InputFull
+  stops_full still one none steady =
+      let stream = stream_within streams.source_tells began.source source s.lines (old.held ++ more) was (still ∙ s.unended) one in
       let full : length stream.taken ≡ most_taken = omega (arith, s.spent, spends, none, s.takes.given, takes.given, stream.takes.given) in
       ends_by ends.InputFull [] false stream (is_full streams began source old.service s.lines [] false s.answers stream refl refl full (counted ends.InputFull (λ other. steady))) (λ e. absurd (cc))
 
   -- the source ended behind a line
-  pub stops_done : old.held ++ more ≡ [] → (IsTrue streams.source_tells → source.left ≡ []) → (IsTrue streams.source_counts → source.faults ≡ old.source.faults) → Over ends.Done
+  pub stops_done : old.held ++ more ≡ [] → IsAtItsEnd streams.source_tells source → (IsTrue streams.source_counts → source.faults ≡ old.source.faults) → Over ends.Done
   stops_done none end steady =
       let stream = stream_end streams.source_tells began.source source s.lines (old.held ++ more) was none end in
       ends_by ends.Done [] true stream (is_done streams began source old.service s.lines [] true s.answers stream refl refl (counted ends.Done (λ other. steady))) (λ e. absurd (cc))
@@ -358,32 +359,33 @@ comes_next streams began now s most more left shown next other some came decides
 
 -- a line was read
 module _ (streams : Streams) (began : Began) (old : Stand) (s : IsServing streams began old) (source : SourceView) (new : Service)
-    (budget' most : ℕ) (more left shown : List ℕ) (takes : TakesBytes streams.source_tells old.source source more) (spends : old.budget ≡ budget' + length more) where
+    (budget' most : ℕ) (more left shown : List ℕ) (takes : TakesBytes streams.source_tells old.source source more) (spends : old.budget ≡ budget' + length more)
+    (over : IsTrue streams.source_tells → IsTrue source.ended → source.left ≡ []) where
   abbrev behind_it : IsBehind streams.source_tells began.source source s.lines (old.held ++ more)
   behind_it = behind streams began old s budget' source more takes spends
 
   -- and served
-  pub turn_served : (next : Next) → next ≢ nexts.End → next ≢ nexts.Full → (came : Comes most (Ok next) (old.held ++ more) left shown) → (IsAtEnd (Ok next) → IsTrue streams.source_tells → source.left ≡ [])
+  pub turn_served : (next : Next) → next ≢ nexts.End → next ≢ nexts.Full → (came : Comes most (Ok next) (old.held ++ more) left shown) → source.ended ≡ has_ended (Ok next) old.source.ended
       → IsReplied streams (past_of streams began old s) (line_in old.held more most next left shown came) old.service.sink new → AreSteady streams old.source source old.service.sink new.sink
       → GoesOn streams began (stand_of source new left budget' (old.number + 1)) (Ok (goes_on next))
-  turn_served nexts.Line other some came end replied later = turn_on streams began old s new budget' source more came.0 left takes spends came.1 came.2 replied later
-  turn_served nexts.Last other some came end replied later =
+  turn_served nexts.Line other some came told replied later = turn_on streams began old s new budget' source more came.0 left told takes spends came.1 came.2 replied later
+  turn_served nexts.Last other some came told replied later =
       let line = old.held ++ more in
-      let stream = stream_last streams.source_tells began.source source s.lines line behind_it came.0 came.1 (end tt) in
+      let stream = stream_last streams.source_tells began.source source s.lines line behind_it came.0 came.1 (told, λ t. over t told) in
       stops_served streams began old s source new line [] true stream later.source_same refl refl replied later
-  turn_served nexts.End other some came end replied later = absurd (other refl)
-  turn_served nexts.Full other some came end replied later = absurd (some refl)
+  turn_served nexts.End other some came told replied later = absurd (other refl)
+  turn_served nexts.Full other some came told replied later = absurd (some refl)
 
   -- and ended the session
-  pub turn_stopped : (next : Next) → next ≢ nexts.End → next ≢ nexts.Full → (came : Comes most (Ok next) (old.held ++ more) left shown) → (IsAtEnd (Ok next) → IsTrue streams.source_tells → source.left ≡ []) → (end : End)
+  pub turn_stopped : (next : Next) → next ≢ nexts.End → next ≢ nexts.Full → (came : Comes most (Ok next) (old.held ++ more) left shown) → source.ended ≡ has_ended (Ok next) old.source.ended → (end : End)
       → IsLineEnd streams (past_of streams began old s) (line_in old.held more most next left shown came) old.service.sink new end → (IsTrue streams.source_counts → source.faults ≡ old.source.faults)
       → ((end ≡ ends.SinkFault → ⊥) → IsTrue streams.sink_counts → new.sink.faults ≡ old.service.sink.faults) → IsOver streams began source new end
-  turn_stopped nexts.Line other some came at_end end ended source_steady steady =
-      let stream = stream_line streams.source_tells began.source source s.lines (old.held ++ more) came.0 left behind_it came.2 came.1 in
+  turn_stopped nexts.Line other some came told end ended source_steady steady =
+      let stream = stream_line streams.source_tells began.source source s.lines (old.held ++ more) came.0 left behind_it (told ∙ s.unended) came.2 came.1 in
       stops_line streams began old s source new came.0 (splits left).lines false stream source_steady end ended steady
-  turn_stopped nexts.Last other some came at_end end ended source_steady steady =
+  turn_stopped nexts.Last other some came told end ended source_steady steady =
       let line = old.held ++ more in
-      let stream = stream_last streams.source_tells began.source source s.lines line behind_it came.0 came.1 (at_end tt) in
+      let stream = stream_last streams.source_tells began.source source s.lines line behind_it came.0 came.1 (told, λ t. over t told) in
       stops_line streams began old s source new line [] true stream source_steady end ended steady
-  turn_stopped nexts.End other some came at_end end ended source_steady steady = absurd (other refl)
-  turn_stopped nexts.Full other some came at_end end ended source_steady steady = absurd (some refl)
+  turn_stopped nexts.End other some came told end ended source_steady steady = absurd (other refl)
+  turn_stopped nexts.Full other some came told end ended source_steady steady = absurd (some refl)

@@ -64,6 +64,10 @@ length-lines [] rest = omega arith
 length-lines (line ∷ lines) rest =
     omega (arith, length-lines lines rest, length-append (flat_map ended (line ∷ lines)) rest, length-append (flat_map ended lines) rest, length-append (ended line) (flat_map ended lines), length-append line (newline ∷ []))
 
+-- a source has told its end, and has nothing left where it tells its bytes
+abbrev pub IsAtItsEnd : Bool → SourceView → Type 0
+IsAtItsEnd tells now = IsTrue now.ended × (IsTrue tells → now.left ≡ [])
+
 -- what a session took, the lines that were served and those that weren't
 pub record IsStream (tells : Bool) (start now : SourceView) (served unserved : List (List ℕ)) (at_end : Bool) : Type 0 where
   pub taken : List ℕ
@@ -72,7 +76,8 @@ pub record IsStream (tells : Bool) (start now : SourceView) (served unserved : L
   pub takes : TakesBytes tells start now taken
   pub within : length taken ≤ most_taken
   pub are : AreLines taken lines rest
-  pub to_end : IsTrue at_end → IsTrue tells → now.left ≡ []
+  pub to_end : IsTrue at_end → IsAtItsEnd tells now
+  pub not_ended : at_end ≡ false → now.ended ≡ start.ended
   pub first : lines ++ last_line at_end rest ≡ served ++ unserved
 
 -- bytes behind served lines
@@ -84,8 +89,8 @@ pub record IsBehind (tells : Bool) (start now : SourceView) (lines : List (List 
   pub each : AllByRecursion IsOneLine lines
 
 -- the stream stopped somewhere
-pub stream_cut : (tells : Bool) (start now : SourceView) (lines : List (List ℕ)) (bytes : List ℕ) → IsBehind tells start now lines bytes → (s : Splits bytes) → IsStream tells start now lines s.lines false
-stream_cut tells start now lines bytes behind s = record {
+pub stream_cut : (tells : Bool) (start now : SourceView) (lines : List (List ℕ)) (bytes : List ℕ) → IsBehind tells start now lines bytes → now.ended ≡ start.ended → (s : Splits bytes) → IsStream tells start now lines s.lines false
+stream_cut tells start now lines bytes behind still s = record {
   taken = behind.taken;
   lines = lines ++ s.lines;
   rest = s.rest;
@@ -97,12 +102,13 @@ stream_cut tells start now lines bytes behind s = record {
     partial = s.are.partial;
   };
   to_end = λ none. absurd (false≢true none);
+  not_ended = λ none. still;
   first = append-nil (lines ++ s.lines);
 }
 
 -- the stream stopped within a line
-pub stream_within : (tells : Bool) (start now : SourceView) (lines : List (List ℕ)) (bytes : List ℕ) → IsBehind tells start now lines bytes → IsOneLine bytes → IsStream tells start now lines [] false
-stream_within tells start now lines bytes behind one = record {
+pub stream_within : (tells : Bool) (start now : SourceView) (lines : List (List ℕ)) (bytes : List ℕ) → IsBehind tells start now lines bytes → now.ended ≡ start.ended → IsOneLine bytes → IsStream tells start now lines [] false
+stream_within tells start now lines bytes behind still one = record {
   taken = behind.taken;
   lines = lines;
   rest = bytes;
@@ -110,6 +116,7 @@ stream_within tells start now lines bytes behind one = record {
   within = behind.within;
   are = record { whole = behind.whole; each = behind.each; partial = one };
   to_end = λ none. absurd (false≢true none);
+  not_ended = λ none. still;
   first = refl;
 }
 
@@ -119,7 +126,7 @@ last_line_some (byte ∷ bytes) some = refl
 
 -- the stream came to its end within a line
 pub stream_last : (tells : Bool) (start now : SourceView) (lines : List (List ℕ)) (bytes : List ℕ) → IsBehind tells start now lines bytes → IsOneLine bytes → 0 < length bytes
-    → (IsTrue tells → now.left ≡ []) → IsStream tells start now lines (bytes ∷ []) true
+    → IsAtItsEnd tells now → IsStream tells start now lines (bytes ∷ []) true
 stream_last tells start now lines bytes behind one some end = record {
   taken = behind.taken;
   lines = lines;
@@ -127,13 +134,14 @@ stream_last tells start now lines bytes behind one some end = record {
   takes = behind.takes;
   within = behind.within;
   are = record { whole = behind.whole; each = behind.each; partial = one };
-  to_end = λ ended told. end told;
+  to_end = λ ended. end;
+  not_ended = λ none. absurd (false≢true (sym none));
   first = ap (λ more. lines ++ more) (last_line_some bytes some);
 }
 
 -- the stream came to its end behind a line
 pub stream_end : (tells : Bool) (start now : SourceView) (lines : List (List ℕ)) (bytes : List ℕ) → IsBehind tells start now lines bytes → bytes ≡ []
-    → (IsTrue tells → now.left ≡ []) → IsStream tells start now lines [] true
+    → IsAtItsEnd tells now → IsStream tells start now lines [] true
 unfolding IsOneLine
 stream_end tells start now lines bytes behind none end = record {
   taken = behind.taken;
@@ -142,7 +150,8 @@ stream_end tells start now lines bytes behind none end = record {
   takes = behind.takes;
   within = behind.within;
   are = record { whole = behind.whole ∙ ap (λ bs. flat_map ended lines ++ bs) none; each = behind.each; partial = tt };
-  to_end = λ ended told. end told;
+  to_end = λ ended. end;
+  not_ended = λ none. absurd (false≢true (sym none));
   first = refl;
 }
 
@@ -157,15 +166,16 @@ stream_on tells start now served line unserved at_end s = record {
   within = s.within;
   are = s.are;
   to_end = s.to_end;
+  not_ended = s.not_ended;
   first = s.first ∙ sym (append_assoc served (line ∷ []) unserved);
 }
 
 -- the stream stopped behind a line with its newline
-pub stream_line : (tells : Bool) (start now : SourceView) (lines : List (List ℕ)) (bytes line left : List ℕ) → IsBehind tells start now lines bytes → bytes ≡ ended line ++ left → IsOneLine line
+pub stream_line : (tells : Bool) (start now : SourceView) (lines : List (List ℕ)) (bytes line left : List ℕ) → IsBehind tells start now lines bytes → now.ended ≡ start.ended → bytes ≡ ended line ++ left → IsOneLine line
     → IsStream tells start now lines (line ∷ (splits left).lines) false
-stream_line tells start now lines bytes line left behind is one =
+stream_line tells start now lines bytes line left behind still is one =
     let later = splits left in
-    stream_cut tells start now lines bytes behind (record {
+    stream_cut tells start now lines bytes behind still (record {
       lines = line ∷ later.lines;
       rest = later.rest;
       are = record {

@@ -31,6 +31,7 @@ serving_first streams began clocks known has at = record {
   whole = refl;
   each = tt;
   count = refl;
+  unended = refl;
   clock = at;
   replied = tt;
   serial = each_on_none (IsServed began.hours began.basis) [];
@@ -94,11 +95,11 @@ module _ (streams : Streams) (began : Began) (old : Stand) (s : IsServing stream
         ∙ append_assoc began.sink.written (replies_of s.answers) a.answer.reply ∙ ap (λ bs. began.sink.written ++ bs) (sym (replies_of_more s.answers a.answer))
 
   -- a line was served: the session goes on behind it
-  pub turn_on : (new : Service) (budget' : ℕ) (source : SourceView) (more line left : List ℕ)
+  pub turn_on : (new : Service) (budget' : ℕ) (source : SourceView) (more line left : List ℕ) → source.ended ≡ old.source.ended
       → TakesBytes streams.source_tells old.source source more → old.budget ≡ budget' + length more → IsOneLine line → old.held ++ more ≡ ended line ++ left
       → IsReplied streams past_of line old.service.sink new → AreSteady streams old.source source old.service.sink new.sink
       → IsServing streams began (stand_of source new left budget' (old.number + 1))
-  turn_on new budget' source more line left takes spends one bytes replied later =
+  turn_on new budget' source more line left still takes spends one bytes replied later =
       let b = behind budget' source more takes spends in
       let a = replied.answered in
       record {
@@ -110,6 +111,7 @@ module _ (streams : Streams) (began : Began) (old : Stand) (s : IsServing stream
         whole = b.whole ∙ ap (λ bs. flat_map ended s.lines ++ bs) bytes ∙ rw (flat_map-append ended s.lines (line ∷ []), append-nil (ended line)) (sym (append_assoc (flat_map ended s.lines) (ended line) left));
         each = AllByRecursion-append IsOneLine s.lines (line ∷ []) s.each (one, tt);
         count = omega (arith, s.count, length-append s.lines (line ∷ []));
+        unended = still ∙ s.unended;
         clock = a.clock;
         replied = replied_more line replied.reply new a;
         serial = serial_more line replied.reply new a;

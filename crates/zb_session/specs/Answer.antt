@@ -1,5 +1,5 @@
 -- What a line is answered, and which answers are those of the serial run.
-use Rattle.std.specs.Prelude.{◌≡◌, ℕ, List, [], ◌∷◌, ◌++◌, length, map, Some, None, Result, Ok, Err}
+use Rattle.std.specs.Prelude.{◌≡◌, ℕ, List, [], length, map, Some, None, Result, Ok, Err}
 use Rattle.std.specs.List.{flat_map}
 use Rattle.zb_rules.specs.Step.{EachOn}
 use Rattle.zb_world.specs.declared.entry.Entry.{Entry}
@@ -11,8 +11,8 @@ use Rattle.zb_reply.specs.declared.reply.Reply.{Reply}
 use Rattle.zb_reply.specs.declared.reply.Reply.TheVariants as replies
 use Rattle.zb_reply.specs.Reply.{line_of}
 use Rattle.zb_desk.specs.Serial.{Basis, units_in, IsCarriedOut}
-use Rattle.zb_desk.specs.Replies.{reply_to}
-use Rattle.zb_session.specs.Hours.{Hours, IsReadingOf}
+use Rattle.zb_desk.specs.Replies.{IsReply}
+use Rattle.zb_session.specs.Hours.{Hours, moved_by, IsReadingOf}
 
 -- what a line led to: what it was found to be, the reading of the clock that its request was served at, the entries that
 -- it made, and the line of its reply
@@ -22,21 +22,21 @@ pub record Answer : Type 0 where
   pub entries : List Entry
   pub reply : List ℕ
 
--- this line is the reply to a request that made these entries, with how many of them are units of work
-pub record IsReplyTo (request : Request) (reading : ℕ) (entries : List Entry) (line : List ℕ) : Type 0 where
+-- this line is the reply, in a run of n partitions, to a request that made these entries, with how many of them are units of work
+pub record IsReplyTo (n : ℕ) (request : Request) (reading : ℕ) (entries : List Entry) (line : List ℕ) : Type 0 where
   pub reply : Reply
-  pub told : reply_to request reading entries ≡ Some reply
+  pub told : IsReply n request reading entries reply
   pub written : line ≡ line_of reply (Some (length (units_in entries)))
 
--- a line with this number that is no request is answered by its fault, and makes no entry
-abbrev pub IsReplyBy : ℕ → Answer → Result Request LineFault → Type 0
-IsReplyBy number answer (Ok request) = IsReplyTo request answer.reading answer.entries answer.reply
-IsReplyBy number answer (Err fault) = (answer.entries ≡ []) × (answer.reply ≡ line_of (replies.Fault number fault) None)
+-- a line that is no request is answered by its fault, with its number, and makes no entry
+abbrev pub IsReplyBy : Given → Answer → Result Request LineFault → Type 0
+IsReplyBy given answer (Ok request) = IsReplyTo given.partitions request answer.reading answer.entries answer.reply
+IsReplyBy given answer (Err fault) = (answer.entries ≡ []) × (answer.reply ≡ line_of (replies.Fault given.number fault) None)
 
 -- this is what a line led to, which was read by its number, the number of partitions, and the kind of the clock
 pub record IsAnswer (given : Given) (line : List ℕ) (answer : Answer) : Type 0 where
   pub found : request_of given line ≡ answer.asked
-  pub replied : IsReplyBy given.number answer answer.asked
+  pub replied : IsReplyBy given answer answer.asked
 
 -- the entries of these answers, in order
 abbrev pub entries_made : List Answer → List Entry
@@ -48,7 +48,7 @@ found_in answers = map (λ answer. answer.asked) answers
 
 -- behind these answers a line was served: a request at a reading of the clock, by its entries, and no other line
 abbrev pub IsServedAs : Hours → Basis → List Answer → Answer → Result Request LineFault → Type 0
-IsServedAs hours basis before answer (Ok request) = IsReadingOf hours (found_in before ++ answer.asked ∷ []) answer.reading
+IsServedAs hours basis before answer (Ok request) = IsReadingOf hours (found_in before) (moved_by (Ok request)) answer.reading
     × IsCarriedOut basis request answer.reading (entries_made before) answer.entries
 IsServedAs hours basis before answer (Err fault) = answer.entries ≡ []
 

@@ -1,20 +1,21 @@
 -- The clock of a run, and its readings.
-use Rattle.std.specs.Prelude.{◌≡◌, ◌≤◌, min, sum_by, ℕ, List, Bool, true, false, IsTrue, Contains, Result, Ok}
+use Rattle.std.specs.Prelude.{◌≡◌, ◌≤◌, ◌+◌, min, sum_by, count_by, ℕ, List, Bool, true, false, IsTrue, is_ok, Result, Ok}
 use Rattle.zb_base.specs.Moment.{last_moment}
 use Rattle.zb_wire.specs.declared.given.Given.{Given}
 use Rattle.zb_wire.specs.declared.request.Request.{Request}
 use Rattle.zb_wire.specs.declared.request.Request.TheVariants as requests
 use Rattle.zb_wire.specs.declared.request.LineFault.{LineFault}
 
--- the clock of a run: one that is moved by hand, or a real one, which may tell the moments that it reads
+-- the clock of a run: one that is moved by hand, or a real one, which may tell what it is to read from the beginning of
+-- the run on, by the number of the reading
 pub data Hours : Type 0 where
   manual : Hours
-  real : Bool → List ℕ → Hours
+  real : Bool → (ℕ → ℕ) → Hours
 
 -- whether it is moved by hand
 abbrev pub is_manual : Hours → Bool
 is_manual manual = true
-is_manual (real tells moments) = false
+is_manual (real tells upcoming) = false
 
 -- what the line with this number is read by, in a run of so many partitions
 abbrev pub given_of : Hours → (partitions number : ℕ) → Given
@@ -30,8 +31,13 @@ moved_by _ = 0
 abbrev pub clock_after : List (Result Request LineFault) → ℕ
 clock_after found = min (sum_by moved_by found) last_moment
 
--- a reading of the clock for the last one of the lines that were found to be these
-abbrev pub IsReadingOf : Hours → List (Result Request LineFault) → ℕ → Type 0
-IsReadingOf manual found reading = reading ≡ clock_after found
-IsReadingOf (real tells moments) found reading = (reading ≤ last_moment)
-    × (IsTrue tells → (moment : ℕ) × Contains moments moment × (reading ≡ min moment last_moment))
+-- how many of the lines that were found to be these are requests
+abbrev pub requests_in : List (Result Request LineFault) → ℕ
+requests_in found = count_by is_ok found
+
+-- the reading of the clock behind lines that were found to be these, for what moves the one that is moved by hand on by so
+-- many milliseconds: each request before it has read the real one once, and nothing else has
+abbrev pub IsReadingOf : Hours → List (Result Request LineFault) → (by : ℕ) → ℕ → Type 0
+IsReadingOf manual found by reading = reading ≡ min (clock_after found + by) last_moment
+IsReadingOf (real tells upcoming) found by reading = (reading ≤ last_moment)
+    × (IsTrue tells → reading ≡ min (upcoming (requests_in found)) last_moment)

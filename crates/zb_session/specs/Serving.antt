@@ -17,7 +17,7 @@ use Rattle.zb_wire.specs.Request.{request_of}
 use Rattle.zb_desk.specs.Numbered.{EachFrom}
 use Rattle.zb_desk.specs.Serial.{Basis}
 use Rattle.zb_desk.specs.declared.desk.Desk.{Ghosts}
-use Rattle.zb_session.specs.Hours.{Hours, manual, real, given_of, clock_after}
+use Rattle.zb_session.specs.Hours.{Hours, manual, real, given_of, clock_after, requests_in}
 use Rattle.zb_session.specs.Answer.{Answer, IsAnswer, found_in, entries_made, IsServed, AreSerial}
 use Rattle.zb_session.specs.Session.{Streams, SessionEnds, session_ends, Before, replies_of, most_taken, IsCutLine, CutsOff, Facts, facts_of, IsLeftUndone, LeavesDesk, SessionRun, HasServed}
 use Rattle.zb_session.specs.declared.session.End.{End}
@@ -28,20 +28,21 @@ abbrev pub dial_of : Bool → Option ℕ
 dial_of true = Some 0
 dial_of false = None
 
--- the clocks: what the one that is moved by hand stands at, if there is one, and the moments that the real one may tell
+-- the clocks: what the one that is moved by hand stands at, if there is one, and what the real one is to read, if it tells that
 pub record Clocks : Type 0 where
   pub dial : Option ℕ
   pub tells : Bool
-  pub moments : List ℕ
+  pub upcoming : ℕ → ℕ
 
--- the clocks of a run, by what they stand at and may tell
-abbrev pub clocks_of : Option ℕ → Bool → List ℕ → Clocks
-clocks_of dial tells moments = record { dial = dial; tells = tells; moments = moments }
+-- the clocks of a run, by what they stand at and are to read
+abbrev pub clocks_of : Option ℕ → Bool → (ℕ → ℕ) → Clocks
+clocks_of dial tells upcoming = record { dial = dial; tells = tells; upcoming = upcoming }
 
--- the clocks stand so behind lines that were found to be these
+-- the clocks stand so behind lines that were found to be these: the real one has been read once for each request
 abbrev pub AreAt : Hours → List (Result Request LineFault) → Clocks → Type 0
 AreAt manual found clocks = clocks.dial ≡ Some (clock_after found)
-AreAt (real tells moments) found clocks = (clocks.dial ≡ None) × (tells ≡ clocks.tells) × (moments ≡ clocks.moments)
+AreAt (real tells upcoming) found clocks = (clocks.dial ≡ None) × (tells ≡ clocks.tells)
+    × ((k : ℕ) → clocks.upcoming k ≡ upcoming (k + requests_in found))
 
 -- what a session began with: the clock of the run, what the desk goes by, and its streams
 pub record Began : Type 0 where
@@ -106,6 +107,7 @@ pub record IsServing (streams : Streams) (began : Began) (now : Stand) : Type 0 
   pub whole : taken ≡ flat_map ended lines ++ now.held
   pub each : AllByRecursion IsOneLine lines
   pub count : now.number ≡ length lines + 1
+  pub unended : now.source.ended ≡ began.source.ended
   pub clock : AreAt began.hours (found_in answers) now.service.clocks
   pub replied : EachFrom (λ n. IsAnswer (given_of began.hours (length began.basis.logs) n)) 1 lines answers
   pub serial : AreSerial began.hours began.basis answers

@@ -12,7 +12,7 @@ use Rattle.zb_wire.specs.declared.request.Request.{Request}
 use Rattle.zb_wire.specs.Request.{request_of}
 use Rattle.zb_desk.specs.Numbered.{EachFrom}
 use Rattle.zb_desk.specs.Serial.{Basis, IsNextEntry, AreMadeFor}
-use Rattle.zb_session.specs.Hours.{Hours, given_of, IsReadingOf}
+use Rattle.zb_session.specs.Hours.{Hours, given_of, moved_by, IsReadingOf}
 use Rattle.zb_session.specs.Answer.{Answer, IsAnswer, found_in, entries_made, AreSerial}
 use Rattle.zb_session.specs.declared.session.End.{End}
 use Rattle.zb_session.specs.declared.session.End.TheVariants as ends
@@ -37,7 +37,7 @@ pub record SessionRun : Type 0 where
   pub taken : List ℕ
   pub lines : List (List ℕ)
   pub rest : List ℕ
-  -- whether the source was read to its end
+  -- whether the source was read to its end, which it told then
   pub ended : Bool
   -- the lines that were served, what each led to, and the lines that were not
   pub served : List (List ℕ)
@@ -104,7 +104,7 @@ pub record IsCutLine (before : Before) (line : List ℕ) (rest : List Entry) (un
   pub request : Request
   pub asks : request_of (given_of before.hours (length before.basis.logs) before.number) line ≡ Ok request
   pub reading : ℕ
-  pub read : IsReadingOf before.hours (found_in before.answers ++ Ok request ∷ []) reading
+  pub read : IsReadingOf before.hours (found_in before.answers) (moved_by (Ok request)) reading
   pub made : AreMadeFor before.basis request reading (entries_made before.answers) rest
   pub next : (entry : Entry) → unlogged ≡ Some entry → IsNextEntry before.basis request reading (entries_made before.answers) rest entry
 
@@ -153,7 +153,8 @@ pub record HasServed (streams : Streams) (hours : Hours) (basis : Basis) (sides 
   pub takes : TakesBytes streams.source_tells sides.source sides.source_after run.taken
   pub lines : AreLines run.taken run.lines run.rest
   pub within : length run.taken ≤ most_taken
-  pub to_end : IsTrue run.ended → IsTrue streams.source_tells → sides.source_after.left ≡ []
+  pub to_end : IsTrue run.ended → IsTrue sides.source_after.ended × (IsTrue streams.source_tells → sides.source_after.left ≡ [])
+  pub not_ended : run.ended ≡ false → sides.source_after.ended ≡ sides.source.ended
   pub first : run.lines ++ last_line run.ended run.rest ≡ run.served ++ run.unserved
   pub answers : EachFrom (λ n. IsAnswer (given_of hours (length basis.logs) n)) 1 run.served run.answers
   pub serial : AreSerial hours basis run.answers

@@ -1,4 +1,5 @@
 ghost use Rattle.std.specs.Prelude.{◌≡◌, ◌++◌, ℕ, List, IsTrue, is_some, IfErr, OnOk};
+ghost use Rattle.zb_outside.specs.Clock.{HasGoneOn};
 ghost use Rattle.zb_reply.specs.Reply.{line_of, IsSpoken};
 ghost use Rattle.zb_session.specs.Hours.{Hours};
 ghost use Rattle.zb_session.specs.Answer.{Answer};
@@ -25,23 +26,23 @@ pub fn answer_line<A: Desk, C: Clock>(
 ) -> Result<(), End>
     requires known { (begun : A.Begun) × (hours : Hours) × (answers : List Answer) × (line : List ℕ)
         × ComesNext (before_of hours (A.basis begun) number answers)
-        (clocks_of dial.old C.tells (C.moments clock.old))
+        (clocks_of dial.old C.tells (C.upcoming clock.old))
         (facts_by A.Desk begun desk.old) line shown.now }
     ensures answered { (begun : A.Begun) (hours : Hours) (answers : List Answer) (line : List ℕ)
         → ComesNext (before_of hours (A.basis begun) number answers)
-        (clocks_of dial.old C.tells (C.moments clock.old))
+        (clocks_of dial.old C.tells (C.upcoming clock.old))
         (facts_by A.Desk begun desk.old) line shown.now
         → OnOk result (IsAnswered
         (before_of hours (A.basis begun) number answers) line reply.new.items
-        (clocks_of dial.new C.tells (C.moments clock.new)) (facts_by A.Desk begun desk.new)) }
+        (clocks_of dial.new C.tells (C.upcoming clock.new)) (facts_by A.Desk begun desk.new)) }
     ensures unanswered { (begun : A.Begun) (hours : Hours) (answers : List Answer) (line : List ℕ)
         → ComesNext (before_of hours (A.basis begun) number answers)
-        (clocks_of dial.old C.tells (C.moments clock.old))
+        (clocks_of dial.old C.tells (C.upcoming clock.old))
         (facts_by A.Desk begun desk.old) line shown.now
         → IfErr result (IsUnanswered (before_of hours (A.basis begun) number answers) line
         (facts_by A.Desk begun desk.new)) }
     ensures kind { is_some dial.new ≡ is_some dial.old }
-    ensures moments { C.moments clock.new ≡ C.moments clock.old }
+    ensures readings { HasGoneOn (C.upcoming clock.old) (C.upcoming clock.new) }
     ensures untouched { IsTrue (is_some dial.old) → clock.new ≡ clock.old }
 {
     reply.clear();

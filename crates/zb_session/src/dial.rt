@@ -1,8 +1,9 @@
 ghost use Rattle.std.specs.Prelude.{◌≡◌, ◌≤◌, ◌+◌, ◌++◌, ◌∷◌, ℕ, List, [], min, Some, None, IsTrue, is_some, Result, Ok};
 ghost use Rattle.zb_base.specs.Moment.{last_moment};
+ghost use Rattle.zb_outside.specs.Clock.{HasGoneOn};
 ghost use Rattle.zb_wire.specs.declared.request.Request.{Request};
 ghost use Rattle.zb_wire.specs.declared.request.LineFault.{LineFault};
-ghost use Rattle.zb_session.specs.Hours.{Hours, real, moved_by, IsReadingOf};
+ghost use Rattle.zb_session.specs.Hours.{Hours, moved_by, IsReadingOf};
 ghost use Rattle.zb_session.specs.Serving.{dial_of, clocks_of, AreAt};
 
 use std::marker::Model;
@@ -69,26 +70,26 @@ impl Dial {
         }
     }
 
-    /// What it stands at, or else a reading of the real clock, at most the last moment.
+    /// What it stands at, or else the next reading of the real clock, at most the last moment.
     pub fn read<C: Clock>(&self, clock: &mut C) -> Moment
-        ensures shown { (now : ℕ) → self.now ≡ Some now → result ≡ now }
-        ensures read { (found : List (Result Request LineFault)) → self.now ≡ None
-            → IsReadingOf (real C.tells (C.moments clock.old)) found result }
         ensures reading { (hours : Hours) (found : List (Result Request LineFault))
-            → AreAt hours found (clocks_of self.now C.tells (C.moments clock.old))
-            → IsReadingOf hours found result }
-        ensures moments { C.moments clock.new ≡ C.moments clock.old }
+            → AreAt hours found (clocks_of self.now C.tells (C.upcoming clock.old))
+            → IsReadingOf hours found 0 result }
+        ensures readings { HasGoneOn (C.upcoming clock.old) (C.upcoming clock.new) }
         ensures untouched { IsTrue (is_some self.now) → clock.new ≡ clock.old }
     {
         self.told(clock)
     }
 
-    // The moment that `read` tells.
+    // The moment that is read.
     fn told<C: Clock>(&self, clock: &mut C) -> Moment
         ensures shown { (now : ℕ) → self.now ≡ Some now → result ≡ now }
-        ensures read { (found : List (Result Request LineFault)) → self.now ≡ None
-            → IsReadingOf (real C.tells (C.moments clock.old)) found result }
-        ensures moments { C.moments clock.new ≡ C.moments clock.old }
+        ensures within { self.now ≡ None → result ≤ last_moment }
+        ensures told { self.now ≡ None → IsTrue C.tells
+            → result ≡ min (C.upcoming clock.old 0) last_moment }
+        ensures onward { self.now ≡ None
+            → (k : ℕ) → C.upcoming clock.new k ≡ C.upcoming clock.old (k + 1) }
+        ensures readings { HasGoneOn (C.upcoming clock.old) (C.upcoming clock.new) }
         ensures untouched { IsTrue (is_some self.now) → clock.new ≡ clock.old }
     {
         match self.manual {
@@ -98,20 +99,20 @@ impl Dial {
     }
 }
 
-/// A reading of the clock for a request, which is read once. An advance moves the clock that is moved by hand
+/// The reading of the clock for a request, which reads it once. An advance moves the clock that is moved by hand
 /// before.
 pub fn read_for<C: Clock>(request: &Request, dial: &mut Dial, clock: &mut C) -> Moment
     ensures reading { (hours : Hours) (found : List (Result Request LineFault))
-        → AreAt hours found (clocks_of dial.old C.tells (C.moments clock.old))
-        → IsReadingOf hours (found ++ Ok request.now ∷ []) result }
+        → AreAt hours found (clocks_of dial.old C.tells (C.upcoming clock.old))
+        → IsReadingOf hours found (moved_by (Ok request.now)) result }
     ensures at { (hours : Hours) (found : List (Result Request LineFault))
-        → AreAt hours found (clocks_of dial.old C.tells (C.moments clock.old))
+        → AreAt hours found (clocks_of dial.old C.tells (C.upcoming clock.old))
         → AreAt hours (found ++ Ok request.now ∷ [])
-        (clocks_of dial.new C.tells (C.moments clock.new)) }
+        (clocks_of dial.new C.tells (C.upcoming clock.new)) }
     ensures kind { is_some dial.new ≡ is_some dial.old }
-    ensures moments { C.moments clock.new ≡ C.moments clock.old }
+    ensures readings { HasGoneOn (C.upcoming clock.old) (C.upcoming clock.new) }
     ensures untouched { IsTrue (is_some dial.old) → clock.new ≡ clock.old }
 {
     dial.follow(request);
-    dial.read(clock)
+    dial.told(clock)
 }

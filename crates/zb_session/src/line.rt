@@ -1,4 +1,5 @@
 ghost use Rattle.std.specs.Prelude.{◌≡◌, ◌≤◌, ◌++◌, ℕ, List, Bool, take, IsTrue, is_some, IfErr, OnErr, OnOk, IsErrOf};
+ghost use Rattle.zb_outside.specs.Clock.{HasGoneOn};
 ghost use Rattle.zb_session.specs.Session.{streams_of};
 ghost use Rattle.zb_session.specs.Hours.{Hours};
 ghost use Rattle.zb_session.specs.Answer.{Answer};
@@ -25,33 +26,33 @@ pub fn serve_line<K: Sink, A: Desk, C: Clock>(
 ) -> Result<(), End>
     requires known { (begun : A.Begun) × (hours : Hours) × (answers : List Answer) × (line : List ℕ)
         × ComesNext (before_of hours (A.basis begun) number answers)
-        (clocks_of dial.old C.tells (C.moments clock.old))
+        (clocks_of dial.old C.tells (C.upcoming clock.old))
         (facts_by A.Desk begun desk.old) line shown.now }
 
     // For every source, and all that may lie behind the line.
     ensures replied { (tells counts : Bool) (begun : A.Begun) (hours : Hours)
         (answers : List Answer) (line : List ℕ)
         → ComesNext (before_of hours (A.basis begun) number answers)
-        (clocks_of dial.old C.tells (C.moments clock.old))
+        (clocks_of dial.old C.tells (C.upcoming clock.old))
         (facts_by A.Desk begun desk.old) line shown.now
         → OnOk result (IsReplied (streams_of tells counts K.Sink)
         (before_of hours (A.basis begun) number answers) line (K.view sink.old)
-        (service_of (K.view sink.new) (clocks_of dial.new C.tells (C.moments clock.new))
+        (service_of (K.view sink.new) (clocks_of dial.new C.tells (C.upcoming clock.new))
         (facts_by A.Desk begun desk.new))) }
     ensures over { (tells counts : Bool) (begun : A.Begun) (hours : Hours)
         (answers : List Answer) (line : List ℕ)
         → ComesNext (before_of hours (A.basis begun) number answers)
-        (clocks_of dial.old C.tells (C.moments clock.old))
+        (clocks_of dial.old C.tells (C.upcoming clock.old))
         (facts_by A.Desk begun desk.old) line shown.now
         → IfErr result (IsLineEnd (streams_of tells counts K.Sink)
         (before_of hours (A.basis begun) number answers) line (K.view sink.old)
-        (service_of (K.view sink.new) (clocks_of dial.new C.tells (C.moments clock.new))
+        (service_of (K.view sink.new) (clocks_of dial.new C.tells (C.upcoming clock.new))
         (facts_by A.Desk begun desk.new))) }
     ensures sink_later { (K.view sink.old).faults ≤ (K.view sink.new).faults }
     ensures sink_steady { IsTrue K.counts_failures → ¬ IsErrOf result End.SinkFault
         → (K.view sink.new).faults ≡ (K.view sink.old).faults }
     ensures kind { is_some dial.new ≡ is_some dial.old }
-    ensures moments { C.moments clock.new ≡ C.moments clock.old }
+    ensures readings { HasGoneOn (C.upcoming clock.old) (C.upcoming clock.new) }
     ensures untouched { IsTrue (is_some dial.old) → clock.new ≡ clock.old }
 {
     match answer_line(alloc, number, shown, desk, dial, clock, reply) {

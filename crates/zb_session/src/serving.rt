@@ -1,4 +1,5 @@
 ghost use Rattle.std.specs.Prelude.{◌≡◌, ◌+◌, [], IsTrue, is_some, IfOk};
+ghost use Rattle.zb_outside.specs.Clock.{HasGoneOn};
 ghost use Rattle.zb_outside.specs.Stream.{SourceView, SinkView};
 ghost use Rattle.zb_session.specs.Hours.{Hours};
 ghost use Rattle.zb_session.specs.Session.{streams_of, most_taken, facts_of};
@@ -52,18 +53,18 @@ pub fn serve_session<S: Source, K: Sink, A: Desk, C: Clock>(
     clock: &mut C,
 ) -> End
     requires { (begun : A.Begun) × (hours : Hours) × A.has begun [] desk.old
-        × AreAt hours [] (clocks_of dial.old C.tells (C.moments clock.old)) }
+        × AreAt hours [] (clocks_of dial.old C.tells (C.upcoming clock.old)) }
 
     // For all that the desk may have begun with, and each clock that the run may go by.
     ensures over { (begun : A.Begun) (hours : Hours) → A.has begun [] desk.old
-        → AreAt hours [] (clocks_of dial.old C.tells (C.moments clock.old))
+        → AreAt hours [] (clocks_of dial.old C.tells (C.upcoming clock.old))
         → IsOver (streams_of S.tells S.counts_failures K.Sink)
         (began_of hours (A.basis begun) (S.view session.old.source) (K.view session.old.sink))
         (S.view session.new.source)
-        (service_of (K.view session.new.sink) (clocks_of dial.new C.tells (C.moments clock.new))
+        (service_of (K.view session.new.sink) (clocks_of dial.new C.tells (C.upcoming clock.new))
         (facts_of (λ made. A.has begun made desk.new)
         (λ made left stop. A.stopped begun made left stop desk.new))) result }
-    ensures moments { C.moments clock.new ≡ C.moments clock.old }
+    ensures readings { HasGoneOn (C.upcoming clock.old) (C.upcoming clock.new) }
     ensures untouched { IsTrue (is_some dial.old) → clock.new ≡ clock.old }
 {
     let mut intake = match Intake::new(alloc) {
@@ -94,24 +95,24 @@ fn serve_next<S: Source, K: Sink, A: Desk, C: Clock>(
         × IsServing (streams_of S.tells S.counts_failures K.Sink)
         (began_of hours (A.basis begun) source sink)
         (stand_of (S.view session.old.source)
-        (service_of (K.view session.old.sink) (clocks_of dial.old C.tells (C.moments clock.old))
+        (service_of (K.view session.old.sink) (clocks_of dial.old C.tells (C.upcoming clock.old))
         (facts_by A.Desk begun desk.old))
         intake.old.reader intake.old.budget number) }
     ensures goes_on { (begun : A.Begun) (hours : Hours) (source : SourceView) (sink : SinkView)
         → IsServing (streams_of S.tells S.counts_failures K.Sink)
         (began_of hours (A.basis begun) source sink)
         (stand_of (S.view session.old.source)
-        (service_of (K.view session.old.sink) (clocks_of dial.old C.tells (C.moments clock.old))
+        (service_of (K.view session.old.sink) (clocks_of dial.old C.tells (C.upcoming clock.old))
         (facts_by A.Desk begun desk.old))
         intake.old.reader intake.old.budget number)
         → GoesOn (streams_of S.tells S.counts_failures K.Sink)
         (began_of hours (A.basis begun) source sink)
         (stand_of (S.view session.new.source)
-        (service_of (K.view session.new.sink) (clocks_of dial.new C.tells (C.moments clock.new))
+        (service_of (K.view session.new.sink) (clocks_of dial.new C.tells (C.upcoming clock.new))
         (facts_by A.Desk begun desk.new))
         intake.new.reader intake.new.budget (number + 1)) result }
     ensures kind { is_some dial.new ≡ is_some dial.old }
-    ensures moments { C.moments clock.new ≡ C.moments clock.old }
+    ensures readings { HasGoneOn (C.upcoming clock.old) (C.upcoming clock.new) }
     ensures untouched { IsTrue (is_some dial.old) → clock.new ≡ clock.old }
 {
     let next = match intake.reader.next(

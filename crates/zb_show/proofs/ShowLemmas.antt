@@ -1,8 +1,8 @@
 -- Showing a log: its lines batch by batch, and how it ends.
-use Rattle.std.proofs.Common.{◌≡◌, ◌≢◌, ◌⊎◌, IsTrue, inl, inr, ℕ, zero, suc, ◌+◌, ◌<◌, ◌≤◌, List, [], ◌∷◌, ◌++◌, map, take, length, get_or, refl, ap, sym, ◌∙◌, append_assoc, arith, subst, Some, Bool}
-use Rattle.std.specs.Prelude.{slice_get, codes, Result, Ok, Err, IfErr, OnOk}
-use Rattle.std.proofs.lemmas.Bool.{cases_lt}
-use Rattle.std.proofs.lemmas.List.{append-nil, take_more}
+use Rattle.std.proofs.Common.{◌≡◌, ◌≢◌, ◌⊎◌, IsTrue, inl, inr, ℕ, zero, suc, ◌+◌, ◌<◌, ◌≤◌, List, [], ◌∷◌, ◌++◌, map, take, drop, length, get_or, refl, ap, sym, ◌∙◌, append_assoc, arith, subst, Some, Bool, true, false}
+use Rattle.std.specs.Prelude.{slice_get, codes, Contains, Result, Ok, Err, IfErr, OnOk, OnErr}
+use Rattle.std.proofs.lemmas.Bool.{cases_lt, false≢true}
+use Rattle.std.proofs.lemmas.List.{append-nil, take_more, take-append-drop}
 use Rattle.std.proofs.lemmas.Option.{slice_get_within, get_or_from_slice_get}
 use Rattle.zb_model.specs.declared.record.Batch.{Batch}
 use Rattle.zb_model.specs.Record.{bytes_of}
@@ -26,7 +26,8 @@ use Rattle.zb_words.specs.Plan.{IsPlan}
 use Rattle.zb_words.specs.declared.plan.LogPlan.{LogPlan}
 use Rattle.zb_words.specs.declared.plan.Plan.TheVariants as plans
 use Rattle.zb_words.proofs.WordLaws.{its_options}
-use Rattle.zb_show.specs.Lines.{batch_lines, lines_from, records_in}
+use Rattle.zb_show.specs.Lines.{batch_lines, lines_from, log_lines, records_in}
+use Rattle.zb_show.specs.Show.{IsWritten, Writes}
 use Rattle.zb_show.specs.Status.{fault_status, status_shown, IsShowCause, IsBadLog}
 use Rattle.zb_show.specs.declared.fault.ShowFault.{ShowFault}
 use Rattle.zb_show.specs.declared.fault.ShowFault.TheVariants as faults
@@ -40,28 +41,83 @@ records_more : (log : List Batch) (b : Batch) → records_among (log ++ b ∷ []
 records_more [] b = omega arith
 records_more (x ∷ log) b = omega (arith, records_more log b)
 
-lines_more : (p at : ℕ) (log : List Batch) (b : Batch) → lines_from p at (log ++ b ∷ []) ≡ lines_from p at log ++ batch_lines p (at + records_among log) b
-lines_more p at [] b =
+lines_behind : (p at : ℕ) (log more : List Batch) → lines_from p at (log ++ more) ≡ lines_from p at log ++ lines_from p (at + records_among log) more
+lines_behind p at [] more =
     let same : at ≡ at + 0 = omega arith in
-    append-nil (batch_lines p at b) ∙ ap (λ n. batch_lines p n b) same
-lines_more p at (x ∷ log) b =
+    ap (λ n. lines_from p n more) same
+lines_behind p at (x ∷ log) more =
     let same : at + records_in x + records_among log ≡ at + records_among (x ∷ log) = omega arith in
-    ap (λ ls. batch_lines p at x ++ ls) (lines_more p (at + records_in x) log b ∙ ap (λ n. lines_from p (at + records_in x) log ++ batch_lines p n b) same)
+    ap (λ ls. batch_lines p at x ++ ls) (lines_behind p (at + records_in x) log more ∙ ap (λ n. lines_from p (at + records_in x) log ++ lines_from p n more) same)
     ∙ sym (append_assoc (batch_lines p at x) (lines_from p (at + records_in x) log) _)
+
+lines_more : (p at : ℕ) (log : List Batch) (b : Batch) → lines_from p at (log ++ b ∷ []) ≡ lines_from p at log ++ batch_lines p (at + records_among log) b
+lines_more p at log b = lines_behind p at log (b ∷ []) ∙ ap (λ ls. lines_from p at log ++ ls) (append-nil (batch_lines p (at + records_among log) b))
+
+-- with one batch more
+record IsFollowed (p i : ℕ) (all : List Batch) (b : Batch) (position : ℕ) : Type 0 where
+  pub count : records_among (take (i + 1) all) ≡ records_among (take i all) + records_in b
+  pub lines : lines_from p 1 (take (i + 1) all) ≡ lines_from p 1 (take i all) ++ batch_lines p position b
+
+followed : (p i : ℕ) (all : List Batch) (b : Batch) (position : ℕ) → slice_get all i ≡ Some b → position ≡ 1 + records_among (take i all) → IsFollowed p i all b position
+followed p i all b position at here =
+    let within : i < length all = slice_get_within all i b at in
+    let front : take (i + 1) all ≡ take i all ++ b ∷ [] = take_more all i b within ∙ ap (λ x. take i all ++ x ∷ []) (get_or_from_slice_get all i b b at) in
+    record {
+      count = ap records_among front ∙ records_more (take i all) b;
+      lines = ap (lines_from p 1) front ∙ lines_more p 1 (take i all) b ∙ ap (λ n. lines_from p 1 (take i all) ++ batch_lines p n b) (sym here);
+    }
 
 -- one batch more has its lines
 pub told_more : (p i : ℕ) (all : List Batch) (b : Batch) (position next : ℕ) (before text more : List ℕ) → slice_get all i ≡ Some b → position ≡ 1 + records_among (take i all)
     → next ≡ position + records_in b → text ≡ before ++ lines_from p 1 (take i all) → more ≡ text ++ batch_lines p position b
     → (next ≡ 1 + records_among (take (i + 1) all)) × (more ≡ before ++ lines_from p 1 (take (i + 1) all))
 told_more p i all b position next before text more at here on so_far adds =
-    let within : i < length all = slice_get_within all i b at in
-    let front : take (i + 1) all ≡ take i all ++ b ∷ [] = take_more all i b within ∙ ap (λ x. take i all ++ x ∷ []) (get_or_from_slice_get all i b b at) in
-    let count : records_among (take (i + 1) all) ≡ records_among (take i all) + records_in b = ap records_among front ∙ records_more (take i all) b in
-    let lines : lines_from p 1 (take (i + 1) all) ≡ lines_from p 1 (take i all) ++ batch_lines p position b =
-    ap (lines_from p 1) front ∙ lines_more p 1 (take i all) b ∙ ap (λ n. lines_from p 1 (take i all) ++ batch_lines p n b) (sym here) in (
-      omega (arith, here, on, count),
-      adds ∙ ap (λ t. t ++ batch_lines p position b) so_far ∙ append_assoc before (lines_from p 1 (take i all)) (batch_lines p position b) ∙ ap (λ ls. before ++ ls) (sym lines),
+    let f = followed p i all b position at here in (
+      omega (arith, here, on, f.count),
+      adds ∙ ap (λ t. t ++ batch_lines p position b) so_far ∙ append_assoc before (lines_from p 1 (take i all)) (batch_lines p position b) ∙ ap (λ ls. before ++ ls) (sym f.lines),
     )
+
+-- or a front of them
+pub told_part : (p i : ℕ) (all : List Batch) (b : Batch) (position : ℕ) (before text more left : List ℕ) → slice_get all i ≡ Some b → position ≡ 1 + records_among (take i all)
+    → text ≡ before ++ lines_from p 1 (take i all) → IsWritten (batch_lines p position b) text more left → (rest : List ℕ) × IsWritten (log_lines p all) before more rest
+told_part p i all b position before text more left at here so_far part =
+    let f = followed p i all b position at here in
+    let so : List ℕ = lines_from p 1 (take i all) in
+    let rest : List ℕ = lines_from p (1 + records_among (take (i + 1) all)) (drop (i + 1) all) in
+    let whole : log_lines p all ≡ lines_from p 1 (take (i + 1) all) ++ rest = ap (lines_from p 1) (sym (take-append-drop (i + 1) all)) ∙ lines_behind p 1 (take (i + 1) all) (drop (i + 1) all) in
+    let split : log_lines p all ≡ (so ++ part.0) ++ (left ++ rest) =
+    whole ∙ (ap (λ ls. ls ++ rest) (f.lines ∙ ap (λ ls. so ++ ls) part.1) ∙ simp append_assoc) in
+    (left ++ rest, (so ++ part.0, split, part.2 ∙ (ap (λ t. t ++ part.0) so_far ∙ append_assoc before so part.0)))
+
+-- ---- what was written
+
+pub all_written : (bytes before after left : List ℕ) → IsWritten bytes before after left → left ≡ [] → after ≡ before ++ bytes
+all_written bytes before after left part none =
+    part.2 ∙ ap (λ bs. before ++ bs) (sym (part.1 ∙ (ap (λ l. part.0 ++ l) none ∙ append-nil part.0)))
+
+pub written_all : (bytes before after : List ℕ) → after ≡ before ++ bytes → IsWritten bytes before after []
+written_all bytes before after is = (bytes, sym (append-nil bytes), is)
+
+pub written_none : (bytes before : List ℕ) → IsWritten bytes before before bytes
+written_none bytes before = ([], refl, sym (append-nil before))
+
+-- what a sink was sent
+pub sent_front : {E : Type 0} (sent : Result (Unit {0}) E) (bytes before after : List ℕ) → OnOk sent (after ≡ before ++ bytes) → OnErr sent ((n : ℕ) × (after ≡ before ++ take n bytes)) → Writes sent bytes before after
+sent_front (Ok done) bytes before after whole part = ([], written_all bytes before after whole, refl)
+sent_front (Err fault) bytes before after whole part = (drop part.0 bytes, (take part.0 bytes, sym (take-append-drop part.0 bytes), part.1), tt)
+
+-- what was written, whether the sink tells or not
+pub told_written : {T E : Type 0} (told : Bool) (shown : Result T E) (bytes before after : List ℕ) → (IsTrue told → Writes shown bytes before after)
+    → (left : List ℕ) × (IsTrue told → IsWritten bytes before after left) × OnOk shown (left ≡ [])
+told_written true shown bytes before after writes = let w = writes refl in (w.0, λ t. w.1, w.2)
+told_written false (Ok value) bytes before after writes = ([], λ t. absurd (false≢true t), refl)
+told_written false (Err fault) bytes before after writes = ([], λ t. absurd (false≢true t), tt)
+
+-- the batch of a frame
+pub batch_there : (all : List Batch) (i : ℕ) → i < length (map bytes_of all) → (b : Batch) × (slice_get all i ≡ Some b)
+batch_there [] i within = absurd (omega (arith, within))
+batch_there (b ∷ all) zero within = (b, refl)
+batch_there (b ∷ all) (suc i) within = batch_there all i (omega (arith, within))
 
 -- the body of a frame spells the batch of that number alone
 pub batch_at : (all : List Batch) (i : ℕ) (body : List ℕ) (b : Batch) → slice_get (map bytes_of all) i ≡ Some body → AreBatches all → IsBatch b → body ≡ bytes_of b → slice_get all i ≡ Some b
@@ -103,10 +159,6 @@ cause_since a b c s t u faults.Memory disk sink cause = tt
 pub err_since : (a b c s t u : ℕ) (shown : Result (Unit {0}) ShowFault) → a ≤ b → s ≤ t → IfErr shown (IsShowCause b c t u) → IfErr shown (IsShowCause a c s u)
 err_since a b c s t u (Ok done) disk sink cause = tt
 err_since a b c s t u (Err fault) disk sink cause = cause_since a b c s t u fault disk sink cause
-
-pub ok_then : {P Q : Type 0} (shown : Result (Unit {0}) ShowFault) → (P → Q) → OnOk shown P → OnOk shown Q
-ok_then (Ok done) so p = so p
-ok_then (Err fault) so p = tt
 
 pub err_then : {P Q : ShowFault → Type 0} (shown : Result (Unit {0}) ShowFault) → ((fault : ShowFault) → P fault → Q fault) → IfErr shown P → IfErr shown Q
 err_then (Ok done) so p = tt
@@ -176,8 +228,44 @@ shown_bad {P} shown status said =
 pub shown_sink : (a b s t : ℕ) (shown : Result (Unit {0}) ShowFault) → status_shown shown ≡ 6 → IfErr shown (IsShowCause a b s t) → StreamFaultsRose s t
 shown_sink a b s t shown status cause = let is = (ends shown).sink status in rw is at cause
 
+-- which statuses there are: all; those of an opening; and those of a log that was opened
+pub known : (shown : Result (Unit {0}) ShowFault) → Contains (0 ∷ 2 ∷ 4 ∷ 5 ∷ 6 ∷ 7 ∷ []) (status_shown shown)
+known (Ok done) = (0, omega arith, refl)
+known (Err faults.Usage) = (1, omega arith, refl)
+known (Err (faults.Log open_faults.DiskFault)) = (2, omega arith, refl)
+known (Err (faults.Log (open_faults.BadLog frame))) = (3, omega arith, refl)
+known (Err (faults.Log open_faults.Memory)) = (5, omega arith, refl)
+known (Err (faults.Sink troubles.Failed)) = (4, omega arith, refl)
+known (Err (faults.Sink troubles.Memory)) = (5, omega arith, refl)
+known (Err faults.Memory) = (5, omega arith, refl)
+
+pub of_opening : (fault : OpenFault) → Contains (2 ∷ 4 ∷ 5 ∷ 7 ∷ []) (fault_status (faults.Log fault))
+of_opening open_faults.DiskFault = (1, omega arith, refl)
+of_opening (open_faults.BadLog frame) = (2, omega arith, refl)
+of_opening open_faults.Memory = (3, omega arith, refl)
+
+pub of_opened : (a b s t : ℕ) (shown : Result (Unit {0}) ShowFault) → IfErr shown (IsShowCause a b s t) → IfErr shown (λ fault. IsBadLog fault → ⊥) → Contains (0 ∷ 4 ∷ 6 ∷ 7 ∷ []) (status_shown shown)
+of_opened a b s t (Ok done) cause good = (0, omega arith, refl)
+of_opened a b s t (Err faults.Usage) cause good = absurd cause
+of_opened a b s t (Err (faults.Log open_faults.DiskFault)) cause good = (1, omega arith, refl)
+of_opened a b s t (Err (faults.Log (open_faults.BadLog frame))) cause good = absurd (good tt)
+of_opened a b s t (Err (faults.Log open_faults.Memory)) cause good = (3, omega arith, refl)
+of_opened a b s t (Err (faults.Sink troubles.Failed)) cause good = (2, omega arith, refl)
+of_opened a b s t (Err (faults.Sink troubles.Memory)) cause good = (3, omega arith, refl)
+of_opened a b s t (Err faults.Memory) cause good = (3, omega arith, refl)
+
+-- 0 is none of an opening
+pub not_of_opening : Contains {X = ℕ} (2 ∷ 4 ∷ 5 ∷ 7 ∷ []) 0 → ⊥
+not_of_opening (zero, within, is) = absurd (omega (arith, is))
+not_of_opening (suc zero, within, is) = absurd (omega (arith, is))
+not_of_opening (suc (suc zero), within, is) = absurd (omega (arith, is))
+not_of_opening (suc (suc (suc zero)), within, is) = absurd (omega (arith, is))
+not_of_opening (suc (suc (suc (suc k))), within, is) = absurd (omega (arith, within))
+
 -- where the words were not read, the status tells why
 pub record WordsEnd (fault : ShowFault) (P : Type 0) : Type 0 where
+  pub opening : Contains (2 ∷ 4 ∷ 5 ∷ 7 ∷ []) (fault_status fault)
+  pub memory : fault_status fault ≢ 2 → fault_status fault ≡ 7
   pub usage : fault_status fault ≡ 2 → P
   pub done : fault_status fault ≡ 0 → ⊥
   pub disk : fault_status fault ≡ 4 → ⊥
@@ -187,10 +275,26 @@ pub record WordsEnd (fault : ShowFault) (P : Type 0) : Type 0 where
 pub words_end : {P : Type 0} (fault : ShowFault) → (fault ≡ faults.Memory) ⊎ ((fault ≡ faults.Usage) × P) → WordsEnd fault P
 words_end fault (inl is) =
     let status : fault_status fault ≡ 7 = ap fault_status is in
-    record { usage = λ e. absurd (omega arith); done = λ e. omega arith; disk = λ e. omega arith; bad = λ e. omega arith; sink = λ e. omega arith }
+    record {
+      opening = (3, omega arith, sym status);
+      memory = λ other. status;
+      usage = λ e. absurd (omega arith);
+      done = λ e. omega arith;
+      disk = λ e. omega arith;
+      bad = λ e. omega arith;
+      sink = λ e. omega arith;
+    }
 words_end fault (inr (is, none)) =
     let status : fault_status fault ≡ 2 = ap fault_status is in
-    record { usage = λ e. none; done = λ e. omega arith; disk = λ e. omega arith; bad = λ e. omega arith; sink = λ e. omega arith }
+    record {
+      opening = (0, omega arith, sym status);
+      memory = λ other. absurd (other status);
+      usage = λ e. none;
+      done = λ e. omega arith;
+      disk = λ e. omega arith;
+      bad = λ e. omega arith;
+      sink = λ e. omega arith;
+    }
 
 -- ---- words
 

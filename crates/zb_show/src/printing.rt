@@ -1,5 +1,5 @@
 // Printing the records of a log that is known to be good.
-ghost use Rattle.std.specs.Prelude.{◌≡◌, ◌++◌, ◌+◌, ◌<◌, ◌≤◌, ◌^◌, ℕ, List, Some, IsTrue, IfOk, IfErr, OnOk, slice_get};
+ghost use Rattle.std.specs.Prelude.{◌≡◌, ◌+◌, ◌<◌, ◌≤◌, ◌^◌, ℕ, List, Some, IsTrue, IfOk, IfErr, slice_get};
 ghost use Rattle.zb_disk.specs.Cause.{Rose};
 ghost use Rattle.zb_model.specs.declared.record.Batch.{Batch};
 ghost use Rattle.zb_outside.specs.Cause.{StreamFaultsRose};
@@ -9,6 +9,7 @@ ghost use Rattle.zb_partition.specs.declared.fault.OpenFault.TheVariants as open
 ghost use Rattle.zb_store.specs.Calls.{OnlyReads};
 ghost use Rattle.zb_store.specs.GateLog.{disk_of_log, count_of, HasClosedFrames, IsSameLog};
 ghost use Rattle.zb_show.specs.Lines.{batch_lines, log_lines, records_in};
+ghost use Rattle.zb_show.specs.Show.{Writes};
 ghost use Rattle.zb_show.specs.Status.{IsBadLog, IsShowCause};
 
 use crate::fault::ShowFault;
@@ -22,7 +23,8 @@ use zb_outside::{Sink, Trouble};
 use zb_partition::OpenFault;
 use zb_store::GateLog;
 
-/// Prints the records of a log, a line for each. It reads the log once, and keeps no more than one batch of it.
+/// Prints the records of a log, a line for each; after an `Err` a front of these lines was written. It reads the log
+/// once, and keeps no more than one batch of it.
 pub fn print_log<D: Disk, K: Sink>(
     alloc: Global,
     place: PartitionId,
@@ -31,7 +33,7 @@ pub fn print_log<D: Disk, K: Sink>(
 ) -> Result<(), ShowFault>
     ensures shown { IsTrue D.tells → IsTrue K.tells → (all : List Batch)
         → HasClosedFrames (D.view (disk_of_log log.old)).contents log.old (bodies_of all) → AreBatches all
-        → OnOk result ((K.view sink.new).written ≡ (K.view sink.old).written ++ log_lines place all) }
+        → Writes result (log_lines place all) (K.view sink.old).written (K.view sink.new).written }
     ensures good { IsTrue D.tells → (all : List Batch)
         → HasClosedFrames (D.view (disk_of_log log.old)).contents log.old (bodies_of all) → AreBatches all
         → IfErr result (λ fault. IsBadLog fault → ⊥) }
@@ -65,8 +67,8 @@ fn print_frame<D: Disk, K: Sink>(
     requires room { position + 2 ^ 64 < 2 ^ 128 }
     ensures shown { IsTrue D.tells → IsTrue K.tells → (all : List Batch)
         → HasClosedFrames (D.view (disk_of_log log.old)).contents log.old (bodies_of all) → AreBatches all
-        → IfOk result (λ next. (batch : Batch) × (slice_get all i ≡ Some batch) × (next ≡ position + records_in batch)
-        × ((K.view sink.new).written ≡ (K.view sink.old).written ++ batch_lines place position batch)) }
+        → (batch : Batch) × (slice_get all i ≡ Some batch) × IfOk result (λ next. next ≡ position + records_in batch)
+        × Writes result (batch_lines place position batch) (K.view sink.old).written (K.view sink.new).written }
     ensures kept { IsTrue D.tells → (bodies : List (List ℕ)) → HasClosedFrames (D.view (disk_of_log log.old)).contents log.old bodies
         → HasClosedFrames (D.view (disk_of_log log.new)).contents log.new bodies }
     ensures good { IsTrue D.tells → (all : List Batch)
@@ -128,7 +130,7 @@ fn print_batch<K: Sink>(
     sink: &mut K,
 ) -> Result<(), Trouble>
     requires { position + 2 ^ 64 < 2 ^ 128 }
-    ensures written { IsTrue K.tells → OnOk result ((K.view sink.new).written ≡ (K.view sink.old).written ++ batch_lines place position batch.now) }
+    ensures written { IsTrue K.tells → Writes result (batch_lines place position batch.now) (K.view sink.old).written (K.view sink.new).written }
     ensures later { (K.view sink.old).faults ≤ (K.view sink.new).faults }
     ensures cause { IfErr result (λ trouble. trouble ≡ troubles.Failed → StreamFaultsRose (K.view sink.old).faults (K.view sink.new).faults) }
 {

@@ -1,4 +1,4 @@
-ghost use Rattle.std.specs.Prelude.{◌≡◌, ◌⊎◌, ◌++◌, ◌≤◌, ℕ, List, IsTrue, IfOk, IfErr, OnOk, map, string_bytes};
+ghost use Rattle.std.specs.Prelude.{◌≡◌, ◌≢◌, ◌⊎◌, ◌≤◌, ℕ, List, [], ◌∷◌, Contains, IsTrue, IfOk, IfErr, OnOk, map, string_bytes};
 ghost use Rattle.zb_disk.specs.Cause.{Rose};
 ghost use Rattle.zb_model.specs.declared.record.Batch.{Batch};
 ghost use Rattle.zb_outside.specs.Cause.{StreamFaultsRose};
@@ -9,7 +9,7 @@ ghost use Rattle.zb_words.specs.Plan.{IsPlan};
 ghost use Rattle.zb_words.specs.declared.plan.LogPlan.{LogPlan};
 ghost use Rattle.zb_words.specs.declared.plan.Plan.TheVariants as plans;
 ghost use Rattle.zb_show.specs.Lines.{log_lines};
-ghost use Rattle.zb_show.specs.Show.{ShowsLog, PrintsLog, FindsBad};
+ghost use Rattle.zb_show.specs.Show.{Writes, ShowsLog, PrintsLog, FindsBad};
 ghost use Rattle.zb_show.specs.Status.{status_shown, IsBadLog, IsShowCause};
 ghost use Rattle.zb_show.specs.declared.fault.ShowFault.TheVariants as faults;
 
@@ -37,20 +37,29 @@ pub struct Shown<D, K> {
 }
 
 /// Shows the log of a partition by the words of a command line: a line for each record. Nothing is written where
-/// the log can't be read. It reads the log twice, the first time with the state that its events come to.
+/// the log can't be opened. It reads the log twice, the first time with the state that its events come to.
 pub fn show_log<D: Disk, K: Sink>(
     alloc: Global,
     words: &[String],
     volume: Volume<D>,
     sink: K,
 ) -> Shown<D, K>
+    ensures known { Contains (0 ∷ 2 ∷ 4 ∷ 5 ∷ 6 ∷ 7 ∷ []) result.status }
+
+    // 2 exactly where the words ask for no log. Nothing is touched then, nor where there was no memory to read them.
     ensures usage { result.status ≡ 2 → (plan : LogPlan) → IsPlan (map string_bytes words.now) (plans.Log plan) → ⊥ }
     ensures untouched { result.status ≡ 2 → (result.volume ≡ volume) × (result.sink ≡ sink) }
-    ensures shown { IsTrue D.tells → IsTrue K.tells → result.status ≡ 0
-        → ShowsLog (map string_bytes words.now) (D.view volume.log).contents (K.view sink).written (K.view result.sink).written }
+    ensures planned { result.status ≢ 2 → ((result.status ≡ 7) × (result.volume ≡ volume) × (result.sink ≡ sink))
+        ⊎ ((plan : LogPlan) × IsPlan (map string_bytes words.now) (plans.Log plan)) }
+
+    // Nothing is written where the log could not be opened. Of one that was a front of its lines is, and all of them at 0.
+    ensures opened { IsTrue D.tells → ((result.sink ≡ sink) × Contains (2 ∷ 4 ∷ 5 ∷ 7 ∷ []) result.status)
+        ⊎ (Contains (0 ∷ 4 ∷ 6 ∷ 7 ∷ []) result.status × ((left : List ℕ)
+        × ShowsLog K.tells (map string_bytes words.now) (D.view volume.log).contents (K.view sink).written (K.view result.sink).written left)) }
+    ensures shown { IsTrue D.tells → result.status ≡ 0
+        → ShowsLog K.tells (map string_bytes words.now) (D.view volume.log).contents (K.view sink).written (K.view result.sink).written [] }
     ensures disk { result.status ≡ 4 → Rose (D.view volume.log).faults (D.view result.volume.log).faults }
     ensures bad { IsTrue D.tells → result.status ≡ 5 → FindsBad (map string_bytes words.now) (D.view volume.log).contents }
-    ensures unwritten { IsTrue D.tells → result.status ≡ 5 → result.sink ≡ sink }
     ensures sink { result.status ≡ 6 → StreamFaultsRose (K.view sink).faults (K.view result.sink).faults }
 
     // No log is put at risk: what a crash leaves is what one before might have left, or an opening.
@@ -75,9 +84,10 @@ fn show_volume<D: Disk, K: Sink>(
     mut sink: K,
 ) -> (Result<(), ShowFault>, Volume<D>, K)
     requires { partitions ≤ 16 }
-    ensures shown { IsTrue D.tells → IsTrue K.tells
-        → OnOk result.0 (PrintsLog place (D.view volume.log).contents (K.view sink).written (K.view result.2).written) }
-    ensures bad { IsTrue D.tells → IfErr result.0 (λ fault. IsBadLog fault → ((frame : ℕ) × IsBadAt place (D.view volume.log).contents frame) × (result.2 ≡ sink)) }
+    ensures opened { IsTrue D.tells → ((result.2 ≡ sink) × Contains (2 ∷ 4 ∷ 5 ∷ 7 ∷ []) (status_shown result.0))
+        ⊎ (Contains (0 ∷ 4 ∷ 6 ∷ 7 ∷ []) (status_shown result.0) × ((left : List ℕ)
+        × PrintsLog K.tells place (D.view volume.log).contents (K.view sink).written (K.view result.2).written left × OnOk result.0 (left ≡ []))) }
+    ensures bad { IsTrue D.tells → IfErr result.0 (λ fault. IsBadLog fault → (frame : ℕ) × IsBadAt place (D.view volume.log).contents frame) }
     ensures cause { IfErr result.0 (IsShowCause (D.view volume.log).faults (D.view result.1.log).faults (K.view sink).faults (K.view result.2).faults) }
     ensures opens { OnlyOpens D.tells D.tells_images D.view D.images D.since volume.log result.1.log }
     ensures slots { (result.1.snap_a ≡ volume.snap_a) × (result.1.snap_b ≡ volume.snap_b) }
@@ -126,7 +136,7 @@ fn show<D: Disk, K: Sink>(
 ) -> (Result<(), ShowFault>, D)
     ensures shown { IsTrue D.tells → IsTrue K.tells → (all : List Batch)
         → Stands (D.view disk).contents (bodies_of all) → AreBatches all
-        → OnOk result.0 ((K.view sink.new).written ≡ (K.view sink.old).written ++ log_lines place all) }
+        → Writes result.0 (log_lines place all) (K.view sink.old).written (K.view sink.new).written }
     ensures good { IsTrue D.tells → (all : List Batch)
         → Stands (D.view disk).contents (bodies_of all) → AreBatches all
         → IfErr result.0 (λ fault. IsBadLog fault → ⊥) }

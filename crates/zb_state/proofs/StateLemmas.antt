@@ -10,8 +10,9 @@ use Rattle.zb_exchange_records.specs.declared.message.MessagePublished.{MessageP
 use Rattle.zb_model.specs.declared.record.Event.{Event}
 use Rattle.zb_model.specs.declared.record.Event.TheVariants as events
 use Rattle.zb_views.specs.View.{counter_at, keys_in, greatest_among, greatest_counter, next_key}
-use Rattle.zb_table.specs.Rows.{Ascend, are_below, row_at, with_row}
+use Rattle.zb_table.specs.Rows.{Ascend, are_below, with_row}
 use Rattle.zb_table.proofs.Growing.{with_last, below_higher, below_more, below_without, has_row, passes_at}
+use Rattle.zb_waits.proofs.FoundLemmas.{first_is_found, none_below}
 use Rattle.zb_views.specs.Messages.{buffered, is_past_deadline, without_message}
 use Rattle.zb_views.specs.MessageLaws.{buffered_published, buffered_expired}
 use Rattle.zb_views.specs.ViewLaws.{definitions_more, begun_more, buffered_kept, greatest_counter_more}
@@ -97,6 +98,9 @@ module _ (p n counter n' : ℕ) (messages : List MessagePublished) (m : MessageP
   at_next : m.key ≡ key_of p (n + 1)
   at_next = draws.1 ∙ ap (λ (k : ℕ). key_of p k) draws.0
 
+  pub is_new : find (λ x. x.key == m.key) messages ≡ None
+  is_new = none_below key m.key messages (rw at_next below)
+
   pub stands_last : with_row key m messages ≡ messages ++ m ∷ []
   stands_last = with_last key m messages (rw at_next below)
 
@@ -111,25 +115,24 @@ module _ (p n counter n' : ℕ) (messages : List MessagePublished) (m : MessageP
 pub below_expired : (p n n' k : ℕ) (messages : List MessagePublished) → n ≤ n' → IsTrue (are_below key (key_of p (n + 1)) messages) → IsTrue (are_below key (key_of p (n' + 1)) (without_message k messages))
 below_expired p n n' k messages le below = below_kept p n n' (without_message k messages) le (below_without key k (key_of p (n + 1)) messages below)
 
--- the message with a key
-pub row_is_first : (k : ℕ) (messages : List MessagePublished) → row_at key k messages ≡ find (λ m. m.key == k) messages
-row_is_first k [] = refl
-row_is_first k (m ∷ messages) = ap (λ (later : Option MessagePublished). if m.key == k then Some m else later) (row_is_first k messages)
-
+-- the deadline of the message with a key
 has_deadline : (found : Option MessagePublished) → is_some (option_map (λ m. m.deadline) found) ≡ is_some found
 has_deadline None = refl
 has_deadline (Some m) = refl
 
-pub has_by_deadline : (k : ℕ) (messages : List MessagePublished) → is_some (option_map (λ m. m.deadline) (row_at key k messages)) ≡ list_any (λ m. m.key == k) messages
-has_by_deadline k messages = has_deadline (row_at key k messages) ∙ has_row key k messages
+pub has_by_deadline : (k : ℕ) (messages : List MessagePublished) → is_some (option_map (λ m. m.deadline) (find (λ m. m.key == k) messages)) ≡ list_any (λ m. m.key == k) messages
+has_by_deadline k messages =
+    has_deadline (find (λ m. m.key == k) messages) ∙ (ap (λ (found : Option MessagePublished). is_some found) (sym (first_is_found (λ m. m.key == k) messages)) ∙ has_row key k messages)
 
 deadline_passed : (moment : ℕ) (found : Option MessagePublished) → option_map_or (λ deadline. nat_le deadline moment) (option_map (λ m. m.deadline) found) false ≡ option_map_or (is_past_deadline moment) found false
 deadline_passed moment None = refl
 deadline_passed moment (Some m) = refl
 
 pub due_by_deadline : (moment k : ℕ) (messages : List MessagePublished) → Ascend key 0 messages
-    → option_map_or (λ deadline. nat_le deadline moment) (option_map (λ m. m.deadline) (row_at key k messages)) false ≡ list_any (λ m. (m.key == k) && is_past_deadline moment m) messages
-due_by_deadline moment k messages up = deadline_passed moment (row_at key k messages) ∙ passes_at key (is_past_deadline moment) k 0 messages up
+    → option_map_or (λ deadline. nat_le deadline moment) (option_map (λ m. m.deadline) (find (λ m. m.key == k) messages)) false ≡ list_any (λ m. (m.key == k) && is_past_deadline moment m) messages
+due_by_deadline moment k messages up =
+    deadline_passed moment (find (λ m. m.key == k) messages)
+    ∙ (ap (λ (found : Option MessagePublished). option_map_or (is_past_deadline moment) found false) (sym (first_is_found (λ m. m.key == k) messages)) ∙ passes_at key (is_past_deadline moment) k 0 messages up)
 
 -- a message that an event publishes draws the counter behind the last one
 pub draws : (p n : ℕ) (e : Event) → HasNextKey p n e → Draws p n (greatest_among p (keys_in e)) (change_told e)

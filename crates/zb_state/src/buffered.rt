@@ -1,11 +1,13 @@
-// Buffered messages, as rows of a table.
-ghost use Rattle.std.specs.Prelude.{◌≡◌, Some, option_map};
-ghost use Rattle.zb_table.specs.Rows.{Ascend, row_at};
+// Buffered messages, as rows that wait for their deadlines.
+ghost use Rattle.std.specs.Prelude.{◌≡◌, ◌==◌, Some, option_map};
+ghost use Rattle.std.specs.List.{find};
+ghost use Rattle.zb_table.specs.Rows.{Ascend};
 ghost use Rattle.zb_rules.specs.Publish.{is_same};
 
 use std::marker::Model;
 use zb_model::{Key, MessagePublish, MessagePublished, Moment};
-use zb_table::{Query, Row, Table, Timed};
+use zb_table::{Query, Row, Timed};
+use zb_waits::Waits;
 
 /// A buffered message. Contracts see the message.
 #[derive(Drop)]
@@ -62,8 +64,8 @@ impl Query<Buffered> for MessagePublish {
 }
 
 /// The deadline of the message with this key, if there is one.
-pub fn deadline_of(key: Key, messages: &Table<Buffered>) -> Option<Moment>
-    ensures deadline { result ≡ option_map (λ m. m.deadline) (row_at (λ m. m.key) key messages.now) }
+pub fn deadline_of(key: Key, messages: &Waits<Buffered>) -> Option<Moment>
+    ensures deadline { result ≡ option_map (λ m. m.deadline) (find (λ m. m.key == key) messages.now) }
     ensures order { Ascend (λ m. m.key) 0 messages.now }
 {
     match messages.get(key) {

@@ -18,7 +18,7 @@ ghost use Rattle.zb_timers.specs.Table.{has_place_for_timer};
 ghost use Rattle.zb_views.specs.JobLaws.{jobs_by};
 ghost use Rattle.zb_views.specs.TimerLaws.{timers_by};
 ghost use Rattle.zb_tokens.specs.Incidents.{incident_on};
-ghost use Rattle.zb_base.specs.Vars.{value_named};
+ghost use Rattle.zb_base.specs.Vars.{is_ascending, value_named};
 ghost use Rattle.zb_tokens.specs.Names.{holder_of, value_seen};
 ghost use Rattle.zb_views.specs.Distributions.{is_distributed};
 ghost use Rattle.zb_views.specs.Definitions.{definitions, definition_for, greatest_version};
@@ -55,10 +55,10 @@ use zb_model::{
     ElementActivating, Event, IncidentCreated, Key, MessagePublish, MessagePublished,
     Model as ProcessModel, Moment, PartitionId, ProcessCreated, Role, TableFault, TryCopy, Vars,
 };
-use zb_table::Table;
 use zb_timers::Timers;
 use zb_tokens::{Incident, Mover, Phase};
 use zb_views::{Begun, Distribution};
+use zb_waits::Waits;
 
 /// What the events of a partition's log come to. Its clauses hold for all lists of events of which it is
 /// the state.
@@ -67,8 +67,8 @@ pub struct State {
     place: PartitionId,
     // The greatest counter of the keys that the events name.
     counter: u64,
-    // The buffered messages.
-    messages: Table<Buffered>,
+    // The buffered messages. They wait for their deadlines.
+    messages: Waits<Buffered>,
     // The definitions that were made.
     definitions: Definitions,
     // The distributions that are under way, in the order in which they began.
@@ -103,7 +103,7 @@ impl State {
         State {
             place,
             counter: 0,
-            messages: Table::empty(alloc),
+            messages: Waits::empty(alloc),
             definitions: Definitions::empty(alloc),
             distributions: Vec::new(alloc),
             begun: None,
@@ -116,9 +116,9 @@ impl State {
     }
 
     /// Takes in an event that applies to those before it. At `NotApplicable`, exactly where it doesn't,
-    /// nothing has changed; after `Memory` the state is only dropped. A message costs its copy; one that
-    /// expires costs the logarithm of how many are buffered, on average. An event of the game costs what
-    /// `Game::make` does; a model costs its check and its copies.
+    /// nothing has changed; after `Memory` the state is only dropped. A message costs its copy and the logarithm
+    /// of how many are buffered; one that expires costs that logarithm, on average. An event of the game costs
+    /// what `Game::make` does; a model costs its check and its copies.
     pub fn apply(&mut self, alloc: Global, event: &Event) -> Result<(), TableFault>
         ensures place { partition_of self.new ≡ partition_of self.old }
         ensures applied { (es : List Event) → IsStateOf es self.old → OnOk result (IsTrue (applies (partition_of self.old) es event.now)) }
@@ -321,8 +321,7 @@ impl State {
         self.game.incident(key)
     }
 
-    /// The incident on a cell. Where there is none it takes the logarithm of on how many cells one stands, and else it goes
-    /// through the incidents up to it.
+    /// The incident on a cell. It takes the logarithm of how many there are.
     pub fn incident_on(&self, cell: Key) -> Option<&Incident>
         ensures { (es : List Event) → IsStateOf es self.now
             → option_copied result ≡ option_and_then (λ b. incident_on b cell) (board_of es) }
@@ -362,6 +361,16 @@ impl State {
         ensures next { IsTrue result → IsNext (partition_of self.now) self.now.counter key }
     {
         self.counter + 1 < Key::COUNTERS && key == self.fresh()
+    }
+
+    // Whether a message comes under the next key. The names of its variables ascend, as those of all `Vars` do.
+    fn publishes(&self, message: &MessagePublished) -> bool
+        ensures own { (es : List Event) → IsStateOf es self.now
+            → result ≡ (is_fresh (partition_of self.now) es message.now.key && is_ascending message.now.variables) }
+        ensures next { IsTrue result → IsNext (partition_of self.now) self.now.counter message.now.key }
+    {
+        let _ = message.variables.as_slice();
+        self.is_fresh(message.key)
     }
 
     // Whether the event meets its own condition, beside the move that it shows. The events of the last arm are
@@ -405,8 +414,8 @@ impl State {
             Event::JobBatchActivated(batch) => {
                 Ok(self.is_fresh(batch.key) && self.are_jobs(batch.jobs.as_slice()))
             }
-            Event::MessagePublished(message) => Ok(self.is_fresh(message.key)),
-            Event::MessageExpired(key) => Ok(self.messages.contains(*key)),
+            Event::MessagePublished(message) => Ok(self.publishes(message)),
+            Event::MessageExpired(key) => Ok(self.deadline_of(*key).is_some()),
             Event::CommandDistributionDistributing(sent) => Ok(self.has_definition(sent.key)),
             Event::CommandDistributionAcknowledged(told) => {
                 Ok(self.is_distributed_to(told.key, told.partition))

@@ -97,8 +97,14 @@ fn put_one_by_one(
 fn see_names(command: &Command)
     ensures { HasOrderedNames command.now }
 {
-    if let Command::ProcessInstanceCreationCreate(instance) = command {
-        let _ = instance.variables.as_slice();
+    match command {
+        Command::ProcessInstanceCreationCreate(instance) => {
+            let _ = instance.variables.as_slice();
+        }
+        Command::MessagePublish(message) => {
+            let _ = message.variables.as_slice();
+        }
+        _ => {}
     }
 }
 

@@ -1,5 +1,5 @@
 -- Lists whose keys ascend: one row more, fewer or changed, and what is found in them.
-use Rattle.std.proofs.Common.{◌≡◌, ℕ, zero, suc, ◌+◌, ◌<◌, ◌≤◌, ◌==◌, List, [], ◌∷◌, ◌++◌, length, get_or, slice_set, remove, Bool, true, false, cond, Some, refl, ap, ◌∙◌, arith}
+use Rattle.std.proofs.Common.{◌≡◌, ℕ, zero, suc, ◌+◌, ◌<◌, ◌≤◌, ◌==◌, nat_lt, ◌&&◌, List, [], ◌∷◌, ◌++◌, map, length, get_or, slice_set, remove, Bool, true, false, cond, Some, refl, ap, sym, subst, ◌∙◌, arith}
 use Rattle.std.specs.List.{find}
 use Rattle.std.proofs.lemmas.Bool.Decides.{nat_tests}
 use Rattle.zb_table.specs.Rows.{Ascend, are_below}
@@ -9,6 +9,24 @@ module _ {A : Type 0} (key : A → ℕ) where
   pub lower : (low high : ℕ) (rows : List A) → low ≤ high → Ascend key high rows → Ascend key low rows
   lower low high [] le up = tt
   lower low high (r ∷ rows) le up = (omega (arith, le, up.0), up.1)
+
+  -- rows with the same keys ascend too, and lie below the same ends
+  pub ascend_by_keys : (low : ℕ) (xs ys : List A) → map key xs ≡ map key ys → Ascend key low ys → Ascend key low xs
+  ascend_by_keys low [] ys same up = tt
+  ascend_by_keys low (x ∷ xs) [] same up = absurd (cc)
+  ascend_by_keys low (x ∷ xs) (y ∷ ys) same up =
+      let here : key x ≡ key y = cc in
+      let later : map key xs ≡ map key ys = cc in
+      (omega (arith, here, up.0), subst (λ (n : ℕ). Ascend key (n + 1) xs) (sym here) (ascend_by_keys (key y + 1) xs ys later up.1))
+
+  pub below_by_keys : (high : ℕ) (xs ys : List A) → map key xs ≡ map key ys → are_below key high xs ≡ are_below key high ys
+  below_by_keys high [] [] same = refl
+  below_by_keys high [] (y ∷ ys) same = absurd (cc)
+  below_by_keys high (x ∷ xs) [] same = absurd (cc)
+  below_by_keys high (x ∷ xs) (y ∷ ys) same =
+      let here : key x ≡ key y = cc in
+      let later : map key xs ≡ map key ys = cc in
+      ap (λ (n : ℕ). nat_lt n high && are_below key high xs) here ∙ ap (λ (b : Bool). nat_lt (key y) high && b) (below_by_keys high xs ys later)
 
   -- keys go on ascending with one that is greater than all, where one is changed but for its key, and without one
   pub ascend_more : (low : ℕ) (rows : List A) (row : A) → low ≤ key row → Ascend key low rows → are_below key (key row) rows ≡ true → Ascend key low (rows ++ row ∷ [])

@@ -1,9 +1,9 @@
 -- Changing a place.
-use Rattle.std.proofs.Common.{◌≡◌, ℕ, zero, suc, ◌+◌, ◌<◌, ◌≤◌, ◌==◌, nat_lt, not, List, [], ◌∷◌, slice_get, set, filter, Option, Some, None, is_some, Bool, true, false, if◌then◌else◌, refl, ap, sym, ◌∙◌, subst, arith}
+use Rattle.std.proofs.Common.{◌≡◌, ℕ, zero, suc, ◌+◌, ◌<◌, ◌≤◌, ◌==◌, nat_lt, not, List, [], ◌∷◌, slice_get, set, map, filter, Option, Some, None, is_some, Bool, true, false, if◌then◌else◌, refl, ap, sym, ◌∙◌, subst, arith}
 use Rattle.std.specs.List.{insert}
 use Rattle.std.proofs.lemmas.Bool.Decides.{nat_tests}
 use Rattle.zb_table.specs.declared.row.Place.{Place}
-use Rattle.zb_table.specs.Rows.{Ascend, row_at, without, with_row}
+use Rattle.zb_table.specs.Rows.{Ascend, row_at, without, with_edit, with_row}
 use Rattle.zb_table.specs.Places.{held, rows_in, IsUnder, AreOrdered, count_below}
 use Rattle.zb_table.proofs.Finding.{rows_ascend}
 
@@ -41,6 +41,47 @@ module _ {A : Type 0} (key : A → ℕ) where
       by_test true none later = absurd (cc)
       by_test false none later = ap (λ (l : List A). r ∷ l) (later none)
 
+  -- nothing is edited among rows with greater keys, or where none has the key
+  pub edit_none : (k : ℕ) (f : A → A) (low : ℕ) (rows : List A) → Ascend key low rows → k < low → with_edit key k f rows ≡ rows
+  edit_none k f low [] up below = refl
+  edit_none k f low (r ∷ rows) up below =
+      let other : (key r == k) ≡ false = grind (arith, nat_tests, up.0, below) in
+      rw other (ap (λ (l : List A). r ∷ l) (edit_none k f (key r + 1) rows up.1 (omega (arith, up.0, below))))
+
+  pub edit_absent : (k : ℕ) (f : A → A) (rows : List A) → row_at key k rows ≡ None → with_edit key k f rows ≡ rows
+  edit_absent k f [] none = refl
+  edit_absent k f (r ∷ rows) none = by_test (key r == k) none (edit_absent k f rows)
+    where
+      by_test : (t : Bool) → (if t then Some r else row_at key k rows) ≡ None → (row_at key k rows ≡ None → with_edit key k f rows ≡ rows) → (if t then f r else r) ∷ with_edit key k f rows ≡ r ∷ rows
+      by_test true none later = absurd (cc)
+      by_test false none later = ap (λ (l : List A). r ∷ l) (later none)
+
+  edit_behind : (k : ℕ) (f : A → A) (at : ℕ) (row : Option A) (rows : List A) → IsUnder key at row → at < k → with_edit key k f (held row rows) ≡ held row (with_edit key k f rows)
+  edit_behind k f at None rows under below = refl
+  edit_behind k f at (Some r) rows under below = let other : (key r == k) ≡ false = grind (arith, nat_tests, under, below) in rw other refl
+
+  -- an edit that leaves each row its key leaves all keys
+  pub keys_stay : (k : ℕ) (f : A → A) (rows : List A) → ((row : A) → key (f row) ≡ key row) → map key (with_edit key k f rows) ≡ map key rows
+  keys_stay k f [] same = refl
+  keys_stay k f (r ∷ rows) same = by_test (key r == k) (keys_stay k f rows same)
+    where
+      by_test : (t : Bool) → map key (with_edit key k f rows) ≡ map key rows → key (if t then f r else r) ∷ map key (with_edit key k f rows) ≡ key r ∷ map key rows
+      by_test true later = rw (same r, later) refl
+      by_test false later = ap (λ (l : List ℕ). key r ∷ l) later
+
+  -- and so does one that leaves it the row that is edited
+  pub edit_keys : (k : ℕ) (f : A → A) (low : ℕ) (rows : List A) (row : A) → Ascend key low rows → row_at key k rows ≡ Some row → key (f row) ≡ key row → map key (with_edit key k f rows) ≡ map key rows
+  edit_keys k f low [] row up is same = absurd (cc)
+  edit_keys k f low (r ∷ rows) row up is same = by_test (key r == k) refl is (edit_keys k f (key r + 1) rows row up.1)
+    where
+      by_test : (t : Bool) → (key r == k) ≡ t → (if t then Some r else row_at key k rows) ≡ Some row → (row_at key k rows ≡ Some row → key (f row) ≡ key row → map key (with_edit key k f rows) ≡ map key rows)
+          → key (if t then f r else r) ∷ map key (with_edit key k f rows) ≡ key r ∷ map key rows
+      by_test true here is later =
+          let its : r ≡ row = cc in
+          let rest = edit_none k f (key r + 1) rows up.1 (grind (arith, nat_tests, here)) in
+          rw rest (ap (λ (n : ℕ). n ∷ map key rows) (ap (λ (x : A). key (f x)) its ∙ (same ∙ ap key (sym its))))
+      by_test false here is later = ap (λ (l : List ℕ). key r ∷ l) (later is same)
+
   -- a place keeps its key
   pub set_ordered : (low : ℕ) (ps : List (Place A)) (i : ℕ) (q new : Place A) → AreOrdered key low ps → slice_get ps i ≡ Some q → new.key ≡ q.key → IsUnder key new.key new.row → (low ≤ q.key) × AreOrdered key low (set ps i new)
   set_ordered low [] i q new o at same under = absurd (cc)
@@ -68,6 +109,25 @@ module _ {A : Type 0} (key : A → ℕ) where
   emptied low (p ∷ ps) (suc i) q new o at none =
       let later = emptied (p.key + 1) ps i q new o.2 at none in
       (omega (arith, o.0, later.0), ap (λ (l : List A). held p.row l) later.1 ∙ sym (without_behind q.key p.key p.row (rows_in ps) o.1 (omega (arith, later.0))))
+
+  -- a place whose row was edited
+  pub edited : (f : A → A) (low : ℕ) (ps : List (Place A)) (i : ℕ) (q new : Place A) (row : A) → AreOrdered key low ps → slice_get ps i ≡ Some q → q.row ≡ Some row → new.row ≡ Some (f row)
+      → (low ≤ q.key) × (rows_in (set ps i new) ≡ with_edit key q.key f (rows_in ps))
+  edited f low [] i q new row o at was is = absurd (cc)
+  edited f low (p ∷ ps) zero q new row o at was is =
+      let one : p ≡ q = cc in
+      subst (λ (z : Place A). (low ≤ z.key) × (rows_in (new ∷ ps) ≡ with_edit key z.key f (rows_in (p ∷ ps)))) one (o.0, rw is (by_row p.row o.1 (ap (λ (z : Place A). z.row) one ∙ was)))
+    where
+      by_row : (before : Option A) → IsUnder key p.key before → before ≡ Some row → f row ∷ rows_in ps ≡ with_edit key p.key f (held before (rows_in ps))
+      by_row None under its = absurd (cc)
+      by_row (Some r) under its =
+          let same : row ≡ r = cc in
+          let test : (key r == p.key) ≡ true = grind (arith, nat_tests, under) in
+          let rest = edit_none p.key f (p.key + 1) (rows_in ps) (rows_ascend key (p.key + 1) ps o.2) (omega arith) in
+          rw (test, rest) (ap (λ (x : A). f x ∷ rows_in ps) same)
+  edited f low (p ∷ ps) (suc i) q new row o at was is =
+      let later = edited f (p.key + 1) ps i q new row o.2 at was is in
+      (omega (arith, o.0, later.0), ap (λ (l : List A). held p.row l) later.1 ∙ sym (edit_behind q.key f p.key p.row (rows_in ps) o.1 (omega (arith, later.0))))
 
   -- a place that has another row
   pub refilled : (low : ℕ) (ps : List (Place A)) (i : ℕ) (q new : Place A) (row : A) → AreOrdered key low ps → slice_get ps i ≡ Some q → key row ≡ q.key → new.row ≡ Some row → (low ≤ q.key) × (rows_in (set ps i new) ≡ with_row key row (rows_in ps))

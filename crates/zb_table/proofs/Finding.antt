@@ -64,6 +64,14 @@ module _ {A : Type 0} (key : A → ℕ) where
       let later = row_found (p.key + 1) ps i q o.2 at in
       (omega (arith, later.0, o.0), rw (passed_over q.key p.key p.row (rows_in ps) o.1 (omega (arith, later.0))) later.1)
 
+  -- the row of a place has its key
+  pub keyed : (low : ℕ) (ps : List (Place A)) (i : ℕ) (q : Place A) (row : A) → AreOrdered key low ps → slice_get ps i ≡ Some q → q.row ≡ Some row → key row ≡ q.key
+  keyed low [] i q row o at is = absurd (cc)
+  keyed low (p ∷ ps) zero q row o at is =
+      let same : p ≡ q = cc in
+      subst (λ (r : Option A). IsUnder key q.key r) is (subst (λ (z : Place A). IsUnder key z.key z.row) same o.1)
+  keyed low (p ∷ ps) (suc i) q row o at is = keyed (p.key + 1) ps i q row o.2 at is
+
   -- up to a place whose key is lower all are
   pub all_before : (k low : ℕ) (ps : List (Place A)) (i : ℕ) (q : Place A) → AreOrdered key low ps → slice_get ps i ≡ Some q → q.key < k → i + 1 ≤ count_below k ps
   all_before k low [] i q o at below = absurd (cc)

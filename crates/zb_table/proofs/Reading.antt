@@ -1,8 +1,8 @@
 -- What is read of the row with a key, where a row is put or goes.
-use Rattle.std.proofs.Common.{◌≡◌, ℕ, ◌==◌, nat_lt, List, [], ◌∷◌, Bool, true, false, not, cond, if◌then◌else◌, Option, Some, refl, ◌∙◌, arith}
+use Rattle.std.proofs.Common.{◌≡◌, ℕ, ◌==◌, nat_lt, List, [], ◌∷◌, map, Bool, true, false, not, cond, if◌then◌else◌, Option, Some, None, option_map, refl, ◌∙◌, arith}
 use Rattle.std.specs.Option.{option_map_or}
 use Rattle.std.proofs.lemmas.Bool.Decides.{nat_tests}
-use Rattle.zb_table.specs.Rows.{row_at, with_row, without}
+use Rattle.zb_table.specs.Rows.{row_at, with_edit, with_row, without}
 
 module _ {A V : Type 0} (key : A → ℕ) (read : A → V) (none : V) where
   -- what is read of a row; something else where there is none
@@ -51,3 +51,26 @@ module _ {A V : Type 0} (key : A → ℕ) (read : A → V) (none : V) where
     pub read_gone : (rows : List A) → read_of (row_at key k (without key gone rows)) ≡ (if gone == k then none else read_of (row_at key k rows))
     read_gone [] = none_left (gone == k)
     read_gone (r ∷ rows) = gone_by (key r == gone) (key r == k) r rows (without key gone rows) refl refl (read_gone rows)
+
+-- the row with a key, where that with another one, or it itself, is edited, and keys stay
+pub row_edited : {A : Type 0} (key : A → ℕ) (g k : ℕ) (f : A → A) (rows : List A) → map key (with_edit key g f rows) ≡ map key rows
+    → row_at key k (with_edit key g f rows) ≡ (if g == k then option_map f (row_at key k rows) else row_at key k rows)
+row_edited {A} key g k f [] same = by_test (g == k)
+  where
+    by_test : (t : Bool) → ◌≡◌ {A = Option A} None (if t then None else None)
+    by_test true = refl
+    by_test false = refl
+row_edited {A} key g k f (r ∷ rows) same =
+    by_tests (key r == g) (key r == k) (g == k) refl refl refl (let here : key (if key r == g then f r else r) ≡ key r = cc in here)
+    (row_edited key g k f rows (let later : map key (with_edit key g f rows) ≡ map key rows = cc in later))
+  where
+    by_tests : (s t u : Bool) → (key r == g) ≡ s → (key r == k) ≡ t → (g == k) ≡ u → key (if s then f r else r) ≡ key r
+        → row_at key k (with_edit key g f rows) ≡ (if u then option_map f (row_at key k rows) else row_at key k rows)
+        → ◌≡◌ {A = Option A} (row_at key k ((if s then f r else r) ∷ with_edit key g f rows)) (if u then option_map f (if t then Some r else row_at key k rows) else (if t then Some r else row_at key k rows))
+    by_tests true true true its at both stays later = let here : (key (f r) == k) ≡ true = grind (arith, nat_tests, stays, at) in rw here refl
+    by_tests true false false its at both stays later = let here : (key (f r) == k) ≡ false = grind (arith, nat_tests, stays, at) in rw here later
+    by_tests false true false its at both stays later = rw at refl
+    by_tests false false u its at both stays later = rw at later
+    by_tests true true false its at both stays later = absurd (grind (arith, nat_tests, its, at, both))
+    by_tests true false true its at both stays later = absurd (grind (arith, nat_tests, its, at, both))
+    by_tests false true true its at both stays later = absurd (grind (arith, nat_tests, its, at, both))

@@ -2,4 +2,3 @@ pub mod Rows
 pub mod Places
 pub mod Earliest
 pub mod EarliestLaws
-pub mod Due

@@ -1,5 +1,6 @@
 -- The places of a table.
-use Rattle.std.specs.Prelude.{◌≡◌, ℕ, suc, ◌+◌, ◌≤◌, ◌==◌, nat_lt, false, List, [], ◌∷◌, slice_get, if◌then◌else◌, Option, Some, None}
+use Rattle.std.specs.Prelude.{◌≡◌, ℕ, suc, ◌+◌, ◌≤◌, ◌==◌, nat_lt, false, List, [], ◌∷◌, slice_get, if◌then◌else◌, Option, Some, None, is_none}
+use Rattle.std.specs.List.{count_by}
 use Rattle.zb_table.specs.declared.row.Place.{Place}
 
 -- a row, if there is one, in front of others
@@ -21,6 +22,15 @@ IsUnder key k (Some r) = key r ≡ k
 abbrev pub AreOrdered : {A : Type 0} → (A → ℕ) → ℕ → List (Place A) → Type 0
 AreOrdered key low [] = Unit {0}
 AreOrdered key low (p ∷ ps) = (low ≤ p.key) × IsUnder key p.key p.row × AreOrdered key (p.key + 1) ps
+
+-- how many places have no row
+abbrev pub count_empty : {A : Type 0} → List (Place A) → ℕ
+count_empty ps = count_by (λ p. is_none p.row) ps
+
+-- the places of a table are right: their keys ascend, rows have the keys of their places, and so many places are empty (own)
+pub record ArePlaces {A : Type 0} (key : A → ℕ) (empty : ℕ) (places : List (Place A)) : Type 0 where
+  pub ordered : AreOrdered key 0 places
+  pub counted : count_empty places ≡ empty
 
 -- how many places at the front have keys below k
 abbrev pub count_below : {A : Type 0} → ℕ → List (Place A) → ℕ

@@ -1,5 +1,5 @@
 -- Rows in the order of their keys.
-use Rattle.std.specs.Prelude.{ℕ, ◌+◌, ◌≤◌, ◌==◌, nat_lt, List, [], ◌∷◌, filter, Bool, true, ◌&&◌, not, if◌then◌else◌, Option, Some, None}
+use Rattle.std.specs.Prelude.{ℕ, ◌+◌, ◌≤◌, ◌==◌, nat_lt, List, [], ◌∷◌, map, filter, Bool, true, ◌&&◌, not, if◌then◌else◌, Option, Some, None}
 use Rattle.std.specs.Option.{option_or}
 
 -- the first member that passes
@@ -35,3 +35,7 @@ module _ {A : Type 0} (key : A → ℕ) where
   abbrev pub with_row : A → List A → List A
   with_row row [] = row ∷ []
   with_row row (r ∷ rows) = if nat_lt (key r) (key row) then r ∷ with_row row rows else if key r == key row then row ∷ rows else row ∷ r ∷ rows
+
+  -- the rows with the one with a key edited, if there is one (own)
+  abbrev pub with_edit : ℕ → (A → A) → List A → List A
+  with_edit k edit rows = map (λ r. if key r == k then edit r else r) rows

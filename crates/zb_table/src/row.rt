@@ -1,4 +1,4 @@
-ghost use Rattle.std.specs.Prelude.{◌≡◌, ℕ, Bool, Option, IfOk};
+ghost use Rattle.std.specs.Prelude.{◌≡◌, ℕ, Bool, Option, IfOk, is_none};
 
 use std::alloc::{AllocError, Global};
 use zb_base::{Key, Moment, TryCopy};
@@ -41,6 +41,16 @@ pub trait Query<R> {
 pub struct Place<R: Drop> {
     pub key: Key,
     pub row: Option<R>,
+}
+
+impl<R: Row> Place<R> {
+    /// Puts a row in, and tells whether there was none.
+    pub fn fill(&mut self, row: R) -> bool
+        ensures row { self.new ≡ record self.old { row = Some row } }
+        ensures empty { result ≡ is_none self.old.row }
+    {
+        self.row.replace(row).is_none()
+    }
 }
 
 /// A copy of these places. It takes a step for each part of them.

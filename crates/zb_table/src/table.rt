@@ -1,34 +1,32 @@
-ghost use Rattle.std.specs.Prelude.{◌≡◌, ◌≤◌, [], None, OnOk, OnErr, is_some, length, option_map};
+ghost use Rattle.std.specs.Prelude.{◌≡◌, ◌≤◌, ◌<◌, ◌^◌, [], OnOk, OnErr, is_some, length, map, option_map};
 ghost use Rattle.std.specs.List.{insert, list_any};
 ghost use Rattle.std.specs.Option.{option_copied};
-ghost use Rattle.zb_table.specs.Earliest.{first_due, place_in_time};
-ghost use Rattle.zb_table.specs.Rows.{Ascend, first_passing, last_passing, row_at, with_row, without};
-ghost use Rattle.zb_table.specs.Places.{rows_in, AreOrdered};
+ghost use Rattle.zb_table.specs.Rows.{Ascend, first_passing, last_passing, row_at, with_edit, with_row, without};
 
 use crate::row::Place;
 use crate::search::find;
-use crate::{Query, Row, Timed, due, row, search};
+use crate::{Edit, Query, Row, row, search};
 use std::alloc::{AllocError, Global};
 use std::marker::Model;
-use zb_base::{Key, Moment, TryCopy};
+use zb_base::{Key, TryCopy};
 
 /// Rows in the order of their keys. Contracts see the list of them.
 #[derive(Drop)]
 pub struct Table<R: Row> {
     places: Vec<Place<R>>,
-    // How many of the places are empty, as far as it was counted.
+    // How many of the places are empty.
     empty: usize,
 }
 
 impl<R: Row> Model for Table<R> {
     ghost use Rattle.std.specs.Prelude as prelude;
-    ghost use Rattle.zb_table.specs.Places.{rows_in, AreOrdered};
+    ghost use Rattle.zb_table.specs.Places.{rows_in, ArePlaces};
 
     ghost Value = { prelude.List R };
 
     ghost view = { λ t. rows_in t.places.items };
 
-    ghost invariant = { λ t. AreOrdered R.key_in 0 t.places.items };
+    ghost invariant = { λ t. ArePlaces R.key_in t.empty t.places.items };
 }
 
 impl<R: Row> Table<R> {
@@ -40,6 +38,14 @@ impl<R: Row> Table<R> {
             places: Vec::new(alloc),
             empty: 0,
         }
+    }
+
+    /// How many rows there are. Memory has no room for more than it says.
+    pub fn len(&self) -> usize
+        ensures count { result ≡ length self.now }
+        ensures few { result < 2 ^ 63 }
+    {
+        self.places.len() - self.empty
     }
 
     /// The row with this key. It takes the logarithm of how many rows there are; one step where the key is
@@ -93,7 +99,9 @@ impl<R: Row> Table<R> {
         let key = row.key();
         match find(key, &self.places) {
             Ok(place) => {
-                self.places[place].row = Some(row);
+                if self.places[place].fill(row) {
+                    self.empty -= 1;
+                }
                 Ok(())
             }
             Err(place) => {
@@ -102,6 +110,25 @@ impl<R: Row> Table<R> {
                 Ok(())
             }
         }
+    }
+
+    /// Edits the row with this key where it stands, if there is one. After a refusal it is gone. It takes the logarithm
+    /// of how many rows there are, and what the edit takes.
+    pub fn edit<E: Edit<R>>(&mut self, key: Key, edit: E) -> Result<(), AllocError>
+        ensures row { OnOk result (self.new ≡ with_edit R.key_in key (E.edits edit) self.old) }
+        ensures keys { OnOk result (map R.key_in self.new ≡ map R.key_in self.old) }
+        ensures err { OnErr result (self.new ≡ without R.key_in key self.old) }
+    {
+        let Ok(place) = find(key, &self.places) else {
+            return Ok(());
+        };
+        let Some(row) = self.places[place].row.take() else {
+            return Ok(());
+        };
+        self.empty += 1;
+        self.places[place].row = Some(edit.edit(row)?);
+        self.empty -= 1;
+        Ok(())
     }
 
     /// Removes the row with this key, if there is one. It takes the logarithm of how many rows there are, on
@@ -117,15 +144,13 @@ impl<R: Row> Table<R> {
         ensures row { result ≡ row_at R.key_in key self.old }
         ensures left { self.new ≡ without R.key_in key self.old }
     {
-        match find(key, &self.places) {
-            Ok(place) => {
-                let row = self.places[place].row.take();
-                self.empty = self.empty.saturating_add(1);
-                self.sweep();
-                row
-            }
-            Err(_) => None,
-        }
+        let Ok(place) = find(key, &self.places) else {
+            return None;
+        };
+        let row = self.places[place].row.take()?;
+        self.empty += 1;
+        self.sweep();
+        Some(row)
     }
 
     // Drops the empty places, where more than half of them are.
@@ -145,16 +170,6 @@ impl<R: Row + TryCopy> TryCopy for Table<R> {
             places: row::copies_of(alloc, &self.places)?,
             empty: self.empty,
         })
-    }
-}
-
-impl<R: Timed> Table<R> {
-    /// When the row is due that is due first, and its key, if one is due now: the one with the earliest moment, and of those
-    /// with the same one the one with the least key. It goes once through all rows.
-    pub fn first_due(&self, now: Moment) -> Option<(Moment, Key)>
-        ensures { result ≡ option_map (place_in_time R.key_in R.moment_in) (first_due R.key_in R.moment_in now self.now) }
-    {
-        due::first_due(now, &self.places)
     }
 }
 

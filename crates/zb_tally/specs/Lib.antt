@@ -1,3 +1,4 @@
 pub mod Counts
 pub mod Summary
 pub mod Served
+pub mod Status

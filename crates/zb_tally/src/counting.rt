@@ -19,8 +19,8 @@ use zb_state::State;
 use zb_store::{GateLog, Volume, one_reading};
 use zb_world::partition_at;
 
-/// The most bytes that a log may have.
-pub const LIMIT: u64 = 4_294_967_296;
+// The most bytes that a log may be opened with. None are added here.
+const READ_LIMIT: u64 = 4_294_967_296;
 
 /// What is counted in the logs of these volumes, of the partitions from 1 on; `None` where memory was wanting. It reads
 /// each log once.
@@ -68,7 +68,7 @@ fn open_log<D: Disk + Drop>(alloc: Global, disk: D) -> Option<GateLog<D>>
         → IfSome result (λ log. HasClosedFrames (D.view (disk_of_log log)).contents log (bodies_of all)) }
 {
     one_reading();
-    let Ok(log) = GateLog::open(alloc, disk, LIMIT) else {
+    let Ok(log) = GateLog::open(alloc, disk, READ_LIMIT) else {
         return None;
     };
     if log.whole() { Some(log) } else { None }

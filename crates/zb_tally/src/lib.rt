@@ -2,6 +2,7 @@
 #![tactic(auto)]
 
 mod counting;
+mod fault;
 mod printing;
 mod serving;
 mod tally;

@@ -117,7 +117,7 @@ impl Timers {
     {
         let timer = made(alloc, created)?;
         self.cells.insert((created.cell, created.key))?;
-        self.rows.add(alloc, timer)?;
+        self.rows.add(timer)?;
         Ok(self)
     }
 

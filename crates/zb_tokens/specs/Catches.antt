@@ -1,5 +1,5 @@
 -- The events that cells wait for: timers at catch events, behind event gateways and at the boundary of activities, which are due by a date or a duration (BPMN 2.0.2, 10.5.4, 10.5.5, 10.6.6 and 13.5.3).
-use Rattle.std.specs.Prelude.{ℕ, List, [], ◌∷◌, ◌++◌, filter, codes, Bool, false, ◌&&◌, ◌||◌, not, is_some, if◌then◌else◌, Option, Some, None, option_map, option_and_then, Result, Ok, Err}
+use Rattle.std.specs.Prelude.{ℕ, List, [], ◌∷◌, ◌++◌, filter, codes, Bool, false, ◌&&◌, ◌||◌, not, is_some, if◌then◌else◌, Option, Some, None, Result, Ok, Err}
 use Rattle.std.specs.Option.{option_map_or, option_or}
 use Rattle.std.specs.List.{list_any}
 use Rattle.std.specs.Result.{result_map_both, result_unwrap_or}
@@ -13,9 +13,9 @@ use Rattle.zb_process.specs.declared.model.Model.{Model}
 use Rattle.zb_process.specs.declared.model.Node.{Node}
 use Rattle.zb_process.specs.declared.model.NodeKind.{NodeKind}
 use Rattle.zb_process.specs.declared.model.NodeKind.TheVariants as kinds
-use Rattle.zb_process.specs.Expr.{ValueFault, Kind, value_of}
+use Rattle.zb_process.specs.Expr.{ValueFault, Unknown, Kind, value_of}
 use Rattle.zb_process.specs.Tree.{Tree}
-use Rattle.zb_faults.specs.Elements.{is_catch, is_event_gateway}
+use Rattle.zb_faults.specs.Elements.{is_boundary_of, is_catch, is_event_gateway}
 use Rattle.zb_duration.specs.Due.{due_of}
 use Rattle.zb_duration.specs.declared.fault.DueFault.{DueFault}
 use Rattle.zb_duration.specs.declared.form.TimeForm.{TimeForm}
@@ -31,7 +31,7 @@ use Rattle.zb_tokens.specs.Mappings.{inputs_of, node_of}
 use Rattle.zb_tokens.specs.Marks.{error_of, is_unset}
 use Rattle.zb_tokens.specs.Names.{value_seen}
 
--- the form of the time at an event with a timer: one in the flow, or at the boundary of an activity (BPMN 2.0.2, 10.5.5)
+-- the form of the time at a node with a timer: an event in the flow, or at the boundary of an activity (BPMN 2.0.2, 10.5.5)
 abbrev pub time_form : NodeKind → Option TimeForm
 time_form kinds.DateCatchEvent = Some forms.Date
 time_form kinds.DurationCatchEvent = Some forms.Duration
@@ -48,14 +48,15 @@ text_told value = Err Kind
 abbrev pub time_hindrance : DueFault → Hindrance
 time_hindrance fault = record { kind = incidents.ExtractValueError; text = codes "TIMER" }
 
--- when a timer is due that opens at a moment, where names have these values, or why that can't be told (BPMN 2.0.2, 10.5.5)
-abbrev pub due_by : (List ℕ → Option Value) → ℕ → TimeForm → Tree → Result ℕ Hindrance
-due_by names moment form time =
-    result_map_both (λ text. text) hindrance_of (value_of names time >>= text_told) >>= (λ text. result_map_both (λ due. due) time_hindrance (due_of form text moment))
+-- the value of a node's expression, where names have these values; one that is missing has none, as a name without a value has none (own)
+abbrev pub value_given : (List ℕ → Option Value) → Option Tree → Result Value ValueFault
+value_given names None = Err Unknown
+value_given names (Some expr) = value_of names expr
 
--- the time that a node has, with its form
-abbrev pub time_of : Node → Option (TimeForm × Tree)
-time_of n = option_and_then (λ form. option_map (λ time. (form, time)) n.expr) (time_form n.kind)
+-- when a timer is due that opens at a moment, where names have these values, or why that can't be told (BPMN 2.0.2, 10.5.5)
+abbrev pub due_by : (List ℕ → Option Value) → ℕ → TimeForm → Option Tree → Result ℕ Hindrance
+due_by names moment form time =
+    result_map_both (λ text. text) hindrance_of (value_given names time >>= text_told) >>= (λ text. result_map_both (λ due. due) time_hindrance (due_of form text moment))
 
 -- a flow leads from one node to another (BPMN 2.0.2, 8.4.13)
 abbrev pub leads_from : Model → (origin target : List ℕ) → Bool
@@ -67,20 +68,20 @@ waits_itself c n = is_catch n.kind && not c.before
 
 -- at a node a cell waits for the event of another one: of one behind an event gateway, or at the boundary of an activity (BPMN 2.0.2, 10.5.4 and 10.6.6)
 abbrev pub waits_beside : Model → (at other : Node) → Bool
-waits_beside m at other = if is_event_gateway at.kind then leads_from m at.id other.id else bytes_eq other.attached at.id
+waits_beside m at other = if is_event_gateway at.kind then leads_from m at.id other.id else is_boundary_of at.id other
 
 -- the nodes for whose events a cell at a node waits: its own one first, the others in the order of the model (BPMN 2.0.2, 13.5.3)
 abbrev pub awaited : Model → Cell → Node → List Node
 awaited m c n = (if waits_itself c n then n ∷ [] else []) ++ filter (waits_beside m n) m.nodes
 
--- the timer that opens at a node with a time, where names have these values
-abbrev pub opening_by : (List ℕ → Option Value) → ℕ → List ℕ → TimeForm × Tree → Result Opening Hindrance
-opening_by names moment node time = due_by names moment time.0 time.1 >>= (λ due. Ok (record { node = node; due = due }))
+-- the timer that opens at a node whose time has this form, where names have these values, or why it can't
+abbrev pub opening_by : (List ℕ → Option Value) → ℕ → Node → TimeForm → Result Opening Hindrance
+opening_by names moment n form = due_by names moment form n.expr >>= (λ due. Ok (record { node = n.id; due = due }))
 
--- the timers that open at those of some nodes that have a time, in their order, or why the first one that can't doesn't
+-- the timers that open at those of some nodes that have one, in their order, or why the first one that can't doesn't
 abbrev pub openings_in : (List ℕ → Option Value) → ℕ → List Node → Result (List Opening) Hindrance
 openings_in names moment [] = Ok []
-openings_in names moment (n ∷ ns) = option_map_or (λ time. opening_by names moment n.id time >>= (λ o. openings_in names moment ns >>= (λ os. Ok (o ∷ os)))) (time_of n) (openings_in names moment ns)
+openings_in names moment (n ∷ ns) = option_map_or (λ form. opening_by names moment n form >>= (λ o. openings_in names moment ns >>= (λ os. Ok (o ∷ os)))) (time_form n.kind) (openings_in names moment ns)
 
 -- the timers that open for a cell as it becomes active at a moment, where names have these values, or why they can't (BPMN 2.0.2, 13.5.3)
 abbrev pub openings_by : (List ℕ → Option Value) → Board → ℕ → Cell → Result (List Opening) Hindrance
@@ -107,15 +108,15 @@ openings_of b moment c = openings_by (value_seen b c.key) b moment c
 abbrev pub openings_at : Board → (moment cell : ℕ) → List Opening
 openings_at b moment cell = option_map_or (λ c. result_unwrap_or (openings_of b moment c) []) (cell_at b cell) []
 
--- at a node a cell waits for the time of the node with an id: it is the cell's own one, or another one for whose event it waits (BPMN 2.0.2, 13.5.3)
+-- at a node a cell waits for the timer of the node with an id: it is the cell's own one, or another one for whose event it waits (BPMN 2.0.2, 13.5.3)
 abbrev pub is_timed_at : Model → Cell → Node → List ℕ → Bool
-is_timed_at m c n id = option_map_or (λ x. ((bytes_eq c.node id && waits_itself c n) || waits_beside m n x) && is_some (time_of x)) (node_with m id) false
+is_timed_at m c n id = option_map_or (λ x. ((bytes_eq c.node id && waits_itself c n) || waits_beside m n x) && is_some (time_form x.kind)) (node_with m id) false
 
--- a cell waits, or is about to, for the time of the node with an id (BPMN 2.0.2, 13.5.3)
+-- a cell waits, or is about to, for the timer of the node with an id (BPMN 2.0.2, 13.5.3)
 abbrev pub awaits_time : Board → Cell → List ℕ → Bool
 awaits_time b c id = option_map_or (λ m. option_map_or (λ n. is_timed_at m c n id) (node_of b c) false) (model_under b c.definition) false
 
--- a timer may open for a cell at the node with an id: it is active, and waits for the time of that (BPMN 2.0.2, 13.5.3)
+-- a timer may open for a cell at the node with an id: it is active, and waits for the timer of that (BPMN 2.0.2, 13.5.3)
 abbrev pub opens_at : List ℕ → Board → Cell → Bool
 opens_at id b c = is_phase c.phase phases.Active && awaits_time b c id
 

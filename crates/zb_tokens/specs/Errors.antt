@@ -5,7 +5,7 @@ use Rattle.std.specs.List.{find}
 use Rattle.std.specs.Str.{bytes_eq}
 use Rattle.zb_process.specs.declared.model.Model.{Model}
 use Rattle.zb_process.specs.declared.model.Node.{Node}
-use Rattle.zb_faults.specs.Elements.{is_activity, is_error_boundary}
+use Rattle.zb_faults.specs.Elements.{is_activity, is_boundary_of, is_error_boundary}
 use Rattle.zb_tokens.specs.declared.board.Cell.{Cell}
 use Rattle.zb_tokens.specs.declared.board.Triggered.{Triggered}
 use Rattle.zb_tokens.specs.Board.{Board, cell_at, model_under}
@@ -22,7 +22,7 @@ first_for code ns = option_or (find (is_for code) ns) (find (is_for []) ns)
 
 -- at the boundary of an activity the event that catches an error (BPMN 2.0.2, 10.5.7)
 abbrev pub error_event : Model → (code : List ℕ) → Node → Option Node
-error_event m code at = if is_activity at.kind then first_for code (filter (λ n. bytes_eq n.attached at.id) m.nodes) else None
+error_event m code at = if is_activity at.kind then first_for code (filter (is_boundary_of at.id) m.nodes) else None
 
 -- the event at the boundary of a cell that catches an error
 abbrev pub error_event_of : Board → (code : List ℕ) → Cell → Option Node

@@ -2,8 +2,8 @@
 use Rattle.std.specs.Prelude.{ℕ, ◌==◌, [], filter, Bool, false, ◌&&◌, ◌||◌, not, Option, option_map}
 use Rattle.std.specs.Option.{option_map_or}
 use Rattle.std.specs.List.{list_any}
-use Rattle.std.specs.Str.{bytes_eq}
 use Rattle.zb_process.specs.declared.model.Node.{Node}
+use Rattle.zb_faults.specs.Elements.{is_boundary_of}
 use Rattle.zb_tokens.specs.Edits.{edited}
 use Rattle.zb_tokens.specs.declared.board.Cell.{Cell}
 use Rattle.zb_tokens.specs.declared.board.Phase.TheVariants as phases
@@ -22,7 +22,7 @@ interrupts b c n = n.cancel && list_any (stands_at c.scope (spots.BeforeNode n.i
 
 -- a boundary event interrupts a cell (BPMN 2.0.2, 10.5.4)
 abbrev pub is_interrupted : Board → Cell → Bool
-is_interrupted b c = option_map_or (λ m. list_any (interrupts b c) (filter (λ n. bytes_eq n.attached c.node) m.nodes)) (model_under b c.definition) false
+is_interrupted b c = option_map_or (λ m. list_any (interrupts b c) (filter (is_boundary_of c.node) m.nodes)) (model_under b c.definition) false
 
 -- when: it is alive, and is a root or doomed, or a boundary event interrupts it (BPMN 2.0.2, 13.3.2 and 13.5.3)
 abbrev pub fits_halt : Board → ℕ → Bool

@@ -3,7 +3,7 @@ use Rattle.std.specs.Prelude.{◌==◌, List, ℕ, Bool, false, ◌&&◌, ◌||�
 use Rattle.std.specs.Option.{option_map_or}
 use Rattle.std.specs.List.{list_any}
 use Rattle.std.specs.Str.{bytes_eq}
-use Rattle.zb_faults.specs.Elements.{is_event_gateway}
+use Rattle.zb_faults.specs.Elements.{is_boundary_of, is_event_gateway}
 use Rattle.zb_tokens.specs.Edits.{edited}
 use Rattle.zb_tokens.specs.declared.board.Triggered.{Triggered}
 use Rattle.zb_tokens.specs.declared.board.Cell.{Cell}
@@ -58,7 +58,7 @@ play_trigger b t = option_and_then (λ c. told b t c (mark_by b t c)) (cell_at b
 
 -- the event of a node interrupts a cell where it comes about: the cell isn't told of it, and it is a boundary event at the cell's node that interrupts (BPMN 2.0.2, 10.5.4)
 abbrev pub ends_cell : Board → Triggered → Cell → Bool
-ends_cell b t c = is_none (mark_by b t c) && option_map_or (λ m. option_map_or (λ n. n.cancel && bytes_eq n.attached c.node) (node_with m t.node) false) (model_under b c.definition) false
+ends_cell b t c = is_none (mark_by b t c) && option_map_or (λ m. option_map_or (λ n. n.cancel && is_boundary_of c.node n) (node_with m t.node) false) (model_under b c.definition) false
 
 -- the same for the cell with a key
 abbrev pub is_interrupting : (cell : ℕ) → List ℕ → Board → Bool

@@ -43,7 +43,7 @@ pub struct Cell {
     /// The items of a body, which its inner cells take one by one.
     pub items: List<i64>,
     /// How many of its items were taken.
-    pub taken: u32,
+    pub taken: u64,
     /// The flows that it has still to take, while it leaves.
     pub owed: List<Text>,
     /// The activities with a handler that have completed in it, in order.

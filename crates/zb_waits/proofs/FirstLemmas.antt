@@ -2,17 +2,11 @@
 use Rattle.std.proofs.Common.{◌≡◌, ℕ, ◌+◌, ◌==◌, nat_le, List, [], ◌∷◌, filter, Bool, true, false, ◌&&◌, ◌||◌, cond, if◌then◌else◌, Option, Some, None, option_map, refl, sym, ap, ◌∙◌, arith}
 use Rattle.std.specs.List.{find, list_any}
 use Rattle.std.specs.Option.{option_map_or}
-use Rattle.std.specs.BTreeSet.{BTreeSet}
 use Rattle.std.proofs.lemmas.Bool.Decides.{nat_tests}
 use Rattle.zb_table.specs.Rows.{Ascend}
 use Rattle.zb_table.specs.Earliest.{is_earlier, earliest, place_in_time, is_due, first_due}
 use Rattle.zb_table.specs.EarliestLaws.{any_of, any_kept, earliest_found, earlier_of, earliest_more}
-use Rattle.zb_waits.specs.Pairs.{has_pair, is_row_under, IsIndex}
 use Rattle.zb_waits.proofs.FoundLemmas.{found_above, found_passes}
-
--- a pair is kept, and none comes before it
-abbrev pub IsFirstPair : BTreeSet (ℕ × ℕ) → (ℕ × ℕ) → Type 0
-IsFirstPair pairs first = (has_pair pairs first.0 first.1 ≡ true) × ((n k : ℕ) → has_pair pairs n k ≡ true → is_earlier (n, k) first ≡ false)
 
 -- what is found passes another test, so one does
 any_found : {A : Type 0} (p q : A → Bool) (xs : List A) (x : A) → find p xs ≡ Some x → q x ≡ true → list_any q xs ≡ true
@@ -107,25 +101,20 @@ module _ {A : Type 0} (place : A → ℕ × ℕ) where
       by_later rest false nowhere =
           ap (option_map place) (earliest_more place x xs) ∙ other_place (earliest place xs) refl (x_first nowhere)
 
-module _ {A : Type 0} (key : A → ℕ) (moment : A → Option ℕ) (now : ℕ) (rows : List A) (pairs : BTreeSet (ℕ × ℕ)) (up : Ascend key 0 rows) (index : IsIndex key moment rows pairs) where
+module _ {A : Type 0} (key : A → ℕ) (moment : A → Option ℕ) (now : ℕ) (rows : List A) (up : Ascend key 0 rows)
+    (has : ℕ → ℕ → Bool) (kept : (r : A) (m : ℕ) → find (λ x. key x == key r) rows ≡ Some r → moment r ≡ Some m → has m (key r) ≡ true) where
   abbrev place : A → ℕ × ℕ
   place = place_in_time key moment
 
   abbrev due : A → Bool
   due = is_due key moment now
 
-  -- a row that waits is kept
-  kept : (r : A) (m : ℕ) → find (λ x. key x == key r) rows ≡ Some r → moment r ≡ Some m → has_pair pairs m (key r) ≡ true
-  kept r m at is =
-      let itself : (m == m) ≡ true = grind (arith, nat_tests) in
-      index m (key r) ∙ (ap (is_row_under moment m) at ∙ rw (is, itself) refl)
-
   -- what a test says of those that are due
   due_any : (q : A → Bool) → list_any q (filter due rows) ≡ list_any (λ r. due r && q r) rows
   due_any q = any_kept q due rows
 
   -- where no moment that is kept has come
-  pub due_none : ((n k : ℕ) → has_pair pairs n k ≡ true → nat_le n now ≡ false) → first_due key moment now rows ≡ None
+  pub due_none : ((n k : ℕ) → has n k ≡ true → nat_le n now ≡ false) → first_due key moment now rows ≡ None
   due_none late =
       let none = any_none key (λ r. due r && true) 0 rows up (λ r at. let isnt = by_moment r at (moment r) refl in grind (arith, isnt)) in
       ap (earliest place) (none_at_all (filter due rows) (due_any (λ r. true) ∙ none))
@@ -135,8 +124,12 @@ module _ {A : Type 0} (key : A → ℕ) (moment : A → Option ℕ) (now : ℕ) 
       by_moment r at (Some m) is = late m (key r) (kept r m at is)
 
   -- where the moment of the first has come
-  pub due_first : (first : ℕ × ℕ) → IsFirstPair pairs first → nat_le first.0 now ≡ true → option_map place (first_due key moment now rows) ≡ Some first
-  due_first first is come = by_found (find (λ r. key r == first.1) rows) refl
+  pub due_first : (first : ℕ × ℕ) (r : A) → find (λ x. key x == first.1) rows ≡ Some r → moment r ≡ Some first.0
+      → ((n k : ℕ) → has n k ≡ true → is_earlier (n, k) first ≡ false) → nat_le first.0 now ≡ true → option_map place (first_due key moment now rows) ≡ Some first
+  due_first first r at waits none come =
+      earliest_at place first (filter due rows)
+      (due_any (is_place place first) ∙ any_found (λ o. key o == first.1) (λ o. due o && is_place place first o) rows r at passes)
+      (due_any (λ o. is_earlier (place o) first) ∙ others)
     where
       others : list_any (λ r. due r && is_earlier (place r) first) rows ≡ false
       others = any_none key (λ r. due r && is_earlier (place r) first) 0 rows up (λ r at. by_moment r at (moment r) refl)
@@ -144,21 +137,10 @@ module _ {A : Type 0} (key : A → ℕ) (moment : A → Option ℕ) (now : ℕ) 
           by_moment : (r : A) → find (λ x. key x == key r) rows ≡ Some r → (m : Option ℕ) → moment r ≡ m
               → (option_map_or (λ m. nat_le m now) m false && is_earlier (option_map_or (λ m. m) m 0, key r) first) ≡ false
           by_moment r at None waits = refl
-          by_moment r at (Some m) waits = let later = is.1 m (key r) (kept r m at waits) in grind (arith, later)
+          by_moment r at (Some m) waits = let later = none m (key r) (kept r m at waits) in grind (arith, later)
 
-      by_moment : (r : A) → find (λ x. key x == first.1) rows ≡ Some r → (m : Option ℕ) → moment r ≡ m → has_pair pairs first.0 first.1 ≡ is_row_under moment first.0 (Some r)
-          → (option_map_or (λ m. nat_le m now) m false && ((option_map_or (λ m. m) m 0 == first.0) && (key r == first.1))) ≡ true
-      by_moment r at None waits has = absurd (let it = is.0 in let isnt : has_pair pairs first.0 first.1 ≡ false = has ∙ rw waits refl in cc)
-      by_moment r at (Some m) waits has =
-          let same : (m == first.0) ≡ true = sym (has ∙ rw waits refl) ∙ is.0 in
+      passes : (option_map_or (λ m. nat_le m now) (moment r) false && ((option_map_or (λ m. m) (moment r) 0 == first.0) && (key r == first.1))) ≡ true
+      passes =
           let its = found_passes (λ x. key x == first.1) rows r at in
-          let due_now : nat_le m now ≡ true = grind (arith, nat_tests, same, come) in
-          grind (arith, same, its, due_now)
-
-      by_found : (found : Option A) → find (λ r. key r == first.1) rows ≡ found → option_map place (first_due key moment now rows) ≡ Some first
-      by_found None at = absurd (let isnt = index first.0 first.1 ∙ ap (is_row_under moment first.0) at in let has = is.0 in cc)
-      by_found (Some r) at =
-          let passes = by_moment r at (moment r) refl (index first.0 first.1 ∙ ap (is_row_under moment first.0) at) in
-          earliest_at place first (filter due rows)
-          (due_any (is_place place first) ∙ any_found (λ o. key o == first.1) (λ o. due o && is_place place first o) rows r at passes)
-          (due_any (λ o. is_earlier (place o) first) ∙ others)
+          let same : (first.0 == first.0) ≡ true = grind (arith, nat_tests) in
+          rw (waits, come, same, its) refl

@@ -2,9 +2,9 @@
 use Rattle.std.proofs.Common.{◌≡◌, ℕ, ◌+◌, ◌<◌, ◌≤◌, ◌==◌, nat_lt, List, [], ◌∷◌, ◌++◌, map, filter, Bool, true, false, not, cond, if◌then◌else◌, Option, Some, None, option_map, refl, sym, ap, subst, ◌∙◌, arith}
 use Rattle.std.specs.List.{find}
 use Rattle.std.proofs.lemmas.Bool.Decides.{nat_tests}
-use Rattle.zb_table.specs.Rows.{Ascend, are_below, first_passing, with_row, without}
+use Rattle.zb_table.specs.Rows.{Ascend, are_below, first_passing, with_edit, with_row, without}
 use Rattle.zb_table.proofs.Ascending.{lower}
-use Rattle.zb_table.proofs.Changing.{without_none}
+use Rattle.zb_table.proofs.Reading.{row_edited}
 
 module _ {A : Type 0} (p : A → Bool) where
   -- what is found first
@@ -118,14 +118,6 @@ module _ {A : Type 0} (key : A → ℕ) where
   ascend_mapped f low [] keeps up = tt
   ascend_mapped f low (r ∷ rows) keeps up = rw (keeps r) (up.0, ascend_mapped f (key r + 1) rows keeps up.1)
 
-  -- a row in front of others
-  with_front : (row : A) (low : ℕ) (rows : List A) → Ascend key low rows → key row < low → with_row key row rows ≡ row ∷ rows
-  with_front row low [] up below = refl
-  with_front row low (r ∷ rows) up below =
-      let above : nat_lt (key r) (key row) ≡ false = grind (arith, nat_tests, up.0, below) in
-      let other : (key r == key row) ≡ false = grind (arith, nat_tests, up.0, below) in
-      rw (above, other) refl
-
   module _ (f : A → A) (k : ℕ) (keeps : (r : A) → key (f r) ≡ key r) (only : (r : A) → (key r == k) ≡ false → f r ≡ r) where
     -- rows with greater keys stay as they are
     pub map_above : (low : ℕ) (rows : List A) → Ascend key low rows → k < low → map f rows ≡ rows
@@ -140,24 +132,19 @@ module _ {A : Type 0} (key : A → ℕ) where
     map_absent (r ∷ rows) none =
         rw (only r (none_here (λ x. key x == k) r rows none), map_absent rows (none_later (λ x. key x == k) r rows none)) refl
 
-    -- the row with the key is changed where it is taken out and put back so
-    pub put_back : (low : ℕ) (rows : List A) (row : A) → Ascend key low rows → find (λ r. key r == k) rows ≡ Some row → with_row key (f row) (without key k rows) ≡ map f rows
-    put_back low [] row up is = absurd (cc)
-    put_back low (r ∷ rows) row up is = by_test (key r == k) refl is (put_back (key r + 1) rows row up.1)
+    -- and it is enough to edit the row with the key
+    pub edited_all : (rows : List A) → with_edit key k f rows ≡ map f rows
+    edited_all [] = refl
+    edited_all (r ∷ rows) = by_test (key r == k) refl (edited_all rows)
       where
-        by_test : (t : Bool) → (key r == k) ≡ t → ◌≡◌ {A = Option A} (cond t (Some r) (find (λ x. key x == k) rows)) (Some row)
-            → (find (λ x. key x == k) rows ≡ Some row → with_row key (f row) (without key k rows) ≡ map f rows)
-            → with_row key (f row) (cond (not t) (r ∷ without key k rows) (without key k rows)) ≡ f r ∷ map f rows
-        by_test true here is later =
-            let same : r ≡ row = cc in
-            let at : key r ≡ k = grind (arith, nat_tests, here) in
-            let less : k < key r + 1 = omega (arith, at) in
-            let front : key (f r) < key r + 1 = omega (arith, keeps r) in
-            rw (sym same, without_none key k (key r + 1) rows up.1 less, map_above (key r + 1) rows up.1 less) (with_front (f r) (key r + 1) rows up.1 front)
-        by_test false here is later =
-            let found = found_above (λ x. key x == k) (key r + 1) rows row up.1 is in
-            let before : nat_lt (key r) (key (f row)) ≡ true = grind (arith, nat_tests, keeps row, found) in
-            rw (before, only r here) (ap (λ (l : List A). r ∷ l) (later is))
+        by_test : (t : Bool) → (key r == k) ≡ t → with_edit key k f rows ≡ map f rows → (if t then f r else r) ∷ with_edit key k f rows ≡ f r ∷ map f rows
+        by_test true here later = ap (λ (l : List A). f r ∷ l) later
+        by_test false here later = rw (only r here) (ap (λ (l : List A). r ∷ l) later)
+
+  -- another row is found as before where the row with a key is edited, and keys stay
+  pub found_other_edited : (k n : ℕ) (f : A → A) (rows : List A) → map key (with_edit key k f rows) ≡ map key rows → (k == n) ≡ false → find (λ r. key r == n) (with_edit key k f rows) ≡ find (λ r. key r == n) rows
+  found_other_edited k n f rows same apart =
+      sym (first_is_found (λ (r : A). key r == n) (with_edit key k f rows)) ∙ (row_edited key k n f rows same ∙ rw apart (first_is_found (λ (r : A). key r == n) rows))
 
 -- what is found without those that have a number
 pub found_without : {A : Type 0} (number : A → ℕ) (gone n : ℕ) (xs : List A) → find (λ x. number x == n) (filter (λ x. not (number x == gone)) xs) ≡ cond (gone == n) None (find (λ x. number x == n) xs)
@@ -213,3 +200,17 @@ module _ {A : Type 0} (key : A → ℕ) (row : A) where
       by_tests later true e before same = (up.0, later (grind (arith, nat_tests, before)))
       by_tests later false true behind same = (least, subst (λ (k : ℕ). Ascend key (k + 1) rows) (grind (arith, nat_tests, same)) up.1)
       by_tests later false false behind same = (least, (grind (arith, nat_tests, behind, same), up.1))
+
+  -- where it goes again, all is as it was
+  pub without_with : (rows : List A) → find (λ r. key r == key row) rows ≡ None → without key (key row) (with_row key row rows) ≡ rows
+  without_with [] none = let itself : (key row == key row) ≡ true = grind (arith, nat_tests) in rw itself refl
+  without_with (r ∷ rows) none =
+      let p : A → Bool = λ (x : A). key x == key row in
+      by_test (none_here p r rows none) (without_with rows (none_later p r rows none)) (all_stay p rows (none_later p r rows none)) (nat_lt (key r) (key row))
+    where
+      by_test : (key r == key row) ≡ false → without key (key row) (with_row key row rows) ≡ rows → without key (key row) rows ≡ rows
+          → (t : Bool) → without key (key row) (if t then r ∷ with_row key row rows else if key r == key row then row ∷ rows else row ∷ r ∷ rows) ≡ r ∷ rows
+      by_test apart later stay true = rw apart (ap (λ (l : List A). r ∷ l) later)
+      by_test apart later stay false =
+          let itself : (key row == key row) ≡ true = grind (arith, nat_tests) in
+          rw (apart, itself, apart) (ap (λ (l : List A). r ∷ l) stay)

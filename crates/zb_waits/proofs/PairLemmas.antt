@@ -32,6 +32,12 @@ later_place a b c d = by_tests (nat_lt a c) (a == c) (nat_lt b d) (b == d) refl 
     by_tests false true false false ac same bd other is = absurd (cc)
     by_tests false true false true ac same bd other is = grind (arith, nat_tests)
 
+-- pairs that compare equal have the same parts
+pub parts_of : (n k : ℕ) (p : ℕ × ℕ) → is_eq (ordering_then (nat_cmp n p.0) (nat_cmp k p.1)) ≡ true → (n ≡ p.0) × (k ≡ p.1)
+parts_of n k p is =
+    let both : ((n == p.0) && (k == p.1)) ≡ true = sym (same_place n k p.0 p.1) ∙ is in
+    (grind (arith, nat_tests, both), grind (arith, nat_tests, both))
+
 module _ {A : Type 0} (key : A → ℕ) (number : A → Option ℕ) (rows : List A) (pairs : BTreeSet (ℕ × ℕ)) (index : IsIndex key number rows pairs) where
   -- with a row whose key none has
   pub index_with : (row : A) (new : BTreeSet (ℕ × ℕ)) → find (λ r. key r == key row) rows ≡ None

@@ -1,24 +1,26 @@
-ghost use Rattle.std.specs.Prelude.{◌≡◌, ℕ, ◌==◌, ◌&&◌, [], None, true, false, OnOk, IfOk, filter, option_map, if◌then◌else◌};
-ghost use Rattle.std.specs.List.{find};
-ghost use Rattle.std.specs.Option.{option_copied, option_map_or};
+ghost use Rattle.std.specs.Prelude.{◌≡◌, ◌==◌, [], None, true, OnOk, OnErr, IfOk, filter, option_map};
+ghost use Rattle.std.specs.List.{find, list_any};
+ghost use Rattle.std.specs.Option.{option_and_then, option_copied};
 ghost use Rattle.zb_table.specs.Earliest.{first_due, place_in_time};
-ghost use Rattle.zb_table.specs.Rows.{Ascend, with_row, without};
-ghost use Rattle.zb_waits.specs.Pairs.{has_pair, is_number};
-ghost use Rattle.zb_waits.specs.Waits.{IsTimed};
+ghost use Rattle.zb_table.specs.Rows.{Ascend, with_edit, with_row, without};
 
+use crate::first::first_passing;
+use crate::keeping::{forget, keep, shed};
 use std::alloc::{AllocError, Global};
-use std::collections::BTreeSet;
+use std::collections::{BTreeSet, VecDeque};
 use std::marker::Model;
 use std::mem;
 use zb_base::{Key, Moment};
-use zb_table::{Query, Table, Timed};
+use zb_table::{Edit, Query, Table, Timed};
 
 /// Rows in the order of their keys, each of which may wait for a moment. Contracts see the list of them.
 #[derive(Drop)]
 pub struct Waits<R: Timed> {
     rows: Table<R>,
-    // The moment and the key of each row that waits for one.
-    due: BTreeSet<(Moment, Key)>,
+    // The moment and the key of each row that waits stand in one of the two: in the run where they came in order, as they
+    // mostly do, and a push at its end is all that they take. What stands for no row, or for none any more, is passed over.
+    run: VecDeque<(Moment, Key)>,
+    rest: BTreeSet<(Moment, Key)>,
 }
 
 impl<R: Timed> Model for Waits<R> {
@@ -29,7 +31,7 @@ impl<R: Timed> Model for Waits<R> {
 
     ghost view = { λ w. w.rows };
 
-    ghost invariant = { λ w. IsTimed R.key_in R.moment_in w.rows w.due };
+    ghost invariant = { λ w. IsTimed R.key_in R.moment_in w.rows w.run.items w.rest };
 }
 
 impl<R: Timed> Waits<R> {
@@ -39,7 +41,8 @@ impl<R: Timed> Waits<R> {
     {
         Waits {
             rows: Table::empty(alloc),
-            due: BTreeSet::new(alloc),
+            run: VecDeque::new(alloc),
+            rest: BTreeSet::new(alloc),
         }
     }
 
@@ -49,6 +52,13 @@ impl<R: Timed> Waits<R> {
         ensures order { Ascend R.key_in 0 self.now }
     {
         self.rows.get(key)
+    }
+
+    /// Whether a row passes. It goes through all of them.
+    pub fn any<Q: Query<R>>(&self, query: &Q) -> bool
+        ensures { result ≡ list_any (Q.passes query.now) self.now }
+    {
+        self.rows.any(query)
     }
 
     /// When the row is due that is due first, and its key, if one is due now: the one with the earliest moment, and of
@@ -64,32 +74,60 @@ impl<R: Timed> Waits<R> {
     pub fn first_due_that<Q: Query<R>>(&self, now: Moment, query: &Q) -> Option<(Moment, Key)>
         ensures { result ≡ option_map (place_in_time R.key_in R.moment_in) (first_due R.key_in R.moment_in now (filter (Q.passes query.now) self.now)) }
     {
-        first_passing(now, query, &self.rows, &self.due)
+        first_passing(now, query, &self.rows, &self.run, &self.rest)
     }
 
-    /// Adds a row whose key none has. After a refusal the rows are only dropped. It takes the logarithm of how many
-    /// rows wait where its key is greater than all; else a step for each row behind it as well.
-    pub fn add(&mut self, alloc: Global, row: R) -> Result<(), AllocError>
+    /// Adds a row whose key none has. After a refusal nothing has changed. It takes constant time where its key is greater
+    /// than all and it waits for no earlier moment than the rows before it; else a step for each row behind it, and the
+    /// logarithm of how many wait.
+    pub fn add(&mut self, row: R) -> Result<(), AllocError>
         requires { find (λ r. R.key_in r == R.key_in row) self.old ≡ None }
-        ensures { OnOk result (self.new ≡ with_row R.key_in row self.old) }
+        ensures ok { OnOk result (self.new ≡ with_row R.key_in row self.old) }
+        ensures err { OnErr result (self.new ≡ self.old) }
+    {
+        let key = row.key();
+        let moment = row.moment();
+        self.rows.add(row)?;
+        match keep(&mut self.run, &mut self.rest, moment, key) {
+            Ok(()) => Ok(()),
+            Err(AllocError) => {
+                self.rows.remove(key);
+                Err(AllocError)
+            }
+        }
+    }
+
+    /// Edits the row with this key where it stands, if there is one. After a refusal the rows are only dropped. It takes
+    /// the logarithm of how many rows there are, on average, and what the edit takes.
+    pub fn edit<E: Edit<R>>(&mut self, alloc: Global, key: Key, edit: E) -> Result<(), AllocError>
+        ensures { OnOk result (self.new ≡ with_edit R.key_in key (E.edits edit) self.old) }
     {
         let whole = mem::replace(self, Waits::empty(alloc));
-        *self = whole.with(row)?;
+        *self = whole.edited(key, edit)?;
         Ok(())
     }
 
-    // These rows and one more.
-    fn with(mut self, row: R) -> Result<Waits<R>, AllocError>
-        requires { find (λ r. R.key_in r == R.key_in row) self ≡ None }
-        ensures { IfOk result (λ more. more ≡ with_row R.key_in row self) }
+    // These rows with one of them edited.
+    fn edited<E: Edit<R>>(mut self, key: Key, edit: E) -> Result<Waits<R>, AllocError>
+        ensures { IfOk result (λ edited. edited ≡ with_edit R.key_in key (E.edits edit) self) }
     {
-        put(&mut self.due, row.moment(), row.key())?;
-        self.rows.add(row)?;
+        let before = moment_of(key, &self.rows);
+        self.rows.edit(key, edit)?;
+        let after = moment_of(key, &self.rows);
+        forget(&mut self.rest, before, key);
+        keep(&mut self.run, &mut self.rest, after, key)?;
+        shed(&self.rows, &mut self.run);
         Ok(self)
     }
 
-    /// Takes out the row with this key, if there is one. It takes the logarithm of how many rows there are, on
-    /// average.
+    /// Removes the row with this key, if there is one. It takes the logarithm of how many rows there are, on average.
+    pub fn remove(&mut self, key: Key)
+        ensures { self.new ≡ without R.key_in key self.old }
+    {
+        self.take(key);
+    }
+
+    /// Takes out the row with this key, if there is one. It costs what `remove` does.
     pub fn take(&mut self, key: Key) -> Option<R>
         ensures row { result ≡ find (λ r. R.key_in r == key) self.old }
         ensures left { self.new ≡ without R.key_in key self.old }
@@ -97,7 +135,8 @@ impl<R: Timed> Waits<R> {
     {
         match self.rows.take(key) {
             Some(row) => {
-                remove(&mut self.due, row.moment(), key);
+                forget(&mut self.rest, row.moment(), key);
+                shed(&self.rows, &mut self.run);
                 Some(row)
             }
             None => None,
@@ -105,62 +144,13 @@ impl<R: Timed> Waits<R> {
     }
 }
 
-// Keeps a key under a moment, if there is one.
-fn put(
-    due: &mut BTreeSet<(Moment, Key)>,
-    moment: Option<Moment>,
-    key: Key,
-) -> Result<(), AllocError>
-    ensures { OnOk result ((n k : ℕ) → has_pair due.new n k
-        ≡ (if is_number n moment && (key == k) then true else has_pair due.old n k)) }
-{
-    match moment {
-        Some(moment) => {
-            due.insert((moment, key))?;
-            Ok(())
-        }
-        None => Ok(()),
-    }
-}
-
-// Keeps a key no more under a moment, if there is one.
-fn remove(due: &mut BTreeSet<(Moment, Key)>, moment: Option<Moment>, key: Key)
-    ensures { (n k : ℕ) → has_pair due.new n k
-        ≡ (if is_number n moment && (key == k) then false else has_pair due.old n k) }
-{
-    if let Some(moment) = moment {
-        due.remove(&(moment, key));
-    }
-}
-
-// The first pair whose row passes, if its moment has come.
-fn first_passing<R: Timed, Q: Query<R>>(
-    now: Moment,
-    query: &Q,
-    rows: &Table<R>,
-    due: &BTreeSet<(Moment, Key)>,
-) -> Option<(Moment, Key)>
-    requires { IsTimed R.key_in R.moment_in rows.now due.now }
-    ensures { result ≡ option_map (place_in_time R.key_in R.moment_in) (first_due R.key_in R.moment_in now (filter (Q.passes query.now) rows.now)) }
-{
-    for pair in due {
-        if pair.0 > now {
-            return None;
-        }
-        if passes(pair.1, query, rows) {
-            return Some(*pair);
-        }
-    }
-    None
-}
-
-// Whether there is a row with this key, and it passes.
-fn passes<R: Timed, Q: Query<R>>(key: Key, query: &Q, rows: &Table<R>) -> bool
-    ensures { result ≡ option_map_or (Q.passes query.now) (find (λ r. R.key_in r == key) rows.now) false }
+// The moment for which the row with this key waits, if there is one and it does.
+fn moment_of<R: Timed>(key: Key, rows: &Table<R>) -> Option<Moment>
+    ensures { result ≡ option_and_then R.moment_in (find (λ r. R.key_in r == key) rows.now) }
 {
     match rows.get(key) {
-        Some(row) => query.passes(row),
-        None => false,
+        Some(row) => row.moment(),
+        None => None,
     }
 }
 

@@ -1,4 +1,3 @@
 pub mod LineLemmas
 pub mod FaultLemmas
 pub mod MemberLemmas
-pub mod LimitLemmas

@@ -6,6 +6,5 @@ pub mod Op
 pub mod Ops
 pub mod Asked
 pub mod Request
-pub mod Limits
 pub mod Reading
 pub mod RequestLaws

@@ -1,5 +1,4 @@
-ghost use Rattle.std.specs.Prelude.{◌≡◌, ◌+◌, ℕ, List, take, IfOk};
-ghost use Rattle.zb_wire.specs.Limits.{IsWithinLimits};
+ghost use Rattle.std.specs.Prelude.{◌≡◌, ◌+◌, ℕ, List, take};
 ghost use Rattle.serde_json.specs.View.{view, members_view};
 ghost use Rattle.zb_wire.specs.declared.given.Given.{Given};
 ghost use Rattle.zb_wire.specs.Op.{request_with};
@@ -30,8 +29,7 @@ pub fn longest_shown() -> usize
 /// proportion to the line.
 #[tactic(auto, unfolding(crate::specs::Request::request_of, crate::specs::Request::short_line, crate::specs::Request::longest_line))]
 pub fn read_line(alloc: Global, line: &[u8], given: Given) -> Result<Request, LineFault>
-    ensures found { GivesRequest result (request_of given line.now) }
-    ensures within { IfOk result (IsWithinLimits given) }
+    ensures { GivesRequest result (request_of given line.now) }
 {
     if line.len() > LONGEST_LINE {
         return Err(LineFault::TooLong);

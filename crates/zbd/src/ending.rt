@@ -59,6 +59,10 @@ pub fn report_status(rt: &HostRuntime, status: u8) -> io::Result<()> {
 zbd: standard output failed"
         ),
         7 => eprintln!(rt; "zbd: Memory"),
+        8 => eprintln!(rt;
+            "zbd: LogFull
+zbd: a log of the workload has no room for its next frame within 1073741824 bytes; ask for fewer requests, or for more partitions"
+        ),
         _ => eprintln!(rt;
             "zbd: Usage
 {USAGE}"

@@ -1,22 +1,22 @@
 // The nodes for whose events a cell waits: its own one, those behind an event gateway, and those at the boundary of an
 // activity.
-ghost use Rattle.std.specs.Prelude.{◌≡◌, ◌≤◌, ◌<◌, ◌^◌, ◌++◌, ◌∷◌, [], false, Some, IfOk, OnOk, filter, length, map, is_some, if◌then◌else◌, slice_get};
+ghost use Rattle.std.specs.Prelude.{◌≡◌, ◌≤◌, ◌<◌, ◌^◌, ◌++◌, ◌∷◌, [], false, Some, IfOk, OnOk, filter, length, map, if◌then◌else◌, slice_get};
 ghost use Rattle.std.specs.Option.{option_map_or};
 ghost use Rattle.zb_process.specs.declared.model.Node.{Node};
 ghost use Rattle.zb_tokens.specs.Board.{node_with};
-ghost use Rattle.zb_tokens.specs.Catches.{awaited, awaits_time, is_timed_at, leads_from, time_form, time_of, waits_beside, waits_itself};
+ghost use Rattle.zb_tokens.specs.Catches.{awaited, awaits_time, is_timed_at, leads_from, time_form, waits_beside, waits_itself};
 
 use crate::Game;
 use std::alloc::{AllocError, Global};
 use zb_base::{Key, List};
 use zb_duration::TimeForm;
-use zb_faults::{is_catch, is_event_gateway};
+use zb_faults::{is_boundary_of, is_catch, is_event_gateway};
 use zb_graph::Graph;
 use zb_process::{Node, NodeKind};
 use zb_tokens::Cell;
 
 impl Game {
-    // Whether a cell waits, or is about to, for the time of the node with an id. A root waits for none.
+    // Whether a cell waits, or is about to, for the timer of the node with an id. A root waits for none.
     pub(super) fn awaits_time(&self, cell: &Cell, id: &str) -> bool
         ensures { result ≡ awaits_time self.now cell.now id.now }
     {
@@ -37,7 +37,7 @@ fn awaits_time_in(model: &Graph, cell: &Cell, id: &str) -> bool
     }
 }
 
-// Whether at a node a cell waits for the time of the node with an id.
+// Whether at a node a cell waits for the timer of the node with an id.
 fn is_timed_at(model: &Graph, cell: &Cell, node: &Node, id: &str) -> bool
     ensures { result ≡ is_timed_at model.now cell.now node.now id.now }
 {
@@ -45,7 +45,7 @@ fn is_timed_at(model: &Graph, cell: &Cell, node: &Node, id: &str) -> bool
         Some(other) => {
             (cell.node.as_str() == id && waits_itself(cell, node)
                 || waits_beside(model, node, other))
-                && has_time(other)
+                && time_form(other.kind).is_some()
         }
         None => false,
     }
@@ -75,7 +75,7 @@ fn waits_beside(model: &Graph, at: &Node, other: &Node) -> bool
     if is_event_gateway(at.kind) {
         leads_from(model, at.id.as_str(), other.id.as_str())
     } else {
-        other.attached.as_str() == at.id.as_str()
+        is_boundary_of(at.id.as_str(), other)
     }
 }
 
@@ -155,17 +155,7 @@ fn add_all(more: &[u32], numbers: &mut List<u32>) -> Result<(), AllocError>
     Ok(())
 }
 
-// Whether a node has a time.
-fn has_time(node: &Node) -> bool
-    ensures { result ≡ is_some (time_of node.now) }
-{
-    match (time_form(node.kind), &node.expr) {
-        (Some(_), Some(_)) => true,
-        _ => false,
-    }
-}
-
-// The form of the time at an event with a timer: one in the flow, or at the boundary of an activity.
+// The form of the time at a node with a timer: an event in the flow, or at the boundary of an activity.
 pub(super) fn time_form(kind: NodeKind) -> Option<TimeForm>
     ensures { result ≡ time_form kind }
 {

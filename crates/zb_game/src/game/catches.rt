@@ -1,10 +1,10 @@
 // How a cell becomes active, and the timers that open for it.
-ghost use Rattle.std.specs.Prelude.{◌≡◌, ◌<◌, ◌∷◌, ◌++◌, List, [], Some, Ok, IfOk, OnOk, length, map, option_map, slice_get};
-ghost use Rattle.std.specs.Option.{option_and_then, option_map_or};
+ghost use Rattle.std.specs.Prelude.{◌≡◌, ◌<◌, ◌∷◌, ◌++◌, List, [], Some, Ok, IfOk, OnOk, length, map, slice_get};
+ghost use Rattle.std.specs.Option.{option_copied, option_map_or};
 ghost use Rattle.zb_process.specs.declared.model.Node.{Node};
 ghost use Rattle.zb_expr.specs.Outcome.{Evaluates};
 ghost use Rattle.zb_tokens.specs.Board.{node_with};
-ghost use Rattle.zb_tokens.specs.Catches.{awaited, due_by, opened_with, opening_by, openings_at, openings_by, openings_in, text_told, time_of};
+ghost use Rattle.zb_tokens.specs.Catches.{awaited, due_by, opened_with, opening_by, openings_at, openings_by, openings_in, text_told, value_given};
 ghost use Rattle.zb_tokens.specs.Forced.{open_by};
 ghost use Rattle.zb_game.specs.Opens.{opened_over, opening_at, text_given};
 
@@ -18,7 +18,6 @@ use zb_base::{Key, List, Moment, Text, TryCopy, Value, Variable};
 use zb_duration::{TimeForm, due};
 use zb_expr::{Code, Env, EvalFault, run};
 use zb_graph::Graph;
-use zb_process::Node;
 use zb_tokens::{Cell, Move, Opening};
 
 impl Game {
@@ -141,8 +140,8 @@ fn openings_for<E: Env>(
     }
 }
 
-// The timers that open at those of the nodes with these numbers that have a time, in their order, or why the first one
-// that can't doesn't.
+// The timers that open at those of the nodes with these numbers that have one, in their order, or why the first one that
+// can't doesn't.
 fn openings_in<E: Env>(
     alloc: Global,
     env: &E,
@@ -174,7 +173,7 @@ fn add(opening: Option<Opening>, openings: &mut List<Opening>) -> Result<(), All
     }
 }
 
-// The timer that opens at the node with a number, if it has a time, or why it can't.
+// The timer that opens at the node with a number, if it has one, or why it can't.
 fn opening_at<E: Env>(
     alloc: Global,
     env: &E,
@@ -185,29 +184,30 @@ fn opening_at<E: Env>(
     requires { number < length model.now.nodes }
     ensures { (n : Node) → slice_get model.now.nodes number ≡ Some n → IfOk result (λ opening. opening ≡ opening_at (E.values env.now) moment n) }
 {
-    let Some((form, time)) = time_at(model, number) else {
+    let Some(form) = time_form(model.node(number).kind) else {
         return Ok(Ok(None));
     };
-    match opening_by(alloc, env, moment, model.node(number), form, time)? {
+    match opening_by(alloc, env, moment, model, number, form)? {
         Ok(opening) => Ok(Ok(Some(opening))),
         Err(hindrance) => Ok(Err(hindrance)),
     }
 }
 
-// The timer that opens at a node with this time, or why it can't.
+// The timer that opens at the node with a number, whose time has this form, or why it can't.
 fn opening_by<E: Env>(
     alloc: Global,
     env: &E,
     moment: Moment,
-    node: &Node,
+    model: &Graph,
+    number: u32,
     form: TimeForm,
-    time: &Code,
 ) -> Result<Result<Opening, Hindrance>, AllocError>
-    ensures { IfOk result (λ opening. opening ≡ opening_by (E.values env.now) moment node.now.id (form, time.now)) }
+    requires { number < length model.now.nodes }
+    ensures { (n : Node) → slice_get model.now.nodes number ≡ Some n → IfOk result (λ opening. opening ≡ opening_by (E.values env.now) moment n form) }
 {
-    match due_by(alloc, env, moment, form, time)? {
+    match due_by(alloc, env, moment, form, model.expr(number))? {
         Ok(due) => {
-            let node = node.id.copy(alloc)?;
+            let node = model.node(number).id.copy(alloc)?;
             Ok(Ok(Opening { node, due }))
         }
         Err(hindrance) => Ok(Err(hindrance)),
@@ -220,9 +220,9 @@ fn due_by<E: Env>(
     env: &E,
     moment: Moment,
     form: TimeForm,
-    time: &Code,
+    time: Option<&Code>,
 ) -> Result<Result<Moment, Hindrance>, AllocError>
-    ensures { IfOk result (λ due. due ≡ due_by (E.values env.now) moment form time.now) }
+    ensures { IfOk result (λ due. due ≡ due_by (E.values env.now) moment form (option_copied time.entry)) }
 {
     match given(alloc, text_by(alloc, env, time))? {
         Ok(text) => due_given(alloc, due(form, text.as_str(), moment)),
@@ -231,12 +231,22 @@ fn due_by<E: Env>(
 }
 
 // The text that an expression gives.
-fn text_by<E: Env>(alloc: Global, env: &E, time: &Code) -> Result<Text, EvalFault>
-    ensures { Evaluates result (text_given (E.values env.now) time.now) }
+fn text_by<E: Env>(alloc: Global, env: &E, time: Option<&Code>) -> Result<Text, EvalFault>
+    ensures { Evaluates result (text_given (E.values env.now) (option_copied time.entry)) }
 {
-    match run(alloc, time, env) {
+    match value_by(alloc, env, time) {
         Ok(value) => text_told(value),
         Err(fault) => Err(fault),
+    }
+}
+
+// The value of an expression. One that is missing has none, as a name without a value has none.
+fn value_by<E: Env>(alloc: Global, env: &E, expr: Option<&Code>) -> Result<Value, EvalFault>
+    ensures { Evaluates result (value_given (E.values env.now) (option_copied expr.entry)) }
+{
+    match expr {
+        Some(code) => run(alloc, code, env),
+        None => Err(EvalFault::Unknown),
     }
 }
 
@@ -247,16 +257,5 @@ fn text_told(value: Value) -> Result<Text, EvalFault>
     match value {
         Value::Text(text) => Ok(text),
         _ => Err(EvalFault::Kind),
-    }
-}
-
-// The time that the node with a number has, with its form.
-fn time_at(model: &Graph, number: u32) -> Option<(TimeForm, &Code)>
-    requires { number < length model.now.nodes }
-    ensures { option_map (λ t. (t.0, t.1.now)) result ≡ option_and_then time_of (slice_get model.now.nodes number) }
-{
-    match (time_form(model.node(number).kind), model.expr(number)) {
-        (Some(form), Some(time)) => Some((form, time)),
-        _ => None,
     }
 }

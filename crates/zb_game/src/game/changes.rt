@@ -1,5 +1,5 @@
-// How models and cells change on the board, and with them what is kept beside the board. Where memory runs out
-// halfway, what is kept counts no more.
+// How cells change on the board, and with them what is kept beside the board. Where memory runs out halfway, what is
+// kept counts no more.
 ghost use Rattle.std.specs.Prelude.{◌≡◌, ℕ, true, false, ◌==◌, ◌++◌, ◌∷◌, [], Some, None, OnOk, IsErrOf, option_map};
 ghost use Rattle.std.specs.Option.{option_map_or};
 ghost use Rattle.zb_tokens.specs.declared.board.Phase.TheVariants as phases;
@@ -17,22 +17,10 @@ use crate::tallies::one_more;
 use crate::{Game, GameFault};
 use std::alloc::AllocError;
 use zb_base::{Key, List, Text, Value};
-use zb_table::{Table, comes_last};
-use zb_tokens::{Cell, Deployed, Mark, Phase};
+use zb_table::Table;
+use zb_tokens::{Cell, Mark, Phase};
 
 impl Game {
-    // Adds a model.
-    pub(super) fn add_model(&mut self, deployed: Deployed) -> Result<(), AllocError>
-        ensures { OnOk result (self.new ≡ record self.old { models = self.old.models ++ deployed ∷ [] }) }
-    {
-        let key = deployed.key;
-        let ascends = self.ascends && comes_last(key, &self.models);
-        self.ascends = false;
-        self.models.push(deployed)?;
-        self.ascends = ascends;
-        Ok(())
-    }
-
     // Adds a cell. It may go on by itself, and its scope may rest then.
     pub(super) fn add_cell(&mut self, cell: Cell) -> Result<(), AllocError>
         requires { calls_off cell ≡ false }

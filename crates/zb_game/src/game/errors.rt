@@ -2,7 +2,7 @@
 ghost use Rattle.std.specs.Prelude.{◌≡◌, false, filter, option_map};
 ghost use Rattle.std.specs.List.{find, list_any};
 ghost use Rattle.std.specs.Option.{option_copied, option_map_or};
-ghost use Rattle.std.specs.Str.{bytes_eq};
+ghost use Rattle.zb_faults.specs.Elements.{is_boundary_of};
 ghost use Rattle.zb_tokens.specs.Errors.{catcher, caught, error_event, error_event_of, first_for, is_for, is_same_event};
 ghost use Rattle.zb_tokens.specs.MoveTrigger.{comes_about_by};
 ghost use Rattle.zb_game.specs.Searches.{comes_about_at, error_event_in};
@@ -131,7 +131,7 @@ fn error_event<'a>(model: &'a Graph, code: &str, at: &Node) -> Option<&'a Node>
 
 // The boundary event at the activity with an id that catches an error: the first for its code, or else the first for any.
 fn first_for<'a>(model: &'a Graph, code: &str, id: &str) -> Option<&'a Node>
-    ensures { option_copied result ≡ first_for code.now (filter (λ n. bytes_eq n.attached id.now) model.now.nodes) }
+    ensures { option_copied result ≡ first_for code.now (filter (is_boundary_of id.now) model.now.nodes) }
 {
     match find_for(model, code, id) {
         Some(event) => Some(event),
@@ -141,7 +141,7 @@ fn first_for<'a>(model: &'a Graph, code: &str, id: &str) -> Option<&'a Node>
 
 // The first boundary event at the activity with an id for errors with a code. It goes through those up to that.
 fn find_for<'a>(model: &'a Graph, code: &str, id: &str) -> Option<&'a Node>
-    ensures { option_copied result ≡ find (is_for code.now) (filter (λ n. bytes_eq n.attached id.now) model.now.nodes) }
+    ensures { option_copied result ≡ find (is_for code.now) (filter (is_boundary_of id.now) model.now.nodes) }
 {
     for number in model.bounds_of(id) {
         let node = model.node(*number);

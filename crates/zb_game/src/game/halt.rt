@@ -1,6 +1,6 @@
 ghost use Rattle.std.specs.Prelude.{◌≡◌, Some, None, OnOk, IsErrOf, filter};
 ghost use Rattle.std.specs.List.{list_any};
-ghost use Rattle.std.specs.Str.{bytes_eq};
+ghost use Rattle.zb_faults.specs.Elements.{is_boundary_of};
 ghost use Rattle.zb_tokens.specs.MoveHalt.{fits_halt, is_alive, is_interrupted, play_halt};
 ghost use Rattle.zb_places.specs.Places.{held_tokens};
 ghost use Rattle.zb_game.specs.Searches.{interrupts_among};
@@ -59,7 +59,7 @@ fn is_alive(cell: &Cell) -> bool
 // The same in its model. It goes through the boundary events at the node of the cell, and for each that interrupts
 // through the tokens in the scope of the cell.
 fn is_interrupted_in(model: &Graph, tokens: &Groups<Token>, cell: &Cell) -> bool
-    ensures { result ≡ list_any (interrupts_among cell.now.scope (held_tokens tokens.now)) (filter (λ n. bytes_eq n.attached cell.now.node) model.now.nodes) }
+    ensures { result ≡ list_any (interrupts_among cell.now.scope (held_tokens tokens.now)) (filter (is_boundary_of cell.now.node) model.now.nodes) }
 {
     for number in model.bounds_of(cell.node.as_str()) {
         if interrupts_among(cell.scope, tokens, model.node(*number)) {

@@ -2,7 +2,6 @@ ghost use Rattle.std.specs.Prelude.{◌≡◌, Some, None, OnOk, IsErrOf};
 ghost use Rattle.zb_tokens.specs.MoveRepair.{fits_repair, play_repair};
 
 use crate::keys::keep;
-use crate::tallies::one_less;
 use crate::{Game, GameFault};
 use zb_base::Key;
 
@@ -26,7 +25,7 @@ impl Game {
         let cell = incident.cell;
         let ascends = self.ascends;
         self.ascends = false;
-        one_less(&mut self.stuck, cell)?;
+        self.stuck.remove(&cell);
         keep(&mut self.ready, cell)?;
         self.incidents.remove(key);
         self.ascends = ascends;

@@ -18,7 +18,7 @@ impl Game {
         ensures illegal { IsErrOf result GameFault.Illegal → play_stand self.old d ≡ None }
         ensures kept { IsErrOf result GameFault.Illegal → self.new ≡ self.old }
     {
-        self.add_model(d)?;
+        self.models.push(d)?;
         Ok(())
     }
 }

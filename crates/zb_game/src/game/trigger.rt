@@ -2,6 +2,7 @@
 ghost use Rattle.std.specs.Prelude.{◌≡◌, ◌&&◌, false, Some, None, OnOk, IsErrOf, is_none};
 ghost use Rattle.std.specs.Option.{option_map_or};
 ghost use Rattle.std.specs.Str.{bytes_eq};
+ghost use Rattle.zb_faults.specs.Elements.{is_boundary_of};
 ghost use Rattle.zb_tokens.specs.Board.{model_under, node_with};
 ghost use Rattle.zb_tokens.specs.Catches.{may_be_told, may_open_at, opens_at, waits_itself};
 ghost use Rattle.zb_tokens.specs.Mappings.{node_of};
@@ -13,12 +14,13 @@ use crate::marks::{error_of, is_unset};
 use crate::{Game, GameFault};
 use std::alloc::Global;
 use zb_base::Key;
+use zb_faults::is_boundary_of;
 use zb_graph::Graph;
 use zb_tokens::{Cell, Mark, Phase, Spot, Token, Triggered};
 
 impl Game {
     /// Whether a cell waits for the event of a node: it is active, not called off, was told nothing so far, or of an
-    /// error, and waits for the time of this node. That is its own one, one at its boundary, or one to which a flow
+    /// error, and waits for the timer of this node. That is its own one, one at its boundary, or one to which a flow
     /// leads from it, where it is at an event gateway. The cell, its model and the node are found as in `fits`; at an
     /// event gateway it goes through the flows into the node. Where a cell is terminating or ended, it goes up the scopes
     /// too.
@@ -38,7 +40,7 @@ impl Game {
         self.may_be_told(cell) && self.awaits_time(cell, node)
     }
 
-    /// Whether a timer may open at a node for a cell: it is active, and waits for the time of this node. It costs what
+    /// Whether a timer may open at a node for a cell: it is active, and waits for the timer of this node. It costs what
     /// `waits_at` does, but never goes up the scopes.
     pub fn may_open(&self, cell: Key, node: &str) -> bool
         ensures { result ≡ may_open_at cell node.now self.now }
@@ -96,7 +98,7 @@ impl Game {
 
     // Whether the node with an id is a boundary event that interrupts, at the node of a cell.
     fn has_interrupting(&self, cell: &Cell, id: &str) -> bool
-        ensures { result ≡ option_map_or (λ m. option_map_or (λ n. n.cancel && bytes_eq n.attached cell.now.node) (node_with m id.now) false) (model_under self.now cell.now.definition) false }
+        ensures { result ≡ option_map_or (λ m. option_map_or (λ n. n.cancel && is_boundary_of cell.now.node n) (node_with m id.now) false) (model_under self.now cell.now.definition) false }
     {
         match self.model(cell.definition) {
             Some(model) => interrupts_at(model, cell.node.as_str(), id),
@@ -158,10 +160,10 @@ impl Game {
 
 // Whether in a model the node with an id is a boundary event that interrupts, at this node.
 fn interrupts_at(model: &Graph, node: &str, id: &str) -> bool
-    ensures { result ≡ option_map_or (λ n. n.cancel && bytes_eq n.attached node.now) (node_with model.now id.now) false }
+    ensures { result ≡ option_map_or (λ n. n.cancel && is_boundary_of node.now n) (node_with model.now id.now) false }
 {
     match model.node_with(id) {
-        Some(event) => event.cancel && event.attached.as_str() == node,
+        Some(event) => event.cancel && is_boundary_of(node, event),
         None => false,
     }
 }

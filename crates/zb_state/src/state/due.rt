@@ -18,8 +18,8 @@ use zb_views::Timer;
 
 impl State {
     /// The command that is due first, if one is due now: by the moment at which it is due, and of those at one moment
-    /// by the key of what it is for. It goes once through the buffered messages, takes the logarithm of how many jobs
-    /// there are, and that of how many timers there are for each that is due in front of the first whose cell waits.
+    /// by the key of what it is for. It takes the logarithm of how many messages are buffered and of how many jobs there
+    /// are, and that of how many timers there are for each that is due in front of the first whose cell waits.
     pub fn due(&self, now: Moment) -> Option<Command>
         ensures { (es : List Event) → IsStateOf es self.now → result ≡ due_command now es }
     {

@@ -9,7 +9,7 @@ pub returns-in-Tick-clause-cut : goal.returns-in-Tick-clause-cut
 returns-in-Tick-clause-cut g c = λ start made has. rw c.in-Tick.is (c.tick.ensures.cut start made has)
 
 pub returns-in-Advance-clause-done : goal.returns-in-Advance-clause-done
-returns-in-Advance-clause-done g c = λ start made has. rw c.in-Advance.is (nothing_done start made _ c.args.reading _ c.args.solo.now refl refl has)
+returns-in-Advance-clause-done g c = λ start made has. rw c.in-Advance.is (nothing_done start made _ c.args.reading _ c.args.solo.now refl (refl, refl) has)
 
 pub returns-in-Settle-clause-done : goal.returns-in-Settle-clause-done
-returns-in-Settle-clause-done g c = λ start made has. rw c.in-Settle.is (nothing_done start made _ c.args.reading _ c.args.solo.now refl refl has)
+returns-in-Settle-clause-done g c = λ start made has. rw c.in-Settle.is (nothing_done start made _ c.args.reading _ c.args.solo.now refl (refl, refl) has)

@@ -4,6 +4,7 @@ use Rattle.zb_model.specs.declared.stop.Stop.TheVariants as stops
 use Rattle.zb_world.specs.Entries.{as_entry}
 use Rattle.zb_wire.specs.Asked.{command_of, partition_asked}
 use Rattle.zb_model.specs.declared.record.Command.{Command}
+use Rattle.zb_desk.specs.Serial.{log_behind}
 use Rattle.zb_engine.specs.Ledger.{Opening}
 use Rattle.zb_engine.specs.Solo.{many_in, logs_in, partitions_in}
 use Rattle.zb_engine.proofs.AnswerLemmas.{asked_run, step_answered}
@@ -28,7 +29,7 @@ reply_of-requires g c =
     let placed = c.in-Ok.ensures.placed k.0 k.1 k.2 in
     let same = command_is (logs_in k.0) c.partition-partition.result c.in-Some.command c.args.reading k.1 c.in-Ok.batch placed.by in
     let asks : command_of c.args.request ≡ Some c.in-Ok.batch.command = sym c.into_command.ensures ∙ c.in-Some.is ∙ ap (λ (command : Command). Some command) same in
-    step_answered c.partition-partition.result (many_in k.0) placed.step.0 c.in-Ok.batch c.args.request asks placed.step.1
+    step_answered c.partition-partition.result (many_in k.0) (log_behind c.partition-partition.result placed.step.0 k.1) c.in-Ok.batch c.args.request asks placed.step.3
 
 pub returns-in-Err-clause-cut : goal.returns-in-Err-clause-cut
 returns-in-Err-clause-cut g c = λ start made has.
@@ -44,7 +45,7 @@ returns-in-Ok-reply_of-clause-done g c = λ start made has.
     let at : c.partition-partition.result ≡ partition_asked (length (logs_in start)) c.args.request =
     c.partition-partition.ensures ∙ ap (λ (n : ℕ). partition_asked n c.args.request) (c.count.ensures.count start made has ∙ sym many) in
     command_done start made c.args.request c.args.reading c.in-Some.command c.partition-partition.result (sym c.into_command.ensures ∙ c.in-Some.is) at c.in-Ok.batch c.in-Ok-reply_of.reply
-    c.commit.new.self (c.in-Ok.ensures.placed start made has) c.in-Ok-reply_of.ensures
+    c.commit.new.self many (c.in-Ok.ensures.placed start made has) c.in-Ok-reply_of.ensures
 
 -- there was no memory for the reply
 pub returns-in-Err-reply_of-clause-cut : goal.returns-in-Err-reply_of-clause-cut

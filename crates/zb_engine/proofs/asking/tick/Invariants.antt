@@ -1,10 +1,9 @@
 use Rattle.std.proofs.Common.{List}
 use Rattle.zb_world.specs.declared.entry.Entry.{Entry}
 use Rattle.zb_engine.specs.Solo.{Start, HasMade}
-use Rattle.zb_engine.proofs.AskingLemmas.{ticking}
-use Rattle.zb_engine.proofs.NextLemmas.{AreMade}
+use Rattle.zb_engine.proofs.AskingLemmas.{AreTicked}
 use Rattle.zb_engine.proofs.asking.tick.Given as goal
 
 -- so many batches were made
 abbrev pub invariant-loop-done : goal.invariant-loop-done
-invariant-loop-done g l = (start : Start g.row.D.Denot) (made : List Entry) → HasMade start made l.fn.solo → AreMade start made (ticking start made l.reading) l.reading l.done l.solo
+invariant-loop-done g l = (start : Start g.row.D.Denot) (made : List Entry) → HasMade start made l.fn.solo → AreTicked start made l.reading l.done l.solo

@@ -1,10 +1,11 @@
 use Rattle.std.proofs.Common.{◌≡◌, ◌++◌, [], ℕ, length, map, sym, ap, subst, ◌∙◌, arith}
-use Rattle.std.specs.List.{AllZip, AllByRecursion}
+use Rattle.std.specs.List.{AllZip}
 use Rattle.zb_engine.specs.Solo.{start_of, HasMade}
 use Rattle.zb_serve.specs.Ends.{logs_ends}
-use Rattle.zb_serve.specs.Served.{IsUntroubled}
+use Rattle.zb_serve.specs.Served.{FailsToOpen}
 use Rattle.zb_serve.specs.Opening.{IsHandedBack, IsOpenedOver}
 use Rattle.zb_serve.specs.Running.{files_of}
+use Rattle.zb_serve.specs.declared.run.Cause.TheVariants as causes
 use Rattle.zb_serve.proofs.ListLemmas.{each_length}
 use Rattle.zb_serve.proofs.OpeningLemmas.{is_begun, all_closed_back, fails_closed}
 use Rattle.zb_serve.proofs.opening.open_engine.Goals as goal
@@ -43,5 +44,5 @@ returns-in-Err-new-clause-unopened g c = λ told tells.
     let volumes = c.args.volumes.items in
     let closed : c.close_behind.result.items ≡ map files_of c.in-Ok.opened.0.items =
     c.close_behind.ensures.volumes ∙ (ap (λ front. front ++ map files_of c.in-Err-new.partitions.items) c.in-Ok.ensures.none ∙ ap (λ v. map files_of v.items) c.in-Err-new.ensures.refused) in
-    subst (λ back. AllByRecursion (IsUntroubled told) (logs_ends g.D.Disk volumes back)) (sym closed)
-    (fails_closed g.D.Disk (length volumes) c.args.limit 1 volumes c.in-Ok.opened.0.items c.in-Ok.ensures.opened told tells)
+    subst (λ back. FailsToOpen told (logs_ends g.D.Disk volumes back) causes.Memory) (sym closed)
+    (fails_closed g.D.Disk (length volumes) c.args.limit volumes c.in-Ok.opened.0.items c.in-Ok.ensures.opened told tells)

@@ -35,7 +35,7 @@ returns-clause-closed g c =
         c.in-Ok.plan,
         planned,
         rw (c.closed-2.ensures.cause, c.closed-2.ensures.stamps, c.closed-2.ensures.units)
-            (run_single (devices_of g.S.Source g.K.Sink g.D.Disk) (setting_of c.in-Ok.plan g.C.Clock.tells (g.C.Clock.moments c.args.clock.now))
+            (run_single (devices_of g.S.Source g.K.Sink g.D.Disk) (setting_of c.in-Ok.plan g.C.Clock.tells (g.C.Clock.upcoming c.args.clock.now))
             c.index_mut.result.now c.serve_by-cause.new.session _ _ c.args.volumes.items c.serve_by-cause.result.volumes.items _ _ _ _ session sessions volumes ran),
       );
     }

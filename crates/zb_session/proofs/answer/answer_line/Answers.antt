@@ -6,7 +6,6 @@ use Rattle.zb_wire.specs.RequestLaws.{Tells-fault}
 use Rattle.zb_wire.specs.declared.request.LineFault.TheVariants as faults
 use Rattle.zb_wire.specs.declared.request.Request.{Request}
 use Rattle.zb_wire.specs.declared.request.LineFault.{LineFault}
-use Rattle.zb_desk.specs.Serial.{asked_in}
 use Rattle.zb_session.specs.Hours.{given_of}
 use Rattle.zb_session.specs.Answer.{Answer, found_in, entries_made}
 use Rattle.zb_session.specs.Serving.{AreAt, clocks_of}
@@ -25,12 +24,12 @@ pub put-requires : goal.put-requires
 put-requires g c =
     let k = c.requires.known in
     let a = c.in-Ok-ask.ensures.asked k.0 (entries_made k.2) k.4.holds in
-    told_spoken c.in-Ok.request c.read_for-reading.result (asked_in a.entries) c.in-Ok-ask.answered.reply a.told
+    told_spoken (length (g.A.Desk.basis k.0).logs) c.in-Ok.request c.read_for-reading.result a.entries c.in-Ok-ask.answered.reply a.told
 
 pub returns-in-Ok-ask-clause-answered : goal.returns-in-Ok-ask-clause-answered
 returns-in-Ok-ask-clause-answered g c = λ begun hours answers line next.
     let found = found_in answers in
-    let is = found_at hours found _ _ _ c.args.number _ line _ (Ok c.in-Ok.request) next.clock (c.partitions.ensures begun (entries_made answers) next.holds) c.is_manual.ensures next.same c.in-Ok.ensures.found in
+    let is = found_at hours found _ _ _ c.args.number _ line _ (Ok c.in-Ok.request) next.clock (c.partitions.ensures begun (entries_made answers) next.holds) c.is_manual.ensures next.same c.in-Ok.ensures in
     let a = c.in-Ok-ask.ensures.asked begun (entries_made answers) next.holds in
     on_ok_weaker c.put.result (λ put.
     let answer : Answer = record { asked = Ok c.in-Ok.request; reading = c.read_for-reading.result; entries = a.entries; reply = c.put.new.reply.items } in
@@ -48,14 +47,14 @@ returns-in-Ok-ask-clause-answered g c = λ begun hours answers line next.
       };
       served = (c.read_for-reading.ensures.reading hours found next.clock, a.done);
       holds = a.holds;
-      clock = subst (λ (f : List (Result Request LineFault)). AreAt hours f (clocks_of c.read_for-reading.new.dial g.C.Clock.tells (g.C.Clock.moments c.read_for-reading.new.clock))) (sym (found_more answers answer)) (c.read_for-reading.ensures.at hours found next.clock);
+      clock = subst (λ (f : List (Result Request LineFault)). AreAt hours f (clocks_of c.read_for-reading.new.dial g.C.Clock.tells (g.C.Clock.upcoming c.read_for-reading.new.clock))) (sym (found_more answers answer)) (c.read_for-reading.ensures.at hours found next.clock);
     }) c.put.ensures.put
 
 -- the line of the reply had no memory
 pub returns-in-Ok-ask-clause-unanswered : goal.returns-in-Ok-ask-clause-unanswered
 returns-in-Ok-ask-clause-unanswered g c = λ begun hours answers line next.
     let found = found_in answers in
-    let is = found_at hours found _ _ _ c.args.number _ line _ (Ok c.in-Ok.request) next.clock (c.partitions.ensures begun (entries_made answers) next.holds) c.is_manual.ensures next.same c.in-Ok.ensures.found in
+    let is = found_at hours found _ _ _ c.args.number _ line _ (Ok c.in-Ok.request) next.clock (c.partitions.ensures begun (entries_made answers) next.holds) c.is_manual.ensures next.same c.in-Ok.ensures in
     let a = c.in-Ok-ask.ensures.asked begun (entries_made answers) next.holds in
     IfErr-weaker c.put.result _ _ (λ end memory. rw memory (record {
       rest = a.entries;
@@ -69,7 +68,7 @@ returns-in-Ok-ask-clause-unanswered g c = λ begun hours answers line next.
 pub returns-in-Err-ask-clause-unanswered : goal.returns-in-Err-ask-clause-unanswered
 returns-in-Err-ask-clause-unanswered g c = λ begun hours answers line next.
     let found = found_in answers in
-    let is = found_at hours found _ _ _ c.args.number _ line _ (Ok c.in-Ok.request) next.clock (c.partitions.ensures begun (entries_made answers) next.holds) c.is_manual.ensures next.same c.in-Ok.ensures.found in
+    let is = found_at hours found _ _ _ c.args.number _ line _ (Ok c.in-Ok.request) next.clock (c.partitions.ensures begun (entries_made answers) next.holds) c.is_manual.ensures next.same c.in-Ok.ensures in
     let cut = c.in-Err-ask.ensures.cut begun (entries_made answers) next.holds in
     record {
       rest = cut.entries;
@@ -87,7 +86,7 @@ returns-in-Err-Memory-clause-unanswered g c = λ begun hours answers line next. 
 pub returns-in-Err-clause-answered : goal.returns-in-Err-clause-answered
 returns-in-Err-clause-answered g c = λ begun hours answers line next.
     let spoken : ¬ (c.in-Err.fault ≡ faults.Memory) = search rules in
-    let told = Tells-fault c.in-Err.fault _ c.in-Err.ensures.found spoken in
+    let told = Tells-fault c.in-Err.fault _ c.in-Err.ensures spoken in
     let found = found_in answers in
     let is = found_at hours found _ _ _ c.args.number _ line _ (Err c.in-Err.fault) next.clock (c.partitions.ensures begun (entries_made answers) next.holds) c.is_manual.ensures next.same told in
     on_ok_weaker c.put-in-Err.result (λ put.
@@ -98,7 +97,7 @@ returns-in-Err-clause-answered g c = λ begun hours answers line next.
       is = fault_answered (given_of hours (length (g.A.Desk.basis begun).logs) c.args.number) line _ _ c.in-Err.fault is c.clear.ensures.items put;
       served = refl;
       holds = subst (λ (es : List Entry). g.A.Desk.has begun es c.args.desk.now) (append_none (entries_made answers)) next.holds;
-      clock = subst (λ (f : List (Result Request LineFault)). AreAt hours f (clocks_of c.args.dial.now g.C.Clock.tells (g.C.Clock.moments c.args.clock.now))) (sym (found_more answers answer)) (at_fault hours found c.in-Err.fault _ next.clock);
+      clock = subst (λ (f : List (Result Request LineFault)). AreAt hours f (clocks_of c.args.dial.now g.C.Clock.tells (g.C.Clock.upcoming c.args.clock.now))) (sym (found_more answers answer)) (at_fault hours found c.args.dial.now g.C.Clock.tells (g.C.Clock.upcoming c.args.clock.now) next.clock c.in-Err.fault);
     }) c.put-in-Err.ensures.put
 
 pub returns-in-Err-clause-unanswered : goal.returns-in-Err-clause-unanswered

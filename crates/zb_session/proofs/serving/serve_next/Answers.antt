@@ -1,5 +1,5 @@
 use Rattle.std.proofs.Common.{◌≡◌, ◌≢◌, ℕ, ◌++◌, List, Ok, refl, ap, sym, subst, rules}
-use Rattle.zb_lines.specs.Line.{Comes, IsAtEnd}
+use Rattle.zb_lines.specs.Line.{Comes, has_ended}
 use Rattle.zb_lines.specs.declared.reader.Next.{Next}
 use Rattle.zb_lines.specs.declared.reader.Next.TheVariants as nexts
 use Rattle.zb_session.specs.Serving.{began_of, given_at}
@@ -11,21 +11,23 @@ use Rattle.zb_session.proofs.serving.serve_next.Goals as goal
 pub returns-in-Err-clause-goes_on : goal.returns-in-Err-clause-goes_on
 returns-in-Err-clause-goes_on g c = λ begun hours source sink s.
     let read = c.in-Err.ensures.comes in
-    rw c.source_end.ensures (stops_reading _ (began_of hours (g.A.Desk.basis begun) source sink) _ s _ _ read.0 read.1 read.2 c.next.new.self c.next.new.line.items c.longest_shown.result c.in-Err.trouble read.3 c.in-Err.ensures.failed c.in-Err.ensures.steady)
+    rw c.source_end.ensures (stops_reading _ (began_of hours (g.A.Desk.basis begun) source sink) _ s _ _ read.0 read.1 read.2 c.next.new.self c.next.new.line.items c.longest_shown.result c.in-Err.trouble c.in-Err.ensures.ended read.3 c.in-Err.ensures.failed c.in-Err.ensures.steady)
 
 -- there are no more lines
 pub returns-in-End-clause-goes_on : goal.returns-in-End-clause-goes_on
 returns-in-End-clause-goes_on g c = λ begun hours source sink s.
     let read = c.in-Ok.ensures.comes in
     let came = subst (λ (n : Next). Comes c.longest_shown.result (Ok n) (c.args.intake.now.reader ++ read.0) c.next.new.self c.next.new.line.items) c.in-End.is read.3 in
-    stops_done _ (began_of hours (g.A.Desk.basis begun) source sink) _ s _ _ read.0 read.1 read.2 came.0 (c.in-Ok.ensures.at_end (subst (λ (n : Next). IsAtEnd (Ok n)) (sym c.in-End.is) tt)) c.in-Ok.ensures.steady
+    let ended = subst (λ (n : Next). (g.S.Source.view c.next.new.source).ended ≡ has_ended (Ok n) (g.S.Source.view c.args.session.now.source).ended) c.in-End.is c.in-Ok.ensures.ended in
+    stops_done _ (began_of hours (g.A.Desk.basis begun) source sink) _ s _ _ read.0 read.1 read.2 came.0 (ended, λ t. g.met.S.Source.over c.next.new.source t ended) c.in-Ok.ensures.steady
 
 -- no more may be taken
 pub returns-in-Full-clause-goes_on : goal.returns-in-Full-clause-goes_on
 returns-in-Full-clause-goes_on g c = λ begun hours source sink s.
     let read = c.in-Ok.ensures.comes in
     let came = subst (λ (n : Next). Comes c.longest_shown.result (Ok n) (c.args.intake.now.reader ++ read.0) c.next.new.self c.next.new.line.items) c.in-Full.is read.3 in
-    stops_full _ (began_of hours (g.A.Desk.basis begun) source sink) _ s _ _ read.0 read.1 read.2 came (c.in-Ok.ensures.full (ap Ok c.in-Full.is)) c.in-Ok.ensures.steady
+    let still = subst (λ (n : Next). (g.S.Source.view c.next.new.source).ended ≡ has_ended (Ok n) (g.S.Source.view c.args.session.now.source).ended) c.in-Full.is c.in-Ok.ensures.ended in
+    stops_full _ (began_of hours (g.A.Desk.basis begun) source sink) _ s _ _ read.0 read.1 read.2 still came (c.in-Ok.ensures.full (ap Ok c.in-Full.is)) c.in-Ok.ensures.steady
 
 pub serve_line-requires : goal.serve_line-requires
 serve_line-requires g c =
@@ -58,8 +60,8 @@ returns-in-Ok-serve_line-clause-goes_on g c = λ begun hours source sink s.
     let not_full : c.in-Ok.next ≢ nexts.Full = search rules in
     let next = comes_next _ (began_of hours (g.A.Desk.basis begun) source sink) _ s c.longest_shown.result read.0 c.next.new.self _ c.in-Ok.next not_end not_full came (c.longest_shown.ensures.decides (given_at (past_of _ (began_of hours (g.A.Desk.basis begun) source sink) _ s))) in
     let replied = c.in-Ok-serve_line.ensures.replied g.S.Source.tells g.S.Source.counts_failures begun hours s.answers _ next in
-    rw c.may_go_on.ensures (turn_served _ (began_of hours (g.A.Desk.basis begun) source sink) _ s _ _ _ c.longest_shown.result read.0 c.next.new.self _ read.1 read.2
-    c.in-Ok.next not_end not_full came c.in-Ok.ensures.at_end replied (record {
+    rw c.may_go_on.ensures (turn_served _ (began_of hours (g.A.Desk.basis begun) source sink) _ s _ _ _ c.longest_shown.result read.0 c.next.new.self _ read.1 read.2 (g.met.S.Source.over c.next.new.source)
+    c.in-Ok.next not_end not_full came c.in-Ok.ensures.ended replied (record {
       source_later = c.in-Ok.ensures.later;
       sink_later = c.in-Ok-serve_line.ensures.sink_later;
       source_same = c.in-Ok.ensures.steady;
@@ -75,5 +77,5 @@ returns-in-Err-serve_line-clause-goes_on g c = λ begun hours source sink s.
     let not_full : c.in-Ok.next ≢ nexts.Full = search rules in
     let next = comes_next _ (began_of hours (g.A.Desk.basis begun) source sink) _ s c.longest_shown.result read.0 c.next.new.self _ c.in-Ok.next not_end not_full came (c.longest_shown.ensures.decides (given_at (past_of _ (began_of hours (g.A.Desk.basis begun) source sink) _ s))) in
     let ended = c.in-Err-serve_line.ensures.over g.S.Source.tells g.S.Source.counts_failures begun hours s.answers _ next in
-    turn_stopped _ (began_of hours (g.A.Desk.basis begun) source sink) _ s _ _ _ c.longest_shown.result read.0 c.next.new.self _ read.1 read.2 c.in-Ok.next not_end not_full came c.in-Ok.ensures.at_end _ ended c.in-Ok.ensures.steady
+    turn_stopped _ (began_of hours (g.A.Desk.basis begun) source sink) _ s _ _ _ c.longest_shown.result read.0 c.next.new.self _ read.1 read.2 (g.met.S.Source.over c.next.new.source) c.in-Ok.next not_end not_full came c.in-Ok.ensures.ended _ ended c.in-Ok.ensures.steady
     (λ other t. c.in-Err-serve_line.ensures.sink_steady t (λ is. other (IfErr-at_err (λ end. c.in-Err-serve_line.end ≡ end) is refl)))

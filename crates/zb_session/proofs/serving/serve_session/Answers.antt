@@ -1,5 +1,6 @@
 use Rattle.std.proofs.Common.{arith, refl, ◌+◌, ◌∙◌, sym, subst, IsTrue}
 use Rattle.zb_lines.specs.TakenLaws.{takes_nothing}
+use Rattle.zb_outside.specs.ClockLaws.{gone_nowhere, gone_further}
 use Rattle.zb_session.specs.Session.{most_taken, streams_of}
 use Rattle.zb_session.specs.Serving.{began_of, clocks_of, facts_by, service_of, stand_of}
 use Rattle.zb_session.proofs.TurnLemmas.{few, serving_first}
@@ -11,16 +12,16 @@ returns-in-Err-clause-over g c = λ begun hours has at.
     let began = began_of hours (g.A.Desk.basis begun) (g.S.Source.view c.args.session.now.source) (g.K.Sink.view c.args.session.now.sink) in
     stops_memory _ began _
     (serving_first (streams_of g.S.Source.tells g.S.Source.counts_failures g.K.Sink) began _ (facts_by g.A.Desk begun c.args.desk.now) has at)
-    most_taken _ _ (takes_nothing _ _) (omega arith) (λ t. refl)
+    most_taken _ _ (takes_nothing _ _) (omega arith) refl (λ t. refl)
 
 pub loop-number-init : goal.loop-number-init
 loop-number-init g c = (
   λ begun hours has at.
       rw (c.in-Ok.ensures.reader, c.in-Ok.ensures.budget) (serving_first (streams_of g.S.Source.tells g.S.Source.counts_failures g.K.Sink)
       (began_of hours (g.A.Desk.basis begun) (g.S.Source.view c.args.session.now.source) (g.K.Sink.view c.args.session.now.sink))
-      (clocks_of c.args.dial.now g.C.Clock.tells (g.C.Clock.moments c.args.clock.now)) (facts_by g.A.Desk begun c.args.desk.now) has at),
+      (clocks_of c.args.dial.now g.C.Clock.tells (g.C.Clock.upcoming c.args.clock.now)) (facts_by g.A.Desk begun c.args.desk.now) has at),
   refl,
-  refl,
+  gone_nowhere (g.C.Clock.upcoming c.args.clock.now),
   λ by_hand. refl,
 )
 
@@ -34,9 +35,13 @@ returns-in-Ok-false-clause-over g c = λ begun hours has at.
     let began = began_of hours (g.A.Desk.basis begun) (g.S.Source.view c.args.session.now.source) (g.K.Sink.view c.args.session.now.sink) in
     goes_over _ began
     (stand_of (g.S.Source.view c.serve_next.new.session.source)
-    (service_of (g.K.Sink.view c.serve_next.new.session.sink) (clocks_of c.serve_next.new.dial g.C.Clock.tells (g.C.Clock.moments c.serve_next.new.clock)) (facts_by g.A.Desk begun c.serve_next.new.desk))
+    (service_of (g.K.Sink.view c.serve_next.new.session.sink) (clocks_of c.serve_next.new.dial g.C.Clock.tells (g.C.Clock.upcoming c.serve_next.new.clock)) (facts_by g.A.Desk begun c.serve_next.new.desk))
     c.serve_next.new.intake.reader c.serve_next.new.intake.budget (c.loop-number.number + 1)) _ c.in-Ok-false.field-0-test
     (c.in-Ok-false.ensures.goes_on begun hours _ _ (c.loop-number.invariant.0 begun hours has at))
+
+pub returns-in-Ok-false-clause-readings : goal.returns-in-Ok-false-clause-readings
+returns-in-Ok-false-clause-readings g c =
+    gone_further (g.C.Clock.upcoming c.args.clock.now) (g.C.Clock.upcoming c.loop-number.clock) (g.C.Clock.upcoming c.serve_next.new.clock) c.loop-number.invariant.2 c.in-Ok-false.ensures.readings
 
 pub unreachable-requires : goal.unreachable-requires
 unreachable-requires g c =
@@ -51,10 +56,14 @@ loop-number-preserved g c =
     let said = c.in-Ok-true.ensures in (
       λ begun hours has at. goes_next _ _ _ _ c.in-Ok-true.field-0-test (said.goes_on begun hours _ _ (i.0 begun hours has at)),
       said.kind ∙ i.1,
-      said.moments ∙ i.2,
+      gone_further (g.C.Clock.upcoming c.args.clock.now) (g.C.Clock.upcoming c.loop-number.clock) (g.C.Clock.upcoming c.serve_next.new.clock) i.2 said.readings,
       λ by_hand. said.untouched (subst IsTrue (sym i.1) by_hand) ∙ i.3 by_hand,
     )
 
 -- the run is over
 pub returns-in-Err-serve_next-clause-over : goal.returns-in-Err-serve_next-clause-over
 returns-in-Err-serve_next-clause-over g c = λ begun hours has at. c.in-Err-serve_next.ensures.goes_on begun hours _ _ (c.loop-number.invariant.0 begun hours has at)
+
+pub returns-in-Err-serve_next-clause-readings : goal.returns-in-Err-serve_next-clause-readings
+returns-in-Err-serve_next-clause-readings g c =
+    gone_further (g.C.Clock.upcoming c.args.clock.now) (g.C.Clock.upcoming c.loop-number.clock) (g.C.Clock.upcoming c.serve_next.new.clock) c.loop-number.invariant.2 c.in-Err-serve_next.ensures.readings

@@ -1,11 +1,11 @@
-use Rattle.std.proofs.Common.{◌≡◌, ◌++◌, ◌≤◌, length, refl, ap, sym, ◌∙◌, arith}
+use Rattle.std.proofs.Common.{◌≡◌, [], ◌++◌, ◌≤◌, length, refl, ap, sym, ◌∙◌, arith}
 use Rattle.std.proofs.lemmas.List.{append-nil, take_all, length-map}
 use Rattle.zb_model.specs.Record.{bytes_of}
 use Rattle.zb_partition.specs.Log.{bodies_of}
 use Rattle.zb_store.specs.CallLaws.{leaves_none, reads_then}
 use Rattle.zb_store.specs.GateLog.{disk_of_log}
-use Rattle.zb_show.specs.Lines.{lines_from}
-use Rattle.zb_show.proofs.ShowLemmas.{told_more, cause_since}
+use Rattle.zb_show.specs.Lines.{lines_from, log_lines}
+use Rattle.zb_show.proofs.ShowLemmas.{told_more, told_part, all_written, written_all, cause_since}
 use Rattle.zb_show.proofs.printing.print_log.Goals as goal
 
 -- nothing is printed so far
@@ -51,14 +51,18 @@ loop-i-preserved g c =
       told = λ tells told all has fits.
           let so_far = before.told tells told all has fits in
           let next = said.shown tells told all (before.kept tells (bodies_of all) has) fits in
-          told_more c.args.place c.loop-i.i all next.0 c.loop-i.position c.in-Ok.next _ _ _ next.1 so_far.0 next.2 so_far.1 next.3;
+          told_more c.args.place c.loop-i.i all next.0 c.loop-i.position c.in-Ok.next _ _ _ next.1 so_far.0 next.2 so_far.1 (all_written _ _ _ next.3.0 next.3.1 next.3.2);
     }
 
 pub returns-in-Err-clause-good : goal.returns-in-Err-clause-good
 returns-in-Err-clause-good g c = λ tells all has fits. c.in-Err.ensures.good tells all (c.loop-i.invariant.kept tells (bodies_of all) has) fits
 
 pub returns-in-Err-clause-shown : goal.returns-in-Err-clause-shown
-returns-in-Err-clause-shown g c = λ tells told all has fits. tt
+returns-in-Err-clause-shown g c = λ tells told all has fits.
+    let so_far = c.loop-i.invariant.told tells told all has fits in
+    let next = c.in-Err.ensures.shown tells told all (c.loop-i.invariant.kept tells (bodies_of all) has) fits in
+    let part = told_part c.args.place c.loop-i.i all next.0 c.loop-i.position _ _ _ next.3.0 next.1 so_far.0 so_far.1 next.3.1 in
+    (part.0, part.1, tt)
 
 pub returns-in-Err-clause-reads : goal.returns-in-Err-clause-reads
 returns-in-Err-clause-reads g c =
@@ -72,7 +76,8 @@ returns-clause-shown g c = λ tells told all has fits.
     let count : length (bodies_of all) ≡ length all = length-map all bytes_of in
     let done : length all ≤ c.loop-i.i = omega (arith, count, has.frames.count, c.count-count.ensures, c.loop-i-test.false) in
     let written = (g.K.Sink.view c.args.sink.now).written in
-    (c.loop-i.invariant.told tells told all has fits).1 ∙ ap (λ batches. written ++ lines_from c.args.place 1 batches) (take_all c.loop-i.i all done)
+    let whole = (c.loop-i.invariant.told tells told all has fits).1 ∙ ap (λ batches. written ++ lines_from c.args.place 1 batches) (take_all c.loop-i.i all done) in
+    ([], written_all (log_lines c.args.place all) written (g.K.Sink.view c.loop-i.sink).written whole, refl)
 
 pub returns-clause-good : goal.returns-clause-good
 returns-clause-good g c = λ tells all has fits. tt

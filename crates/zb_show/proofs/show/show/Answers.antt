@@ -2,9 +2,10 @@ use Rattle.std.proofs.Common.{List, ℕ, sym, ◌∙◌, subst, arith}
 use Rattle.zb_partition.specs.Log.{bodies_of}
 use Rattle.zb_store.specs.CallLaws.{opens_then}
 use Rattle.zb_store.specs.GateLog.{disk_of_log, HasClosedFrames}
+use Rattle.zb_show.specs.Lines.{log_lines}
 use Rattle.zb_show.specs.Status.{IsBadLog}
 use Rattle.zb_show.specs.declared.fault.ShowFault.TheVariants as faults
-use Rattle.zb_show.proofs.ShowLemmas.{store_cause, store_good, err_since}
+use Rattle.zb_show.proofs.ShowLemmas.{written_none, store_cause, store_good, err_since}
 use Rattle.zb_show.proofs.show.show.Goals as goal
 
 pub returns-clause-shown : goal.returns-clause-shown
@@ -40,3 +41,10 @@ returns-in-Err-clause-good g c = λ tells all stood fits bad. store_good c.in-Er
 
 pub returns-in-Err-clause-cause : goal.returns-in-Err-clause-cause
 returns-in-Err-clause-cause g c = rw c.from.ensures (store_cause g.D.Disk.counts_failures (g.D.Disk.view c.args.disk).faults (g.D.Disk.view c.in-Err.disk).faults (g.K.Sink.view c.args.sink.now).faults c.in-Err.fault c.in-Err.ensures.cause)
+
+-- nothing was written where it could not be opened again
+pub returns-in-Err-clause-shown : goal.returns-in-Err-clause-shown
+returns-in-Err-clause-shown g c = λ tells told all stood fits. (log_lines c.args.place all, written_none (log_lines c.args.place all) (g.K.Sink.view c.args.sink.now).written, tt)
+
+pub returns-then-not-whole-clause-shown : goal.returns-then-not-whole-clause-shown
+returns-then-not-whole-clause-shown g c = λ tells told all stood fits. (log_lines c.args.place all, written_none (log_lines c.args.place all) (g.K.Sink.view c.args.sink.now).written, tt)

@@ -1,16 +1,21 @@
-use Rattle.std.proofs.Common.{◌≡◌, ◌≤◌, refl, ap, sym, ◌∙◌, subst, arith}
+use Rattle.std.proofs.Common.{◌≡◌, ◌≤◌, inl, inr, refl, ap, sym, ◌∙◌, subst, arith}
 use Rattle.zb_partition.specs.Log.{bodies_of}
 use Rattle.zb_store.specs.GateLog.{disk_of_log}
 use Rattle.zb_store.specs.GateLogLaws.{log_stands}
 use Rattle.zb_store.specs.Stands.{Stands}
 use Rattle.zb_store.specs.CallLaws.{Opens}
-use Rattle.zb_show.proofs.ShowLemmas.{opens_again, frame_of, open_cause, ok_then, err_then, err_since}
+use Rattle.zb_show.specs.Lines.{log_lines}
+use Rattle.zb_show.proofs.ShowLemmas.{opens_again, frame_of, open_cause, of_opening, of_opened, told_written, err_then, err_since}
 use Rattle.zb_show.proofs.show.show_volume.Goals as goal
 
 pub returns-in-Err-clause-bad : goal.returns-in-Err-clause-bad
 returns-in-Err-clause-bad g c = λ tells bad.
     let frame = frame_of c.in-Err.fault bad in
-    ((frame.0, c.in-Err.ensures.bad tells frame.0 frame.1), refl)
+    (frame.0, c.in-Err.ensures.bad tells frame.0 frame.1)
+
+-- nothing was written
+pub returns-in-Err-clause-opened : goal.returns-in-Err-clause-opened
+returns-in-Err-clause-opened g c = λ tells. inl (refl, of_opening c.in-Err.fault)
 
 pub returns-in-Err-clause-cause : goal.returns-in-Err-clause-cause
 returns-in-Err-clause-cause g c = open_cause g.D.Disk.counts_failures (g.D.Disk.view c.args.volume.log).faults (g.D.Disk.view c.in-Err.volume.log).faults (g.K.Sink.view c.args.sink).faults
@@ -21,14 +26,19 @@ returns-in-Err-clause-slots g c =
     (ap (λ (slots : g.row.D.Denot × g.row.D.Denot). slots.0) c.in-Err.ensures.slots, ap (λ (slots : g.row.D.Denot × g.row.D.Denot). slots.1) c.in-Err.ensures.slots)
 
 -- the log that was opened is the one that is shown
-pub returns-clause-shown : goal.returns-clause-shown
-returns-clause-shown g c = λ tells told.
+pub returns-clause-opened : goal.returns-clause-opened
+returns-clause-opened g c = λ tells.
     let log = c.in-Ok.ensures.opened.0 in
     let is = c.in-Ok.ensures.opened.1 in
     let stands = log_stands (g.D.Disk.view (disk_of_log c.in-Ok.partition.log)).contents c.in-Ok.partition.log (bodies_of log) (is.has.file tells) in
     let there : Stands (g.D.Disk.view c.stopped-volume.result.volume.log).contents (bodies_of log) =
     subst (λ d. Stands (g.D.Disk.view d).contents (bodies_of log)) (sym c.stopped-volume.ensures.log) stands in
-    ok_then c.show-shown.result.0 (λ lines. record { log = log; stood = is.stood tells; fits = is.fits; applied = is.applied; lines = lines }) (c.show-shown.ensures.shown tells told log there is.fits)
+    let shown = c.show-shown.result.0 in
+    let told = told_written g.K.Sink.tells shown (log_lines c.args.place log) (g.K.Sink.view c.args.sink).written (g.K.Sink.view c.show-shown.new.sink).written (λ told. c.show-shown.ensures.shown tells told log there is.fits) in
+    inr (
+      of_opened _ _ _ _ shown c.show-shown.ensures.cause (c.show-shown.ensures.good tells log there is.fits),
+      (told.0, record { log = log; stood = is.stood tells; fits = is.fits; applied = is.applied; lines = told.1 }, told.2),
+    )
 
 pub returns-clause-bad : goal.returns-clause-bad
 returns-clause-bad g c = λ tells.

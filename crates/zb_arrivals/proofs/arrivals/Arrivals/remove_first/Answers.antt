@@ -12,7 +12,7 @@ returns-in-Some g c =
     let xs = c.self.inside.ordered in
     let ys = c.self.inside.others.items in
     let r = first_with_key key p xs c.in-Some.key c.self.invariant.ascend c.in-Some.ensures.key in
-    let gone = (removed_row key c.in-Some.key 0 xs r.0 c.self.invariant.ascend r.2).0 in
+    let gone = removed_row key c.in-Some.key 0 xs r.0 c.self.invariant.ascend r.2 in
     let same = subst (λ (k : ℕ). removed (λ (x : g.row.R.Denot). key x == k) xs ≡ removed p xs) (has_key key c.in-Some.key xs r.0 r.2) (removes_first key p 0 xs r.0 c.self.invariant.ascend r.1) in
     let by_key = removed_front q xs ys _ gone in
     let by_query = removed_front p xs ys _ (sym same ∙ gone) in

@@ -15,7 +15,7 @@ pub invariant_of-self-2 : goal.invariant_of-self-2
 invariant_of-self-2 c = λ ascends.
     let rows = c.self.inside.tokens in
     let token = c.args.token in
-    let b : Board = record { models = c.self.inside.models.items; cells = c.self.inside.cells; tokens = held_tokens rows; incidents = c.self.inside.incidents } in
+    let b : Board = record { models = c.self.inside.models; cells = c.self.inside.cells; tokens = held_tokens rows; incidents = c.self.inside.incidents } in
     let new : Held Token = record { number = c.in_ok-number.number; row = token } in
     let added : c.push.new.self ≡ rows ++ new ∷ [] = c.in_ok-number.ensures.row in
     let numbers : c.as_slice.result.now ≡ c.in_ok-numbers.numbers = search rules in

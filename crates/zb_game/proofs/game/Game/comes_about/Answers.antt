@@ -11,8 +11,8 @@ use Rattle.zb_game.proofs.game.Game.comes_about.Goals as goal
 pub returns-then-self : goal.returns-then-self
 returns-then-self c =
     let b = c.args.self.now in
-    let kept : IsIndexed b c.self.inside.tokens c.self.inside.inside c.self.inside.stuck c.self.inside.ready c.self.inside.calling c.self.inside.coming = subst (λ (x : Board). IsIndexed x c.self.inside.tokens c.self.inside.inside c.self.inside.stuck c.self.inside.ready c.self.inside.calling c.self.inside.coming) c.self.view_is (c.self.invariant c.if-self.true) in
-    c.any.ensures ∙ any_ready b c.args.t.now c.self.inside.tokens c.self.inside.inside c.self.inside.stuck c.self.inside.ready c.self.inside.calling c.self.inside.coming kept
+    let kept : IsIndexed b c.self.inside.tokens c.self.inside.inside c.self.inside.stuck.entries c.self.inside.ready c.self.inside.calling c.self.inside.coming = subst (λ (x : Board). IsIndexed x c.self.inside.tokens c.self.inside.inside c.self.inside.stuck.entries c.self.inside.ready c.self.inside.calling c.self.inside.coming) c.self.view_is (c.self.invariant c.if-self.true) in
+    c.any.ensures ∙ any_ready b c.args.t.now c.self.inside.tokens c.self.inside.inside c.self.inside.stuck.entries c.self.inside.ready c.self.inside.calling c.self.inside.coming kept
 
 pub returns : goal.returns
 returns c =

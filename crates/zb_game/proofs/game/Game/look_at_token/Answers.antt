@@ -10,7 +10,7 @@ use Rattle.zb_game.proofs.game.Game.look_at_token.Goals as goal
 
 pub invariant_of-self : goal.invariant_of-self
 invariant_of-self c = λ ascends.
-    let b : Board = record { models = c.self.inside.models.items; cells = c.self.inside.cells; tokens = held_tokens c.self.inside.tokens; incidents = c.self.inside.incidents } in
+    let b : Board = record { models = c.self.inside.models; cells = c.self.inside.cells; tokens = held_tokens c.self.inside.tokens; incidents = c.self.inside.incidents } in
     let token = c.in-Some.token.now in
     let rests : stays_out c.args.self.now token ≡ true = search rules in
     let here : stays_out b token ≡ true = ap (λ (x : Board). stays_out x token) c.self.view_is ∙ rests in
@@ -19,6 +19,6 @@ invariant_of-self c = λ ascends.
 
 pub invariant_of-self-in-None : goal.invariant_of-self-in-None
 invariant_of-self-in-None c = λ ascends.
-    let b : Board = record { models = c.self.inside.models.items; cells = c.self.inside.cells; tokens = held_tokens c.self.inside.tokens; incidents = c.self.inside.incidents } in
+    let b : Board = record { models = c.self.inside.models; cells = c.self.inside.cells; tokens = held_tokens c.self.inside.tokens; incidents = c.self.inside.incidents } in
     kept_looked_token _ _ _ _ _ _ _ (c.self.invariant ascends) c.args.number _
     (rests_nowhere b (row_at number_in c.args.number c.self.inside.tokens) c.in-None.ensures.row) c.forget-in-None.ensures

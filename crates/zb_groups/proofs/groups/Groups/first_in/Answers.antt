@@ -1,4 +1,4 @@
-use Rattle.std.proofs.Common.{◌≡◌, ◌==◌, ◌&&◌, option_map, ap, ◌∙◌}
+use Rattle.std.proofs.Common.{◌==◌, ◌&&◌, option_map, ap, ◌∙◌}
 use Rattle.std.specs.List.{find}
 use Rattle.zb_groups.specs.declared.held.Held.{Held}
 use Rattle.zb_groups.specs.Groups.{passes_at}

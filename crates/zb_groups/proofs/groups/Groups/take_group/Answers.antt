@@ -1,9 +1,7 @@
-use Rattle.std.proofs.Common.{◌≡◌, ℕ, suc, ◌+◌, ◌==◌, ◌<◌, ◌∷◌, [], List, get_or, drop, filter, length, not, sym, ap, subst, ◌∙◌, arith, rules}
+use Rattle.std.proofs.Common.{◌≡◌, ℕ, suc, ◌+◌, ◌==◌, ◌<◌, ◌∷◌, [], List, drop, filter, length, not, sym, ap, subst, ◌∙◌, arith, rules}
 use Rattle.std.proofs.Math.Seq.{drop-cons}
 use Rattle.std.proofs.lemmas.List.{drop_all}
-use Rattle.zb_groups.specs.declared.held.Held.{Held}
-use Rattle.zb_groups.specs.Groups.{numbers_kept, IsGrouped}
-use Rattle.zb_groups.proofs.EmptyingLemmas.{IsEmptying, goes_on, emptied, numbers_emptied}
+use Rattle.zb_groups.proofs.EmptyingLemmas.{IsEmptying, goes_on, emptied}
 use Rattle.zb_groups.proofs.groups.Groups.take_group.Goals as goal
 
 pub loop-number-preserved : goal.loop-number-preserved

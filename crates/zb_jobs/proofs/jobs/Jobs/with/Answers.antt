@@ -16,7 +16,7 @@ added c =
     let rows = c.self.inside.rows in
     let created = c.args.created.now in
     let place = has_place created.key created.cell rows (rw c.self.view_is c.requires) in
-    c.in_ok-add.ensures ∙ rw c.in_ok-job.ensures (with_last (λ (j : Job). j.key) (job_behind created []) rows place.0)
+    c.in_ok-add.ensures.ok ∙ rw c.in_ok-job.ensures (with_last (λ (j : Job). j.key) (job_behind created []) rows place.0)
 
 pub add-requires : goal.add-requires
 add-requires c =

@@ -8,6 +8,7 @@ loop-self-init g c = (
   omega arith,
   omega (arith, c.clear.ensures.len),
   omega (arith, c.clear.ensures.capacity),
+  refl,
   λ _. refl,
   λ _. refl,
 )
@@ -31,8 +32,9 @@ loop-self-preserved g c =
       omega arith,
       c.hand_out.ensures.room.within c.loop-self.invariant.2,
       omega (arith, c.hand_out.ensures.room.grows),
+      r.3 ∙ c.loop-self.invariant.4,
       λ none. absurd (omega (arith, c.loop-self.invariant.0.spent, r.1, r.2)),
-      λ counts. c.in-Ok-Piece.ensures.cause.steady counts ∙ c.loop-self.invariant.5 counts,
+      λ counts. c.in-Ok-Piece.ensures.cause.steady counts ∙ c.loop-self.invariant.6 counts,
     )
 
 pub returns-in-Ok-End-clause-comes : goal.returns-in-Ok-End-clause-comes

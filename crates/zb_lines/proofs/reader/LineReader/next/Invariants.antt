@@ -7,6 +7,7 @@ invariant-loop-self g l = ReadsLine g.S.Source.tells (g.S.Source.view l.fn.sourc
     × ((g.S.Source.view l.fn.source).faults ≤ (g.S.Source.view l.source).faults)
     × (vec_len l.line ≤ l.most)
     × (vec_capacity l.fn.line ≤ vec_capacity l.line)
+    × ((g.S.Source.view l.source).ended ≡ (g.S.Source.view l.fn.source).ended)
     × (l.fn.budget ≡ 0 → g.S.Source.view l.source ≡ g.S.Source.view l.fn.source)
     × (IsTrue g.S.Source.counts_failures → (g.S.Source.view l.source).faults ≡ (g.S.Source.view l.fn.source).faults)
 

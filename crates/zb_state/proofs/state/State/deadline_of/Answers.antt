@@ -1,11 +1,8 @@
-use Rattle.std.proofs.Common.{ap, ◌∙◌, option_map}
-use Rattle.zb_state.proofs.StateLemmas.{row_is_first, has_by_deadline, due_by_deadline}
+use Rattle.zb_state.proofs.StateLemmas.{has_by_deadline, due_by_deadline}
 use Rattle.zb_state.proofs.state.State.deadline_of.Goals as goal
 
 pub returns-clause-deadline : goal.returns-clause-deadline
-returns-clause-deadline c = λ es is.
-    let messages = c.args.self.now.messages in
-    rw is.messages (c.deadline_of.ensures.deadline ∙ ap (λ found. option_map (λ m. m.deadline) found) (row_is_first c.args.key messages))
+returns-clause-deadline c = λ es is. rw is.messages c.deadline_of.ensures.deadline
 
 pub returns-clause-buffered : goal.returns-clause-buffered
 returns-clause-buffered c = λ es is. rw (c.deadline_of.ensures.deadline, is.messages) (has_by_deadline c.args.key c.args.self.now.messages)

@@ -1,7 +1,6 @@
 use Rattle.std.proofs.Common.{◌∙◌, subst}
 use Rattle.zb_model.specs.declared.record.Event.{Event}
 use Rattle.zb_state.specs.State.{Admits}
-use Rattle.zb_table.proofs.Growing.{has_row}
 use Rattle.zb_state.proofs.SmallLemmas.{small_where_formed}
 use Rattle.zb_state.proofs.state.State.meets_own.Goals as goal
 
@@ -12,4 +11,4 @@ pub is_good-requires : goal.is_good-requires
 is_good-requires c = λ known. subst (λ (e : Event). Admits c.args.self.now e) c.in-ProcessCreated.is (c.requires known)
 
 pub returns-in-MessageExpired-clause-own : goal.returns-in-MessageExpired-clause-own
-returns-in-MessageExpired-clause-own c = λ es is. rw (c.in-MessageExpired.is, is.messages) (c.contains.ensures ∙ has_row (λ m. m.key) c.in-MessageExpired.key c.args.self.now.messages)
+returns-in-MessageExpired-clause-own c = λ es is. rw c.in-MessageExpired.is (c.is_some-in-MessageExpired.ensures ∙ c.deadline_of.ensures.buffered es is)

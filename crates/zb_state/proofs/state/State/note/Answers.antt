@@ -1,6 +1,6 @@
 use Rattle.std.proofs.Common.{◌∙◌, refl, arith}
 use Rattle.zb_definitions.proofs.KeepLemmas.{keeps_same}
-use Rattle.zb_state.proofs.StateLemmas.{below_added, below_expired, stands_last}
+use Rattle.zb_state.proofs.StateLemmas.{is_new, below_added, below_expired, stands_last}
 use Rattle.zb_state.proofs.state.State.note.Goals as goal
 
 pub invariant_of-self-in-Published : goal.invariant_of-self-in-Published
@@ -17,6 +17,12 @@ invariant_of-self-in-Published c =
       timers_in_order = s.timers_in_order;
       resting = s.resting;
     }
+
+pub add-requires : goal.add-requires
+add-requires c =
+    let old = c.args.self.now in
+    let draws = rw c.in-Published.is at c.requires.draws in
+    rw (c.new.ensures, c.note_waits.ensures.messages) (is_new old.place old.counter c.args.counter c.note_waits.new.self.counter old.messages c.in-Published.message c.in-Ok.ensures.counter draws old.in_order)
 
 pub invariant_of-self-in-Expired : goal.invariant_of-self-in-Expired
 invariant_of-self-in-Expired c =

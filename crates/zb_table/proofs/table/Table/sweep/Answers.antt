@@ -1,11 +1,12 @@
 use Rattle.std.proofs.Common.{is_some, ap, ◌∙◌, rules}
 use Rattle.std.proofs.lemmas.Fn.{filter_same}
 use Rattle.zb_table.specs.Places.{rows_in}
-use Rattle.zb_table.proofs.Changing.{swept, swept_ordered}
+use Rattle.zb_table.proofs.Changing.{swept}
+use Rattle.zb_table.proofs.Counting.{places_swept}
 use Rattle.zb_table.proofs.table.Table.sweep.Goals as goal
 
 pub invariant_of-self : goal.invariant_of-self
-invariant_of-self g c = rw (filter_same _ (λ p. is_some p.row) _ (λ x b f' k. search rules) _ _ c.retain.ensures.filtered) (swept_ordered g.R.Row.key_in 0 c.self.inside.places.items c.self.invariant)
+invariant_of-self g c = rw (filter_same _ (λ p. is_some p.row) _ (λ x b f' k. search rules) _ _ c.retain.ensures.filtered) (places_swept g.R.Row.key_in c.self.inside.empty c.self.inside.places.items c.self.invariant)
 
 pub returns-then-self-len : goal.returns-then-self-len
 returns-then-self-len g c =

@@ -11,7 +11,7 @@ use Rattle.zb_timers.proofs.timers.Timers.with.Goals as goal
 
 -- the rows with the new one
 added : (c : goal.In_ok-add) → c.add.new.self ≡ with_row (λ t. t.key) (timer_of c.args.created.now) c.self.inside.rows
-added c = c.in_ok-add.ensures ∙ rw c.in_ok-timer.ensures refl
+added c = c.in_ok-add.ensures.ok ∙ rw c.in_ok-timer.ensures refl
 
 pub add-requires : goal.add-requires
 add-requires c =
