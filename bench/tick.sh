@@ -61,5 +61,5 @@ done
 awk -v n="$rounds" -v few="$few" -v many="$many" -v f="$(median "$memory/ticks.$few")" -v m="$(median "$memory/ticks.$many")" 'BEGIN {
     if (f < 1) printf "bench: %d ticks take %.2f s, less than a second: more rounds are wanted\n", n, f
     printf "a tick expires 1,000 messages in %.3f ms where %d others are buffered, and in %.3f ms where %d are, %.2f of it\n",
-        1000 * f / n, few, 1000 * m / n, many, f > 0 ? m / f : 0
+        1000 * f / n, few, 1000 * m / n, many, (f > 0 ? m / f : 0)
 }'
