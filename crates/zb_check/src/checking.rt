@@ -10,15 +10,18 @@ use crate::naming::{double_id, empty_id};
 use crate::parts::Parts;
 use crate::scopes::{bad_parent, bad_start, too_large};
 use std::alloc::{AllocError, Global};
+use thiserror::Error;
 use zb_base::{Text, TryCopy};
 use zb_faults::Fault;
 use zb_process::Model;
 
 /// Why a model is refused.
-#[derive(Drop)]
+#[derive(Debug, Drop, Error)]
 pub enum ModelFault {
     /// Its first fault, and the id of the first offender.
+    #[error("the model is refused at {id:?}: {fault}")]
     Bad { fault: Fault, id: Text },
+    #[error("there was no memory")]
     Memory,
 }
 

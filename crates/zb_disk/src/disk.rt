@@ -4,13 +4,16 @@ ghost use Rattle.zb_disk.specs.Cause.{HasCause};
 ghost use Rattle.zb_disk.specs.declared.disk.Trouble.TheVariants.{Memory};
 
 use std::alloc::{AllocError, AllocFailed};
+use thiserror::Error;
 
 /// Why a call of a disk was refused.
-#[derive(Clone, Copy, Debug, PartialEq, Eq)]
+#[derive(Clone, Copy, Debug, PartialEq, Eq, Error)]
 pub enum Trouble {
     /// The disk failed, and its count of faults rose.
+    #[error("the disk failed")]
     Failed,
     /// There was no memory.
+    #[error("there was no memory")]
     Memory,
 }
 

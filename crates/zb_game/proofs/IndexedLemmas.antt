@@ -61,6 +61,10 @@ apart_gone low (x ∷ cells) (suc i) c up within at =
     let other : (x.key == c.key) ≡ false = grind (arith, nat_tests, above, key) in
     All-cons (λ (y : Cell). (y.key == c.key) ≡ false) x (remove cells i) other (apart_gone (x.key + 1) cells i c up.1 (omega (arith, within)) at)
 
+-- a cell is newer than its scope
+abbrev IsNewer : Cell → Type 0
+IsNewer c = c.scope < c.key
+
 module _ (b : Board) (rows : List (Held Token)) (inside : List Tally) (stuck : List (ℕ × ℕ)) (ready calling coming : List ℕ) (kept : IsIndexed b rows inside stuck ready calling coming) where
   -- a scope that something is in has a number, and there is one more
   pub some_cell : (i : ℕ) (c : Cell) → i < length b.cells → c ≡ get_or b.cells i c → 1 ≤ tally_of inside c.scope
@@ -82,6 +86,7 @@ module _ (b : Board) (rows : List (Held Token)) (inside : List Tally) (stuck : L
       let after : Board = record b { models = b.models ++ d ∷ [] } in
       record {
         cells_ascend = kept.cells_ascend;
+        newer = kept.newer;
         tokens_ascend = kept.tokens_ascend;
         cells_right = kept.cells_right;
         incidents_ascend = kept.incidents_ascend;
@@ -99,15 +104,16 @@ module _ (b : Board) (rows : List (Held Token)) (inside : List Tally) (stuck : L
           ap (option_map (λ (x : Deployed). x.model)) there ∙ ap (λ (x : Model). Some x) r.2
 
   -- a cell more
-  pub kept_cell : (c : Cell) (inside' : List Tally) (ready' : List ℕ) → are_below (λ (x : Cell). x.key) c.key b.cells ≡ true → calls_off c ≡ false
+  pub kept_cell : (c : Cell) (inside' : List Tally) (ready' : List ℕ) → are_below (λ (x : Cell). x.key) c.key b.cells ≡ true → c.scope < c.key → calls_off c ≡ false
       → ((k : ℕ) → tally_of inside' k ≡ tally_of inside k + (if c.scope == k then 1 else 0))
       → ((k : ℕ) → is_kept ready k ≡ true → is_kept ready' k ≡ true) → is_kept ready' c.key ≡ true
       → IsIndexed (record b { cells = b.cells ++ c ∷ [] }) rows inside' stuck ready' calling coming
-  kept_cell c inside' ready' below calls_none more still put =
+  kept_cell c inside' ready' below newer calls_none more still put =
       let after : Board = record b { cells = b.cells ++ c ∷ [] } in
       let numbers : (k : ℕ) → cells_in after k ≡ cells_in b k + (if c.scope == k then 1 else 0) = λ k. passing_more (λ (x : Cell). x.scope == k) b.cells c in
       record {
         cells_ascend = ascend_more (λ (x : Cell). x.key) 0 b.cells c (omega arith) kept.cells_ascend below;
+        newer = All-push IsNewer b.cells c kept.newer newer;
         tokens_ascend = kept.tokens_ascend;
         cells_right = λ k. omega (arith, more k, kept.cells_right k, numbers k);
         incidents_ascend = kept.incidents_ascend;
@@ -130,6 +136,7 @@ module _ (b : Board) (rows : List (Held Token)) (inside : List Tally) (stuck : L
       let numbers : (k : ℕ) → cells_in after k ≡ cells_in b k = λ k. passing_same (λ (x : Cell). x.scope == k) b.cells i c c' within at (ap (λ (s : ℕ). s == k) scope) in
       record {
         cells_ascend = ascend_set (λ (x : Cell). x.key) 0 b.cells i c c' at key kept.cells_ascend;
+        newer = All-set IsNewer b.cells i c' (let before : c.scope < c.key = subst IsNewer (sym at) (kept.newer i c within) in rw (scope, key) before) kept.newer;
         tokens_ascend = kept.tokens_ascend;
         cells_right = λ k. kept.cells_right k ∙ sym (numbers k);
         incidents_ascend = kept.incidents_ascend;
@@ -175,6 +182,7 @@ module _ (b : Board) (rows : List (Held Token)) (inside : List Tally) (stuck : L
       let calling_left : All (IsCalling calling) left = All-append (IsCalling calling) (take i b.cells) (drop (suc i) b.cells) (All-take (IsCalling calling) i b.cells kept.called) (All-drop (IsCalling calling) (suc i) b.cells kept.called) in
       record {
         cells_ascend = ascend_remove (λ (x : Cell). x.key) 0 b.cells i kept.cells_ascend;
+        newer = All-append IsNewer (take i b.cells) (drop (suc i) b.cells) (All-take IsNewer i b.cells kept.newer) (All-drop IsNewer (suc i) b.cells kept.newer);
         tokens_ascend = kept.tokens_ascend;
         cells_right = counts;
         incidents_ascend = kept.incidents_ascend;
@@ -198,6 +206,7 @@ module _ (b : Board) (rows : List (Held Token)) (inside : List Tally) (stuck : L
       let numbers : (k : ℕ) → tokens_in after k ≡ tokens_in b k + (if h.row.scope == k then 1 else 0) = λ k. ap (count_in_scope k) (tokens_more rows h ∙ ap (λ (ts : List Token). ts ++ h.row ∷ []) (sym their)) ∙ passing_more (λ (x : Token). x.scope == k) b.tokens h.row in
       record {
         cells_ascend = kept.cells_ascend;
+        newer = kept.newer;
         tokens_ascend = up;
         cells_right = kept.cells_right;
         incidents_ascend = kept.incidents_ascend;
@@ -217,6 +226,7 @@ module _ (b : Board) (rows : List (Held Token)) (inside : List Tally) (stuck : L
       let others : (k : ℕ) → (scope == k) ≡ false → tokens_in b k ≤ tokens_in after k = λ k other. (let n = fewer.elsewhere k other in let all = ap (count_in_scope k) their in omega (arith, n, all)) in
       record {
         cells_ascend = kept.cells_ascend;
+        newer = kept.newer;
         tokens_ascend = subst (λ (l : List (Held Token)). Ascend number_in 0 l) (sym fewer.among) (ascend_filter number_in fewer.stays 0 rows kept.tokens_ascend);
         cells_right = kept.cells_right;
         incidents_ascend = kept.incidents_ascend;
@@ -233,6 +243,7 @@ module _ (b : Board) (rows : List (Held Token)) (inside : List Tally) (stuck : L
       → ((k : ℕ) → (k == number) ≡ false → is_kept coming k ≡ true → is_kept coming' k ≡ true) → IsIndexed b rows inside stuck ready calling coming'
   kept_looked_token number coming' rests still = record {
     cells_ascend = kept.cells_ascend;
+    newer = kept.newer;
     tokens_ascend = kept.tokens_ascend;
     cells_right = kept.cells_right;
     incidents_ascend = kept.incidents_ascend;
@@ -247,6 +258,7 @@ module _ (b : Board) (rows : List (Held Token)) (inside : List Tally) (stuck : L
   pub kept_looked : (key : ℕ) (ready' : List ℕ) → is_awake b key ≡ false → ((k : ℕ) → (k == key) ≡ false → is_kept ready k ≡ true → is_kept ready' k ≡ true) → IsIndexed b rows inside stuck ready' calling coming
   kept_looked key ready' rests still = record {
     cells_ascend = kept.cells_ascend;
+    newer = kept.newer;
     tokens_ascend = kept.tokens_ascend;
     cells_right = kept.cells_right;
     incidents_ascend = kept.incidents_ascend;
@@ -330,6 +342,7 @@ module _ (b : Board) (rows : List (Held Token)) (inside : List Tally) (stuck : L
       let numbers : (k : ℕ) → incidents_on after k ≡ incidents_on b k + (if i.cell == k then 1 else 0) = λ k. passing_more (λ (x : Incident). x.cell == k) b.incidents i in
       record {
         cells_ascend = kept.cells_ascend;
+        newer = kept.newer;
         tokens_ascend = kept.tokens_ascend;
         incidents_ascend = ascend_more (λ (x : Incident). x.key) 0 b.incidents i (omega arith) kept.incidents_ascend below;
         alone = λ k. one_at k (i.cell == k) refl (numbers k);
@@ -367,6 +380,7 @@ module _ (b : Board) (rows : List (Held Token)) (inside : List Tally) (stuck : L
       let numbers : (k : ℕ) → incidents_on b k ≡ incidents_on after k + (if x.cell == k then 1 else 0) = λ k. passing_fewer (λ (y : Incident). y.cell == k) b.incidents i x within at in
       record {
         cells_ascend = kept.cells_ascend;
+        newer = kept.newer;
         tokens_ascend = kept.tokens_ascend;
         incidents_ascend = ascend_remove (λ (y : Incident). y.key) 0 b.incidents i kept.incidents_ascend;
         alone = λ k. omega (arith, numbers k, kept.alone k);

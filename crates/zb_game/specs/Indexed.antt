@@ -1,5 +1,5 @@
 -- What a game keeps beside its board, so that a move needs no walk.
-use Rattle.std.specs.Prelude.{◌≡◌, ℕ, ◌≤◌, ◌==◌, List, All, Bool, true, false, ◌&&◌, ◌||◌, not, is_some, if◌then◌else◌, option_map}
+use Rattle.std.specs.Prelude.{◌≡◌, ℕ, ◌<◌, ◌≤◌, ◌==◌, List, All, Bool, true, false, ◌&&◌, ◌||◌, not, is_some, if◌then◌else◌, option_map}
 use Rattle.std.specs.List.{list_any}
 use Rattle.std.specs.Option.{option_map_or}
 use Rattle.zb_process.specs.declared.model.Model.{Model}
@@ -53,11 +53,12 @@ stays_out b t = option_map_or (λ c. option_map_or (λ m. not (comes_in m b.toke
 abbrev pub is_kept : List ℕ → ℕ → Bool
 is_kept keys key = list_any (λ k. k == key) keys
 
--- what is kept is right, where the tokens have these numbers: keys and numbers ascend, no two incidents stand on one cell, the counts of cells are those
+-- what is kept is right, where the tokens have these numbers: keys and numbers ascend, each cell is newer than its scope, no two incidents stand on one cell, the counts of cells are those
 -- of the board, the key of the incident on each cell is kept, each cell that doesn't rest is among the ready ones, each that calls off what is in it among
 -- those that do, and each token that doesn't rest among the coming ones (own)
 pub record IsIndexed (b : Board) (rows : List (Held Token)) (inside : List Tally) (stuck : List (ℕ × ℕ)) (ready calling coming : List ℕ) : Type 0 where
   pub cells_ascend : Ascend (λ c. c.key) 0 b.cells
+  pub newer : All (λ c. c.scope < c.key) b.cells
   pub tokens_ascend : Ascend (λ h. h.number) 0 rows
   pub incidents_ascend : Ascend (λ i. i.key) 0 b.incidents
   pub alone : (cell : ℕ) → incidents_on b cell ≤ 1

@@ -1,5 +1,5 @@
 -- Words of the player's own functions.
-use Rattle.std.specs.Prelude.{ℕ, ◌==◌, List, [], ◌∷◌, map, filter, Bool, false, ◌&&◌, if◌then◌else◌, Option, option_map, option_and_then}
+use Rattle.std.specs.Prelude.{ℕ, ◌==◌, nat_le, List, [], ◌∷◌, map, filter, Bool, false, ◌&&◌, ◌||◌, if◌then◌else◌, Option, option_map, option_and_then}
 use Rattle.std.specs.Option.{option_map_or}
 use Rattle.std.specs.List.{list_any}
 use Rattle.std.specs.Str.{bytes_eq}
@@ -7,6 +7,7 @@ use Rattle.zb_process.specs.declared.model.Model.{Model}
 use Rattle.zb_process.specs.declared.model.Node.{Node}
 use Rattle.zb_groups.specs.declared.held.Held.{Held}
 use Rattle.zb_groups.specs.Groups.{passes_at}
+use Rattle.zb_tokens.specs.declared.board.Cell.{Cell}
 use Rattle.zb_tokens.specs.declared.board.Token.{Token}
 use Rattle.zb_tokens.specs.declared.board.Move.{Move}
 use Rattle.zb_tokens.specs.declared.board.Move.TheVariants as moves
@@ -15,7 +16,7 @@ use Rattle.zb_process.specs.declared.model.Node.{Node}
 use Rattle.zb_tokens.specs.declared.board.Triggered.{Triggered}
 use Rattle.zb_tokens.specs.Errors.{error_event}
 use Rattle.zb_tokens.specs.MoveTrigger.{comes_about_by}
-use Rattle.zb_tokens.specs.Board.{Board, cell_at, model_under, node_with}
+use Rattle.zb_tokens.specs.Board.{Board, cell_at, leaves_in, model_under, node_with}
 use Rattle.zb_tokens.specs.Forced.{greatest, is_forced}
 use Rattle.zb_tokens.specs.MoveEnter.{stands_at}
 use Rattle.zb_places.specs.Places.{counts_for}
@@ -32,6 +33,10 @@ newest_key b = greatest (map (λ c. c.key) (filter (is_forced b) b.cells))
 abbrev pub left_after : List (List ℕ) → List ℕ → List (List ℕ)
 left_after [] id = []
 left_after (first ∷ rest) id = if bytes_eq first id then rest else first ∷ rest
+
+-- a cell is no newer than a scope, or leaves in it
+abbrev pub is_older_or_leaves : ℕ → Cell → Bool
+is_older_or_leaves scope c = nat_le c.key scope || leaves_in scope c
 
 -- a token is in a scope
 abbrev pub has_token : Board → ℕ → Bool

@@ -47,6 +47,7 @@ use crate::tallies::Tally;
 use std::alloc::{AllocError, AllocFailed, Global};
 use std::collections::BTreeMap;
 use std::marker::Model;
+use thiserror::Error;
 use zb_arrivals::Arrivals;
 use zb_base::{Key, TryCopy};
 use zb_graph::Graph;
@@ -55,10 +56,12 @@ use zb_table::Table;
 use zb_tokens::{Cell, Incident, Move, Token};
 
 /// Why a move was not made.
-#[derive(Clone, Copy, Debug, PartialEq, Eq)]
+#[derive(Clone, Copy, Debug, PartialEq, Eq, Error)]
 pub enum GameFault {
     /// It doesn't fit the board, or its effect names a cell, a token, a model or an incident that isn't there.
+    #[error("the move doesn't fit the board, or names what isn't there")]
     Illegal,
+    #[error("there was no memory")]
     Memory,
 }
 

@@ -1,4 +1,5 @@
 use std::alloc::{AllocError, Global};
+use std::fmt;
 use zb_base::{Key, List, Moment, PartitionId, Text, TryCopy};
 use zb_exchange_records::{
     JobActivated, JobBatchActivate, JobBatchActivated, JobComplete, JobCreated, JobErrorThrown,
@@ -142,6 +143,12 @@ pub struct Batch {
     pub begin: u64,
     pub command: Command,
     pub outcome: Outcome,
+}
+
+impl fmt::Debug for Batch {
+    fn fmt<W: fmt::Write>(&self, f: &mut fmt::Formatter<W>) -> fmt::Result {
+        write!(f, "Batch of moment {}", self.moment.ms())
+    }
 }
 
 /// What stands in front of a batch's events.

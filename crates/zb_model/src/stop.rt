@@ -3,15 +3,19 @@ ghost use Rattle.zb_model.specs.declared.stop.Stop.TheVariants as stops;
 ghost use Rattle.zb_model.specs.declared.stop.TableFault.TheVariants as faults;
 
 use std::alloc::{AllocError, AllocFailed};
+use thiserror::Error;
 use zb_base::Key;
 use zb_process::Model;
 
 /// Why a partition goes on no longer.
-#[derive(Clone, Copy, Debug, PartialEq, Eq)]
+#[derive(Clone, Copy, Debug, PartialEq, Eq, Error)]
 pub enum Stop {
+    #[error("there was no memory")]
     Memory,
+    #[error("the disk failed")]
     DiskFault,
     /// The log of this length in bytes has no room within the limit for a frame of this many.
+    #[error("the log has {length} bytes of {limit}, and the next frame has {frame}")]
     LogFull { length: u64, frame: u64, limit: u64 },
 }
 
@@ -24,10 +28,12 @@ impl From<AllocError> for Stop {
 }
 
 /// Why an event was not applied to a table.
-#[derive(Clone, Copy, Debug, PartialEq, Eq)]
+#[derive(Clone, Copy, Debug, PartialEq, Eq, Error)]
 pub enum TableFault {
     /// The event does not fit what the table has.
+    #[error("the event doesn't fit what the table has")]
     NotApplicable,
+    #[error("there was no memory")]
     Memory,
 }
 

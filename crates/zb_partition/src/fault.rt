@@ -4,16 +4,20 @@ ghost use Rattle.zb_partition.specs.Fault.{open_fault_of};
 ghost use Rattle.zb_partition.specs.declared.fault.OpenFault.TheVariants.{Memory};
 
 use std::alloc::{AllocError, AllocFailed};
+use thiserror::Error;
 use zb_store::StoreFault;
 
 /// Why a partition could not be opened.
-#[derive(Clone, Copy, Debug, PartialEq, Eq)]
+#[derive(Clone, Copy, Debug, PartialEq, Eq, Error)]
 pub enum OpenFault {
     /// The disk failed, and its count of faults rose.
+    #[error("the disk failed")]
     DiskFault,
     /// The frame with this number, from 0, can't be read.
+    #[error("frame {frame} of the log, counted from 0, can't be read; it was left as it is")]
     BadLog { frame: u64 },
     /// There was no memory.
+    #[error("there was no memory")]
     Memory,
 }
 

@@ -1,6 +1,6 @@
 ghost use Rattle.std.specs.Prelude.{◌≡◌};
 
-use std::fmt;
+use thiserror::Error;
 use zb_model::Batch;
 use zb_session::Session;
 use zb_store::Volume;
@@ -9,33 +9,41 @@ use zb_store::Volume;
 pub const SESSION: u32 = 1;
 
 /// Why a run ended. Sessions and partitions are numbered from 1.
-#[derive(Drop)]
+#[derive(Debug, Drop, Error)]
 pub enum Cause {
     /// Every source was read to its end, and every line has its reply.
+    #[error("every line has its reply")]
     Done,
     /// The words, or the number of volumes, can't be served.
+    #[error("the words, or the number of volumes, can't be served")]
     Usage,
     /// That session's source failed.
+    #[error("the input of session {session} failed; what has a reply is stored")]
     SourceFault {
         session: u32,
     },
     /// A disk of that partition failed. The batch is the one that was being written.
+    #[error("a disk of partition {partition} failed; a request without a reply may be stored; look at the disk before you start again")]
     DiskFault {
         partition: u32,
         in_writing: Option<Batch>,
     },
     /// That partition's log can't be read from this frame on, counted from 0.
+    #[error("the log of partition {partition} can't be read from frame {frame} on, counted from 0; it was left as it is: put a copy in its place, or move it away to begin anew")]
     BadLog {
         partition: u32,
         frame: u64,
     },
     /// That session's sink failed.
+    #[error("the output of session {session} failed; a request without a reply may be stored")]
     SinkFault {
         session: u32,
     },
     /// There was no memory.
+    #[error("there was no memory; a request without a reply may be stored")]
     Memory,
     /// The next frame doesn't fit into that partition's log. All numbers are of bytes.
+    #[error("the log of partition {partition} has {length} bytes of {limit}, and the next frame has {frame}; start with a larger --limit")]
     LogFull {
         partition: u32,
         length: u64,
@@ -43,25 +51,10 @@ pub enum Cause {
         limit: u64,
     },
     /// That session took as many bytes as a session may.
+    #[error("session {session} took all the bytes that one may; go on in another one")]
     InputFull {
         session: u32,
     },
-}
-
-impl fmt::Display for Cause {
-    fn fmt<W: fmt::Write>(&self, f: &mut fmt::Formatter<W>) -> fmt::Result {
-        f.write_str(match self {
-            Cause::Done => "Done",
-            Cause::Usage => "Usage",
-            Cause::SourceFault { .. } => "SourceFault",
-            Cause::DiskFault { .. } => "DiskFault",
-            Cause::BadLog { .. } => "BadLog",
-            Cause::SinkFault { .. } => "SinkFault",
-            Cause::Memory => "Memory",
-            Cause::LogFull { .. } => "LogFull",
-            Cause::InputFull { .. } => "InputFull",
-        })
-    }
 }
 
 /// A run that ended, with all that was handed to it.

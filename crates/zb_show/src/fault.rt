@@ -3,18 +3,23 @@ ghost use Rattle.zb_show.specs.Status.{status_shown, fault_status};
 ghost use Rattle.zb_show.specs.declared.fault.ShowFault.TheVariants as faults;
 
 use std::alloc::{AllocError, AllocFailed};
+use thiserror::Error;
 use zb_outside::Trouble;
 use zb_partition::OpenFault;
 
 /// Why a log was not shown.
-#[derive(Clone, Copy)]
+#[derive(Clone, Copy, Debug, Drop, Error)]
 pub enum ShowFault {
     /// The words ask for no log.
+    #[error("the words ask for no log")]
     Usage,
     /// The log could not be read.
+    #[error(transparent)]
     Log(OpenFault),
     /// The sink refused a line.
+    #[error("a line could not be written: {0}")]
     Sink(Trouble),
+    #[error("there was no memory")]
     Memory,
 }
 

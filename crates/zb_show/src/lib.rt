@@ -8,6 +8,7 @@ mod parts;
 mod printing;
 mod show;
 
+pub use fault::ShowFault;
 pub use lines::{put_batch, records_in};
 pub use names::{command_key, command_names, element_of, event_key, event_names, rejection_name};
 pub use printing::read_batch;

@@ -32,6 +32,8 @@ pub struct Shown<D, K> {
     /// 0 where it was shown, 2 where the words ask for no log, 4 where its disk failed, 5 where it can't be read,
     /// 6 where the sink failed, and 7 where memory was wanting.
     pub status: u8,
+    /// What came of it, which the status tells in a number.
+    pub end: Result<(), ShowFault>,
     pub volume: Volume<D>,
     pub sink: K,
 }
@@ -45,6 +47,7 @@ pub fn show_log<D: Disk, K: Sink>(
     sink: K,
 ) -> Shown<D, K>
     ensures known { Contains (0 ∷ 2 ∷ 4 ∷ 5 ∷ 6 ∷ 7 ∷ []) result.status }
+    ensures end { result.status ≡ status_shown result.end }
 
     // 2 exactly where the words ask for no log. Nothing is touched then, nor where there was no memory to read them.
     ensures usage { result.status ≡ 2 → (plan : LogPlan) → IsPlan (map string_bytes words.now) (plans.Log plan) → ⊥ }
@@ -163,11 +166,13 @@ fn show<D: Disk, K: Sink>(
 // What is left, with the status of what came of it.
 fn ended<D, K>(shown: Result<(), ShowFault>, volume: Volume<D>, sink: K) -> Shown<D, K>
     ensures status { result.status ≡ status_shown shown }
+    ensures end { result.end ≡ shown }
     ensures volume { result.volume ≡ volume }
     ensures sink { result.sink ≡ sink }
 {
     Shown {
         status: status(shown),
+        end: shown,
         volume,
         sink,
     }

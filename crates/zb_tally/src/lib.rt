@@ -7,5 +7,6 @@ mod printing;
 mod serving;
 mod tally;
 
+pub use fault::GenFault;
 pub use serving::{Generated, generate};
 pub use tally::Tally;

@@ -37,6 +37,8 @@ pub struct Generated<K> {
     /// 0 where what came of it was written, 2 where the words ask for no workload, 6 where the sink failed, 7 where memory
     /// was wanting, and 8 where a log was full.
     pub status: u8,
+    /// What came of it, which the status tells in a number.
+    pub end: Result<(), GenFault>,
     pub sink: K,
 }
 
@@ -45,6 +47,7 @@ pub struct Generated<K> {
 /// what the server does for as many lines, and then reads each log once.
 pub fn generate<K: Sink>(alloc: Global, words: &[String], mut sink: K) -> Generated<K>
     ensures known { Contains (0 ∷ 2 ∷ 6 ∷ 7 ∷ 8 ∷ []) result.status }
+    ensures end { result.status ≡ gen_status result.end }
 
     // 2 exactly where the words ask for no workload, unless there was no memory to read them.
     ensures usage { result.status ≡ 2 → (plan : GenPlan) → IsPlan (map string_bytes words.now) (plans.Gen plan) → ⊥ }
@@ -61,9 +64,10 @@ pub fn generate<K: Sink>(alloc: Global, words: &[String], mut sink: K) -> Genera
     ensures memory { result.status ≡ 7 → (result.sink ≡ sink) ⊎ IsTrue K.takes_memory }
     ensures full { result.status ≡ 8 → IsTooLarge ⟦<SoundDisk as Disk>⟧ (map string_bytes words.now) }
 {
-    let written = write_summary(alloc, words, &mut sink);
+    let end = write_summary(alloc, words, &mut sink);
     Generated {
-        status: status(written),
+        status: status(end),
+        end,
         sink,
     }
 }

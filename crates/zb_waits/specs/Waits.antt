@@ -4,6 +4,7 @@ use Rattle.std.specs.List.{find, list_any}
 use Rattle.std.specs.Option.{option_map_or}
 use Rattle.std.specs.BTreeSet.{BTreeSet}
 use Rattle.zb_table.specs.Earliest.{is_earlier}
+use Rattle.zb_table.specs.EarliestLaws.{earlier_of}
 use Rattle.zb_table.specs.Rows.{Ascend}
 use Rattle.zb_waits.specs.Pairs.{has_pair, is_number, is_row_under}
 
@@ -43,5 +44,4 @@ due_pair now (Some p) = if nat_le p.0 now then Some p else None
 -- of two pairs the one that comes first (own)
 abbrev pub earlier_pair : Option (ℕ × ℕ) → Option (ℕ × ℕ) → Option (ℕ × ℕ)
 earlier_pair None other = other
-earlier_pair (Some p) None = Some p
-earlier_pair (Some p) (Some o) = if is_earlier o p then Some o else Some p
+earlier_pair (Some p) other = earlier_of (λ q. q) p other

@@ -52,13 +52,13 @@ fn keep_at(
     Ok(())
 }
 
-// Whether no pair of the run comes behind this one.
+// Whether all pairs of the run come before this one. The same pair a second time doesn't, so none stands there twice.
 fn comes_last(moment: Moment, key: Key, run: &VecDeque<(Moment, Key)>) -> bool
     requires { IsTimeOrdered run.now.items }
     ensures { IsTrue result → list_any (λ p. is_earlier (moment, key) p) run.now.items ≡ false }
 {
     match run.back() {
-        Some(last) => !is_before((moment, key), *last),
+        Some(last) => is_before(*last, (moment, key)),
         None => true,
     }
 }
@@ -90,16 +90,30 @@ pub fn is_waited_for<R: Timed>(pair: (Moment, Key), rows: &Table<R>) -> bool
     }
 }
 
-/// Lets go of pairs of the run that stand for no row: those in front, and all where they are more than half of it. It
-/// takes, on average, the logarithm of how many rows there are.
-pub fn shed<R: Timed>(rows: &Table<R>, run: &mut VecDeque<(Moment, Key)>)
+/// Lets go of pairs of the run that stand for no row, now that the row with this key has gone or waits for another moment:
+/// those in front, and all where they are more than half of it. It takes, on average, the logarithm of how many rows
+/// there are.
+pub fn shed<R: Timed>(key: Key, rows: &Table<R>, run: &mut VecDeque<(Moment, Key)>)
     requires { IsTimeOrdered run.old.items }
     ensures order { IsTimeOrdered run.new.items }
     ensures kept { (n k : ℕ) → IsTrue (is_waited_for R.key_in R.moment_in rows.now n k) → IsTrue (is_among run.old.items n k) → IsTrue (is_among run.new.items n k) }
 {
-    drop_front(rows, run);
+    drop_from(key, rows, run);
     if run.len() / 2 > rows.len() {
         run.retain(|pair| is_waited_for(*pair, rows));
+    }
+}
+
+// Lets go of the pairs in front of the first that stands for a row, where the first of all has this key; another one
+// stood for its row before, and does so still.
+fn drop_from<R: Timed>(key: Key, rows: &Table<R>, run: &mut VecDeque<(Moment, Key)>)
+    requires { IsTimeOrdered run.old.items }
+    ensures order { IsTimeOrdered run.new.items }
+    ensures kept { (n k : ℕ) → IsTrue (is_waited_for R.key_in R.moment_in rows.now n k) → IsTrue (is_among run.old.items n k) → IsTrue (is_among run.new.items n k) }
+{
+    match run.front() {
+        Some(pair) if pair.1 == key => drop_front(rows, run),
+        _ => {}
     }
 }
 

@@ -70,7 +70,8 @@ impl<R: Timed> Waits<R> {
     }
 
     /// The same of those alone that pass the question. It goes through the rows that are due, in their order, up to
-    /// the first that passes, and takes for each the logarithm of how many rows there are.
+    /// the first that passes, and over moments between them for which rows waited before, some twice as many as rows at
+    /// most. For each it takes the logarithm of how many rows there are.
     pub fn first_due_that<Q: Query<R>>(&self, now: Moment, query: &Q) -> Option<(Moment, Key)>
         ensures { result ≡ option_map (place_in_time R.key_in R.moment_in) (first_due R.key_in R.moment_in now (filter (Q.passes query.now) self.now)) }
     {
@@ -116,7 +117,7 @@ impl<R: Timed> Waits<R> {
         let after = moment_of(key, &self.rows);
         forget(&mut self.rest, before, key);
         keep(&mut self.run, &mut self.rest, after, key)?;
-        shed(&self.rows, &mut self.run);
+        shed(key, &self.rows, &mut self.run);
         Ok(self)
     }
 
@@ -136,7 +137,7 @@ impl<R: Timed> Waits<R> {
         match self.rows.take(key) {
             Some(row) => {
                 forget(&mut self.rest, row.moment(), key);
-                shed(&self.rows, &mut self.run);
+                shed(key, &self.rows, &mut self.run);
                 Some(row)
             }
             None => None,

@@ -1,5 +1,6 @@
 ghost use Rattle.std.specs.Prelude.{◌≡◌, ◌≤◌};
 
+use thiserror::Error;
 use zb_model::{
     Command, JobBatchActivate, JobComplete, JobFail, JobThrowError, JobUpdateRetries, Key,
     MessagePublish, Model, PartitionId, ProcessInstanceCreationCreate, Text,
@@ -107,23 +108,31 @@ impl Request {
 }
 
 /// Why a line is no request: the first of these that holds.
-#[derive(Debug, Drop)]
+#[derive(Debug, Drop, Error)]
 pub enum LineFault {
     /// It is longer than 262,144 bytes.
+    #[error("the line is longer than 262,144 bytes")]
     TooLong,
     /// It is no JSON value in UTF-8 (RFC 8259).
+    #[error("the line is no JSON value in UTF-8")]
     NotJson,
     /// Its value is no object.
+    #[error("the line is no JSON object")]
     NotObject,
     /// It has no field `op` with a text.
+    #[error("the line has no field `op` with a text")]
     NoOp,
     /// Its `op` is no request of this server.
+    #[error("the `op` is no request of this server")]
     UnknownOp,
     /// This field is missing, of the wrong kind or unknown. Where it is the model of a deploy, the path says
     /// where in the model the fault is, as a JSON pointer (RFC 6901): the empty one where there is no model.
+    #[error("the field `{}{}` is missing, wrong or unknown", .field.as_str(), .path.as_ref().map_or("", Text::as_str))]
     Field { field: Text, path: Option<Text> },
     /// This field is outside its limits.
+    #[error("the field `{}` is outside its limits", .field.as_str())]
     Range { field: Text },
     /// There was no memory.
+    #[error("there was no memory")]
     Memory,
 }

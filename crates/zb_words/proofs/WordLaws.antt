@@ -1,6 +1,6 @@
 -- Laws of the words of a command line.
 use Rattle.std.proofs.Common.{◌≡◌, ℕ, Option, Some, None, List, [], ◌∷◌, ◌++◌, length, get_or, refl, ap, sym, ◌∙◌, subst, arith}
-use Rattle.std.specs.Prelude.{codes, Result, Ok, Err, MatchResult, IsOkAnd, IfErr}
+use Rattle.std.specs.Prelude.{codes}
 use Rattle.std.specs.List.{filter_map}
 use Rattle.std.proofs.lemmas.List.Elements.{filter_map-append}
 use Rattle.std.proofs.lemmas.Slice.Eq.{bytes_eq-Decides}
@@ -11,8 +11,6 @@ use Rattle.zb_words.specs.declared.plan.ClockKind.TheVariants.{Real, Manual}
 use Rattle.zb_words.specs.declared.plan.ServePlan.{ServePlan}
 use Rattle.zb_words.specs.declared.plan.LogPlan.{LogPlan}
 use Rattle.zb_words.specs.declared.plan.GenPlan.{GenPlan}
-use Rattle.zb_words.specs.declared.fault.PlanFault.{PlanFault}
-use Rattle.zb_words.specs.declared.fault.PlanFault.TheVariants as faults
 use Rattle.zb_words.specs.declared.plan.Plan.{Plan}
 use Rattle.zb_words.specs.declared.plan.Plan.TheVariants as plans
 use Rattle.zb_words.specs.Part.{Part, GiveAll, text_for, IsMeant, AskFor, ArePaths, before_dashes, behind_dashes}
@@ -80,13 +78,13 @@ its_options words options others verb other e e' =
     let joined : verb ∷ options ≡ other ∷ others = sym e ∙ e' in
     (cc, cc)
 
-log_or_gen : codes "log" ≡ codes "gen" → ⊥
+pub log_or_gen : codes "log" ≡ codes "gen" → ⊥
 log_or_gen e = let first : get_or (codes "log") 0 0 ≡ get_or (codes "gen") 0 0 = ap (λ text. get_or text 0 0) e in omega arith
 
-serve_or_log : codes "serve" ≡ codes "log" → ⊥
+pub serve_or_log : codes "serve" ≡ codes "log" → ⊥
 serve_or_log e = let long : length (codes "serve") ≡ length (codes "log") = ap length e in omega arith
 
-serve_or_gen : codes "serve" ≡ codes "gen" → ⊥
+pub serve_or_gen : codes "serve" ≡ codes "gen" → ⊥
 serve_or_gen e = let long : length (codes "serve") ≡ length (codes "gen") = ap length e in omega arith
 
 pub one_plan : (words : List (List ℕ)) (plan other : Plan) → IsPlan words plan → IsPlan words other → plan ≡ other
@@ -118,15 +116,6 @@ pub its_gen : (words options : List (List ℕ)) (plan : Plan) → words ≡ code
 its_gen words options (plans.Gen plan) e (others, e', is) = (plan, subst (λ ws. IsGenPlan ws plan) (sym (its_options words options others _ _ e e').1) is)
 its_gen words options (plans.Serve plan) e (others, e', is) = absurd (serve_or_gen (its_options words others options _ _ e' e).0)
 its_gen words options (plans.Log plan) e (others, e', is) = absurd (log_or_gen (its_options words others options _ _ e' e).0)
-
--- where the words behind a verb are none of its plans, the words are no plan
-pub none_behind : {X : Type 0} (read : Result X PlanFault) (result : Result Plan PlanFault) (P : X → Type 0) (Q : Plan → Type 0) (R : X → Plan → Type 0)
-    → MatchResult read (λ x. IsOkAnd result (R x)) (λ fault. result ≡ Err fault) → ((plan : Plan) → Q plan → (x : X) × P x)
-    → IfErr read (λ fault. fault ≡ faults.Usage → (x : X) → P x → ⊥) → IfErr result (λ fault. fault ≡ faults.Usage → (plan : Plan) → Q plan → ⊥)
-none_behind (Ok x) (Ok plan) P Q R cases its none = tt
-none_behind (Ok x) (Err fault) P Q R cases its none = absurd cases
-none_behind (Err fault) result P Q R cases its none =
-    rw cases (λ usage plan is. let at = its plan is in none usage at.0 at.1)
 
 -- an option that is given once asks for what its text says, wherever it stands among the parts
 pub ask_once : {X : Type 0} (verb : Verb) (words : List (List ℕ)) (option text : List ℕ) (before after : List Part) (Says : List ℕ → X → Type 0) (default : Option X) (x : X)

@@ -1,2 +1,3 @@
 pub mod Part
 pub mod Plan
+pub mod App

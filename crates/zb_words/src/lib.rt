@@ -1,13 +1,13 @@
 //! The words of the program's command line.
 #![tactic(auto)]
 
+mod app;
 mod fault;
 mod files;
-mod number;
-mod part;
 mod plan;
-mod setting;
+mod refusal;
+mod value;
 mod verb;
 
 pub use fault::PlanFault;
-pub use plan::{ClockKind, GenPlan, LogPlan, Plan, ServePlan, plan_of};
+pub use plan::{ClockKind, GenPlan, LogPlan, Plan, ServePlan, plan_of, usage_text};

@@ -1,15 +1,22 @@
 ghost use Rattle.std.specs.Prelude as prelude;
-ghost use Rattle.std.specs.Prelude.{◌≡◌, ◌≤◌, ◌^◌, ℕ, Some, codes, map, string_bytes, IfSome, IfNone, IfOk, IfErr};
-ghost use Rattle.zb_words.specs.Part.{AskFor};
-ghost use Rattle.zb_words.specs.Plan.{IsPlan, IsServePlan, IsLogPlan, IsGenPlan, IsInRange, IsClockName, IsPath};
+ghost use Rattle.std.specs.Prelude.{◌≡◌, ◌≢◌, ◌≤◌, ◌^◌, ◌%◌, ℕ, [], length, map, string_bytes, unwrap_or, IfOk, IfErr};
+ghost use Rattle.clap.specs.Words.{all_of, found_of, kind_of, rows_of};
+ghost use Rattle.clap.specs.declared.error.kind.ErrorKind.TheVariants.{OutOfMemory};
+ghost use Rattle.zb_words.specs.App.{IsMatched, files_among};
+ghost use Rattle.zb_words.specs.Plan.{IsPlan, IsServePlan, IsLogPlan, IsGenPlan, IsInRange};
+ghost use Rattle.zb_words.specs.Part.{before_dashes, behind_dashes};
 ghost use Rattle.zb_words.specs.declared.fault.PlanFault.TheVariants as faults;
+ghost use Rattle.zb_words.specs.declared.refusal.Refusal.TheVariants as refusals;
 
+use crate::app::{app, command_of};
 use crate::fault::PlanFault;
-use crate::files::{around_dashes, paths_in};
-use crate::number::{NumberOption, number_in, small_number_in};
-use crate::setting::text_of;
+use crate::files::check_dashes;
+use crate::refusal::Refusal;
+use crate::value::{NumberOption, clock_in, dir_in, number_in, small_number_in};
 use crate::verb::Verb;
-use std::alloc::Global;
+use clap::error::ErrorKind;
+use clap::{ArgMatches, Error};
+use std::alloc::{AllocError, Global};
 use zb_base::{List, Text};
 
 /// The clock that a server goes by.
@@ -71,42 +78,47 @@ pub enum Plan {
 
 // How many partitions there are.
 const PARTITIONS: NumberOption = NumberOption {
-    name: "--partitions",
+    name: "partitions",
     least: 1,
     greatest: 16,
     default: Some(1),
+    wanted: "--partitions wants a number from 1 to 16",
 };
 
 // The most bytes that a log may have.
 const LIMIT: NumberOption = NumberOption {
-    name: "--limit",
+    name: "limit",
     least: 64,
     greatest: 4_294_967_296,
     default: Some(1_073_741_824),
+    wanted: "--limit wants a number from 64 to 4294967296",
 };
 
 // The most units of work that are done behind a request.
 const UNITS: NumberOption = NumberOption {
-    name: "--units",
+    name: "units",
     least: 0,
     greatest: 1_000_000,
     default: Some(1_000),
+    wanted: "--units wants a number from 0 to 1000000",
 };
 
 // What a workload is drawn from.
 const NUMBER: NumberOption = NumberOption {
-    name: "--number",
+    name: "number",
     least: 0,
     greatest: u64::MAX,
     default: None,
+    wanted: "--number wants a number from 0 to 18446744073709551615",
 };
 
 // How many requests a workload has behind the first one.
 const REQUESTS: NumberOption = NumberOption {
-    name: "--requests",
+    name: "requests",
     least: 0,
     greatest: 100_000,
     default: None,
+    wanted: "--requests wants a number from 0 to 100000",
 };
 
 /// Reads the words of the command line, those after the program's name; `Usage` for words outside the grammar.
@@ -120,54 +132,118 @@ const REQUESTS: NumberOption = NumberOption {
 /// 1,073,741,824; and `--units n`, 0 to 1,000,000, else 1,000. FILEs, in pairs, stand among the options, where they
 /// don't begin with `-`, or behind the word `--`. Behind `log` come `--partition P`, 1 to N, and maybe `--partitions N`
 /// and `--dir D`. Behind `gen` come `--number n`, 0 to 18,446,744,073,709,551,615, `--requests r`, 0 to 100,000, and
-/// maybe `--partitions N`. It goes over the words once for each option that there is.
+/// maybe `--partitions N`.
 pub fn plan_of(alloc: Global, words: &[String]) -> Result<Plan, PlanFault>
     ensures planned { IfOk result (IsPlan (map string_bytes words.now)) }
     ensures unplanned { IfErr result (λ fault. fault ≡ faults.Usage → (plan : Plan) → IsPlan (map string_bytes words.now) plan → ⊥) }
     ensures within { IfOk result IsInRange }
 {
-    let Some((verb, options)) = words.split_first() else {
-        return Err(PlanFault::Usage);
-    };
-    match verb.as_str() {
-        "serve" => {
-            let (words, behind) = around_dashes(options);
-            serve_plan(alloc, words, behind).map(Plan::Serve)
-        }
-        "log" => log_plan(alloc, options).map(Plan::Log),
-        "gen" => gen_plan(options).map(Plan::Gen),
-        _ => Err(PlanFault::Usage),
+    match read(alloc, words) {
+        Ok(plan) => Ok(plan),
+        Err(error) => Err(fault_of(&error)),
     }
 }
 
-// Reads the words behind `serve`, which are those before `--` and those behind it.
-fn serve_plan(alloc: Global, words: &[String], behind: &[String]) -> Result<ServePlan, PlanFault>
-    ensures planned { IfOk result (IsServePlan (map string_bytes words.now) (map string_bytes behind.now)) }
-    ensures unplanned { IfErr result (λ fault. fault ≡ faults.Usage → (plan : ServePlan) → IsServePlan (map string_bytes words.now) (map string_bytes behind.now) plan → ⊥) }
+/// What to tell a person whose words are no plan: what is wrong with them, and how they are used, or the help that
+/// they ask for. Of a plan there is nothing to tell.
+pub fn usage_text(alloc: Global, words: &[String]) -> Result<String, AllocError>
+    ensures { IfOk result (λ text. (plan : Plan) → IsPlan (map string_bytes words.now) plan → string_bytes text ≡ []) }
+{
+    match read(alloc, words) {
+        Ok(_plan) => Ok(String::new(alloc)),
+        Err(error) => text_of(alloc, &error),
+    }
+}
+
+// What the error tells.
+fn text_of(alloc: Global, error: &Error) -> Result<String, AllocError>
+    ensures { IfOk result (λ _. kind_of error.now ≢ OutOfMemory) }
+{
+    match error.kind() {
+        ErrorKind::OutOfMemory => Err(AllocError),
+        _ => error.to_string(alloc),
+    }
+}
+
+// Why the words were not read.
+fn fault_of(error: &Error) -> PlanFault
+    ensures { result ≡ faults.Usage → kind_of error.now ≢ OutOfMemory }
+{
+    match error.kind() {
+        ErrorKind::OutOfMemory => PlanFault::Memory,
+        _ => PlanFault::Usage,
+    }
+}
+
+// Reads the words, or tells what is wrong with them.
+fn read(alloc: Global, words: &[String]) -> Result<Plan, Error>
+    ensures planned { IfOk result (IsPlan (map string_bytes words.now)) }
+    ensures unplanned { IfErr result (λ error. kind_of error ≢ OutOfMemory → (plan : Plan) → IsPlan (map string_bytes words.now) plan → ⊥) }
+    ensures within { IfOk result IsInRange }
+{
+    let matches = match app(alloc)?.try_get_matches_from(words) {
+        Ok(matches) => matches,
+        Err(error) => return Err(error),
+    };
+    let Some((verb, options)) = words.split_first() else {
+        unreachable!()
+    };
+    let Some((_, asked)) = matches.subcommand() else {
+        unreachable!()
+    };
+    match verb.as_str() {
+        "serve" => match serve_plan(alloc, options, asked) {
+            Ok(plan) => Ok(Plan::Serve(plan)),
+            Err(refusal) => Err(error_of(alloc, Verb::Serve, refusal)),
+        },
+        "log" => match log_plan(alloc, options, asked) {
+            Ok(plan) => Ok(Plan::Log(plan)),
+            Err(refusal) => Err(error_of(alloc, Verb::Log, refusal)),
+        },
+        _ => match gen_plan(options, asked) {
+            Ok(plan) => Ok(Plan::Gen(plan)),
+            Err(refusal) => Err(error_of(alloc, Verb::Gen, refusal)),
+        },
+    }
+}
+
+// Tells that the words behind the verb are refused.
+fn error_of(alloc: Global, verb: Verb, refusal: Refusal) -> Error
+    ensures { refusal ≡ refusals.Memory → kind_of result ≡ OutOfMemory }
+{
+    let Refusal::Wants(wanted) = refusal else {
+        return Error::from(AllocError);
+    };
+    match usage_error(alloc, verb, wanted) {
+        Ok(error) => error,
+        Err(no_memory) => Error::from(no_memory),
+    }
+}
+
+// Tells what is wanted, and how the verb is used.
+fn usage_error(alloc: Global, verb: Verb, wanted: &str) -> Result<Error, AllocError> {
+    command_of(alloc, verb)?.error(ErrorKind::ValueValidation, wanted)
+}
+
+// Makes the plan of the words behind `serve`, as clap read them.
+fn serve_plan(alloc: Global, words: &[String], asked: &ArgMatches<'_>) -> Result<ServePlan, Refusal>
+    requires taken { IsMatched Verb.Serve (map string_bytes words.now) (rows_of (found_of asked.now)) }
+    ensures planned { IfOk result (IsServePlan (before_dashes (map string_bytes words.now)) (behind_dashes (map string_bytes words.now))) }
+    ensures unplanned { IfErr result (λ refusal. refusal ≢ refusals.Memory → (plan : ServePlan) → IsServePlan (before_dashes (map string_bytes words.now)) (behind_dashes (map string_bytes words.now)) plan → ⊥) }
     ensures within { IfOk result (λ plan. (1 ≤ plan.partitions) × (plan.partitions ≤ 16) × (64 ≤ plan.limit) × (plan.limit ≤ 2 ^ 32)) }
 {
-    let Some(partitions) = small_number_in(Verb::Serve, words, PARTITIONS) else {
-        return Err(PlanFault::Usage);
-    };
-    let Some(dir) = dir_in(Verb::Serve, words) else {
-        return Err(PlanFault::Usage);
-    };
-    let Some(clock) = clock_in(words) else {
-        return Err(PlanFault::Usage);
-    };
-    let Some(limit) = number_in(Verb::Serve, words, LIMIT) else {
-        return Err(PlanFault::Usage);
-    };
-    let Some(units) = number_in(Verb::Serve, words, UNITS) else {
-        return Err(PlanFault::Usage);
-    };
-    let files = match paths_in(alloc, words, behind) {
+    check_dashes(Verb::Serve, words)?;
+    let partitions = small_number_in(asked, PARTITIONS)?;
+    let clock = clock_in(asked)?;
+    let limit = number_in(asked, LIMIT)?;
+    let units = number_in(asked, UNITS)?;
+    let files = match files_in(alloc, asked) {
         Ok(files) => files,
-        Err(fault) => return Err(fault),
+        Err(refusal) => return Err(refusal),
     };
     Ok(ServePlan {
         partitions,
-        dir: Text::of(alloc, dir)?,
+        dir: Text::of(alloc, dir_in(asked))?,
         clock,
         limit,
         units,
@@ -175,83 +251,64 @@ fn serve_plan(alloc: Global, words: &[String], behind: &[String]) -> Result<Serv
     })
 }
 
-// Reads the words behind `log`.
-fn log_plan(alloc: Global, words: &[String]) -> Result<LogPlan, PlanFault>
+// Makes the plan of the words behind `log`, as clap read them.
+fn log_plan(alloc: Global, words: &[String], asked: &ArgMatches<'_>) -> Result<LogPlan, Refusal>
+    requires taken { IsMatched Verb.Log (map string_bytes words.now) (rows_of (found_of asked.now)) }
     ensures planned { IfOk result (IsLogPlan (map string_bytes words.now)) }
-    ensures unplanned { IfErr result (λ fault. fault ≡ faults.Usage → (plan : LogPlan) → IsLogPlan (map string_bytes words.now) plan → ⊥) }
+    ensures unplanned { IfErr result (λ refusal. refusal ≢ refusals.Memory → (plan : LogPlan) → IsLogPlan (map string_bytes words.now) plan → ⊥) }
     ensures within { IfOk result (λ plan. (1 ≤ plan.partitions) × (plan.partitions ≤ 16) × (1 ≤ plan.partition) × (plan.partition ≤ plan.partitions)) }
 {
-    let Some(partitions) = small_number_in(Verb::Log, words, PARTITIONS) else {
-        return Err(PlanFault::Usage);
-    };
-    let Some(dir) = dir_in(Verb::Log, words) else {
-        return Err(PlanFault::Usage);
-    };
+    check_dashes(Verb::Log, words)?;
+    let partitions = small_number_in(asked, PARTITIONS)?;
     let one_of_them = NumberOption {
-        name: "--partition",
+        name: "partition",
         least: 1,
         greatest: u64::from(partitions),
         default: None,
+        wanted: "--partition wants a number from 1 to the number of partitions",
     };
-    let Some(partition) = small_number_in(Verb::Log, words, one_of_them) else {
-        return Err(PlanFault::Usage);
-    };
+    let partition = small_number_in(asked, one_of_them)?;
     Ok(LogPlan {
         partitions,
-        dir: Text::of(alloc, dir)?,
+        dir: Text::of(alloc, dir_in(asked))?,
         partition,
     })
 }
 
-// Reads the words behind `gen`.
-fn gen_plan(words: &[String]) -> Result<GenPlan, PlanFault>
+// Makes the plan of the words behind `gen`, as clap read them.
+fn gen_plan(words: &[String], asked: &ArgMatches<'_>) -> Result<GenPlan, Refusal>
+    requires taken { IsMatched Verb.Gen (map string_bytes words.now) (rows_of (found_of asked.now)) }
     ensures planned { IfOk result (IsGenPlan (map string_bytes words.now)) }
-    ensures unplanned { IfErr result (λ fault. fault ≡ faults.Usage → (plan : GenPlan) → IsGenPlan (map string_bytes words.now) plan → ⊥) }
+    ensures unplanned { IfErr result (λ refusal. refusal ≢ refusals.Memory → (plan : GenPlan) → IsGenPlan (map string_bytes words.now) plan → ⊥) }
     ensures within { IfOk result (λ plan. (1 ≤ plan.partitions) × (plan.partitions ≤ 16) × (plan.requests ≤ 100000)) }
 {
-    let Some(number) = number_in(Verb::Gen, words, NUMBER) else {
-        return Err(PlanFault::Usage);
-    };
-    let Some(requests) = small_number_in(Verb::Gen, words, REQUESTS) else {
-        return Err(PlanFault::Usage);
-    };
-    let Some(partitions) = small_number_in(Verb::Gen, words, PARTITIONS) else {
-        return Err(PlanFault::Usage);
-    };
+    check_dashes(Verb::Gen, words)?;
     Ok(GenPlan {
-        number,
-        requests,
-        partitions,
+        number: number_in(asked, NUMBER)?,
+        requests: small_number_in(asked, REQUESTS)?,
+        partitions: small_number_in(asked, PARTITIONS)?,
     })
 }
 
-// The directory that the words ask for.
-fn dir_in(verb: Verb, words: &[String]) -> Option<&str>
-    ensures some { IfSome result (λ dir. AskFor verb (map string_bytes words.now) (codes "--dir") IsPath (Some (codes "zb")) dir.now) }
-    ensures none { IfNone result ((dir : prelude.List ℕ) → AskFor verb (map string_bytes words.now) (codes "--dir") IsPath (Some (codes "zb")) dir → ⊥) }
+// The FILEs that are asked for, which have to be pairs.
+fn files_in(alloc: Global, asked: &ArgMatches<'_>) -> Result<List<Text>, Refusal>
+    ensures files { IfOk result (λ files. (files ≡ files_among (rows_of (found_of asked.now))) × (length files % 2 ≡ 0)) }
+    ensures none { IfErr result (λ refusal. refusal ≢ refusals.Memory → length (files_among (rows_of (found_of asked.now))) % 2 ≡ 0 → ⊥) }
 {
-    Some(text_of(verb, words, "--dir")?.unwrap_or("zb"))
+    let paths = asked.get_strs("FILE").unwrap_or(&[]);
+    if paths.len() % 2 != 0 {
+        return Err(Refusal::Wants("FILEs come in pairs, one that is read and one that is written"));
+    }
+    Ok(texts_of(alloc, paths)?)
 }
 
-// The clock that the words ask for.
-fn clock_in(words: &[String]) -> Option<ClockKind>
-    ensures some { IfSome result (AskFor Verb.Serve (map string_bytes words.now) (codes "--clock") IsClockName (Some ClockKind.Real)) }
-    ensures none { IfNone result ((kind : ClockKind) → AskFor Verb.Serve (map string_bytes words.now) (codes "--clock") IsClockName (Some ClockKind.Real) kind → ⊥) }
+// Copies of the texts.
+fn texts_of(alloc: Global, texts: &[&str]) -> Result<List<Text>, AllocError>
+    ensures { IfOk result (λ copies. copies ≡ map (λ text. text.now) texts.now) }
 {
-    match text_of(Verb::Serve, words, "--clock")? {
-        None => Some(ClockKind::Real),
-        Some(name) => clock_of(name),
+    let mut copies = List::empty(alloc);
+    for text in texts {
+        copies.push(Text::of(alloc, text)?)?;
     }
-}
-
-// The clock of this name.
-fn clock_of(name: &str) -> Option<ClockKind>
-    ensures some { IfSome result (IsClockName name.now) }
-    ensures none { IfNone result ((kind : ClockKind) → IsClockName name.now kind → ⊥) }
-{
-    match name {
-        "real" => Some(ClockKind::Real),
-        "manual" => Some(ClockKind::Manual),
-        _ => None,
-    }
+    Ok(copies)
 }

@@ -14,6 +14,7 @@ use generating::generate_plan;
 use serving::{refuse, serve_plan};
 use showing::show_plan;
 use start_error::StartError;
+use std::alloc::AllocError;
 use std::env;
 use std::io::{self, ErrorKind};
 use std::process::ExitCode;
@@ -43,7 +44,7 @@ fn run<H: Threads + Wait + Sync>(handles: &H, rt: &HostRuntime) -> Result<u8, St
         Ok(Plan::Log(plan)) => show_plan(rt, &words, &plan),
         Ok(Plan::Gen(_)) => Ok(generate_plan(rt, &words)),
         Err(PlanFault::Usage) => refuse(handles, rt, &words),
-        Err(PlanFault::Memory) => Err(StartError::no_memory()),
+        Err(PlanFault::Memory) => Err(StartError::Memory(AllocError)),
     }
 }
 

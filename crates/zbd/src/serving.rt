@@ -1,7 +1,7 @@
 // Serving real sessions over real files.
 ghost use Rattle.std.specs.Prelude.{◌≤◌, length, IfOk};
 
-use crate::ending::report;
+use crate::ending::report_served;
 use crate::files::{open_input, open_output, open_volumes};
 use crate::start_error::StartError;
 use std::fs::File;
@@ -101,8 +101,8 @@ fn run<H: Threads + Wait + Sync, R: Read + Drop, W: Write + Drop>(
         &mut clock,
         &OpenDoor,
     );
-    let _ = report(rt, &closed.cause, directory, &closed.volumes);
     let status = closed.status;
+    let _ = report_served(rt, words, status, &closed.cause, directory, &closed.volumes);
     drop(closed);
     status
 }

@@ -11,6 +11,6 @@ pub fn show_plan(rt: &HostRuntime, words: &[String], plan: &LogPlan) -> Result<u
     let directory = plan.dir.as_str();
     let volume = open_volume_of(rt, rt.alloc(), directory, plan.partition)?;
     let shown = show_log(rt.alloc(), words, volume, StdSink::new(rt.stdout()));
-    let _ = report_shown(rt, shown.status, directory, plan.partition, &shown.volume);
+    let _ = report_shown(rt, words, &shown, directory, plan.partition);
     Ok(shown.status)
 }

@@ -1,60 +1,32 @@
-use std::alloc::{AllocError, AllocFailed, Global};
-use std::io::ErrorKind;
-use std::{fmt, io};
+use std::alloc::{AllocError, Global};
+use std::io;
+use thiserror::Error;
 
 /// Why the server could not start.
-#[derive(Drop)]
+#[derive(Debug, Drop, Error)]
 pub enum StartError {
     /// A call of the system failed.
-    System(io::Error),
+    #[error(transparent)]
+    System(#[from] io::Error),
     /// A call of the system failed for this path.
+    #[error("{path}: {error}")]
     Path { path: String, error: io::Error },
     /// What stands at this path is no regular file.
+    #[error("{path} is no regular file")]
     NotRegular { path: String },
     /// Another server has what stands at this path.
+    #[error("{path} is in use")]
     InUse { path: String },
+    #[error("there was no memory")]
+    Memory(#[from(alloc)] AllocError),
 }
 
 impl StartError {
-    /// There was no memory.
-    pub fn no_memory() -> StartError {
-        StartError::System(io::Error::from(ErrorKind::OutOfMemory))
-    }
-
     /// An error of the system for this path.
     pub fn at(alloc: Global, path: &str, error: io::Error) -> StartError {
         match String::from_str(alloc, path) {
             Ok(path) => StartError::Path { path, error },
             Err(refused) => StartError::from(refused),
-        }
-    }
-}
-
-impl From<io::Error> for StartError {
-    fn from(error: io::Error) -> StartError {
-        StartError::System(error)
-    }
-}
-
-impl From<AllocError> for StartError {
-    fn from(refused: AllocError) -> StartError {
-        StartError::System(io::Error::from(refused))
-    }
-}
-
-impl<T: Drop> From<AllocFailed<T>> for StartError {
-    fn from(refused: AllocFailed<T>) -> StartError {
-        StartError::System(io::Error::from(refused))
-    }
-}
-
-impl fmt::Display for StartError {
-    fn fmt<W: fmt::Write>(&self, f: &mut fmt::Formatter<W>) -> fmt::Result {
-        match self {
-            StartError::System(error) => write!(f, "{error}"),
-            StartError::Path { path, error } => write!(f, "{path}: {error}"),
-            StartError::NotRegular { path } => write!(f, "{path} is no regular file"),
-            StartError::InUse { path } => write!(f, "{path} is in use"),
         }
     }
 }

@@ -1,7 +1,8 @@
 // How cells change on the board, and with them what is kept beside the board. Where memory runs out halfway, what is
 // kept counts no more.
-ghost use Rattle.std.specs.Prelude.{◌≡◌, ℕ, true, false, ◌==◌, ◌++◌, ◌∷◌, [], Some, None, OnOk, IsErrOf, option_map};
+ghost use Rattle.std.specs.Prelude.{◌≡◌, ℕ, true, false, ◌==◌, ◌++◌, ◌∷◌, [], ◌<◌, Some, None, IsTrue, OnOk, IsErrOf, option_map};
 ghost use Rattle.std.specs.Option.{option_map_or};
+ghost use Rattle.zb_table.specs.Rows.{are_below};
 ghost use Rattle.zb_tokens.specs.declared.board.Phase.TheVariants as phases;
 ghost use Rattle.zb_tokens.specs.Board.{in_phase, is_phase};
 ghost use Rattle.zb_tokens.specs.Doom.{calls_off};
@@ -16,6 +17,7 @@ use crate::keys::keep;
 use crate::tallies::one_more;
 use crate::{Game, GameFault};
 use std::alloc::AllocError;
+use zb_arrivals::Arrivals;
 use zb_base::{Key, List, Text, Value};
 use zb_table::Table;
 use zb_tokens::{Cell, Mark, Phase};
@@ -28,7 +30,7 @@ impl Game {
     {
         let key = cell.key;
         let scope = cell.scope;
-        let ascends = self.ascends && self.cells.comes_last(key);
+        let ascends = self.ascends && comes_newest(key, scope, &self.cells);
         self.ascends = false;
         self.cells.push(cell)?;
         one_more(&mut self.inside, scope)?;
@@ -113,6 +115,14 @@ impl Game {
         self.ascends = ascends;
         Ok(())
     }
+}
+
+// Whether a cell with this key in this scope comes behind all others, and is newer than its scope.
+fn comes_newest(key: Key, scope: Key, cells: &Arrivals<Cell>) -> bool
+    ensures below { IsTrue result → are_below (λ c. c.key) key cells.now ≡ true }
+    ensures newer { IsTrue result → scope < key }
+{
+    scope < key && cells.comes_last(key)
 }
 
 // Puts a cell among those that call off what is in them where it is put in a phase that does.

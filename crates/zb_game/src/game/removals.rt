@@ -1,13 +1,13 @@
 // How cells go from the board, and with them what is kept of them beside the board.
-ghost use Rattle.std.specs.Prelude.{◌≡◌, ℕ, true, false, ◌+◌, ◌==◌, ◌≤◌, Some, None, IfOk, OnOk, IsErrOf, filter, is_some, not, option_map, if◌then◌else◌};
-ghost use Rattle.std.specs.List.{find};
+ghost use Rattle.std.specs.Prelude.{◌≡◌, ℕ, true, false, ◌+◌, ◌==◌, ◌≤◌, Some, None, IfOk, OnOk, IsErrOf, IsFalse, filter, is_some, not, option_map, if◌then◌else◌};
+ghost use Rattle.std.specs.List.{find, list_any};
 ghost use Rattle.zb_tokens.specs.Board.{emptied, leaves_in};
 ghost use Rattle.zb_tokens.specs.Edits.{removed, without_first};
 ghost use Rattle.zb_game.specs.Indexed.{is_kept};
 ghost use Rattle.zb_game.specs.Tallies.{tally_of};
 
 use crate::keys::{forget, keep};
-use crate::lookups::LeavingIn;
+use crate::lookups::{LeavingIn, OlderOrLeaving};
 use crate::tallies::{Tally, one_less, tally_of};
 use crate::{Game, GameFault};
 use std::alloc::{AllocError, Global};
@@ -41,7 +41,7 @@ impl Game {
     }
 
     // Empties a scope of its tokens, and of the cells that leave in it. It goes through these tokens; where cells are in
-    // it, through all cells, once more for each that leaves.
+    // it, from the newest cell back to it, and where some of them leave, through all cells, once more for each.
     pub(super) fn empty_scope(&mut self, alloc: Global, scope: Key) -> Result<(), AllocError>
         ensures { OnOk result (self.new ≡ emptied scope self.old) }
     {
@@ -56,8 +56,25 @@ impl Game {
         if !self.has_child(scope) {
             return Ok(());
         }
+        if !self.may_leave(scope) {
+            return Ok(());
+        }
         while self.take_one_leaving(scope)? {}
         Ok(())
+    }
+
+    // Whether a cell may leave in a scope. Where the keys of cells ascend, each is newer than its scope, so it goes from
+    // the newest back to the scope, and tells whether one does.
+    fn may_leave(&self, scope: Key) -> bool
+        ensures { IsFalse result → list_any (leaves_in scope) self.now.cells ≡ false }
+    {
+        if !self.ascends {
+            return true;
+        }
+        match self.cells.greatest(&OlderOrLeaving { scope }) {
+            Some(key) => key > scope,
+            None => false,
+        }
     }
 
     // Takes away the first cell that leaves in a scope, and tells whether there was one. Where tokens are in it, what is

@@ -12,6 +12,12 @@ returns-then-not-has_child c =
     let none : list_any (λ (x : Cell). x.scope == c.args.scope) b.cells ≡ false = search rules in
     ap (λ (cs : List Cell). record b { cells = cs }) (sym (all_kept (λ (x : Cell). not (leaves_in c.args.scope x)) (λ (x : Cell). x.scope == c.args.scope) b.cells (λ x other. rw other refl) none))
 
+pub returns-then-not-may_leave : goal.returns-then-not-may_leave
+returns-then-not-may_leave c =
+    let b = c.args.self.now in
+    let none : list_any (leaves_in c.args.scope) b.cells ≡ false = search rules in
+    ap (λ (cs : List Cell). record b { cells = cs }) (sym (all_kept (λ (x : Cell). not (leaves_in c.args.scope x)) (leaves_in c.args.scope) b.cells (λ x other. rw other refl) none))
+
 pub loop-smaller : goal.loop-smaller
 loop-smaller c =
     let some = sym c.in_ok-take_one_leaving.ensures.one ∙ c.if-branch.true in
