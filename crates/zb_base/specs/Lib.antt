@@ -1,6 +1,5 @@
 pub mod Key
 pub mod Moment
 pub mod Vars
-pub mod VarsLaws
 pub mod Results
 pub mod Text

@@ -158,3 +158,12 @@ AreUnits basis reading earlier units = EachOn (IsNextUnit basis reading earlier)
 pub record AreAllUnits (basis : Basis) (reading : ℕ) (earlier units : List Entry) : Type 0 where
   pub made : AreUnits basis reading earlier units
   pub all : next_unit basis units (earlier ++ units) ≡ None
+
+-- a request alone asked for this entry next (own)
+abbrev pub IsNextAsked : List (List Batch) → Request → ℕ → (earlier done : List Entry) → Entry → Type 0
+IsNextAsked logs request reading earlier done entry = IsEntryBy logs (next_asked logs request reading earlier done) reading (earlier ++ done) entry
+
+-- these entries are all that a request itself asked for (own)
+pub record AreAsked (logs : List (List Batch)) (request : Request) (reading : ℕ) (earlier entries : List Entry) : Type 0 where
+  pub made : EachOn (IsNextAsked logs request reading earlier) [] entries
+  pub all : next_asked logs request reading earlier entries ≡ None

@@ -8,7 +8,8 @@ use Rattle.zb_disk.specs.declared.calls.Write.{Write}
 use Rattle.zb_disk.specs.declared.calls.Call.TheVariants.{Wrote, Synced, Other}
 use Rattle.zb_disk.specs.Disk.{overwritten, Torn, Follows, Elapses}
 use Rattle.zb_disk.specs.Kept.{after, file_after, is_write, Leaves, IsImage, WasImage}
-use Rattle.zb_disk.specs.MomentLaws.{torn_none, reads, file_push, image_push}
+use Rattle.zb_disk.proofs.PushLemmas.{file_push, image_push}
+use Rattle.zb_disk.specs.MomentLaws.{torn_none, reads}
 
 -- time goes on where no call is kept
 pub elapses_none : (file : List ℕ) (old new : List Call) → new ≡ old → Elapses (length old) (length new) (WasImage file old) (WasImage file new) (IsImage file new)

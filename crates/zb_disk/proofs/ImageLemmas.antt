@@ -8,7 +8,8 @@ use Rattle.zb_disk.specs.declared.calls.Call.{Call}
 use Rattle.zb_disk.specs.declared.calls.Write.{Write}
 use Rattle.zb_disk.specs.declared.calls.Call.TheVariants.{Wrote, Other}
 use Rattle.zb_disk.specs.Disk.{overwritten, Torn}
-use Rattle.zb_disk.specs.MomentLaws.{torn_whole, torn_none, image_push, left_push}
+use Rattle.zb_disk.proofs.PushLemmas.{image_push, left_push}
+use Rattle.zb_disk.specs.MomentLaws.{torn_whole, torn_none}
 use Rattle.zb_disk.specs.Image.{reaches, fill_at, IsFilled, IsCovered}
 
 -- a call reaches a place by itself, or another did before

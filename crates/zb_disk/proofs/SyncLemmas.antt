@@ -8,7 +8,7 @@ use Rattle.std.specs.List.{before_last, suffix_len}
 use Rattle.zb_disk.specs.declared.calls.Call.{Call}
 use Rattle.zb_disk.specs.declared.calls.Call.TheVariants.{Wrote, Synced, Other}
 use Rattle.zb_disk.specs.Kept.{after, file_after, Leaves, LeavesAfter, IsImage}
-use Rattle.zb_disk.specs.MomentLaws.{file_push}
+use Rattle.zb_disk.proofs.PushLemmas.{file_push}
 use Rattle.zb_disk.specs.Image.{is_sync, synced_file, unsynced, EndsAtSync}
 
 -- only one kind of call is a sync

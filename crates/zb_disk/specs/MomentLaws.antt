@@ -1,4 +1,4 @@
--- The laws of a disk that keeps its calls.
+-- The laws of a disk that keeps its calls. The code cites them as the laws of a disk, so they stand beside the definitions.
 use Rattle.std.proofs.Common.{◌≡◌, ℕ, ◌+◌, ◌-◌, ◌≤◌, List, [], ◌∷◌, ◌++◌, length, take, drop, Bool, true, false, ◌&&◌, nat_le, if◌then◌else◌, refl, sym, ◌∙◌, ap, subst, arith, append_assoc, length-append, length-drop}
 use Rattle.std.proofs.lemmas.List.{take_at, drop_at, take_all, length-take-le}
 use Rattle.std.proofs.lemmas.Bool.Decides.{nat_tests}
@@ -50,21 +50,6 @@ reads_after before file (call ∷ calls) held =
 pub reads : (first : List ℕ) (calls : List Call) (file : List ℕ) → file ≡ file_after first calls → IsImage first calls file
 reads first calls file is =
     subst (λ (l : List ℕ). IsImage first calls l) (sym is) (reads_after (λ d. d ≡ first) first calls refl)
-
--- one call more
-pub file_push : (file : List ℕ) (calls : List Call) (call : Call) → file_after file (calls ++ call ∷ []) ≡ after (file_after file calls) call
-file_push file [] call = refl
-file_push file (next ∷ calls) call = file_push (after file next) calls call
-
--- what a crash may leave after one call more, by what it might have left before that call
-pub image_push : (before : List ℕ → Type 0) (file : List ℕ) (calls : List Call) (call : Call) (c : List ℕ) → LeavesAfter file (calls ++ call ∷ []) before c → Leaves (file_after file calls) call (LeavesAfter file calls before) c
-image_push before file [] call c image = image
-image_push before file (next ∷ calls) call c image = image_push (Leaves file next before) (after file next) calls call c image
-
--- and whatever a call leaves of an image is one
-pub left_push : (before : List ℕ → Type 0) (file : List ℕ) (calls : List Call) (call : Call) (c : List ℕ) → Leaves (file_after file calls) call (LeavesAfter file calls before) c → LeavesAfter file (calls ++ call ∷ []) before c
-left_push before file [] call c left = left
-left_push before file (next ∷ calls) call c left = left_push (Leaves file next before) (after file next) calls call c left
 
 -- the laws
 pub counts_now : (file : List ℕ) (calls : List Call) (t : ℕ) (c : List ℕ) → t ≤ length calls → IsImage file calls c → WasImage file calls t c

@@ -12,10 +12,10 @@ use Rattle.zb_model.specs.declared.record.Rejection.{Rejection}
 use Rattle.zb_model.specs.declared.stop.Stop.{Stop}
 use Rattle.zb_views.specs.View.{events_of}
 use Rattle.zb_rules.specs.Due.{due_command}
-use Rattle.zb_rules.specs.DueLaws.{due_command_unrefused, due_command_has, due_command_is_run}
+use Rattle.zb_rules.proofs.DueLaws.{due_command_unrefused, due_command_has, due_command_is_run}
 use Rattle.zb_rules.specs.Own.{IsSupported}
 use Rattle.zb_rules.specs.Step.{IsAcceptance, IsOutcomeBy, IsStep, EachOn}
-use Rattle.zb_rules.specs.StepLaws.{each_on_none, each_on_more}
+use Rattle.zb_rules.proofs.StepLaws.{each_on_none, each_on_more}
 use Rattle.zb_world.specs.Entries.{as_entry}
 use Rattle.zb_world.specs.declared.entry.Entry.{Entry}
 use Rattle.zb_base.specs.Key.{home_of}
@@ -28,9 +28,9 @@ use Rattle.zb_reply.specs.declared.reply.Reply.{Reply}
 use Rattle.zb_reply.specs.declared.reply.Reply.TheVariants as replies
 use Rattle.zb_desk.specs.Asking.{IsAsked, IsCut, IsDelivered, IsDeliveryCut}
 use Rattle.zb_desk.specs.Replies.{is_by_time, IsTicked, IsReplyIf}
-use Rattle.zb_desk.specs.Serial.{most_due, log_behind, due_in_logs, next_by, next_asked, asked_in, IsEntryBy}
-use Rattle.zb_desk.specs.SerialLaws.{IsNextAsked, AreAsked, made_by_asking, next_by_asking, made_with_units, carried_out, next_of_unit, parted}
-use Rattle.zb_desk.specs.UnitLaws.{AnyHas, either_has}
+use Rattle.zb_desk.specs.Serial.{most_due, log_behind, due_in_logs, next_by, next_asked, asked_in, IsEntryBy, IsNextAsked, AreAsked}
+use Rattle.zb_desk.proofs.SerialLaws.{made_by_asking, next_by_asking, made_with_units, carried_out, next_of_unit, parted}
+use Rattle.zb_desk.proofs.UnitLaws.{AnyHas, either_has}
 use Rattle.zb_engine.specs.Solo.{Start, many_in, logs_in, basis_in, HasMade, HasEnded, IsPlaced, IsTurnedAway, IsDone, IsCutOff}
 use Rattle.zb_engine.specs.declared.solo.Solo.{Solo}
 use Rattle.zb_engine.proofs.DeliveryLemmas.{lt_is, not_lt, partition_known_within}

@@ -20,7 +20,7 @@ use Rattle.zb_world.specs.Entries.{as_entry}
 use Rattle.zb_world.specs.declared.entry.Entry.{Entry}
 use Rattle.zb_desk.specs.Asking.{IsDelivered, IsDeliveryCut}
 use Rattle.zb_desk.specs.Serial.{answers_sent, answers_in_hand, first_sent, unit_in_logs, next_unit}
-use Rattle.zb_desk.specs.UnitLaws.{AnyHas, AllHave, first_has, answers_have, first_sent_has, unit_has}
+use Rattle.zb_desk.proofs.UnitLaws.{AnyHas, AllHave, first_has, answers_have, first_sent_has, unit_has}
 use Rattle.zb_engine.specs.Ledger.{Opening}
 use Rattle.zb_engine.specs.Solo.{Start, many_in, logs_in, basis_in, HasMade, HasEnded, IsPlaced, IsTurnedAway}
 use Rattle.zb_engine.specs.declared.solo.Solo.{Solo}

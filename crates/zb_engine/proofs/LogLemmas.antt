@@ -11,9 +11,9 @@ use Rattle.zb_model.specs.declared.stop.Stop.{Stop}
 use Rattle.zb_model.specs.declared.stop.Stop.TheVariants as stops
 use Rattle.zb_views.specs.View.{moment_of_last}
 use Rattle.zb_rules.specs.Step.{IsStep}
-use Rattle.zb_rules.specs.StepLaws.{are_steps_more}
-use Rattle.zb_store.specs.CallLaws.{leaves_weaker}
-use Rattle.zb_store.specs.GateLogLaws.{log_stands}
+use Rattle.zb_rules.proofs.StepLaws.{are_steps_more}
+use Rattle.zb_store.proofs.CallLaws.{leaves_weaker}
+use Rattle.zb_store.proofs.GateLogLaws.{log_stands}
 use Rattle.zb_store.specs.Log.{extent}
 use Rattle.zb_store.specs.Stands.{Stands}
 use Rattle.zb_partition.specs.Log.{bodies_of, AreBatches}

@@ -7,10 +7,10 @@ use Rattle.zb_model.specs.declared.record.Command.{Command}
 use Rattle.zb_model.specs.declared.stop.Stop.{Stop}
 use Rattle.zb_model.specs.declared.stop.Stop.TheVariants as stops
 use Rattle.zb_rules.specs.Step.{IsStep}
-use Rattle.zb_rules.specs.StepLaws.{each_on_more}
+use Rattle.zb_rules.proofs.StepLaws.{each_on_more}
 use Rattle.zb_world.specs.Entries.{IsPartitionOf, part_of, places_of, stamps_of, as_entry}
 use Rattle.zb_world.specs.declared.entry.Entry.{Entry}
-use Rattle.zb_world.specs.EntryLaws.{part_of_joined, part_of_its, part_of_other, places_of_joined, places_of_its, places_of_other}
+use Rattle.zb_world.proofs.EntryLaws.{part_of_joined, part_of_its, part_of_other, places_of_joined, places_of_its, places_of_other}
 use Rattle.zb_partition.specs.declared.partition.Partition.{Partition}
 use Rattle.zb_desk.specs.Numbered.{EachFrom}
 use Rattle.zb_desk.specs.Serial.{log_behind, place_behind, IsEntryBy}

@@ -4,7 +4,7 @@ use Rattle.zb_disk.specs.declared.disk.Disk.{Ghosts}
 use Rattle.zb_model.specs.declared.record.Batch.{Batch}
 use Rattle.zb_model.specs.declared.record.Command.{Command}
 use Rattle.zb_rules.specs.Step.{EachOn}
-use Rattle.zb_rules.specs.StepLaws.{each_on_none, each_on_more}
+use Rattle.zb_rules.proofs.StepLaws.{each_on_none, each_on_more}
 use Rattle.zb_world.specs.Entries.{as_entry}
 use Rattle.zb_world.specs.declared.entry.Entry.{Entry}
 use Rattle.zb_desk.specs.Serial.{IsEntryBy}

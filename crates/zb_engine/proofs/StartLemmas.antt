@@ -5,7 +5,7 @@ use Rattle.std.proofs.lemmas.List.Sums.{sum_by-cons}
 use Rattle.zb_disk.specs.declared.disk.Disk.{Ghosts}
 use Rattle.zb_model.specs.declared.record.Batch.{Batch}
 use Rattle.zb_store.specs.Stands.{Stands}
-use Rattle.zb_rules.specs.StepLaws.{are_steps_none, each_on_none}
+use Rattle.zb_rules.proofs.StepLaws.{are_steps_none, each_on_none}
 use Rattle.zb_world.specs.Entries.{places_of}
 use Rattle.zb_world.specs.declared.entry.Entry.{Entry}
 use Rattle.zb_partition.specs.Log.{bodies_of, AreBatches}

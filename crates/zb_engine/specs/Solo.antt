@@ -17,8 +17,7 @@ use Rattle.zb_reply.specs.declared.reply.Reply.{Reply}
 use Rattle.zb_wire.specs.Asked.{command_of}
 use Rattle.zb_desk.specs.Numbered.{EachFrom, OfNumber}
 use Rattle.zb_desk.specs.Replies.{IsReplyIf}
-use Rattle.zb_desk.specs.Serial.{Basis, basis_of, log_behind, place_behind, IsEntryBy, AreMadeFor, IsNextEntry}
-use Rattle.zb_desk.specs.SerialLaws.{AreAsked}
+use Rattle.zb_desk.specs.Serial.{Basis, basis_of, log_behind, place_behind, IsEntryBy, AreMadeFor, IsNextEntry, AreAsked}
 use Rattle.zb_engine.specs.Ledger.{Opening, Account, account_of, slots_in, WasOpened, IsOpen, LeftSince, HasAccount, HasStopped}
 use Rattle.zb_engine.specs.declared.solo.Solo.{Solo}
 

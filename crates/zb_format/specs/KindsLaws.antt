@@ -1,4 +1,4 @@
--- Laws of what Kinds.antt defines: layouts of values of several kinds.
+-- Laws of what Kinds.antt defines: layouts of values of several kinds. Such a layout holds its law, so these stand beside the definitions.
 use Rattle.std.proofs.Common.{◌≡◌, ℕ, Some, List, ◌∷◌, ◌++◌, ◌∙◌, refl}
 use Rattle.zb_format.specs.Layout.{Layout}
 use Rattle.zb_format.specs.Reading.{made_at, tagged_at}

@@ -8,7 +8,7 @@ use Rattle.zb_tokens.specs.declared.board.Phase.TheVariants as phases
 use Rattle.zb_tokens.specs.Board.{Board, cell_at, in_phase}
 use Rattle.zb_tokens.specs.MoveOpen.{first_tokens, play_open}
 use Rattle.zb_tokens.specs.Game.{fits, played}
-use Rattle.zb_tokens.specs.GameLaws.{fitting_is_played}
+use Rattle.zb_tokens.proofs.GameLaws.{fitting_is_played}
 use Rattle.zb_arrivals.proofs.EditLemmas.{mapped_from}
 use Rattle.std.proofs.lemmas.List.{append-nil}
 

@@ -363,7 +363,7 @@ module _ (b : Board) (t : Token) where
   enters_by_model c None cell model is = refl
   enters_by_model c (Some m) cell model is =
       let enters = rw (cell, model) at is in
-      ap not (enters_by_way (is_called_off b.cells b t.scope) m (entry_at m t.spot) enters)
+      ap not (enters_by_way (is_called_off b t.scope) m (entry_at m t.spot) enters)
 
   enters_by_cell : (found : Option Cell) → cell_at b t.scope ≡ found → can_enter b t ≡ true → option_map_or (λ c. option_map_or (λ m. not (comes_in m b.tokens t)) (model_under b c.definition) false) found false ≡ false
   enters_by_cell None cell is = refl

@@ -8,7 +8,7 @@ use Rattle.zb_table.specs.Rows.{Ascend, first_passing, row_at}
 use Rattle.zb_groups.specs.declared.held.Held.{Held}
 use Rattle.zb_groups.specs.Groups.{passes_at}
 use Rattle.zb_tokens.specs.declared.board.Token.{Token}
-use Rattle.zb_tokens.specs.GameLaws.{found_holds}
+use Rattle.zb_tokens.proofs.GameLaws.{found_holds}
 use Rattle.zb_places.specs.Places.{held_tokens}
 use Rattle.zb_places.proofs.HeldLemmas.{number_in, find_row, own_number}
 use Rattle.zb_tokens.specs.Board.{Board}

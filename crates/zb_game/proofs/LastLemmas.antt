@@ -3,7 +3,7 @@ use Rattle.std.proofs.Common.{◌≡◌, ℕ, List, [], ◌∷◌, ◌++◌, if�
 use Rattle.std.specs.Ordering.{is_eq}
 use Rattle.zb_base.specs.declared.vars.Variable.{Variable}
 use Rattle.zb_base.specs.Vars.{order_of, value_named, with_value}
-use Rattle.zb_base.specs.VarsLaws.{value_of_set}
+use Rattle.zb_base.proofs.VarsLaws.{value_of_set}
 use Rattle.zb_tokens.specs.Catches.{set_over}
 
 -- one more is set over those in front of it

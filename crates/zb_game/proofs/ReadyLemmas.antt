@@ -14,7 +14,7 @@ use Rattle.zb_tokens.specs.declared.board.Phase.TheVariants as phases
 use Rattle.zb_tokens.specs.Edits.{is_none_of}
 use Rattle.zb_tokens.specs.declared.board.Triggered.{Triggered}
 use Rattle.zb_tokens.specs.Errors.{catcher, is_same_event}
-use Rattle.zb_tokens.specs.GameLaws.{any_where}
+use Rattle.zb_tokens.proofs.GameLaws.{any_where}
 use Rattle.zb_tokens.specs.MoveTrigger.{comes_about_by}
 use Rattle.zb_tokens.specs.Board.{Board, cell_at, model_under, has_child, is_phase}
 use Rattle.zb_tokens.specs.Doom.{is_doomed}

@@ -1,21 +1,22 @@
 -- Variables whose names aren't there yet, and what a cell sees.
-use Rattle.std.proofs.Common.{◌≡◌, ℕ, List, [], ◌∷◌, ◌++◌, Bool, true, false, IsTrue, if◌then◌else◌, Option, Some, None, refl, sym, ap, ◌∙◌, subst, arith}
+use Rattle.std.proofs.Common.{◌≡◌, ℕ, List, [], ◌∷◌, true, false, IsTrue, if◌then◌else◌, Option, Some, None, refl, sym, ap, ◌∙◌, subst, arith}
 use Rattle.std.specs.declared.cmp.Ordering.{Ordering}
 use Rattle.std.specs.declared.cmp.Ordering.TheVariants.{Less, Equal, Greater}
 use Rattle.std.specs.Ordering.{is_eq, is_lt, ordering_reverse}
 use Rattle.std.specs.Option.{option_or}
+use Rattle.std.specs.List.{flat_map}
 use Rattle.std.proofs.lemmas.Cmp.{nat_list_cmp_total, tied_itself}
 use Rattle.std.proofs.lemmas.List.Elements.{All-nil}
 use Rattle.std.proofs.lemmas.Map.Lookups.{exact_bytes}
 use Rattle.zb_base.specs.declared.value.Value.{Value}
 use Rattle.zb_base.specs.declared.vars.Variable.{Variable}
 use Rattle.zb_base.specs.Vars.{order_at, order_of, is_ascending, value_named, with_value}
-use Rattle.zb_base.specs.VarsLaws.{value_of_set}
+use Rattle.zb_base.proofs.VarsLaws.{value_of_set}
 use Rattle.zb_base.proofs.VarsLemmas.{value_of_missing}
-use Rattle.zb_tokens.specs.Board.{Board}
-use Rattle.zb_tokens.specs.GameLaws.{both_left, both_right}
-use Rattle.zb_tokens.specs.Names.{value_from, visible}
-use Rattle.zb_tokens.specs.VisibleLaws.{visible_ascends, visible_named}
+use Rattle.zb_tokens.specs.Board.{Board, up_from}
+use Rattle.zb_tokens.proofs.GameLaws.{both_left, both_right}
+use Rattle.zb_tokens.specs.Names.{visible}
+use Rattle.zb_tokens.proofs.VisibleLaws.{value_of_overlaid, visible_ascends}
 
 pub or_none : (o : Option Value) → option_or o None ≡ o
 or_none None = refl
@@ -24,15 +25,6 @@ or_none (Some x) = refl
 pub or_assoc : (a b c : Option Value) → option_or (option_or a b) c ≡ option_or a (option_or b c)
 or_assoc None b c = refl
 or_assoc (Some x) b c = refl
-
--- the value of a name among some variables and more behind them
-named_by : (name : List ℕ) (x : Value) (t : Bool) (a b c : Option Value) → c ≡ option_or a b → (if t then Some x else c) ≡ option_or (if t then Some x else a) b
-named_by name x true a b c is = refl
-named_by name x false a b c is = is
-
-pub value_of_both : (name : List ℕ) (vs more : List Variable) → value_named name (vs ++ more) ≡ option_or (value_named name vs) (value_named name more)
-value_of_both name [] more = refl
-value_of_both name (v ∷ vs) more = named_by name v.value (is_eq (order_of name v.name)) (value_named name vs) (value_named name more) (value_named name (vs ++ more)) (value_of_both name vs more)
 
 -- a name that comes before all of the variables has no value among them
 none_before : (name : List ℕ) (vs : List Variable) → IsTrue (is_ascending vs) → order_at name vs ≡ Less → value_named name vs ≡ None
@@ -116,9 +108,9 @@ all_same (v ∷ vs) (w ∷ ws) up up' same =
     ap (λ (x : Variable). x ∷ vs) (first_same v w vs ws up up' same)
     ∙ ap (λ (xs : List Variable). w ∷ xs) (all_same vs ws (ascends_behind v vs up) (ascends_behind w ws up') (rest_same v w vs ws up up' same))
 
--- variables that give each name what a cell sees under it are all that it sees
-pub all_seen : (b : Board) (cell : ℕ) (vars : List Variable) → IsTrue (is_ascending vars) → ((name : List ℕ) → value_named name vars ≡ value_from b.cells b cell name) → vars ≡ visible b cell
-all_seen b cell vars up same = all_same vars (visible b cell) up (visible_ascends b cell) (λ name. same name ∙ sym (visible_named b cell name))
+-- variables that give each name the value in the nearest cell that has it are all that a cell sees
+pub all_seen : (b : Board) (cell : ℕ) (vars : List Variable) → IsTrue (is_ascending vars) → ((name : List ℕ) → value_named name vars ≡ value_named name (flat_map (λ c. c.variables) (up_from b.cells b cell))) → vars ≡ visible b cell
+all_seen b cell vars up same = all_same vars (visible b cell) up (visible_ascends b cell) (λ name. same name ∙ sym (value_of_overlaid name (flat_map (λ c. c.variables) (up_from b.cells b cell))))
 
 -- a name that is there keeps its value
 kept_by : (q name : List ℕ) (value found : Value) (vs : List Variable) (o : Ordering) → order_of q name ≡ o → value_named name vs ≡ Some found → value_named q vs ≡ option_or (value_named q vs) (if is_eq o then Some value else None)

@@ -32,6 +32,7 @@ mod open;
 mod removals;
 mod repair;
 mod rest;
+mod scopes;
 mod seen;
 mod stand;
 mod start;

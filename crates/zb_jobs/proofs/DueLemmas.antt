@@ -4,7 +4,7 @@ use Rattle.zb_table.specs.Earliest.{earliest, place_in_time, is_due, first_due}
 use Rattle.zb_views.specs.declared.job.Job.{Job}
 use Rattle.zb_views.specs.Jobs.{is_activated}
 use Rattle.zb_jobs.specs.Table.{place_of_job, due_job}
-use Rattle.zb_jobs.specs.EarlierLaws.{earliest_mapped}
+use Rattle.zb_jobs.proofs.EarlierLaws.{earliest_mapped}
 
 -- until when a worker has a job
 abbrev moment_of : Job → Option ℕ

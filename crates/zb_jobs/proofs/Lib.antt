@@ -3,3 +3,4 @@ pub mod WaitingLemmas
 pub mod OfferedLemmas
 pub mod DueLemmas
 pub mod IndexLemmas
+pub mod EarlierLaws

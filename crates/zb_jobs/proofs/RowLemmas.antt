@@ -9,8 +9,7 @@ use Rattle.zb_exchange_records.specs.declared.job.JobCreated.{JobCreated}
 use Rattle.zb_model.specs.declared.record.Event.{Event}
 use Rattle.zb_model.specs.declared.record.Event.TheVariants as events
 use Rattle.zb_views.specs.declared.job.Job.{Job}
-use Rattle.zb_views.specs.Jobs.{job_told, ends_job, job_behind}
-use Rattle.zb_views.specs.JobLaws.{job_changed, jobs_by}
+use Rattle.zb_views.specs.Jobs.{job_told, ends_job, job_behind, job_changed, jobs_by}
 use Rattle.zb_jobs.specs.Table.{job_of_cell, HaveOwnCells}
 
 -- one more job has its own cell

@@ -1,4 +1,3 @@
 pub mod Table
 pub mod Waiting
 pub mod Indexed
-pub mod EarlierLaws

@@ -6,8 +6,7 @@ use Rattle.zb_model.specs.declared.record.Event.TheVariants as events
 use Rattle.zb_table.specs.Earliest.{earliest}
 use Rattle.zb_table.specs.Rows.{are_below}
 use Rattle.zb_views.specs.declared.job.Job.{Job}
-use Rattle.zb_views.specs.Jobs.{is_offered, is_activated}
-use Rattle.zb_views.specs.JobLaws.{job_changed}
+use Rattle.zb_views.specs.Jobs.{is_offered, is_activated, job_changed}
 
 -- the first of some jobs that waits on a cell (own)
 abbrev pub job_of_cell : ℕ → List Job → Option Job

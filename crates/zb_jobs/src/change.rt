@@ -1,7 +1,6 @@
 // What an event makes of a job.
 ghost use Rattle.std.specs.Prelude.{◌≡◌, [], IfOk};
-ghost use Rattle.zb_views.specs.Jobs.{failed_phase, job_behind};
-ghost use Rattle.zb_views.specs.JobLaws.{job_changed, says_nothing_of_jobs};
+ghost use Rattle.zb_views.specs.Jobs.{failed_phase, job_behind, job_changed, says_nothing_of_jobs};
 
 use std::alloc::{AllocError, Global};
 use zb_model::{Event, JobCreated, Moment, TryCopy};

@@ -2,8 +2,7 @@ ghost use Rattle.std.specs.Prelude.{◌≡◌, ◌==◌, ◌&&◌, ◌++◌, ◌
 ghost use Rattle.std.specs.List.{find};
 ghost use Rattle.std.specs.Option.{option_copied};
 ghost use Rattle.zb_table.specs.Rows.{Ascend, are_below, without};
-ghost use Rattle.zb_views.specs.Jobs.{job_behind, is_offered};
-ghost use Rattle.zb_views.specs.JobLaws.{job_changed, jobs_by};
+ghost use Rattle.zb_views.specs.Jobs.{job_behind, is_offered, job_changed, jobs_by};
 ghost use Rattle.zb_jobs.specs.Table.{job_of_cell, HaveOwnCells, has_place_for, ChangesOnly, place_of_job, due_job};
 
 use crate::change::{AsTold, made, says_nothing_of_jobs};

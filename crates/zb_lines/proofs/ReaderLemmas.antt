@@ -8,7 +8,7 @@ use Rattle.zb_outside.specs.declared.trouble.Trouble.TheVariants as troubles
 use Rattle.zb_lines.specs.declared.reader.Next.{Next}
 use Rattle.zb_lines.specs.declared.reader.Next.TheVariants as nexts
 use Rattle.zb_lines.specs.Taken.{TakesBytes}
-use Rattle.zb_lines.specs.TakenLaws.{takes_on, takes_nothing}
+use Rattle.zb_lines.proofs.TakenLaws.{takes_on, takes_nothing}
 use Rattle.zb_lines.specs.Line.{IsOneLine, Comes, ended, newline}
 use Rattle.zb_lines.specs.Step.{kept, HandsOut, ReadsLine}
 use Rattle.zb_lines.proofs.LineLemmas.{IsOneLine-append, one_nothing, take-none, kept-take}

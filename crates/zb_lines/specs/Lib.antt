@@ -1,4 +1,3 @@
 pub mod Taken
-pub mod TakenLaws
 pub mod Line
 pub mod Step

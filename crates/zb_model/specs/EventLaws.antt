@@ -1,4 +1,4 @@
--- The laws of the table of events: what is read is spelled so, and what is spelled so is read.
+-- The laws of the table of events: what is read is spelled so, and what is spelled so is read. The layout of events holds them, so they stand beside the definitions.
 use Rattle.std.proofs.Common.{refl}
 use Rattle.zb_format.specs.Kinds.{AreReadBack}
 use Rattle.zb_format.specs.KindsLaws.{again}

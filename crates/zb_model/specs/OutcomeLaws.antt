@@ -1,4 +1,4 @@
--- Each outcome is spelled and read back as it is told.
+-- Each outcome is spelled and read back as it is told. The layout of outcomes holds this, so it stands beside the definitions.
 use Rattle.std.proofs.Common.{refl}
 use Rattle.zb_format.specs.Kinds.{AreReadBack}
 use Rattle.zb_format.specs.KindsLaws.{again}

@@ -1,5 +1,4 @@
 pub mod Stream
 pub mod Cause
 pub mod Clock
-pub mod ClockLaws
 pub mod Devices

@@ -5,7 +5,7 @@ use Rattle.zb_disk.specs.declared.disk.Disk.{Ghosts}
 use Rattle.zb_model.specs.declared.record.Batch.{Batch}
 use Rattle.zb_model.specs.Record.{bytes_of}
 use Rattle.zb_store.specs.Log.{extent}
-use Rattle.zb_store.specs.LogLaws.{extent_more}
+use Rattle.zb_store.proofs.LogLaws.{extent_more}
 use Rattle.zb_store.specs.Scan.{count_of_scan, gate_of_scan, body_found, HasFound, GoesTo, IsFound}
 use Rattle.zb_store.specs.Stands.{Leads, IsFrame, next_gate}
 use Rattle.zb_store.specs.declared.scan.Found.TheVariants as found

@@ -9,7 +9,7 @@ use Rattle.zb_model.specs.Record.{bytes_of}
 use Rattle.zb_model.specs.RecordFits.{IsBatch}
 use Rattle.zb_views.specs.View.{events_of, events_in}
 use Rattle.zb_rules.specs.Applies.{all_apply}
-use Rattle.zb_rules.specs.StepLaws.{all_apply_on}
+use Rattle.zb_rules.proofs.StepLaws.{all_apply_on}
 use Rattle.zb_store.specs.Stands.{next_gate, IsFrame, Leads, Stands}
 use Rattle.zb_partition.specs.Log.{bodies_of, AreBatches, IsApplied, IsBadAt}
 use Rattle.zb_partition.proofs.ReadingLemmas.{one_batch}

@@ -6,11 +6,11 @@ use Rattle.zb_disk.specs.Disk.{Only}
 use Rattle.zb_disk.specs.declared.disk.Disk.{Ghosts}
 use Rattle.zb_model.specs.declared.record.Batch.{Batch}
 use Rattle.zb_store.specs.Calls.{IsAsOpened}
-use Rattle.zb_store.specs.CallLaws.{CallsRead, Opens, opens_long}
+use Rattle.zb_store.proofs.CallLaws.{CallsRead, Opens, opens_long}
 use Rattle.zb_store.specs.GateLog as gates
 use Rattle.zb_store.specs.Scan.{disk_of_scan, count_of_scan, gate_of_scan}
 use Rattle.zb_store.specs.Stands.{Stands}
-use Rattle.zb_store.specs.StandsLaws.{closed_stands}
+use Rattle.zb_store.proofs.StandsLaws.{closed_stands}
 use Rattle.zb_store.specs.declared.scan.Scan.{Scan}
 use Rattle.zb_partition.specs.Log.{bodies_of, IsBadAt}
 use Rattle.zb_partition.specs.Partition.{disk_of}

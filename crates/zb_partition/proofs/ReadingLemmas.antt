@@ -14,9 +14,9 @@ use Rattle.zb_format.specs.FormatLaws.{some_is}
 use Rattle.zb_format.specs.Law.{IsBytes}
 use Rattle.zb_format.specs.Reading.{◌>>=◌, made_at}
 use Rattle.zb_views.specs.View.{events_of, events_in}
-use Rattle.zb_views.specs.ViewLaws.{events_of_more, moment_of_last_more}
+use Rattle.zb_views.proofs.ViewLaws.{events_of_more, moment_of_last_more}
 use Rattle.zb_rules.specs.Applies.{applies, all_apply}
-use Rattle.zb_rules.specs.StepLaws.{all_apply_more, all_apply_on}
+use Rattle.zb_rules.proofs.StepLaws.{all_apply_more, all_apply_on}
 use Rattle.zb_state.specs.State.{partition_of, IsStateOf}
 use Rattle.zb_state.specs.declared.state.State.{State}
 use Rattle.zb_partition.specs.declared.opening.Known.{Known}

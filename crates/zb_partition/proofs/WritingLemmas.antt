@@ -9,9 +9,9 @@ use Rattle.zb_model.specs.declared.stop.Stop.TheVariants as stops
 use Rattle.zb_model.specs.Record.{bytes_of}
 use Rattle.zb_model.specs.RecordFits.{IsBatch}
 use Rattle.zb_store.specs.Calls.{LeavesOnly}
-use Rattle.zb_store.specs.CallLaws.{leaves_none, leaves_weaker}
+use Rattle.zb_store.proofs.CallLaws.{leaves_none, leaves_weaker}
 use Rattle.zb_store.specs.Log.{extent, framed}
-use Rattle.zb_store.specs.LogLaws.{extent_more, framed_length}
+use Rattle.zb_store.proofs.LogLaws.{extent_more, framed_length}
 use Rattle.zb_store.specs.Stands.{Stands, StandsWithOrWithout}
 use Rattle.zb_store.specs.Cause.{IsFullAt, UnlessDiskFault}
 use Rattle.zb_store.specs.GateLog as gates
@@ -19,7 +19,7 @@ use Rattle.zb_store.specs.declared.gate_log.GateLog.{GateLog}
 use Rattle.zb_store.specs.declared.fault.StoreFault.{StoreFault}
 use Rattle.zb_store.specs.declared.fault.StoreFault.TheVariants as store
 use Rattle.zb_views.specs.View.{events_of}
-use Rattle.zb_views.specs.ViewLaws.{moment_of_last_more}
+use Rattle.zb_views.proofs.ViewLaws.{moment_of_last_more}
 use Rattle.zb_state.specs.State.{IsStateOf}
 use Rattle.zb_state.specs.declared.state.State.{State}
 use Rattle.zb_partition.specs.Log.{bodies_of}
@@ -28,7 +28,7 @@ use Rattle.zb_partition.specs.Stopping.{IsLeft, IsLogOrMore, IsHurt, IsStopCause
 use Rattle.zb_partition.specs.declared.partition.Partition.{Partition}
 use Rattle.zb_partition.proofs.FrameLemmas.{bodies_of_more}
 use Rattle.zb_partition.proofs.ReadingLemmas.{are_more}
-use Rattle.zb_store.specs.GateLogLaws.{log_stands}
+use Rattle.zb_store.proofs.GateLogLaws.{log_stands}
 
 -- how long a log with a batch more is
 pub extent_of_more : (log : List Batch) (batch : Batch) → extent (bodies_of (log ++ batch ∷ [])) ≡ extent (bodies_of log) + (9 + length (bytes_of batch))

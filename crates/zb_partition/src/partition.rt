@@ -15,7 +15,7 @@ ghost use Rattle.zb_rules.specs.Due.{due_command};
 ghost use Rattle.zb_rules.specs.Own.{IsSupported};
 ghost use Rattle.zb_rules.specs.Continue.{is_quiet};
 ghost use Rattle.zb_state.specs.State as states;
-ghost use Rattle.zb_state.specs.State.{IsStateOf, IsReached};
+ghost use Rattle.zb_state.specs.State.{IsStateOf};
 ghost use Rattle.zb_partition.specs.Fault.{IsDiskCause};
 ghost use Rattle.zb_partition.specs.Reading.{IsAtStart};
 ghost use Rattle.zb_partition.specs.Log.{bodies_of};
@@ -28,7 +28,7 @@ use std::alloc::{AllocError, Global};
 use std::mem;
 use zb_disk::Disk;
 use zb_model::{Batch, Command, Moment, Packet, PartitionId, Stop};
-use zb_state::State;
+use zb_state::{Refusal, State};
 use zb_step::outcome_of;
 use zb_store::{GateLog, Scan, StoreFault, Volume};
 
@@ -55,7 +55,6 @@ pub struct Partition<D: Disk> {
     ghost limited: { gates.limit_of_log log ≤ 2 ^ 32 },
     ghost counted: { partitions ≤ 16 },
     ghost resting: { IsTrue live → in_writing ≡ None },
-    ghost reached: { IsTrue live → IsReached state },
 }
 
 /// What is left of a partition.
@@ -302,7 +301,8 @@ impl<D: Disk> Partition<D> {
         }
     }
 
-    // Makes the step of a command, and takes it into what is known of the log.
+    // Makes the step of a command, and takes it into what is known of the log. A misfit, which no log leads to, is told as
+    // want of memory.
     fn make(
         &mut self,
         alloc: Global,
@@ -311,12 +311,10 @@ impl<D: Disk> Partition<D> {
         command: Command,
     ) -> Result<Batch, Stop>
         requires run { IsSupported command }
-        requires reached { IsReached self.old.state }
         requires stopped { IsFalse (is_live self.old) }
         ensures step { (log : List Batch) → HasLog log self.old → moment_of_last log ≤ moment
             → IfOk result (IsStepOf (partition_number_of self.old) (partitions_of self.old) log moment begin command) }
         ensures ahead { (log : List Batch) → HasLog log self.old → IfOk result (λ batch. IsAhead log batch self.new) }
-        ensures reached { OnOk result (IsReached self.new.state) }
         ensures memory { OnErr result (result ≡ Err Stop.Memory) }
         ensures log { self.new.log ≡ self.old.log }
         ensures slots { slots_of self.new ≡ slots_of self.old }
@@ -327,7 +325,7 @@ impl<D: Disk> Partition<D> {
     {
         let outcome = match outcome_of(alloc, &mut self.state, self.partitions, moment, &command) {
             Ok(outcome) => outcome,
-            Err(AllocError) => {
+            Err(Refusal::Memory | Refusal::Misfit) => {
                 drop(command);
                 return Err(Stop::Memory);
             }

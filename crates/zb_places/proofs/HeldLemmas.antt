@@ -11,7 +11,7 @@ use Rattle.zb_groups.specs.declared.held.Held.{Held}
 use Rattle.zb_groups.proofs.RowLemmas.{each_found, numbers_stay, numbers_counted}
 use Rattle.zb_tokens.specs.declared.board.Token.{Token}
 use Rattle.zb_tokens.specs.Edits.{removed, without_first}
-use Rattle.zb_tokens.specs.GameLaws.{found_holds}
+use Rattle.zb_tokens.proofs.GameLaws.{found_holds}
 use Rattle.zb_places.specs.Places.{held_tokens, count_in_scope, IsFewer}
 
 module _ {A : Type 0} where

@@ -7,7 +7,7 @@ use Rattle.zb_tokens.specs.declared.board.Token.{Token}
 use Rattle.zb_tokens.specs.declared.board.Spot.{Spot}
 use Rattle.zb_tokens.specs.declared.board.Spot.TheVariants as spots
 use Rattle.zb_tokens.specs.Board.{is_spot}
-use Rattle.zb_tokens.specs.GameLaws.{both_left, both_right}
+use Rattle.zb_tokens.proofs.GameLaws.{both_left, both_right}
 use Rattle.zb_tokens.specs.MoveEnter.{stands_at}
 use Rattle.zb_places.specs.Places.{count_apart}
 use Rattle.zb_places.proofs.FlowLemmas.{on_each}

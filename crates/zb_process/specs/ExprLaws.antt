@@ -1,4 +1,4 @@
--- The parts of an expression are less deep than the expression.
+-- The parts of an expression are less deep than the expression. The code cites this where it says what an expression is, so it stands beside the definitions.
 use Rattle.std.specs.Prelude.{◌+◌, ◌≤◌, max, List, [], ◌∷◌}
 use Rattle.std.proofs.Common.{arith}
 use denote.Param.Weighed.{most}

@@ -1,4 +1,4 @@
--- Each kind of node is known by its byte.
+-- Each kind of node is known by its byte. The layout of kinds holds this, so it stands beside the definitions.
 use Rattle.std.proofs.Common.{◌≡◌, Some, refl}
 use Rattle.zb_format.specs.Reading.{one_of}
 use Rattle.zb_process.specs.declared.model.NodeKind.{NodeKind}

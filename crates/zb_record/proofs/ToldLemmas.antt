@@ -4,7 +4,7 @@ use Rattle.std.specs.Option.{option_or}
 use Rattle.std.proofs.lemmas.List.{take-append-drop}
 use Rattle.zb_model.specs.declared.record.Event.{Event}
 use Rattle.zb_views.specs.Told.{last_told}
-use Rattle.zb_views.specs.ToldLaws.{last_told_joined}
+use Rattle.zb_views.proofs.ToldLaws.{last_told_joined}
 
 module _ {A : Type 0} (tell : Event → Option A) where
   -- of the events from one on, and of that one and those behind it

@@ -1,3 +1,2 @@
 pub mod Reply
 pub mod Member
-pub mod ReplyLaws

@@ -75,7 +75,7 @@ completed key owed = events.ElementCompleted (record { key = key; owed = owed })
 -- the turns that follow, at most as many as the fuel has members
 abbrev turns : List Bool → List Event → List Event
 turns [] es = []
-turns (more ∷ fuel) es = elim (turn 1 1 0 es) [
+turns (more ∷ fuel) es = elim (turn 1 0 es) [
   | None ↦ []
   | Some made ↦ made ++ turns fuel (es ++ made)
 ]
@@ -83,7 +83,7 @@ turns (more ∷ fuel) es = elim (turn 1 1 0 es) [
 abbrev before : List Event
 before = events.ProcessCreated (record { key = 2251799813685249; version = 1; model = process }) ∷ events.DeploymentCreated (record { key = 2251799813685250; definition = 2251799813685249 }) ∷ events.ProcessInstanceCreationCreated (record { key = 2251799813685251; definition = 2251799813685249 }) ∷ activating 2251799813685251 0 (codes "p") [] ∷ []
 
-root_opens : turn 1 1 0 before ≡ Some (activated 2251799813685251 ∷ [])
+root_opens : turn 1 0 before ≡ Some (activated 2251799813685251 ∷ [])
 unfolding turn
 root_opens = refl
 
@@ -108,7 +108,7 @@ at_task =
     ∷ activated 2251799813685250 ∷ activating 2251799813685251 2251799813685250 (codes "s") [] ∷ activated 2251799813685251 ∷ events.ElementCompleting 2251799813685251 ∷ completed 2251799813685251 (codes "f" ∷ [])
     ∷ events.SequenceFlowTaken (record { key = 2251799813685251; flow = codes "f" }) ∷ activating 2251799813685252 2251799813685250 (codes "e") (codes "f") ∷ activated 2251799813685252 ∷ []
 
-task_waits : turn 1 1 0 at_task ≡ None
+task_waits : turn 1 0 at_task ≡ None
 unfolding turn
 task_waits = refl
 
@@ -176,7 +176,7 @@ finished_early = refl
 abbrev deployed_events : List Event
 deployed_events = events.ProcessCreated (record { key = 2251799813685249; version = 1; model = process }) ∷ events.DeploymentCreated (record { key = 2251799813685250; definition = 2251799813685249 }) ∷ []
 
-create : created 1 deployed_events (record { process = codes "p"; version = 0; variables = [] }) ≡ Some (events.ProcessInstanceCreationCreated (record { key = 2251799813685251; definition = 2251799813685249 }) ∷ activating 2251799813685251 0 (codes "p") [] ∷ [])
+create : created 1 (record { process = codes "p"; version = 0; variables = [] }) deployed_events ≡ events.ProcessInstanceCreationCreated (record { key = 2251799813685251; definition = 2251799813685249 }) ∷ activating 2251799813685251 0 (codes "p") [] ∷ []
 create = refl
 
 good : first_fault process ≡ None
@@ -336,7 +336,7 @@ joining_play : turns many (begun_of joining) ≡ joining_plays
 unfolding turn
 joining_play = refl
 
-joining_rests : turn 1 1 0 (begun_of joining ++ joining_plays) ≡ None
+joining_rests : turn 1 0 (begun_of joining ++ joining_plays) ≡ None
 unfolding turn
 joining_rests = refl
 
@@ -436,7 +436,7 @@ terminated cell = events.ElementTerminating cell ∷ events.ElementTerminated ce
 abbrev ends_all : List Event
 ends_all = events.ElementTerminating (key 3) ∷ events.ElementTerminating (key 7) ∷ events.JobCanceled (key 8) ∷ events.ElementTerminated (key 7) ∷ terminated (key 5) ++ events.ElementTerminated (key 3) ∷ []
 
-cancel_play : cancelled 1 1 0 (key 3) waiting_events ++ turns many (waiting_events ++ cancelled 1 1 0 (key 3) waiting_events) ≡ ends_all
+cancel_play : cancelled 1 0 (key 3) waiting_events ++ turns many (waiting_events ++ cancelled 1 0 (key 3) waiting_events) ≡ ends_all
 unfolding turn
 cancel_play = refl
 
@@ -450,7 +450,7 @@ cancel_none = refl
 cancel_inner : reason_to_cancel waiting_events (key 5) ≡ Some (record { kind = kinds_of.NotFound; reason = no_instance (key 5) })
 cancel_inner = refl
 
-cancel_twice : reason_to_cancel (waiting_events ++ cancelled 1 1 0 (key 3) waiting_events) (key 3) ≡ Some (record { kind = kinds_of.InvalidState; reason = instance_terminates (key 3) })
+cancel_twice : reason_to_cancel (waiting_events ++ cancelled 1 0 (key 3) waiting_events) (key 3) ≡ Some (record { kind = kinds_of.InvalidState; reason = instance_terminates (key 3) })
 cancel_twice = refl
 
 -- variables, which are handed up from the task to where they stand, or else to the root; or are set in the task itself
@@ -564,7 +564,7 @@ stopped_applies : all_apply 1 [] stopped ≡ true
 unfolding first_fault
 stopped_applies = refl
 
-stopped_waits : turn 1 1 0 stopped ≡ None
+stopped_waits : turn 1 0 stopped ≡ None
 unfolding turn
 stopped_waits = refl
 
@@ -596,7 +596,7 @@ goes_on_applies = refl
 abbrev stopped_ends : List Event
 stopped_ends = events.ElementTerminating (key 3) ∷ events.ElementTerminating (key 5) ∷ events.IncidentResolved (record { key = key 6; job = 0 }) ∷ events.ElementTerminated (key 5) ∷ events.ElementTerminated (key 3) ∷ []
 
-stopped_cancel : cancelled 1 1 0 (key 3) stopped ++ turns many (stopped ++ cancelled 1 1 0 (key 3) stopped) ≡ stopped_ends
+stopped_cancel : cancelled 1 0 (key 3) stopped ++ turns many (stopped ++ cancelled 1 0 (key 3) stopped) ≡ stopped_ends
 unfolding turn
 stopped_cancel = refl
 

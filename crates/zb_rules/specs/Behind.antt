@@ -60,15 +60,15 @@ halted_on cell = and_then (just (events.ElementTerminating cell)) (ended_on cell
 abbrev pub interrupted_on : (cell : ℕ) → List ℕ → Making
 interrupted_on cell node before = if holds_of_game (is_interrupting cell node) before then halted_on cell before else []
 
--- the events behind an event: a cell that becomes active has its job and its timers made, one that begins to complete has its timers canceled, and one
+-- the events behind an event, which is told what was before it: a cell that becomes active has its job and its timers made, one that begins to complete has its timers canceled, and one
 -- that begins to terminate has what waits for it ended; a boundary event that interrupts ends its cell. So far there are no others (Zeebe, the records)
-abbrev pub events_behind : (p n moment : ℕ) → Event → Making
-events_behind p n moment (events.ElementActivated e) before = and_then (job_made_on p e.key) (timers_made_on p moment e.key) before
-events_behind p n moment (events.ElementCompleting key) before = timers_canceled_on key before
-events_behind p n moment (events.ElementTerminating key) before = ended_on key before
-events_behind p n moment (events.ProcessEventTriggered e) before = interrupted_on e.cell e.node before
-events_behind p n moment e before = []
+abbrev pub events_behind : (p moment : ℕ) → List Event → Event → Making
+events_behind p moment seen (events.ElementActivated e) before = and_then (job_made_on p e.key) (timers_made_on p moment e.key) before
+events_behind p moment seen (events.ElementCompleting key) before = timers_canceled_on key before
+events_behind p moment seen (events.ElementTerminating key) before = ended_on key before
+events_behind p moment seen (events.ProcessEventTriggered e) before = interrupted_on e.cell e.node before
+events_behind p moment seen e before = []
 
 -- an event, and those behind it (Zeebe, the records)
-abbrev pub with_events_behind : (p n moment : ℕ) → Event → Making
-with_events_behind p n moment e = and_then (just e) (events_behind p n moment e)
+abbrev pub with_events_behind : (p moment : ℕ) → Event → Making
+with_events_behind p moment e before = and_then (just e) (events_behind p moment before e) before

@@ -35,5 +35,5 @@ reason_to_cancel before key = if not (holds_of_game (has_root key) before) then 
     else None
 
 -- the root begins to terminate, with the events behind that; what is in it is then forced to end (BPMN 2.0.2, 13.3.2; Zeebe, the records)
-abbrev pub cancelled : (p n moment key : ℕ) → Making
-cancelled p n moment key = with_events_behind p n moment (events.ElementTerminating key)
+abbrev pub cancelled : (p moment key : ℕ) → Making
+cancelled p moment key = with_events_behind p moment (events.ElementTerminating key)

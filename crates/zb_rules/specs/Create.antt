@@ -1,5 +1,5 @@
 -- Making an instance of a process (BPMN 2.0.2, 13.2; the records as in Zeebe).
-use Rattle.std.specs.Prelude.{ℕ, List, [], ◌∷◌, ◌++◌, map, codes, Option, Some, None, option_map}
+use Rattle.std.specs.Prelude.{ℕ, List, [], ◌∷◌, ◌++◌, map, codes, Option, Some, None}
 use Rattle.std.specs.Fmt.{decimal}
 use Rattle.zb_base.specs.declared.vars.Variable.{Variable}
 use Rattle.zb_instance_records.specs.declared.instance.ProcessInstanceCreationCreate.{ProcessInstanceCreationCreate}
@@ -11,6 +11,8 @@ use Rattle.zb_model.specs.declared.record.RejectionKind.TheVariants as kinds
 use Rattle.zb_views.specs.declared.definition.Definition.{Definition}
 use Rattle.zb_views.specs.View.{next_key}
 use Rattle.zb_views.specs.Definitions.{definition_for}
+use Rattle.std.specs.Option.{option_map_or}
+use Rattle.zb_rules.specs.Making.{Making}
 
 -- what is told where there is no such process
 abbrev pub no_process : List ℕ → List ℕ
@@ -40,6 +42,6 @@ instance_under key definition c = events.ProcessInstanceCreationCreated (record 
     ∷ events.ElementActivating (record { key = key; scope = 0; definition = definition; node = c.process; role = roles.Plain; via = []; started = [] })
     ∷ map (variable_event key) c.variables
 
--- what it makes (BPMN 2.0.2, 13.2; Zeebe, the records)
-abbrev pub created : ℕ → List Event → ProcessInstanceCreationCreate → Option (List Event)
-created p before c = option_map (λ d. instance_under (next_key p before) d.key c) (definition_for c.process c.version before)
+-- what it makes, where its definition is there (BPMN 2.0.2, 13.2; Zeebe, the records)
+abbrev pub created : ℕ → ProcessInstanceCreationCreate → Making
+created p c before = option_map_or (λ d. instance_under (next_key p before) d.key c) (definition_for c.process c.version before) []

@@ -1,5 +1,5 @@
 -- A definition reaches a partition that another one has sent it to (own; the records as in Zeebe).
-use Rattle.std.specs.Prelude.{ℕ, List, [], ◌∷◌, ◌++◌, codes, if◌then◌else◌, Option, Some, None}
+use Rattle.std.specs.Prelude.{ℕ, List, ◌++◌, codes, if◌then◌else◌, Option, Some, None}
 use Rattle.std.specs.Option.{option_or}
 use Rattle.std.specs.Fmt.{decimal}
 use Rattle.zb_instance_records.specs.declared.deployment.DeploymentDistribute.{DeploymentDistribute}
@@ -9,6 +9,7 @@ use Rattle.zb_model.specs.declared.record.Rejection.{Rejection}
 use Rattle.zb_model.specs.declared.record.RejectionKind.TheVariants as kinds
 use Rattle.zb_rules.specs.Applies.{has_definition}
 use Rattle.zb_rules.specs.Deploy.{reason_to_deploy}
+use Rattle.zb_rules.specs.Making.{Making, just}
 
 -- what is told where the definition is there
 abbrev pub definition_is_there : ℕ → List ℕ
@@ -23,5 +24,5 @@ abbrev pub reason_to_distribute : List Event → DeploymentDistribute → Option
 reason_to_distribute before c = option_or (reason_to_deploy c.model) (reason_to_turn_back before c.key)
 
 -- the definition stands under the key, and is the version, that its first partition gave it
-abbrev pub distributed : DeploymentDistribute → List Event
-distributed c = events.ProcessCreated (record { key = c.key; version = c.version; model = c.model }) ∷ []
+abbrev pub distributed : DeploymentDistribute → Making
+distributed c = just (events.ProcessCreated (record { key = c.key; version = c.version; model = c.model }))

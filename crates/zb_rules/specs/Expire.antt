@@ -1,5 +1,5 @@
 -- Expiring a message (own; the records as in Zeebe).
-use Rattle.std.specs.Prelude.{ℕ, ◌==◌, List, [], ◌∷◌, ◌++◌, codes, Bool, not, ◌&&◌, if◌then◌else◌, Option, Some, None}
+use Rattle.std.specs.Prelude.{ℕ, ◌==◌, List, ◌++◌, codes, Bool, not, ◌&&◌, if◌then◌else◌, Option, Some, None}
 use Rattle.std.specs.Fmt.{decimal}
 use Rattle.std.specs.List.{list_any}
 use Rattle.zb_model.specs.declared.record.Event.{Event}
@@ -7,6 +7,7 @@ use Rattle.zb_model.specs.declared.record.Event.TheVariants as events
 use Rattle.zb_model.specs.declared.record.Rejection.{Rejection}
 use Rattle.zb_model.specs.declared.record.RejectionKind.TheVariants as kinds
 use Rattle.zb_views.specs.Messages.{buffered, is_buffered, is_past_deadline}
+use Rattle.zb_rules.specs.Making.{Making, just}
 
 -- what is told where no message with this key is buffered
 abbrev pub no_message : ℕ → List ℕ
@@ -27,5 +28,5 @@ reason_to_expire before moment key = if not (is_buffered key before) then Some (
     else None
 
 -- the message expires (Zeebe, the records)
-abbrev pub expired : ℕ → List Event
-expired key = events.MessageExpired key ∷ []
+abbrev pub expired : ℕ → Making
+expired key = just (events.MessageExpired key)

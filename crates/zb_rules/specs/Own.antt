@@ -1,10 +1,10 @@
 -- What each command makes of the events before it. Each command's own rule stands in a module of its name.
-use Rattle.std.specs.Prelude.{ℕ, List, [], Option, Some, None}
+use Rattle.std.specs.Prelude.{ℕ, List, [], Option, Some, None, option_map}
 use Rattle.zb_model.specs.declared.record.Command.{Command}
 use Rattle.zb_model.specs.declared.record.Command.TheVariants as commands
 use Rattle.zb_model.specs.declared.record.Event.{Event}
-use Rattle.zb_views.specs.View.{next_key}
-use Rattle.zb_rules.specs.Publish.{published_under}
+use Rattle.zb_rules.specs.Publish.{published}
+use Rattle.zb_rules.specs.Making.{Making}
 use Rattle.zb_rules.specs.Activate.{activated}
 use Rattle.zb_rules.specs.Complete.{completed}
 use Rattle.zb_rules.specs.Fail.{failed}
@@ -42,23 +42,36 @@ IsSupported (commands.DeploymentDistribute c) = Unit {0}
 IsSupported (commands.CommandDistributionAcknowledge c) = Unit {0}
 IsSupported _ = ⊥
 
--- the events that a command makes of those before it, at a moment of partition p of n; None of a command that isn't run
+-- what a command makes of the events before it, at a moment of partition p of n; None of a command that isn't run
+abbrev pub own : (p n moment : ℕ) → Command → Option Making
+own p n moment (commands.DeploymentCreate m) = Some (deployed p n m)
+own p n moment (commands.ProcessInstanceCreationCreate c) = Some (created p c)
+own p n moment (commands.ProcessInstanceCancel key) = Some (cancelled p moment key)
+own p n moment (commands.VariableDocumentUpdate c) = Some (updated c)
+own p n moment (commands.JobBatchActivate c) = Some (activated p moment c)
+own p n moment (commands.JobComplete c) = Some (completed c)
+own p n moment (commands.JobFail c) = Some (failed p c)
+own p n moment (commands.JobThrowError c) = Some (thrown c)
+own p n moment (commands.JobUpdateRetries c) = Some (retried c)
+own p n moment (commands.JobTimeOut key) = Some (timed_out key)
+own p n moment (commands.TimerTrigger key) = Some (triggered p moment key)
+own p n moment (commands.IncidentResolve key) = Some (resolved key)
+own p n moment (commands.MessagePublish c) = Some (published p moment c)
+own p n moment (commands.MessageExpire key) = Some (expired key)
+own p n moment commands.ProcessInstanceBatchContinue = Some (λ before. [])
+own p n moment (commands.DeploymentDistribute c) = Some (distributed c)
+own p n moment (commands.CommandDistributionAcknowledge c) = Some (acknowledged c)
+own p n moment _ = None
+
+-- the events that it makes of them
 abbrev pub own_events : (p n : ℕ) → List Event → ℕ → Command → Option (List Event)
-own_events p n before moment (commands.DeploymentCreate m) = Some (deployed p n m before)
-own_events p n before moment (commands.ProcessInstanceCreationCreate c) = created p before c
-own_events p n before moment (commands.ProcessInstanceCancel key) = Some (cancelled p n moment key before)
-own_events p n before moment (commands.VariableDocumentUpdate c) = Some (updated c before)
-own_events p n before moment (commands.JobBatchActivate c) = Some (activated p moment c before)
-own_events p n before moment (commands.JobComplete c) = Some (completed c before)
-own_events p n before moment (commands.JobFail c) = Some (failed p c before)
-own_events p n before moment (commands.JobThrowError c) = Some (thrown c)
-own_events p n before moment (commands.JobUpdateRetries c) = Some (retried c)
-own_events p n before moment (commands.JobTimeOut key) = Some (timed_out key)
-own_events p n before moment (commands.TimerTrigger key) = Some (triggered p n moment key before)
-own_events p n before moment (commands.IncidentResolve key) = Some (resolved key before)
-own_events p n before moment (commands.MessagePublish c) = Some (published_under (next_key p before) moment c)
-own_events p n before moment (commands.MessageExpire key) = Some (expired key)
-own_events p n before moment commands.ProcessInstanceBatchContinue = Some []
-own_events p n before moment (commands.DeploymentDistribute c) = Some (distributed c)
-own_events p n before moment (commands.CommandDistributionAcknowledge c) = Some (acknowledged c before)
-own_events p n before moment _ = None
+own_events p n before moment command = option_map (λ make. make before) (own p n moment command)
+
+-- how many keys a command draws at most for its own events
+abbrev pub keys_for : Command → ℕ
+keys_for (commands.DeploymentCreate m) = 2
+keys_for (commands.ProcessInstanceCreationCreate c) = 1
+keys_for (commands.JobBatchActivate c) = 1
+keys_for (commands.JobFail c) = 1
+keys_for (commands.MessagePublish c) = 1
+keys_for _ = 0

@@ -10,6 +10,8 @@ use Rattle.zb_model.specs.declared.record.Event.TheVariants as events
 use Rattle.zb_model.specs.declared.record.Rejection.{Rejection}
 use Rattle.zb_model.specs.declared.record.RejectionKind.TheVariants as kinds
 use Rattle.zb_views.specs.Messages.{buffered}
+use Rattle.zb_views.specs.View.{next_key}
+use Rattle.zb_rules.specs.Making.{Making}
 
 -- the message has the name, the correlation key and the id that are to be published
 abbrev pub is_same : MessagePublish → MessagePublished → Bool
@@ -45,3 +47,7 @@ expiry_of key c = if c.time_to_live == 0 then events.MessageExpired key ∷ [] e
 -- the message is published under this key (Zeebe)
 abbrev pub published_under : ℕ → ℕ → MessagePublish → List Event
 published_under key moment c = events.MessagePublished (message_under key moment c) ∷ expiry_of key c
+
+-- the message is published under a fresh key (Zeebe)
+abbrev pub published : (p moment : ℕ) → MessagePublish → Making
+published p moment c before = published_under (next_key p before) moment c

@@ -1,5 +1,5 @@
 -- Giving a job tries anew (Zeebe, jobs).
-use Rattle.std.specs.Prelude.{◌==◌, List, [], ◌∷◌, codes, not, if◌then◌else◌, Option, Some, None}
+use Rattle.std.specs.Prelude.{◌==◌, List, codes, not, if◌then◌else◌, Option, Some, None}
 use Rattle.zb_exchange_records.specs.declared.job.JobUpdateRetries.{JobUpdateRetries}
 use Rattle.zb_model.specs.declared.record.Event.{Event}
 use Rattle.zb_model.specs.declared.record.Event.TheVariants as events
@@ -7,6 +7,7 @@ use Rattle.zb_model.specs.declared.record.Rejection.{Rejection}
 use Rattle.zb_model.specs.declared.record.RejectionKind.TheVariants as kinds
 use Rattle.zb_rules.specs.JobEvents.{has_job}
 use Rattle.zb_rules.specs.JobReasons.{unknown_job}
+use Rattle.zb_rules.specs.Making.{Making, just}
 
 -- the rejection of tries, if there is a reason for one: there are none, or no such job
 abbrev pub reason_to_retry : List Event → JobUpdateRetries → Option Rejection
@@ -15,5 +16,5 @@ reason_to_retry before c = if c.retries == 0 then Some (record { kind = kinds.In
     else None
 
 -- the job has so many tries (Zeebe, the records)
-abbrev pub retried : JobUpdateRetries → List Event
-retried c = events.JobRetriesUpdated (record { key = c.key; retries = c.retries }) ∷ []
+abbrev pub retried : JobUpdateRetries → Making
+retried c = just (events.JobRetriesUpdated (record { key = c.key; retries = c.retries }))

@@ -19,7 +19,7 @@ pub record IsAcceptance (p n moment : ℕ) (before : List Event) (command : Comm
   pub own : List Event
   pub rest : List Event
   pub are_own : own_events p n before moment command ≡ Some own
-  pub settles : IsRest p n moment before own rest
+  pub settles : IsRest p moment before own rest
   pub applied : IsTrue (all_apply p before (own ++ rest))
   pub own_legal : EachLegal moment before own
   pub rest_legal : TurnsLegal moment (before ++ own) settles.turns

@@ -49,9 +49,9 @@ abbrev pub event_of_timer : Timer → Event
 event_of_timer t = events.ProcessEventTriggered (record { cell = t.cell; node = t.node })
 
 -- the timer ends, and its event comes about, with the events behind that (Zeebe, the records)
-abbrev pub trigger_events : (p n moment : ℕ) → Timer → Making
-trigger_events p n moment t = and_then (just (events.TimerTriggered t.key)) (with_events_behind p n moment (event_of_timer t))
+abbrev pub trigger_events : (p moment : ℕ) → Timer → Making
+trigger_events p moment t = and_then (just (events.TimerTriggered t.key)) (with_events_behind p moment (event_of_timer t))
 
 -- the same for the timer with a key
-abbrev pub triggered : (p n moment key : ℕ) → Making
-triggered p n moment key before = option_map_or (λ t. trigger_events p n moment t before) (timer_at key before) []
+abbrev pub triggered : (p moment key : ℕ) → Making
+triggered p moment key before = option_map_or (λ t. trigger_events p moment t before) (timer_at key before) []

@@ -1,4 +1,4 @@
-ghost use Rattle.std.specs.Prelude.{◌≡◌, ◌≤◌, ◌<◌, ◌+◌, ◌/◌, ◌^◌, ◌++◌, ◌↔◌, ℕ, length, List, [], ◌∷◌, Option, Some, None, All, IsTrue, IsFalse, is_some};
+ghost use Rattle.std.specs.Prelude.{◌≡◌, ◌≤◌, ◌<◌, ◌+◌, ◌/◌, ◌^◌, ◌++◌, ℕ, length, List, [], ◌∷◌, Some, None, All, IsTrue, IsFalse, is_some};
 ghost use Rattle.std.specs.List.{list_any};
 ghost use Rattle.std.specs.Option.{IfSome};
 ghost use Rattle.zb_instance_records.specs.declared.happening.VariableDocumentUpdate.{VariableDocumentUpdate};
@@ -23,15 +23,15 @@ ghost use Rattle.zb_views.specs.Timers.{times_timer_ended};
 ghost use Rattle.zb_views.specs.View.{events_in};
 ghost use Rattle.zb_rules.specs.Shown.{shown, board_of};
 ghost use Rattle.zb_rules.specs.Applies.{applies, all_apply};
-ghost use Rattle.zb_rules.specs.Legal.{IsMadeLegally, AllLegal, EachLegal};
+ghost use Rattle.zb_rules.specs.Legal.{IsMadeLegally};
 ghost use Rattle.zb_rules.specs.InFront.{count_in_front, events_in_front};
-ghost use Rattle.zb_rules.specs.Settling.{turn, HasQuietGame};
+ghost use Rattle.zb_rules.specs.Settling.{turn};
 ghost use Rattle.zb_rules.specs.JobEnds.{times_ended};
-ghost use Rattle.zb_rules.specs.Sound.{IsSound, HasSoundJobs, HasKeys, keys_of_turn, HasOrderedNames, IsForcedEvent, IsHolder};
+ghost use Rattle.zb_rules.specs.Sound.{IsSound, HasSoundJobs, HasKeys, IsForcedEvent, IsHolder};
 ghost use Rattle.zb_rules.specs.Cancel.{reason_to_cancel, cancelled};
 ghost use Rattle.zb_rules.specs.Update.{reason_to_update, updated};
 ghost use Rattle.zb_rules.specs.Reason.{reason_for};
-ghost use Rattle.zb_rules.specs.Own.{IsSupported, own_events};
+ghost use Rattle.zb_rules.specs.Own.{IsSupported};
 ghost use Rattle.zb_rules.specs.Step.{IsOutcomeOf};
 ghost use Rattle.zb_rules.specs.TimerEvents.{triggers, IsDueBy};
 ghost use Rattle.zb_rules.specs.declared.alarm.Alarm.{Alarm};
@@ -114,32 +114,17 @@ pub fn assignments_have_events()
         → IsTrue (fits board move) → length (events_in_front board move es) ≡ count_in_front board move }
 {}
 
-/// Behind a log whose events apply there is no turn exactly where the game is quiet.
-pub fn no_turn_is_quiet()
-    ensures { (p n moment : ℕ) (es : List Event) → IsTrue (all_apply p [] es)
-        → (turn p n moment es ≡ None) ↔ HasQuietGame es }
-{}
-
-/// Behind a log whose events apply, and where the keys of a turn are left, each event of a turn applies, and each
-/// move that one of them shows is legal, where what they evaluate is asked of the board before the turn.
-pub fn turns_apply()
-    ensures apply { (p n moment : ℕ) (es made : List Event) → IsTrue (all_apply p [] es)
-        → HasKeys p es keys_of_turn → turn p n moment es ≡ Some made → IsTrue (all_apply p es made) }
-    ensures legal { (p n moment : ℕ) (es made : List Event) → IsTrue (all_apply p [] es)
-        → HasKeys p es keys_of_turn → turn p n moment es ≡ Some made → AllLegal moment es es made }
-{}
-
 /// Behind a log whose events apply: where a turn or a cancel begins to end a cell, no incident
 /// stands on it any more.
 pub fn ended_cells_have_no_incident()
-    ensures turn { (p n moment : ℕ) (es : List Event) (cell : ℕ) (rest : List Event) (after : Board)
+    ensures turn { (p moment : ℕ) (es : List Event) (cell : ℕ) (rest : List Event) (after : Board)
         → IsTrue (all_apply p [] es) → HasKeys p es 1
-        → turn p n moment es ≡ Some (events.ElementTerminating cell ∷ rest)
+        → turn p moment es ≡ Some (events.ElementTerminating cell ∷ rest)
         → board_of (es ++ events.ElementTerminating cell ∷ rest) ≡ Some after
         → incident_on after cell ≡ None }
-    ensures cancel { (p n moment : ℕ) (es : List Event) (root : ℕ) (after : Board)
+    ensures cancel { (p moment : ℕ) (es : List Event) (root : ℕ) (after : Board)
         → IsTrue (all_apply p [] es) → reason_to_cancel es root ≡ None
-        → board_of (es ++ cancelled p n moment root es) ≡ Some after
+        → board_of (es ++ cancelled p moment root es) ≡ Some after
         → incident_on after root ≡ None }
 {}
 
@@ -150,19 +135,6 @@ pub fn applied_moves_are_legal()
         → (es : List Event) (event : Event) → IsTrue (applies p es event)
         → ((move : Move) → shown es event ≡ Some move → IsTrue (agrees evaluated moment move))
         → IfSome (shown es event) (IsMadeLegally moment seen es event) }
-{}
-
-/// A command that is run, and has no reason against it, has own events. Behind a log whose events apply, and where
-/// two keys are left and the names of the command's variables ascend, each of them applies. Of own events that
-/// apply each move is legal.
-pub fn own_events_apply()
-    ensures there { (p n : ℕ) (es : List Event) (moment : ℕ) (command : Command) → IsSupported command
-        → reason_for es moment command ≡ None → IsTrue (is_some (own_events p n es moment command)) }
-    ensures apply { (p n : ℕ) (es : List Event) (moment : ℕ) (command : Command) (own : List Event) → IsTrue (all_apply p [] es)
-        → HasKeys p es 2 → HasOrderedNames command → IsSupported command → reason_for es moment command ≡ None
-        → own_events p n es moment command ≡ Some own → IsTrue (all_apply p es own) }
-    ensures legal { (p n : ℕ) (es : List Event) (moment : ℕ) (command : Command) (own : List Event) → IsTrue (all_apply p es own)
-        → own_events p n es moment command ≡ Some own → EachLegal moment es own }
 {}
 
 /// Behind a log whose events apply each cell has a holder of each name: itself or a cell around it that has the name,

@@ -11,7 +11,7 @@ use Rattle.zb_model.specs.declared.record.Batch.{Batch}
 use Rattle.zb_model.specs.declared.stop.Stop.{Stop}
 use Rattle.zb_model.specs.declared.stop.Stop.TheVariants as stops
 use Rattle.zb_rules.specs.Step.{EachOn}
-use Rattle.zb_rules.specs.StepLaws.{each_on_none, each_on_all, each_on_joined}
+use Rattle.zb_rules.proofs.StepLaws.{each_on_none, each_on_all, each_on_joined}
 use Rattle.zb_store.specs.Log.{extent}
 use Rattle.zb_store.specs.declared.volume.Volume.{Volume}
 use Rattle.zb_partition.specs.Log.{bodies_of}
@@ -24,7 +24,7 @@ use Rattle.zb_wire.specs.declared.request.Request.{Request}
 use Rattle.zb_wire.specs.declared.request.LineFault.{LineFault}
 use Rattle.zb_desk.specs.Numbered.{EachFrom}
 use Rattle.zb_desk.specs.Serial.{Basis, next_unit, AreMadeFor, IsNextUnit, AreUnits}
-use Rattle.zb_desk.specs.SentLaws.{FollowsOn, asked_follows_on, unit_follows_on}
+use Rattle.zb_desk.proofs.SentLaws.{FollowsOn, asked_follows_on, unit_follows_on}
 use Rattle.zb_session.specs.Hours.{Hours}
 use Rattle.zb_session.specs.Answer.{Answer, found_in, entries_made, IsServed, IsServedAs, AreSerial}
 use Rattle.zb_session.specs.Session.{Streams, SessionEnds, SessionRun, CutsOff, IsLeftUndone, LeavesDesk, IsEndOf, HasServed}

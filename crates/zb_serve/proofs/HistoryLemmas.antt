@@ -9,12 +9,12 @@ use Rattle.zb_store.specs.Stands.{Stands}
 use Rattle.zb_partition.specs.Log.{bodies_of}
 use Rattle.zb_world.specs.Entries.{IsPartitionOf, is_of, part_of, parts_of, AtMostOne}
 use Rattle.zb_world.specs.declared.entry.Entry.{Entry}
-use Rattle.zb_world.specs.EntryLaws.{part_of_joined, part_of_its, part_of_other}
+use Rattle.zb_world.proofs.EntryLaws.{part_of_joined, part_of_its, part_of_other}
 use Rattle.zb_world.specs.History.{IsEntryOf, IsHistory, IsCutAt}
-use Rattle.zb_world.specs.HistoryLaws.{whole_is_cut}
-use Rattle.zb_world.specs.OnceLaws.{happens_once}
+use Rattle.zb_world.proofs.HistoryLaws.{whole_is_cut}
+use Rattle.zb_world.proofs.OnceLaws.{happens_once}
 use Rattle.zb_desk.specs.Serial.{log_behind}
-use Rattle.zb_desk.specs.SentLaws.{AreSerially, serial_goes_on}
+use Rattle.zb_desk.proofs.SentLaws.{AreSerially, serial_goes_on}
 use Rattle.zb_serve.specs.Ends.{Told, LogEnds}
 use Rattle.zb_serve.specs.Log.{batch_if, batch_of, IsKept}
 use Rattle.zb_serve.specs.History.{GoesOnWith, AreCut, AreImages}

@@ -7,7 +7,7 @@ use Rattle.zb_disk.specs.Cause.{Rose}
 use Rattle.zb_disk.specs.declared.disk.Disk.{Ghosts}
 use Rattle.zb_model.specs.declared.record.Batch.{Batch}
 use Rattle.zb_store.specs.Calls.{OnlyOpens, LeftByOpening, IsByFirstCall, Settles}
-use Rattle.zb_store.specs.CallLaws.{leaves_none}
+use Rattle.zb_store.proofs.CallLaws.{leaves_none}
 use Rattle.zb_store.specs.Stands.{Stands}
 use Rattle.zb_store.specs.declared.volume.Volume.{Volume}
 use Rattle.zb_partition.specs.Log.{bodies_of, IsApplied, IsBadAt}

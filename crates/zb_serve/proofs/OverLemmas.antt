@@ -11,7 +11,7 @@ use Rattle.zb_world.specs.History.{IsHistory}
 use Rattle.zb_lines.specs.Taken.{TakesBytes}
 use Rattle.zb_desk.specs.Numbered.{EachFrom}
 use Rattle.zb_desk.specs.Serial.{basis_of, log_behind, place_behind, next_unit}
-use Rattle.zb_desk.specs.SentLaws.{FollowsOn, AreSerially, serially_more, last_comes}
+use Rattle.zb_desk.proofs.SentLaws.{FollowsOn, AreSerially, serially_more, last_comes}
 use Rattle.zb_session.specs.Hours.{given_of}
 use Rattle.zb_session.specs.Answer.{Answer, IsAnswer, entries_made, AreSerial}
 use Rattle.zb_session.specs.Session.{Streams, SessionEnds, SessionRun, AreWritten, HasServed}

@@ -11,7 +11,7 @@ use Rattle.zb_wire.specs.declared.request.LineFault.{LineFault}
 use Rattle.zb_wire.specs.Request.{request_of}
 use Rattle.zb_wire.specs.Asked.{command_of}
 use Rattle.zb_reply.specs.Reply.{line_of, IsSpoken}
-use Rattle.zb_reply.specs.ReplyLaws.{answer_of-spoken}
+use Rattle.zb_reply.proofs.ReplyLaws.{answer_of-spoken}
 use Rattle.zb_reply.specs.declared.reply.Reply.{Reply}
 use Rattle.zb_reply.specs.declared.reply.Reply.TheVariants as replies
 use Rattle.zb_desk.specs.Serial.{asked_in}

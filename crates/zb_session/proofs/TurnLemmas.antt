@@ -5,9 +5,9 @@ use Rattle.std.proofs.lemmas.Grind.{flat_map-append}
 use Rattle.std.proofs.lemmas.List.{append-nil}
 use Rattle.zb_outside.specs.Stream.{SourceView, SinkView}
 use Rattle.zb_lines.specs.Taken.{TakesBytes}
-use Rattle.zb_lines.specs.TakenLaws.{takes_on, takes_nothing}
+use Rattle.zb_lines.proofs.TakenLaws.{takes_on, takes_nothing}
 use Rattle.zb_lines.specs.Line.{IsOneLine, ended}
-use Rattle.zb_rules.specs.StepLaws.{each_on_none, each_on_more}
+use Rattle.zb_rules.proofs.StepLaws.{each_on_none, each_on_more}
 use Rattle.zb_world.specs.declared.entry.Entry.{Entry}
 use Rattle.zb_desk.specs.Numbered.{EachFrom}
 use Rattle.zb_session.specs.Hours.{given_of}

@@ -14,7 +14,7 @@ use Rattle.zb_outside.specs.Cause.{StreamFaultsRose}
 use Rattle.zb_disk.specs.Cause.{Rose}
 use Rattle.zb_disk.specs.declared.disk.Disk.{Ghosts}
 use Rattle.zb_store.specs.Calls.{LeftByOpening}
-use Rattle.zb_store.specs.CallLaws.{Opens, leaves_none, leaves_then, leaves_weaker}
+use Rattle.zb_store.proofs.CallLaws.{Opens, leaves_none, leaves_then, leaves_weaker}
 use Rattle.zb_store.specs.Cause.{IsCaused}
 use Rattle.zb_store.specs.declared.fault.StoreFault.{StoreFault}
 use Rattle.zb_store.specs.declared.fault.StoreFault.TheVariants as store_faults

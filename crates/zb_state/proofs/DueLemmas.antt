@@ -5,7 +5,7 @@ use Rattle.std.proofs.lemmas.List.Elements.{filter-append, All-head, All-tail}
 use Rattle.zb_exchange_records.specs.declared.message.MessagePublished.{MessagePublished}
 use Rattle.zb_model.specs.declared.record.Command.{Command}
 use Rattle.zb_model.specs.declared.record.Event.{Event}
-use Rattle.zb_table.specs.Earliest.{earliest, place_in_time, first_due}
+use Rattle.zb_table.specs.Earliest.{earliest, place_in_time, first_due, earlier_option}
 use Rattle.zb_table.specs.Rows.{Ascend}
 use Rattle.zb_table.proofs.Ascending.{finds_own}
 use Rattle.zb_views.specs.declared.job.Job.{Job}
@@ -13,7 +13,7 @@ use Rattle.zb_views.specs.declared.timer.Timer.{Timer}
 use Rattle.zb_views.specs.Jobs.{jobs}
 use Rattle.zb_views.specs.Messages.{buffered}
 use Rattle.zb_views.specs.Timers.{timers, timer_at}
-use Rattle.zb_jobs.specs.EarlierLaws.{earlier_option, earliest_append, filter_mapped, earliest_mapped}
+use Rattle.zb_jobs.proofs.EarlierLaws.{earliest_append, filter_mapped, earliest_mapped}
 use Rattle.zb_jobs.specs.Table.{place_of_job, due_job}
 use Rattle.zb_timers.specs.Table.{place_of_timer, due_timer}
 use Rattle.zb_tokens.specs.Board.{Board}

@@ -9,8 +9,7 @@ use Rattle.zb_model.specs.declared.record.Event.TheVariants as events
 use Rattle.zb_table.specs.Rows.{are_below}
 use Rattle.zb_table.proofs.Growing.{below_higher, below_more}
 use Rattle.zb_views.specs.declared.job.Job.{Job}
-use Rattle.zb_views.specs.Jobs.{jobs, job_at, job_told, ends_job}
-use Rattle.zb_views.specs.JobLaws.{job_changed, job_made, jobs_by}
+use Rattle.zb_views.specs.Jobs.{jobs, job_at, job_told, ends_job, job_changed, job_made, jobs_by}
 use Rattle.zb_jobs.specs.Table.{has_place_for}
 use Rattle.zb_rules.specs.JobEvents.{has_job, are_jobs}
 use Rattle.zb_state.specs.Change.{BeginsWait}

@@ -16,7 +16,7 @@ use Rattle.zb_tokens.specs.declared.board.Deployed.{Deployed}
 use Rattle.zb_tokens.specs.Board.{Board, model_under}
 use Rattle.zb_rules.specs.Shown.{board_of}
 use Rattle.zb_rules.specs.Applies.{all_apply}
-use Rattle.zb_rules.specs.ProcessLaws.{as_definition, deployed_by, has_key, found_of_made, definitions_are, AreRecorded, are_recorded}
+use Rattle.zb_rules.proofs.ProcessLaws.{as_definition, deployed_by, has_key, found_of_made, definitions_are, AreRecorded, are_recorded}
 
 none_of : {A B : Type 0} (f : A → B) (found : Option A) → option_map f found ≡ None → found ≡ None
 none_of f None is = refl

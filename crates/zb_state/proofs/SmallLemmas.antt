@@ -1,18 +1,13 @@
 -- A model without faults is small.
 use Rattle.std.proofs.Common.{◌≡◌, ◌≤◌, length, Bool, true, IsTrue, Result, Ok, Err, IfOk, subst, arith}
 use Rattle.std.specs.declared.alloc.AllocError.{AllocError}
-use Rattle.std.proofs.Math.Bool.{Bool-set}
-use Rattle.std.proofs.Math.Logic.{∥∥₁_elim}
 use Rattle.zb_process.specs.declared.model.Model.{Model}
 use Rattle.zb_faults.specs.Faults.{is_well_formed}
-use Rattle.zb_faults.specs.FaultLaws.{sizes_are_bound}
+use Rattle.zb_faults.proofs.FaultLaws.{sizes_are_bound}
 use Rattle.zb_model.specs.declared.record.Event.{Event}
 use Rattle.zb_model.specs.declared.record.Event.TheVariants as events
 use Rattle.zb_instance_records.specs.declared.deployment.ProcessCreated.{ProcessCreated}
-use Rattle.zb_tokens.specs.GameLaws.{both_left}
 use Rattle.zb_state.specs.Small.{IsSmall, HasSmallModel}
-use Rattle.zb_state.specs.State.{Admits}
-use Rattle.zb_state.specs.declared.state.State.{State}
 
 small : (m : Model) → IsTrue (is_well_formed m) → IsSmall m
 small m formed =
@@ -25,7 +20,3 @@ pub small_where_formed : (looked : Result Bool AllocError) (e : Event) (p : Proc
     → IfOk looked (λ meets. IsTrue meets → HasSmallModel e)
 small_where_formed (Ok good) e p is told = λ meets. rw is (small p.model (subst (λ (t : Bool). IsTrue t) told meets))
 small_where_formed (Err fault) e p is told = tt
-
--- the model of a process whose event applies to what the state is of has no fault
-pub formed_where_admitted : (state : State) (p : ProcessCreated) → Admits state (events.ProcessCreated p) → IsTrue (is_well_formed p.model)
-formed_where_admitted state p admitted = ∥∥₁_elim admitted (Bool-set (is_well_formed p.model) true) (λ r. both_left (is_well_formed p.model) _ r.2)

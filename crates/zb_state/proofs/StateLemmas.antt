@@ -14,34 +14,34 @@ use Rattle.zb_table.specs.Rows.{Ascend, are_below, with_row}
 use Rattle.zb_table.proofs.Growing.{with_last, below_higher, below_more, below_without, has_row, passes_at}
 use Rattle.zb_waits.proofs.FoundLemmas.{first_is_found, none_below}
 use Rattle.zb_views.specs.Messages.{buffered, is_past_deadline, without_message}
-use Rattle.zb_views.specs.MessageLaws.{buffered_published, buffered_expired}
-use Rattle.zb_views.specs.ViewLaws.{definitions_more, begun_more, buffered_kept, greatest_counter_more}
-use Rattle.zb_rules.specs.GrowthLaws.{board_of_more}
+use Rattle.zb_views.proofs.MessageLaws.{buffered_published, buffered_expired}
+use Rattle.zb_views.proofs.ViewLaws.{definitions_more, begun_more, buffered_kept, greatest_counter_more}
+use Rattle.zb_rules.proofs.GrowthLaws.{board_of_more}
 use Rattle.zb_views.specs.Definitions.{definition_told, definitions}
 use Rattle.zb_definitions.specs.Kept.{KeepsDefinitions}
 use Rattle.zb_views.specs.Standing.{standing_by}
-use Rattle.zb_views.specs.StandingLaws.{standing_more}
+use Rattle.zb_views.proofs.StandingLaws.{standing_more}
 use Rattle.zb_views.specs.declared.distribution.Distribution.{Distribution}
 use Rattle.zb_views.specs.Distributions.{distribution_to, is_that, distribution_told, ends_distribution, distributions}
 use Rattle.zb_views.specs.Begin.{begun_told}
 use Rattle.zb_tokens.specs.Board.{Board}
 use Rattle.zb_rules.specs.Shown.{shown, after_shown, board_of, event_of}
 use Rattle.zb_rules.specs.Applies.{applies, holds_own, may_fit}
-use Rattle.zb_rules.specs.StepLaws.{all_apply_more}
+use Rattle.zb_rules.proofs.StepLaws.{all_apply_more}
 use Rattle.zb_rules.specs.Settling.{in_events, turn_of, turn_with}
 use Rattle.zb_tokens.specs.Mappings.{assignments_of}
 use Rattle.zb_state.specs.declared.turn.Turn.{Turn}
 use Rattle.zb_tokens.specs.Forced.{next_mover, move_of}
 use Rattle.zb_tokens.specs.declared.board.Move.{Move}
 use Rattle.zb_tokens.specs.declared.board.Mover.{Mover}
-use Rattle.zb_views.specs.CounterLaws.{counter_at-key_of}
+use Rattle.zb_views.proofs.CounterLaws.{counter_at-key_of}
 use Rattle.zb_state.specs.declared.change.Change.{Change}
 use Rattle.zb_state.specs.declared.change.Change.TheVariants as changes
 use Rattle.zb_views.specs.declared.job.Job.{Job}
-use Rattle.zb_views.specs.Jobs.{jobs, job_on, ending_told, calls_off_job, called_off}
-use Rattle.zb_views.specs.JobLaws.{jobs_by, jobs_more, jobs_kept, called_off_more}
-use Rattle.zb_views.specs.Timers.{timers}
-use Rattle.zb_views.specs.TimerLaws.{timers_by, timers_more, timers_kept}
+use Rattle.zb_views.specs.Jobs.{jobs, job_on, ending_told, calls_off_job, called_off, jobs_by}
+use Rattle.zb_views.proofs.JobLaws.{jobs_more, jobs_kept, called_off_more}
+use Rattle.zb_views.specs.Timers.{timers, timers_by}
+use Rattle.zb_views.proofs.TimerLaws.{timers_more, timers_kept}
 use Rattle.zb_state.specs.Change.{change_told, distributions_with, definition_of_change, instance_of_change, with_change, jobs_with, timers_with, called_off_by, HasNextKey, IsFirstOfCell, Draws, BeginsWait}
 use Rattle.zb_state.specs.State.{IsStateOf, IsSameBeside, GoesBy, IsNoted, HasTaken}
 use Rattle.zb_state.specs.declared.state.State.{State}
@@ -215,22 +215,22 @@ pub applies_by : (p : ℕ) (es : List Event) (e : Event) (b : Board) → holds_o
 applies_by p es e b own is = rw (own, is) refl
 
 -- what a mover does is one event, with what is set in front of it and those behind it
-pub turn_told : (p n moment : ℕ) (es : List Event) (b game : Board) (mover : Mover) (key : ℕ) (move : Move) (turn : Option Turn)
+pub turn_told : (p moment : ℕ) (es : List Event) (b game : Board) (mover : Mover) (key : ℕ) (move : Move) (turn : Option Turn)
     → b ≡ game → key ≡ next_key p es → Some move ≡ move_of game moment key mover → turn ≡ option_map (λ e. record { assignments = assignments_of game move; event = e }) (event_of game move)
-    → turn_of p n moment es b mover ≡ option_map (λ t. turn_with p n moment t.assignments t.event es) turn
-turn_told p n moment es b game mover key move turn same drawn is_move is_turn =
+    → turn_of p moment es b mover ≡ option_map (λ t. turn_with p moment t.assignments t.event es) turn
+turn_told p moment es b game mover key move turn same drawn is_move is_turn =
     let told : move_of game moment (next_key p es) mover ≡ Some move = subst (λ (k : ℕ). move_of game moment k mover ≡ Some move) drawn (sym is_move) in
     rw (same, told, is_turn) (by_event (event_of game move))
   where
-    by_event : (event : Option Event) → option_map (λ e. in_events p n moment game move e es) event
-        ≡ option_map (λ (t : Turn). turn_with p n moment t.assignments t.event es) (option_map (λ e. record { assignments = assignments_of game move; event = e }) event)
+    by_event : (event : Option Event) → option_map (λ e. in_events p moment game move e es) event
+        ≡ option_map (λ (t : Turn). turn_with p moment t.assignments t.event es) (option_map (λ e. record { assignments = assignments_of game move; event = e }) event)
     by_event None = refl
     by_event (Some e) = refl
 
 -- and nothing where he has no move
-pub no_turn_told : (p n moment : ℕ) (es : List Event) (b game : Board) (mover : Mover) (key : ℕ)
-    → b ≡ game → key ≡ next_key p es → None ≡ move_of game moment key mover → turn_of p n moment es b mover ≡ None
-no_turn_told p n moment es b game mover key same drawn is_move =
+pub no_turn_told : (p moment : ℕ) (es : List Event) (b game : Board) (mover : Mover) (key : ℕ)
+    → b ≡ game → key ≡ next_key p es → None ≡ move_of game moment key mover → turn_of p moment es b mover ≡ None
+no_turn_told p moment es b game mover key same drawn is_move =
     let told : move_of game moment (next_key p es) mover ≡ None = subst (λ (k : ℕ). move_of game moment k mover ≡ None) drawn (sym is_move) in
     rw (same, told) refl
 

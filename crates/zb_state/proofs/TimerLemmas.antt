@@ -8,8 +8,7 @@ use Rattle.zb_table.specs.Rows.{are_below}
 use Rattle.zb_table.proofs.Growing.{below_higher, below_more}
 use Rattle.zb_views.specs.declared.job.Job.{Job}
 use Rattle.zb_views.specs.declared.timer.Timer.{Timer}
-use Rattle.zb_views.specs.Timers.{timer_of, timer_told, ends_timer}
-use Rattle.zb_views.specs.TimerLaws.{timer_made, timers_left, timers_by}
+use Rattle.zb_views.specs.Timers.{timer_of, timer_told, ends_timer, timer_made, timers_left, timers_by}
 use Rattle.zb_timers.specs.Table.{has_place_for_timer}
 use Rattle.zb_state.specs.Change.{BeginsWait}
 

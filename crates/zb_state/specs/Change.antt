@@ -11,9 +11,8 @@ use Rattle.zb_views.specs.declared.distribution.Distribution.{Distribution}
 use Rattle.zb_views.specs.Distributions.{distribution_to, is_that}
 use Rattle.zb_views.specs.declared.job.Job.{Job}
 use Rattle.zb_views.specs.declared.timer.Timer.{Timer}
-use Rattle.zb_views.specs.TimerLaws.{timers_by}
-use Rattle.zb_views.specs.Jobs.{ending_told}
-use Rattle.zb_views.specs.JobLaws.{jobs_by}
+use Rattle.zb_views.specs.Timers.{timers_by}
+use Rattle.zb_views.specs.Jobs.{ending_told, jobs_by}
 use Rattle.zb_views.specs.Messages.{without_message}
 use Rattle.zb_state.specs.declared.change.Change.{Change}
 use Rattle.zb_state.specs.declared.change.Change.TheVariants as changes

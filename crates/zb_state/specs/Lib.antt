@@ -1,4 +1,5 @@
 pub mod Alarms
 pub mod Change
 pub mod State
+pub mod Refusal
 pub mod Small

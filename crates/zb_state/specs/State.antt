@@ -1,14 +1,12 @@
 -- What contracts see of a state.
-use Rattle.std.specs.Prelude.{◌≡◌, ℕ, max, List, [], true, Option, Some, None, IsTrue}
+use Rattle.std.specs.Prelude.{◌≡◌, ◌++◌, ℕ, max, List, [], true, Option, Some, None, IsTrue, IsFalse}
 use Rattle.zb_model.specs.declared.record.Event.{Event}
 use Rattle.zb_state.specs.declared.state.State.{State}
 use Rattle.zb_state.specs.declared.change.Change.{Change}
 use Rattle.zb_state.specs.Change.{change_told, with_change, distributions_with, definition_of_change, instance_of_change, jobs_with, timers_with, called_off_by}
 use Rattle.zb_views.specs.View.{greatest_counter}
-use Rattle.zb_views.specs.Jobs.{jobs, called_off, ending_told}
-use Rattle.zb_views.specs.JobLaws.{says_nothing_of_jobs}
-use Rattle.zb_views.specs.Timers.{timers}
-use Rattle.zb_views.specs.TimerLaws.{says_nothing_of_timers}
+use Rattle.zb_views.specs.Jobs.{jobs, called_off, ending_told, says_nothing_of_jobs}
+use Rattle.zb_views.specs.Timers.{timers, says_nothing_of_timers}
 use Rattle.zb_views.specs.Messages.{buffered}
 use Rattle.zb_views.specs.Definitions.{definitions}
 use Rattle.zb_views.specs.Distributions.{distributions}
@@ -35,17 +33,18 @@ pub record IsStateOf (es : List Event) (state : State) : Type 0 where
   pub called_off : called_off es ≡ state.called_off
   pub game : board_of es ≡ Some state.game
 
--- some events come to this state
-abbrev pub IsReached : State → Type 0
-IsReached state = ∥ ((es : List Event) × IsStateOf es state) ∥₁
+-- no events come to this state
+abbrev pub IsUnreached : State → Type 0
+IsUnreached state = (es : List Event) → IsStateOf es state → ⊥
 
--- some events come to this state, and this one applies to them
-abbrev pub Admits : State → Event → Type 0
-Admits state event = ∥ ((es : List Event) × IsStateOf es state × IsTrue (applies (partition_of state) es event)) ∥₁
+-- of no events that come to this state all that is made of them applies
+abbrev pub CantMake : State → Making → Type 0
+CantMake state make = (es : List Event) → IsStateOf es state → IsFalse (all_apply (partition_of state) es (make es))
 
--- some events come to this state, and each of those that are made of them applies
-abbrev pub AdmitsMade : State → Making → Type 0
-AdmitsMade state make = ∥ ((es : List Event) × IsStateOf es state × IsTrue (all_apply (partition_of state) es (make es))) ∥₁
+-- what is made of the events that come to a state was put behind others, and the state has taken it in
+pub record HasPut (make : Making) (state after : State) (out out_after : List Event) : Type 0 where
+  pub put : (es : List Event) → IsStateOf es state → out_after ≡ out ++ make es
+  pub taken : (es : List Event) → IsStateOf es state → IsStateOf (es ++ make es) after
 
 -- two states that differ in their game alone
 pub record IsSameBeside (old new : State) : Type 0 where

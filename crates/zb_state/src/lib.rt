@@ -7,9 +7,11 @@ mod distributions;
 mod keys;
 mod moves;
 mod out;
+mod refusal;
 mod state;
 mod turn;
 
 pub use out::Out;
+pub use refusal::Refusal;
 pub use state::State;
 pub use turn::Turn;

@@ -1,12 +1,12 @@
-ghost use Rattle.std.specs.Prelude.{◌≡◌, ◌++◌, ◌∷◌, List, [], length, IsTrue, IfOk, OnOk};
-ghost use Rattle.zb_model.specs.declared.record.Event.{Event};
-ghost use Rattle.zb_rules.specs.Applies.{applies};
-ghost use Rattle.zb_state.specs.State.{partition_of, Admits, IsStateOf};
+ghost use Rattle.std.specs.Prelude.{◌≡◌, ◌++◌, [], ◌∷◌, length, IfOk, OnOk, IsErrOf};
+ghost use Rattle.zb_rules.specs.Making.{just};
+ghost use Rattle.zb_state.specs.State.{partition_of, CantMake, HasPut};
+ghost use Rattle.zb_state.specs.declared.refusal.Refusal.TheVariants.{Misfit};
 
-use crate::State;
+use crate::{Refusal, State};
 use std::alloc::{AllocError, Global};
 use std::marker::Model;
-use zb_model::{Event, List, TableFault};
+use zb_model::{Event, List};
 
 // The events of most commands are no more than so many.
 const ROOM: usize = 16;
@@ -47,21 +47,19 @@ impl Out {
         self.events.as_slice().len()
     }
 
-    /// Takes an event that applies into the state, and adds it. After a refusal both are only dropped. It costs
-    /// what `State::apply` does, but for the check of a model.
-    pub fn put(&mut self, alloc: Global, state: &mut State, event: Event) -> Result<(), AllocError>
-        requires { Admits state.old event }
-        ensures put { OnOk result (self.new ≡ self.old ++ event ∷ []) }
+    /// Takes an event into the state, and adds it. A misfit is an event that doesn't apply. After a refusal both are only
+    /// dropped. It costs what `State::apply` does.
+    pub fn put(&mut self, alloc: Global, state: &mut State, event: Event) -> Result<(), Refusal>
+        ensures ok { OnOk result (HasPut (just event) state.old state.new self.old self.new) }
         ensures place { partition_of state.new ≡ partition_of state.old }
-        ensures applied { (es : List Event) → IsStateOf es state.old → OnOk result (IsTrue (applies (partition_of state.old) es event)) }
-        ensures state { (es : List Event) → IsStateOf es state.old → OnOk result (IsStateOf (es ++ event ∷ []) state.new) }
+        ensures one { OnOk result (self.new ≡ self.old ++ event ∷ []) }
+        ensures misfit { IsErrOf result Misfit → CantMake state.old (just event) }
     {
-        match state.apply_as(alloc, &event, true) {
+        match state.apply(alloc, &event) {
             Ok(()) => {}
-            Err(TableFault::NotApplicable) => unreachable!(),
-            Err(TableFault::Memory) => {
+            Err(fault) => {
                 drop(event);
-                return Err(AllocError);
+                return Err(Refusal::from(fault));
             }
         }
         self.events.push(event)?;

@@ -4,7 +4,7 @@ ghost use Rattle.std.specs.Option.{option_copied, option_map_or};
 ghost use Rattle.zb_base.specs.Key.{key_of};
 ghost use Rattle.zb_model.specs.declared.record.Event.{Event};
 ghost use Rattle.zb_model.specs.declared.record.Event.TheVariants as events;
-ghost use Rattle.zb_views.specs.View.{greatest_counter, next_key};
+ghost use Rattle.zb_views.specs.View.{next_key};
 ghost use Rattle.zb_views.specs.Messages.{buffered, is_buffered, message_at};
 ghost use Rattle.zb_rules.specs.Publish.{is_same};
 ghost use Rattle.zb_rules.specs.Expire.{is_due_at};
@@ -15,8 +15,8 @@ ghost use Rattle.zb_rules.specs.Resolve.{incident_in};
 ghost use Rattle.zb_rules.specs.JobEvents.{has_cause};
 ghost use Rattle.zb_jobs.specs.Table.{has_place_for};
 ghost use Rattle.zb_timers.specs.Table.{has_place_for_timer};
-ghost use Rattle.zb_views.specs.JobLaws.{jobs_by};
-ghost use Rattle.zb_views.specs.TimerLaws.{timers_by};
+ghost use Rattle.zb_views.specs.Jobs.{jobs_by};
+ghost use Rattle.zb_views.specs.Timers.{timers_by};
 ghost use Rattle.zb_tokens.specs.Incidents.{incident_on};
 ghost use Rattle.zb_base.specs.Vars.{is_ascending, value_named};
 ghost use Rattle.zb_tokens.specs.Names.{holder_of, value_seen};
@@ -92,13 +92,12 @@ pub struct State {
 }
 
 impl State {
-    ghost use Rattle.zb_state.specs.State.{partition_of, IsStateOf, IsReached, Admits, IsSameBeside, IsNoted, HasTaken};
+    ghost use Rattle.zb_state.specs.State.{partition_of, IsStateOf, IsSameBeside, IsNoted, HasTaken};
 
     /// The state of a log without events.
     pub fn empty(alloc: Global, place: PartitionId) -> State
         ensures place { partition_of result ≡ place }
         ensures state { IsStateOf [] result }
-        ensures reached { IsReached result }
     {
         State {
             place,
@@ -127,25 +126,7 @@ impl State {
             → IsErrOf result TableFault.NotApplicable → IsFalse (applies (partition_of self.old) es event.now) }
         ensures kept { IsErrOf result TableFault.NotApplicable → self.new ≡ self.old }
     {
-        self.apply_as(alloc, event, false)
-    }
-
-    /// Takes in an event as `apply` does. Where it is known to apply its model isn't looked at again.
-    pub(crate) fn apply_as(
-        &mut self,
-        alloc: Global,
-        event: &Event,
-        known: bool,
-    ) -> Result<(), TableFault>
-        requires known { IsTrue known → Admits self.old event.now }
-        ensures place { partition_of self.new ≡ partition_of self.old }
-        ensures applied { (es : List Event) → IsStateOf es self.old → OnOk result (IsTrue (applies (partition_of self.old) es event.now)) }
-        ensures state { (es : List Event) → IsStateOf es self.old → OnOk result (IsStateOf (es ++ event.now ∷ []) self.new) }
-        ensures refused { (es : List Event) → IsStateOf es self.old
-            → IsErrOf result TableFault.NotApplicable → IsFalse (applies (partition_of self.old) es event.now) }
-        ensures kept { IsErrOf result TableFault.NotApplicable → self.new ≡ self.old }
-    {
-        self.admit(alloc, event, known)?;
+        self.admit(alloc, event)?;
         let counter = greatest_counter_of(self.place, event);
         self.follow(alloc, counter, event)?;
         Ok(())
@@ -160,7 +141,7 @@ impl State {
             → IsErrOf result TableFault.NotApplicable → IsFalse (applies (partition_of self.old) es event) }
         ensures kept { IsErrOf result TableFault.NotApplicable → self.new ≡ self.old }
     {
-        match self.admit(alloc, &event, false) {
+        match self.admit(alloc, &event) {
             Ok(()) => {}
             Err(fault) => {
                 drop(event);
@@ -177,15 +158,6 @@ impl State {
         ensures { (es : List Event) → IsStateOf es self.now → result ≡ next_key (partition_of self.now) es }
     {
         self.fresh()
-    }
-
-    /// The key behind the next one that the partition draws, as far as it has counters.
-    pub fn second_key(&self) -> Key
-        ensures { (es : List Event) → IsStateOf es self.now
-            → result ≡ key_of (partition_of self.now) (greatest_counter (partition_of self.now) es + 2) }
-    {
-        let place = u64::from(self.place.number());
-        Key::new(place * Key::COUNTERS + self.counter + 2)
     }
 
     /// Whether the partition has so many keys left.
@@ -337,9 +309,9 @@ impl State {
         moment: Moment,
         mover: Mover,
     ) -> Result<Option<Turn>, AllocError>
-        ensures { (n : ℕ) (es : List Event) (b : Board) → IsStateOf es self.now → board_of es ≡ Some b
-            → IfOk result (λ turn. turn_of (partition_of self.now) n moment es b mover
-            ≡ option_map (λ t. turn_with (partition_of self.now) n moment t.assignments t.event es) turn) }
+        ensures { (es : List Event) (b : Board) → IsStateOf es self.now → board_of es ≡ Some b
+            → IfOk result (λ turn. turn_of (partition_of self.now) moment es b mover
+            ≡ option_map (λ t. turn_with (partition_of self.now) moment t.assignments t.event es) turn) }
     {
         match self.game.move_of(alloc, moment, self.next_key(), mover)? {
             Some(made) => turn_by(alloc, made, &self.game),
@@ -375,15 +347,14 @@ impl State {
 
     // Whether the event meets its own condition, beside the move that it shows. The events of the last arm are
     // made by no command so far.
-    fn meets_own(&self, alloc: Global, event: &Event, known: bool) -> Result<bool, AllocError>
-        requires { IsTrue known → Admits self.now event.now }
+    fn meets_own(&self, alloc: Global, event: &Event) -> Result<bool, AllocError>
         ensures own { (es : List Event) → IsStateOf es self.now → IfOk result (λ meets. meets ≡ holds_own (partition_of self.now) es event.now) }
         ensures next { IfOk result (λ meets. IsTrue meets → HasNextKey (partition_of self.now) self.now.counter event.now) }
         ensures first { IfOk result (λ meets. IsTrue meets → IsFirstOfCell self.now.jobs event.now) }
         ensures small { IfOk result (λ meets. IsTrue meets → HasSmallModel event.now) }
     {
         match event {
-            Event::ProcessCreated(process) => self.is_good(alloc, process, known),
+            Event::ProcessCreated(process) => is_well_formed(alloc, &process.model),
             Event::DeploymentCreated(made) => Ok(self.names_definition(made.key, made.definition)),
             Event::ProcessInstanceCreationCreated(made) => {
                 Ok(self.names_definition(made.key, made.definition))
@@ -435,22 +406,6 @@ impl State {
             | Event::ProcessMessageSubscriptionDeleted(_)
             | Event::ProcessMessageSubscriptionDeleting(_) => Ok(false),
         }
-    }
-
-    // Whether the model of a process has no fault. Where its event is known to apply it isn't looked at.
-    fn is_good(
-        &self,
-        alloc: Global,
-        process: &ProcessCreated,
-        known: bool,
-    ) -> Result<bool, AllocError>
-        requires { IsTrue known → Admits self.now (events.ProcessCreated process.now) }
-        ensures { IfOk result (λ good. good ≡ is_well_formed process.now.model) }
-    {
-        if known {
-            return Ok(true);
-        }
-        is_well_formed(alloc, &process.model)
     }
 
     // Whether the key is fresh, and the definition is there.
@@ -531,8 +486,7 @@ impl State {
 
     // Makes the move of an event that applies. At `NotApplicable`, exactly where it doesn't, nothing has
     // changed; after `Memory` the state is only dropped.
-    fn admit(&mut self, alloc: Global, event: &Event, known: bool) -> Result<(), TableFault>
-        requires { IsTrue known → Admits self.old event.now }
+    fn admit(&mut self, alloc: Global, event: &Event) -> Result<(), TableFault>
         ensures beside { IsSameBeside self.old self.new }
         ensures applied { (es : List Event) → IsStateOf es self.old → OnOk result (IsTrue (applies (partition_of self.old) es event.now)) }
         ensures played { (es : List Event) → IsStateOf es self.old → OnOk result (after_shown self.old.game (shown es event.now) ≡ Some self.new.game) }
@@ -542,7 +496,7 @@ impl State {
             → IsErrOf result TableFault.NotApplicable → IsFalse (applies (partition_of self.old) es event.now) }
         ensures kept { IsErrOf result TableFault.NotApplicable → self.new ≡ self.old }
     {
-        if !self.meets_own(alloc, event, known)? {
+        if !self.meets_own(alloc, event)? {
             return Err(TableFault::NotApplicable);
         }
         let rests = self.rests;

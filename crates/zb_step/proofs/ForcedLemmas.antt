@@ -8,20 +8,20 @@ use Rattle.zb_rules.specs.Shown.{board_of}
 use Rattle.zb_rules.specs.Applies.{all_apply}
 use Rattle.zb_rules.specs.Settling.{turn, turn_of}
 use Rattle.zb_rules.specs.Sound.{HasKeys, keys_of_turn}
-use Rattle.zb_rules.specs.ProgressLaws.{no_turn_is_quiet, turn_applies, turn_legal}
+use Rattle.zb_rules.proofs.ProgressLaws.{no_turn_is_quiet, turn_applies, turn_legal}
 use Rattle.zb_step.specs.Settled.{IsTurn}
 
-module _ (p n moment : ℕ) (es : List Event) (b : Board) (mover : Mover) where
+module _ (p moment : ℕ) (es : List Event) (b : Board) (mover : Mover) where
   -- on the board of these events the next turn is that of the next mover
-  turn_from : board_of es ≡ Some b → next_mover b ≡ Some mover → turn p n moment es ≡ turn_of p n moment es b mover
+  turn_from : board_of es ≡ Some b → next_mover b ≡ Some mover → turn p moment es ≡ turn_of p moment es b mover
   unfolding turn
   turn_from at next = rw (at, next) refl
 
   -- the events that the next mover makes are the next turn
-  pub is_turn : (made : List Event) → IsTrue (all_apply p [] es) → HasKeys p es keys_of_turn → board_of es ≡ Some b → next_mover b ≡ Some mover → turn_of p n moment es b mover ≡ Some made → IsTurn p n moment es made
+  pub is_turn : (made : List Event) → IsTrue (all_apply p [] es) → HasKeys p es keys_of_turn → board_of es ≡ Some b → next_mover b ≡ Some mover → turn_of p moment es b mover ≡ Some made → IsTurn p moment es made
   is_turn made applied keys at next is =
-      let forced : turn p n moment es ≡ Some made = turn_from at next ∙ is in
-      record { forced = forced; applied = turn_applies p n moment es made applied keys forced; legal = turn_legal p n moment es made applied keys forced }
+      let forced : turn p moment es ≡ Some made = turn_from at next ∙ is in
+      record { forced = forced; applied = turn_applies p moment es made applied keys forced; legal = turn_legal p moment es made applied keys forced }
 
   moves_on : (other : Board) → board_of es ≡ Some b → board_of es ≡ Some other → next_mover b ≡ Some mover → IsQuiet other → ⊥
   moves_on other at too next quiet =
@@ -32,7 +32,7 @@ module _ (p n moment : ℕ) (es : List Event) (b : Board) (mover : Mover) where
       cc
 
   -- the next mover has a turn
-  pub has_turn : IsTrue (all_apply p [] es) → board_of es ≡ Some b → next_mover b ≡ Some mover → turn_of p n moment es b mover ≡ None → ⊥
+  pub has_turn : IsTrue (all_apply p [] es) → board_of es ≡ Some b → next_mover b ≡ Some mover → turn_of p moment es b mover ≡ None → ⊥
   has_turn applied at next none =
-      let q = (no_turn_is_quiet p n moment es applied).0 (turn_from at next ∙ none) in
+      let q = (no_turn_is_quiet p moment es applied).0 (turn_from at next ∙ none) in
       moves_on q.board at q.is next q.quiet

@@ -1,4 +1,3 @@
-pub mod AtOnce
 pub mod Behind
+pub mod Making
 pub mod Settled
-pub mod Told

@@ -1,18 +1,17 @@
 // A partition says that it has a definition.
-ghost use Rattle.std.specs.Prelude.{◌≡◌, ◌++◌, List, IfOk, OnOk, string_bytes};
+ghost use Rattle.std.specs.Prelude.{◌≡◌, List, IfOk, string_bytes};
 ghost use Rattle.zb_model.specs.declared.record.Event.{Event};
 ghost use Rattle.zb_rules.specs.Acknowledge.{no_distribution, reason_to_acknowledge, finished_if_last, acknowledged};
-ghost use Rattle.zb_state.specs.State.{partition_of, AdmitsMade, IsStateOf};
-ghost use Rattle.zb_step.specs.Behind.{any_event};
+ghost use Rattle.zb_state.specs.State.{IsStateOf};
 
-use crate::behind::put_any;
+use crate::making::{Find, Found, Maker};
 use crate::rejection::rejection;
 use std::alloc::{AllocError, Global};
 use zb_model::{
-    CommandDistributionAcknowledge, CommandDistributionAcknowledged, Event, Key, Rejection,
+    CommandDistributionAcknowledge, CommandDistributionAcknowledged, Event, Key, Moment, Rejection,
     RejectionKind,
 };
-use zb_state::{Out, State};
+use zb_state::{Out, Refusal, State};
 
 /// Why it isn't taken down that a partition has a definition: it isn't on its way there. It goes through the
 /// distributions that are under way.
@@ -41,34 +40,36 @@ fn text_of_none(alloc: Global, definition: Key, partition: u32) -> Result<String
     Ok(text)
 }
 
-/// Puts the events by which it is taken down that a partition has a definition, and by which the distribution ends
-/// where that was the last one. Each costs what `Out::put` does. After a refusal the state and the events are only
-/// dropped.
-pub fn put_own(
-    alloc: Global,
-    state: &mut State,
-    told: &CommandDistributionAcknowledge,
-    out: &mut Out,
-) -> Result<(), AllocError>
-    requires { AdmitsMade state.old (acknowledged told.now) }
-    ensures put { (es : List Event) → IsStateOf es state.old → OnOk result (out.new ≡ out.old ++ acknowledged told.now es) }
-    ensures state { (es : List Event) → IsStateOf es state.old → OnOk result (IsStateOf (es ++ acknowledged told.now es) state.new) }
-    ensures place { partition_of state.new ≡ partition_of state.old }
-{
-    let key = told.key;
-    let partition = told.partition;
-    let taken = CommandDistributionAcknowledged { key, partition };
-    out.put(alloc, state, Event::CommandDistributionAcknowledged(taken))?;
-    let finished = finished_if_last(state, key);
-    put_any(alloc, state, finished, out)
+/// It is taken down that the partition has the definition, and the distribution ends where that was the last one.
+impl Maker for &CommandDistributionAcknowledge {
+    ghost making = { λ told p moment. acknowledged told.now };
+
+    fn put(
+        self,
+        alloc: Global,
+        state: &mut State,
+        moment: Moment,
+        out: &mut Out,
+    ) -> Result<(), Refusal> {
+        let key = self.key;
+        let partition = self.partition;
+        let taken = CommandDistributionAcknowledged { key, partition };
+        let taken = Event::CommandDistributionAcknowledged(taken);
+        (taken, Found(FinishedIfLast(key))).put(alloc, state, moment, out)
+    }
 }
 
-// The event by which the distribution of a definition ends, where no partition is left.
-fn finished_if_last(state: &State, definition: Key) -> Option<Event>
-    ensures { (es : List Event) → IsStateOf es state.now → finished_if_last definition es ≡ any_event result }
-{
-    if state.is_distributed(definition) {
-        return None;
+// The distribution of a definition ends, where no partition is left.
+#[derive(Drop)]
+struct FinishedIfLast(Key);
+
+impl Find for FinishedIfLast {
+    ghost finds = { λ it p. finished_if_last it.0 };
+
+    fn find(self, _alloc: Global, state: &State) -> Result<Option<Event>, AllocError> {
+        if state.is_distributed(self.0) {
+            return Ok(None);
+        }
+        Ok(Some(Event::CommandDistributionFinished(self.0)))
     }
-    Some(Event::CommandDistributionFinished(definition))
 }

@@ -1,22 +1,21 @@
 // Giving jobs to a worker.
-ghost use Rattle.std.specs.Prelude.{◌≡◌, ◌++◌, List, [], Some, IfOk, OnOk};
+ghost use Rattle.std.specs.Prelude.{◌≡◌, List, [], Some, IfOk};
 ghost use Rattle.std.specs.Option.{option_map_or};
 ghost use Rattle.zb_model.specs.declared.record.Event.{Event};
 ghost use Rattle.zb_tokens.specs.Board.{Board, cell_at};
 ghost use Rattle.zb_tokens.specs.Names.{root_of};
 ghost use Rattle.zb_rules.specs.Shown.{board_of};
-ghost use Rattle.zb_rules.specs.Activate.{reason_to_activate, job_given, given_out, each_given_out, activated};
-ghost use Rattle.zb_state.specs.State.{partition_of, IsStateOf, AdmitsMade};
-ghost use Rattle.zb_step.specs.Behind.{any_event};
+ghost use Rattle.zb_rules.specs.Activate.{reason_to_activate, job_given, given_out, batch_told, activated};
+ghost use Rattle.zb_state.specs.State.{IsStateOf};
 
-use crate::behind::put_any;
+use crate::making::{Each, Find, FindEach, Found, Maker};
 use crate::rejection::rejection;
 use std::alloc::{AllocError, Global};
 use zb_model::{
-    Event, JobActivated, JobBatchActivate, JobBatchActivated, Key, Moment, Rejection,
+    Event, JobActivated, JobBatchActivate, JobBatchActivated, Key, List, Moment, Rejection,
     RejectionKind, Text, TryCopy,
 };
-use zb_state::{Out, State};
+use zb_state::{Out, Refusal, State};
 use zb_views::Job;
 
 /// Why no jobs are given: no type is named.
@@ -29,86 +28,55 @@ pub fn reason(alloc: Global, command: &JobBatchActivate) -> Result<Option<Reject
     Ok(Some(rejection(alloc, RejectionKind::InvalidArgument, "empty job type")?))
 }
 
-/// Gives the worker the first jobs of the type, one after the other, and then tells which they are. Each costs what
-/// `State::visible` and `Out::put` do. After a refusal the state and the events are only dropped.
-pub fn put_own(
-    alloc: Global,
-    state: &mut State,
-    moment: Moment,
-    command: &JobBatchActivate,
-    out: &mut Out,
-) -> Result<(), AllocError>
-    requires { AdmitsMade state.old (activated (partition_of state.old) moment command.now) }
-    ensures put { (es : List Event) → IsStateOf es state.old
-        → OnOk result (out.new ≡ out.old ++ activated (partition_of state.old) moment command.now es) }
-    ensures state { (es : List Event) → IsStateOf es state.old
-        → OnOk result (IsStateOf (es ++ activated (partition_of state.old) moment command.now es) state.new) }
-    ensures place { partition_of state.new ≡ partition_of state.old }
-{
-    let keys = state.offered(alloc, command.kind.as_str(), command.most)?;
-    put_each(alloc, state, moment, command, keys.as_slice(), out)?;
-    let key = state.next_key();
-    let jobs = keys;
-    out.put(
-        alloc,
-        state,
-        Event::JobBatchActivated(JobBatchActivated { key, jobs }),
-    )
-}
+/// The worker is given the first jobs of the type, one after the other, and then it is told which they are. Each costs
+/// what `State::visible` and `Out::put` do.
+impl Maker for &JobBatchActivate {
+    ghost making = { λ command p moment. activated p moment command.now };
 
-// Gives each of these jobs to the worker.
-fn put_each(
-    alloc: Global,
-    state: &mut State,
-    moment: Moment,
-    command: &JobBatchActivate,
-    keys: &[Key],
-    out: &mut Out,
-) -> Result<(), AllocError>
-    requires { AdmitsMade state.old (each_given_out moment command.now keys.now) }
-    ensures put { (es : List Event) → IsStateOf es state.old → OnOk result (out.new ≡ out.old ++ each_given_out moment command.now keys.now es) }
-    ensures state { (es : List Event) → IsStateOf es state.old
-        → OnOk result (IsStateOf (es ++ each_given_out moment command.now keys.now es) state.new) }
-    ensures place { partition_of state.new ≡ partition_of state.old }
-{
-    for key in keys {
-        put_one(alloc, state, moment, command, *key, out)?;
+    fn put(
+        self,
+        alloc: Global,
+        state: &mut State,
+        moment: Moment,
+        out: &mut Out,
+    ) -> Result<(), Refusal> {
+        let keys = state.offered(alloc, self.kind.as_str(), self.most)?;
+        let finder = self;
+        let things = keys.as_slice();
+        Each { finder, things }.put(alloc, state, moment, out)?;
+        Found(BatchTold(keys)).put(alloc, state, moment, out)
     }
-    Ok(())
 }
 
-// Gives one of them.
-fn put_one(
-    alloc: Global,
-    state: &mut State,
-    moment: Moment,
-    command: &JobBatchActivate,
-    key: Key,
-    out: &mut Out,
-) -> Result<(), AllocError>
-    requires { AdmitsMade state.old (given_out moment command.now key) }
-    ensures put { (es : List Event) → IsStateOf es state.old → OnOk result (out.new ≡ out.old ++ given_out moment command.now key es) }
-    ensures state { (es : List Event) → IsStateOf es state.old
-        → OnOk result (IsStateOf (es ++ given_out moment command.now key es) state.new) }
-    ensures place { partition_of state.new ≡ partition_of state.old }
-{
-    let event = event_of(alloc, state, moment, command, key)?;
-    put_any(alloc, state, event, out)
+/// A job is given to the worker, if it is there.
+impl FindEach<Key> for JobBatchActivate {
+    ghost finds = { λ command key p moment. given_out moment command key };
+
+    fn find(
+        &self,
+        alloc: Global,
+        state: &State,
+        moment: Moment,
+        key: &Key,
+    ) -> Result<Option<Event>, AllocError> {
+        match state.job(*key) {
+            Some(job) => Ok(Some(Event::JobActivated(given(alloc, state, moment, self, job)?))),
+            None => Ok(None),
+        }
+    }
 }
 
-// The event by which a job is given to the worker, if it is there.
-fn event_of(
-    alloc: Global,
-    state: &State,
-    moment: Moment,
-    command: &JobBatchActivate,
-    key: Key,
-) -> Result<Option<Event>, AllocError>
-    ensures { (es : List Event) → IsStateOf es state.now → IfOk result (λ event. given_out moment command.now key es ≡ any_event event) }
-{
-    match state.job(key) {
-        Some(job) => Ok(Some(Event::JobActivated(given(alloc, state, moment, command, job)?))),
-        None => Ok(None),
+// It is told which jobs were given, under a key of its own.
+#[derive(Drop)]
+struct BatchTold(List<Key>);
+
+impl Find for BatchTold {
+    ghost finds = { λ told p. batch_told p told.0 };
+
+    fn find(self, _alloc: Global, state: &State) -> Result<Option<Event>, AllocError> {
+        let key = state.next_key();
+        let jobs = self.0;
+        Ok(Some(Event::JobBatchActivated(JobBatchActivated { key, jobs })))
     }
 }
 

@@ -1,66 +1,52 @@
 // Variables that are set one after the other.
-ghost use Rattle.std.specs.Prelude.{◌≡◌, ◌≤◌, ◌++◌, ◌∷◌, List, [], length, IfOk, OnOk};
+ghost use Rattle.std.specs.Prelude.{◌≡◌, List, [], ◌∷◌, IfOk};
 ghost use Rattle.zb_model.specs.declared.record.Event.{Event};
-ghost use Rattle.zb_rules.specs.Update.{place_of, set_in, set_by, set_each};
-ghost use Rattle.zb_state.specs.State.{partition_of, IsStateOf, AdmitsMade};
+ghost use Rattle.zb_rules.specs.InFront.{set_all};
+ghost use Rattle.zb_rules.specs.Update.{place_of, set_in, set_by};
+ghost use Rattle.zb_state.specs.State.{IsStateOf};
+ghost use Rattle.zb_step.specs.Making.{any_event};
 
+use crate::making::{Each, FindEach, Maker};
 use std::alloc::{AllocError, Global};
-use zb_model::{Event, Key, TryCopy, Variable, VariableCreated, VariableUpdated};
-use zb_state::{Out, State};
+use zb_model::{Event, Key, Moment, TryCopy, Variable, VariableCreated, VariableUpdated};
+use zb_state::{Out, Refusal, State};
+use zb_tokens::Assignments;
 
-/// Sets each of these variables: in a scope where they are local, else from it on up. Each costs what
-/// `State::holder_of` and `Out::put` do. After a refusal the state and the events are only dropped.
-pub fn put_each(
-    alloc: Global,
-    state: &mut State,
-    local: bool,
-    scope: Key,
-    variables: &[Variable],
-    out: &mut Out,
-) -> Result<(), AllocError>
-    requires { AdmitsMade state.old (set_each local scope variables.now) }
-    ensures put { (es : List Event) → IsStateOf es state.old → OnOk result (out.new ≡ out.old ++ set_each local scope variables.now es) }
-    ensures state { (es : List Event) → IsStateOf es state.old → OnOk result (IsStateOf (es ++ set_each local scope variables.now es) state.new) }
-    ensures more { OnOk result (length out.old ≤ length out.new) }
-    ensures place { partition_of state.new ≡ partition_of state.old }
-{
-    for variable in variables {
-        put_one(alloc, state, local, scope, variable, out)?;
+/// Where variables are set: in a scope where they are local, else from it on up.
+#[derive(Clone, Copy)]
+pub struct Place {
+    pub local: bool,
+    pub scope: Key,
+}
+
+/// A variable is set there. It costs what `State::holder_of` does.
+impl FindEach<Variable> for Place {
+    ghost finds = { λ place v p moment. set_by place.local place.scope v };
+
+    fn find(
+        &self,
+        alloc: Global,
+        state: &State,
+        _moment: Moment,
+        variable: &Variable,
+    ) -> Result<Option<Event>, AllocError> {
+        match self.cell_for(state, variable.name.as_str()) {
+            Some(cell) => Ok(Some(event_of(alloc, state, cell, variable)?)),
+            None => Ok(None),
+        }
     }
-    Ok(())
 }
 
-// Sets one of the variables, in the cell where its name is set.
-fn put_one(
-    alloc: Global,
-    state: &mut State,
-    local: bool,
-    scope: Key,
-    variable: &Variable,
-    out: &mut Out,
-) -> Result<(), AllocError>
-    requires { AdmitsMade state.old (set_by local scope variable.now) }
-    ensures put { (es : List Event) → IsStateOf es state.old → OnOk result (out.new ≡ out.old ++ set_by local scope variable.now es) }
-    ensures state { (es : List Event) → IsStateOf es state.old → OnOk result (IsStateOf (es ++ set_by local scope variable.now es) state.new) }
-    ensures more { OnOk result (length out.old ≤ length out.new) }
-    ensures place { partition_of state.new ≡ partition_of state.old }
-{
-    let Some(cell) = place_of(state, local, scope, variable.name.as_str()) else {
-        return Ok(());
-    };
-    let event = event_of(alloc, state, cell, variable)?;
-    out.put(alloc, state, event)?;
-    Ok(())
-}
-
-// The cell in which a name is set: the scope itself where it is local, else the one that it is handed up to.
-fn place_of(state: &State, local: bool, scope: Key, name: &str) -> Option<Key>
-    ensures { (es : List Event) → IsStateOf es state.now → result ≡ place_of local scope name.now es }
-{
-    if local {
-        Some(scope)
-    } else {
-        state.holder_of(scope, name)
+impl Place {
+    // The cell in which a name is set: the scope itself where it is local, else the one that it is handed up to.
+    fn cell_for(&self, state: &State, name: &str) -> Option<Key>
+        ensures { (es : List Event) → IsStateOf es state.now → result ≡ place_of self.now.local self.now.scope name.now es }
+    {
+        if self.local {
+            Some(self.scope)
+        } else {
+            state.holder_of(self.scope, name)
+        }
     }
 }
 
@@ -80,5 +66,26 @@ fn event_of(
         Ok(Event::VariableUpdated(VariableUpdated { scope, name, value }))
     } else {
         Ok(Event::VariableCreated(VariableCreated { scope, name, value }))
+    }
+}
+
+/// The variables that a move sets.
+impl Maker for Assignments {
+    ghost making = { λ made p moment. set_all made };
+
+    fn put(
+        self,
+        alloc: Global,
+        state: &mut State,
+        moment: Moment,
+        out: &mut Out,
+    ) -> Result<(), Refusal> {
+        let place = Place {
+            local: self.local,
+            scope: self.scope,
+        };
+        let finder = &place;
+        let things = self.variables.as_slice();
+        Each { finder, things }.put(alloc, state, moment, out)
     }
 }

@@ -1,15 +1,46 @@
 // An event, and those behind it.
-ghost use Rattle.std.specs.Prelude.{◌≡◌, ◌++◌, ◌<◌, ◌≤◌, ℕ, List, length, IfOk, OnOk};
+ghost use Rattle.std.specs.Prelude.{◌≡◌, ℕ, List, IfOk};
 ghost use Rattle.zb_model.specs.declared.record.Event.{Event};
 ghost use Rattle.zb_rules.specs.Behind.{job_made_on, canceled, resolved_on, ended_on, halted_on, interrupted_on, events_behind, with_events_behind};
-ghost use Rattle.zb_state.specs.State.{partition_of, IsStateOf, IsReached, AdmitsMade};
-ghost use Rattle.zb_step.specs.Behind.{opened_on, closed_on, halted_if, made_behind, any_event};
+ghost use Rattle.zb_state.specs.State.{partition_of};
+ghost use Rattle.zb_step.specs.Behind.{made_behind};
 
-use crate::timers::{put_canceled, put_made};
+use crate::making::{Find, Found, Maker};
+use crate::timers::{ClosedTimers, OpenedTimers};
 use std::alloc::{AllocError, Global};
 use zb_model::{Event, IncidentResolved, JobCreated, Key, Moment, TryCopy};
-use zb_state::{Out, State};
+use zb_state::{Out, Refusal, State};
 use zb_tokens::Triggered;
+
+/// An event, and those behind it. It costs what `Out::put` does for each; where a cell becomes active what
+/// `State::work_at` and `State::openings_at` do, where it begins to complete what `State::timers_on` does, and where it
+/// begins to terminate what that and `State::incident_on` do; where a node's event has come about what
+/// `State::is_interrupting` does too.
+#[derive(Drop)]
+pub struct WithBehind(pub Event);
+
+impl Maker for WithBehind {
+    ghost making = { λ it p moment. with_events_behind p moment it.0 };
+
+    ghost least = { 1 };
+
+    fn put(
+        self,
+        alloc: Global,
+        state: &mut State,
+        moment: Moment,
+        out: &mut Out,
+    ) -> Result<(), Refusal> {
+        let WithBehind(event) = self;
+        match behind_of(alloc, &event) {
+            Ok(behind) => (event, behind).put(alloc, state, moment, out),
+            Err(AllocError) => {
+                drop(event);
+                Err(Refusal::Memory)
+            }
+        }
+    }
+}
 
 /// What comes behind an event.
 #[derive(Drop)]
@@ -25,40 +56,9 @@ pub enum Behind {
     Interrupt(Triggered),
 }
 
-/// Puts an event and those behind it, at a moment. It costs what `Out::put` does for each; where a cell becomes active what
-/// `State::work_at` and `State::openings_at` do, where it begins to complete what `State::timers_on` does, and where it
-/// begins to terminate what that and `State::incident_on` do; where a node's event has come about what
-/// `State::is_interrupting` does too. After a refusal the state and the events are only dropped.
-pub fn put_with_behind(
-    alloc: Global,
-    state: &mut State,
-    moment: Moment,
-    event: Event,
-    out: &mut Out,
-) -> Result<(), AllocError>
-    requires { (n : ℕ) → AdmitsMade state.old (with_events_behind (partition_of state.old) n moment event) }
-    ensures put { (n : ℕ) (es : List Event) → IsStateOf es state.old
-        → OnOk result (out.new ≡ out.old ++ with_events_behind (partition_of state.old) n moment event es) }
-    ensures state { (n : ℕ) (es : List Event) → IsStateOf es state.old
-        → OnOk result (IsStateOf (es ++ with_events_behind (partition_of state.old) n moment event es) state.new) }
-    ensures more { OnOk result (length out.old < length out.new) }
-    ensures place { partition_of state.new ≡ partition_of state.old }
-    ensures reached { OnOk result (IsReached state.new) }
-{
-    let behind = match behind_of(alloc, &event) {
-        Ok(behind) => behind,
-        Err(AllocError) => {
-            drop(event);
-            return Err(AllocError);
-        }
-    };
-    out.put(alloc, state, event)?;
-    put_behind(alloc, state, moment, behind, out)
-}
-
 // What comes behind this event.
 fn behind_of(alloc: Global, event: &Event) -> Result<Behind, AllocError>
-    ensures { IfOk result (λ behind. (p n moment : ℕ) (es : List Event) → events_behind p n moment event.now es ≡ made_behind p moment behind es) }
+    ensures { IfOk result (λ behind. (p moment : ℕ) (seen es : List Event) → events_behind p moment seen event.now es ≡ made_behind p moment behind es) }
 {
     match event {
         Event::ElementActivated(element) => Ok(Behind::Work(element.key)),
@@ -72,203 +72,124 @@ fn behind_of(alloc: Global, event: &Event) -> Result<Behind, AllocError>
     }
 }
 
-// Puts what comes behind.
-fn put_behind(
-    alloc: Global,
-    state: &mut State,
-    moment: Moment,
-    behind: Behind,
-    out: &mut Out,
-) -> Result<(), AllocError>
-    requires { AdmitsMade state.old (made_behind (partition_of state.old) moment behind) }
-    ensures put { (es : List Event) → IsStateOf es state.old → OnOk result (out.new ≡ out.old ++ made_behind (partition_of state.old) moment behind es) }
-    ensures state { (es : List Event) → IsStateOf es state.old
-        → OnOk result (IsStateOf (es ++ made_behind (partition_of state.old) moment behind es) state.new) }
-    ensures more { OnOk result (length out.old ≤ length out.new) }
-    ensures place { partition_of state.new ≡ partition_of state.old }
-    ensures reached { OnOk result (IsReached state.new) }
-{
-    match behind {
-        Behind::Nothing => Ok(()),
-        Behind::Work(cell) => put_opened(alloc, state, moment, cell, out),
-        Behind::Close(cell) => put_canceled(alloc, state, cell, out),
-        Behind::End(cell) => put_ended(alloc, state, cell, out),
-        Behind::Interrupt(told) => put_interrupted(alloc, state, &told, out),
+impl Maker for Behind {
+    ghost making = { λ behind p moment. made_behind p moment behind };
+
+    fn put(
+        self,
+        alloc: Global,
+        state: &mut State,
+        moment: Moment,
+        out: &mut Out,
+    ) -> Result<(), Refusal> {
+        match self {
+            Behind::Nothing => Ok(()),
+            Behind::Work(cell) => {
+                (Found(JobOf(cell)), OpenedTimers(cell)).put(alloc, state, moment, out)
+            }
+            Behind::Close(cell) => ClosedTimers(cell).put(alloc, state, moment, out),
+            Behind::End(cell) => Ended(cell).put(alloc, state, moment, out),
+            Behind::Interrupt(told) => Interrupted(told).put(alloc, state, moment, out),
+        }
     }
 }
 
-// Puts the events by which a cell is interrupted, if the event of a node that has come about for it does that.
-fn put_interrupted(
-    alloc: Global,
-    state: &mut State,
-    told: &Triggered,
-    out: &mut Out,
-) -> Result<(), AllocError>
-    requires { AdmitsMade state.old (interrupted_on told.now.cell told.now.node) }
-    ensures put { (es : List Event) → IsStateOf es state.old → OnOk result (out.new ≡ out.old ++ interrupted_on told.now.cell told.now.node es) }
-    ensures state { (es : List Event) → IsStateOf es state.old
-        → OnOk result (IsStateOf (es ++ interrupted_on told.now.cell told.now.node es) state.new) }
-    ensures more { OnOk result (length out.old ≤ length out.new) }
-    ensures place { partition_of state.new ≡ partition_of state.old }
-    ensures reached { OnOk result (IsReached state.new) }
-{
-    let interrupts = state.is_interrupting(told.cell, told.node.as_str());
-    put_halted_if(alloc, state, interrupts, told.cell, out)
-}
+// A cell begins to terminate, if the event of a node that has come about for it interrupts it.
+#[derive(Drop)]
+struct Interrupted(Triggered);
 
-// Puts the events by which a cell begins to terminate, if it does.
-fn put_halted_if(
-    alloc: Global,
-    state: &mut State,
-    interrupts: bool,
-    cell: Key,
-    out: &mut Out,
-) -> Result<(), AllocError>
-    requires { AdmitsMade state.old (halted_if interrupts cell) }
-    ensures put { (es : List Event) → IsStateOf es state.old → OnOk result (out.new ≡ out.old ++ halted_if interrupts cell es) }
-    ensures state { (es : List Event) → IsStateOf es state.old → OnOk result (IsStateOf (es ++ halted_if interrupts cell es) state.new) }
-    ensures more { OnOk result (length out.old ≤ length out.new) }
-    ensures place { partition_of state.new ≡ partition_of state.old }
-    ensures reached { OnOk result (IsReached state.new) }
-{
-    if interrupts {
-        put_halted(alloc, state, cell, out)
-    } else {
+impl Maker for Interrupted {
+    ghost making = { λ it p moment. interrupted_on it.0.cell it.0.node };
+
+    fn put(
+        self,
+        alloc: Global,
+        state: &mut State,
+        moment: Moment,
+        out: &mut Out,
+    ) -> Result<(), Refusal> {
+        let Interrupted(told) = self;
+        let cell = told.cell;
+        let interrupts = state.is_interrupting(cell, told.node.as_str());
+        if interrupts {
+            return (Event::ElementTerminating(cell), Ended(cell)).put(alloc, state, moment, out);
+        }
         Ok(())
     }
 }
 
-// Puts the events by which a cell begins to terminate, and what waits for it ends.
-fn put_halted(alloc: Global, state: &mut State, cell: Key, out: &mut Out) -> Result<(), AllocError>
-    requires { AdmitsMade state.old (halted_on cell) }
-    ensures put { (es : List Event) → IsStateOf es state.old → OnOk result (out.new ≡ out.old ++ halted_on cell es) }
-    ensures state { (es : List Event) → IsStateOf es state.old → OnOk result (IsStateOf (es ++ halted_on cell es) state.new) }
-    ensures more { OnOk result (length out.old ≤ length out.new) }
-    ensures place { partition_of state.new ≡ partition_of state.old }
-    ensures reached { OnOk result (IsReached state.new) }
-{
-    out.put(alloc, state, Event::ElementTerminating(cell))?;
-    put_ended(alloc, state, cell, out)
-}
+// What waits for a cell ends: its job is canceled, then its timers are, and then the incident on it is resolved.
+#[derive(Drop)]
+struct Ended(Key);
 
-// Puts the events by which what a cell waits for begins: its job is made, and then its timers are.
-fn put_opened(
-    alloc: Global,
-    state: &mut State,
-    moment: Moment,
-    cell: Key,
-    out: &mut Out,
-) -> Result<(), AllocError>
-    requires { AdmitsMade state.old (opened_on (partition_of state.old) moment cell) }
-    ensures put { (es : List Event) → IsStateOf es state.old → OnOk result (out.new ≡ out.old ++ opened_on (partition_of state.old) moment cell es) }
-    ensures state { (es : List Event) → IsStateOf es state.old → OnOk result (IsStateOf (es ++ opened_on (partition_of state.old) moment cell es) state.new) }
-    ensures more { OnOk result (length out.old ≤ length out.new) }
-    ensures place { partition_of state.new ≡ partition_of state.old }
-    ensures reached { OnOk result (IsReached state.new) }
-{
-    put_job(alloc, state, cell, out)?;
-    put_made(alloc, state, moment, cell, out)
-}
+impl Maker for Ended {
+    ghost making = { λ it p moment. ended_on it.0 };
 
-// Puts the event by which the job of a cell is made, if the cell is to have one.
-fn put_job(alloc: Global, state: &mut State, cell: Key, out: &mut Out) -> Result<(), AllocError>
-    requires { AdmitsMade state.old (job_made_on (partition_of state.old) cell) }
-    ensures put { (es : List Event) → IsStateOf es state.old → OnOk result (out.new ≡ out.old ++ job_made_on (partition_of state.old) cell es) }
-    ensures state { (es : List Event) → IsStateOf es state.old → OnOk result (IsStateOf (es ++ job_made_on (partition_of state.old) cell es) state.new) }
-    ensures more { OnOk result (length out.old ≤ length out.new) }
-    ensures place { partition_of state.new ≡ partition_of state.old }
-    ensures reached { OnOk result (IsReached state.new) }
-{
-    let event = job_of(alloc, state, cell)?;
-    put_any(alloc, state, event, out)
-}
-
-// The event by which the job of a cell is made, if the cell is to have one: by the type and the tries of its node.
-fn job_of(alloc: Global, state: &State, cell: Key) -> Result<Option<Event>, AllocError>
-    ensures { (es : List Event) → IsStateOf es state.now → IfOk result (λ event. job_made_on (partition_of state.now) cell es ≡ any_event event) }
-{
-    let Some(node) = state.work_at(cell) else {
-        return Ok(None);
-    };
-    Ok(Some(Event::JobCreated(JobCreated {
-        key: state.next_key(),
-        cell,
-        kind: node.name.copy(alloc)?,
-        retries: node.retries,
-    })))
-}
-
-// Puts the events by which what waits for a cell ends: its job is canceled, then its timers are, and then the incident on
-// it is resolved.
-fn put_ended(alloc: Global, state: &mut State, cell: Key, out: &mut Out) -> Result<(), AllocError>
-    requires { AdmitsMade state.old (ended_on cell) }
-    ensures put { (es : List Event) → IsStateOf es state.old → OnOk result (out.new ≡ out.old ++ ended_on cell es) }
-    ensures state { (es : List Event) → IsStateOf es state.old → OnOk result (IsStateOf (es ++ ended_on cell es) state.new) }
-    ensures more { OnOk result (length out.old ≤ length out.new) }
-    ensures place { partition_of state.new ≡ partition_of state.old }
-    ensures reached { OnOk result (IsReached state.new) }
-{
-    let event = canceled(state);
-    put_any(alloc, state, event, out)?;
-    put_closed(alloc, state, cell, out)
-}
-
-// Puts the events by which what waits for a cell beside its job ends: its timers, and then the incident on it.
-fn put_closed(alloc: Global, state: &mut State, cell: Key, out: &mut Out) -> Result<(), AllocError>
-    requires { AdmitsMade state.old (closed_on cell) }
-    ensures put { (es : List Event) → IsStateOf es state.old → OnOk result (out.new ≡ out.old ++ closed_on cell es) }
-    ensures state { (es : List Event) → IsStateOf es state.old → OnOk result (IsStateOf (es ++ closed_on cell es) state.new) }
-    ensures more { OnOk result (length out.old ≤ length out.new) }
-    ensures place { partition_of state.new ≡ partition_of state.old }
-    ensures reached { OnOk result (IsReached state.new) }
-{
-    put_canceled(alloc, state, cell, out)?;
-    let event = resolved(state, cell);
-    put_any(alloc, state, event, out)
-}
-
-// The event by which the job that was called off is canceled, if one was.
-fn canceled(state: &State) -> Option<Event>
-    ensures { (es : List Event) → IsStateOf es state.now → canceled es ≡ any_event result }
-{
-    match state.called_off() {
-        Some(job) => Some(Event::JobCanceled(job)),
-        None => None,
+    fn put(
+        self,
+        alloc: Global,
+        state: &mut State,
+        moment: Moment,
+        out: &mut Out,
+    ) -> Result<(), Refusal> {
+        let cell = self.0;
+        (
+            Found(CanceledJob),
+            (ClosedTimers(cell), Found(ResolvedOn(cell))),
+        )
+            .put(alloc, state, moment, out)
     }
 }
 
-// The event that resolves the incident on a cell, if one stands there.
-fn resolved(state: &State, cell: Key) -> Option<Event>
-    ensures { (es : List Event) → IsStateOf es state.now → resolved_on cell es ≡ any_event result }
-{
-    match state.incident_on(cell) {
-        Some(incident) => Some(Event::IncidentResolved(IncidentResolved {
-            key: incident.key,
-            job: incident.job,
-        })),
-        None => None,
+// The job of a cell is made, if the cell is to have one: by the type and the tries of its node.
+#[derive(Drop)]
+struct JobOf(Key);
+
+impl Find for JobOf {
+    ghost finds = { λ it p. job_made_on p it.0 };
+
+    fn find(self, alloc: Global, state: &State) -> Result<Option<Event>, AllocError> {
+        let Some(node) = state.work_at(self.0) else {
+            return Ok(None);
+        };
+        Ok(Some(Event::JobCreated(JobCreated {
+            key: state.next_key(),
+            cell: self.0,
+            kind: node.name.copy(alloc)?,
+            retries: node.retries,
+        })))
     }
 }
 
-/// Puts an event, if there is one. After a refusal the state and the events are only dropped.
-pub fn put_any(
-    alloc: Global,
-    state: &mut State,
-    event: Option<Event>,
-    out: &mut Out,
-) -> Result<(), AllocError>
-    requires { AdmitsMade state.old (λ es. any_event event) }
-    ensures put { OnOk result (out.new ≡ out.old ++ any_event event) }
-    ensures state { (es : List Event) → IsStateOf es state.old → OnOk result (IsStateOf (es ++ any_event event) state.new) }
-    ensures more { OnOk result (length out.old ≤ length out.new) }
-    ensures place { partition_of state.new ≡ partition_of state.old }
-    ensures reached { OnOk result (IsReached state.new) }
-{
-    match event {
-        Some(event) => {
-            out.put(alloc, state, event)?;
-            Ok(())
+// The job that the last event called off is canceled, if it called one off.
+#[derive(Drop)]
+struct CanceledJob;
+
+impl Find for CanceledJob {
+    ghost finds = { λ it p. canceled };
+
+    fn find(self, _alloc: Global, state: &State) -> Result<Option<Event>, AllocError> {
+        match state.called_off() {
+            Some(job) => Ok(Some(Event::JobCanceled(job))),
+            None => Ok(None),
         }
-        None => Ok(()),
+    }
+}
+
+// The incident on a cell is resolved, if one stands there.
+#[derive(Drop)]
+struct ResolvedOn(Key);
+
+impl Find for ResolvedOn {
+    ghost finds = { λ it p. resolved_on it.0 };
+
+    fn find(self, _alloc: Global, state: &State) -> Result<Option<Event>, AllocError> {
+        match state.incident_on(self.0) {
+            Some(incident) => Ok(Some(Event::IncidentResolved(IncidentResolved {
+                key: incident.key,
+                job: incident.job,
+            }))),
+            None => Ok(None),
+        }
     }
 }

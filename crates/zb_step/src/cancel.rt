@@ -1,14 +1,15 @@
 // Cancelling an instance.
-ghost use Rattle.std.specs.Prelude.{◌≡◌, ◌++◌, ℕ, List, IfOk, OnOk};
+ghost use Rattle.std.specs.Prelude.{◌≡◌, List, IfOk};
 ghost use Rattle.zb_model.specs.declared.record.Event.{Event};
 ghost use Rattle.zb_rules.specs.Cancel.{reason_to_cancel, cancelled};
-ghost use Rattle.zb_state.specs.State.{partition_of, IsStateOf, AdmitsMade};
+ghost use Rattle.zb_state.specs.State.{IsStateOf};
 
-use crate::behind::put_with_behind;
+use crate::behind::WithBehind;
+use crate::making::Maker;
 use crate::rejection::{no_such, wrong_state};
 use std::alloc::{AllocError, Global};
 use zb_model::{Event, Key, Moment, Rejection};
-use zb_state::{Out, State};
+use zb_state::{Out, Refusal, State};
 
 /// Why an instance isn't cancelled: there is none with this key, or it is being terminated.
 pub fn reason(alloc: Global, state: &State, key: Key) -> Result<Option<Rejection>, AllocError>
@@ -23,20 +24,20 @@ pub fn reason(alloc: Global, state: &State, key: Key) -> Result<Option<Rejection
     Ok(None)
 }
 
-/// Puts the events of an instance that is cancelled: its root begins to terminate, and what waits for that ends. It costs what `put_with_behind` does. After a refusal the state and the events are only dropped.
-pub fn put_own(
-    alloc: Global,
-    state: &mut State,
-    moment: Moment,
-    key: Key,
-    out: &mut Out,
-) -> Result<(), AllocError>
-    requires { (n : ℕ) → AdmitsMade state.old (cancelled (partition_of state.old) n moment key) }
-    ensures put { (n : ℕ) (es : List Event) → IsStateOf es state.old
-        → OnOk result (out.new ≡ out.old ++ cancelled (partition_of state.old) n moment key es) }
-    ensures state { (n : ℕ) (es : List Event) → IsStateOf es state.old
-        → OnOk result (IsStateOf (es ++ cancelled (partition_of state.old) n moment key es) state.new) }
-    ensures place { partition_of state.new ≡ partition_of state.old }
-{
-    put_with_behind(alloc, state, moment, Event::ElementTerminating(key), out)
+/// The root of an instance begins to terminate, and what waits for it ends.
+#[derive(Drop)]
+pub struct Cancelled(pub Key);
+
+impl Maker for Cancelled {
+    ghost making = { λ it p moment. cancelled p moment it.0 };
+
+    fn put(
+        self,
+        alloc: Global,
+        state: &mut State,
+        moment: Moment,
+        out: &mut Out,
+    ) -> Result<(), Refusal> {
+        WithBehind(Event::ElementTerminating(self.0)).put(alloc, state, moment, out)
+    }
 }

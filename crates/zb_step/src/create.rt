@@ -1,17 +1,19 @@
 // Making an instance of a process.
-ghost use Rattle.std.specs.Prelude.{◌≡◌, ◌++◌, List, [], Some, None, map, IfOk, OnOk, string_bytes};
+ghost use Rattle.std.specs.Prelude.{◌≡◌, List, [], IfOk, string_bytes};
 ghost use Rattle.zb_model.specs.declared.record.Event.{Event};
-ghost use Rattle.zb_rules.specs.Create.{reason_to_create, no_process, no_version, variable_event, instance_under, created};
-ghost use Rattle.zb_state.specs.State.{partition_of, IsStateOf, IsReached};
+ghost use Rattle.zb_rules.specs.Create.{reason_to_create, no_process, no_version, variable_event, created};
+ghost use Rattle.zb_rules.specs.Making.{just};
+ghost use Rattle.zb_state.specs.State.{IsStateOf};
 
+use crate::making::{Each, FindEach, Maker};
 use crate::rejection::rejection;
 use std::alloc::{AllocError, Global};
 use zb_model::{
-    ElementActivating, Event, Key, List, ProcessInstanceCreationCreate,
+    ElementActivating, Event, Key, Moment, ProcessInstanceCreationCreate,
     ProcessInstanceCreationCreated, Rejection, RejectionKind, Role, Text, TryCopy, Variable,
     VariableCreated,
 };
-use zb_state::State;
+use zb_state::{Out, Refusal, State};
 
 /// Why an instance isn't made: there is no such process, or no such version of it. It goes through all
 /// definitions.
@@ -59,39 +61,32 @@ fn text_of_version(alloc: Global, process: &str, version: u32) -> Result<String,
     Ok(text)
 }
 
-/// The events of an instance, where its definition is there: it is made, its root is activated, and it has its
-/// variables.
-pub fn own(
-    alloc: Global,
-    state: &State,
-    command: &ProcessInstanceCreationCreate,
-) -> Result<List<Event>, AllocError>
-    requires reached { IsReached state.now }
-    requires unrefused { (es : List Event) → IsStateOf es state.now → reason_to_create es command.now ≡ None }
-    ensures { (es : List Event) → IsStateOf es state.now → IfOk result (λ events. created (partition_of state.now) es command.now ≡ Some events) }
-{
-    match state.definition_for(command.process.as_str(), command.version) {
-        Some(definition) => instance(alloc, state.next_key(), definition, command),
-        None => unreachable!(),
-    }
-}
+/// An instance is made, where its definition is there: its root is activated, and it has its variables.
+impl Maker for &ProcessInstanceCreationCreate {
+    ghost making = { λ command p moment. created p command.now };
 
-// The events of an instance under this key.
-fn instance(
-    alloc: Global,
-    key: Key,
-    definition: Key,
-    command: &ProcessInstanceCreationCreate,
-) -> Result<List<Event>, AllocError>
-    ensures { IfOk result (λ events. events ≡ instance_under key definition command.now) }
-{
-    let mut events = List::empty(alloc);
-    let made = ProcessInstanceCreationCreated { key, definition };
-    events.push(Event::ProcessInstanceCreationCreated(made))?;
-    let root = root(alloc, key, definition, command.process.as_str())?;
-    events.push(Event::ElementActivating(root))?;
-    add_variables(alloc, key, command.variables.as_slice(), &mut events)?;
-    Ok(events)
+    fn put(
+        self,
+        alloc: Global,
+        state: &mut State,
+        moment: Moment,
+        out: &mut Out,
+    ) -> Result<(), Refusal> {
+        let Some(definition) = state.definition_for(self.process.as_str(), self.version) else {
+            return Ok(());
+        };
+        let key = state.next_key();
+        let root = root(alloc, key, definition, self.process.as_str())?;
+        let made = ProcessInstanceCreationCreated { key, definition };
+        let made = Event::ProcessInstanceCreationCreated(made);
+        let finder = &FirstIn(key);
+        let things = self.variables.as_slice();
+        (
+            made,
+            (Event::ElementActivating(root), Each { finder, things }),
+        )
+            .put(alloc, state, moment, out)
+    }
 }
 
 // The root of an instance of this definition.
@@ -114,28 +109,24 @@ fn root(
     })
 }
 
-// Adds the events of an instance's variables, in order.
-fn add_variables(
-    alloc: Global,
-    root: Key,
-    variables: &[Variable],
-    events: &mut List<Event>,
-) -> Result<(), AllocError>
-    ensures { OnOk result (events.new ≡ events.old ++ map (variable_event root) variables.now) }
-{
-    for variable in variables {
-        events.push(event_of_variable(alloc, root, variable)?)?;
-    }
-    Ok(())
-}
+// A variable of the instance with a key gets its first value.
+#[derive(Clone, Copy)]
+struct FirstIn(Key);
 
-// The event of one of them.
-fn event_of_variable(alloc: Global, root: Key, variable: &Variable) -> Result<Event, AllocError>
-    ensures { IfOk result (λ event. event ≡ variable_event root variable.now) }
-{
-    Ok(Event::VariableCreated(VariableCreated {
-        scope: root,
-        name: variable.name.copy(alloc)?,
-        value: variable.value.copy(alloc)?,
-    }))
+impl FindEach<Variable> for FirstIn {
+    ghost finds = { λ it v p moment. just (variable_event it.0 v) };
+
+    fn find(
+        &self,
+        alloc: Global,
+        _state: &State,
+        _moment: Moment,
+        variable: &Variable,
+    ) -> Result<Option<Event>, AllocError> {
+        Ok(Some(Event::VariableCreated(VariableCreated {
+            scope: self.0,
+            name: variable.name.copy(alloc)?,
+            value: variable.value.copy(alloc)?,
+        })))
+    }
 }

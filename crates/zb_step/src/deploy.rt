@@ -1,21 +1,23 @@
 // Deploying a model.
-ghost use Rattle.std.specs.Prelude.{◌≡◌, ◌≤◌, ◌++◌, List, [], ◌∷◌, IfOk, OnOk, string_bytes};
+ghost use Rattle.std.specs.List.{range_with_len};
+ghost use Rattle.std.specs.Prelude.{◌≡◌, ◌-◌, List, [], ◌∷◌, IfOk, string_bytes};
 ghost use Rattle.zb_model.specs.declared.record.Event.{Event};
 ghost use Rattle.zb_model.specs.declared.record.Event.TheVariants as events;
-ghost use Rattle.zb_rules.specs.Deploy.{reason_to_deploy, version_behind, definition_of, sent_to_all, deployed};
+ghost use Rattle.zb_rules.specs.Deploy.{reason_to_deploy, version_behind, definition_of, deployment_of, sent_to, deployed};
 ghost use Rattle.zb_faults.specs.Faults.{fault_text};
 ghost use Rattle.zb_state.specs.State.{partition_of, IsStateOf};
-ghost use Rattle.zb_rules.specs.Sound.{HasKeys};
+ghost use Rattle.zb_rules.specs.Making.{just};
 
+use crate::making::{Each, Find, FindEach, Found, Maker};
 use crate::rejection::rejection;
 use std::alloc::{AllocError, Global};
 use zb_check::{ModelFault, check};
 use zb_faults::Fault;
 use zb_model::{
-    CommandDistributionDistributing, DeploymentCreated, Event, Key, List, Model, ProcessCreated,
+    CommandDistributionDistributing, DeploymentCreated, Event, Key, Model, Moment, ProcessCreated,
     Rejection, RejectionKind, TryCopy,
 };
-use zb_state::State;
+use zb_state::{Out, Refusal, State};
 
 /// Why a model isn't deployed: its first fault.
 pub fn reason(alloc: Global, model: &Model) -> Result<Option<Rejection>, AllocError>
@@ -45,46 +47,79 @@ fn text_of_fault(alloc: Global, fault: Fault, id: &str) -> Result<String, AllocE
     Ok(text)
 }
 
-/// The events of a model that is deployed at one of so many partitions, where two keys are left: its definition, the
-/// deployment, and that the definition sets out for each partition but the first.
-pub fn own(
-    alloc: Global,
-    state: &State,
-    partitions: u32,
-    model: &Model,
-) -> Result<List<Event>, AllocError>
-    requires keys { (es : List Event) → IsStateOf es state.now → HasKeys (partition_of state.now) es 2 }
-    requires most { partitions ≤ 16 }
-    ensures { (es : List Event) → IsStateOf es state.now
-        → IfOk result (λ events. events ≡ deployed (partition_of state.now) partitions model.now es) }
-{
-    let definition = definition(alloc, state, model)?;
-    let key = state.next_key();
-    let deployment = DeploymentCreated {
-        key: state.second_key(),
-        definition: key,
-    };
-    let mut events = both(
-        alloc,
-        Event::ProcessCreated(definition),
-        Event::DeploymentCreated(deployment),
-    )?;
-    send_to_all(key, partitions, &mut events)?;
-    Ok(events)
+/// A model is deployed at one of so many partitions: its definition, the deployment, and that the definition sets out for
+/// each partition but the first.
+#[derive(Drop)]
+pub struct Deployed<'a> {
+    pub partitions: u32,
+    pub model: &'a Model,
 }
 
-// Adds the events by which a definition sets out for each of so many partitions but the first.
-fn send_to_all(definition: Key, partitions: u32, events: &mut List<Event>) -> Result<(), AllocError>
-    requires { partitions ≤ 16 }
-    ensures { OnOk result (events.new ≡ events.old ++ sent_to_all definition partitions) }
-{
-    for partition in 2..partitions + 1 {
-        events.push(Event::CommandDistributionDistributing(CommandDistributionDistributing {
-            key: definition,
-            partition,
-        }))?;
+impl Maker for Deployed<'_> {
+    ghost making = { λ it p moment. deployed p it.partitions it.model.now };
+
+    fn put(
+        self,
+        alloc: Global,
+        state: &mut State,
+        moment: Moment,
+        out: &mut Out,
+    ) -> Result<(), Refusal> {
+        let made = definition(alloc, state, self.model)?;
+        let key = made.key;
+        let made = Event::ProcessCreated(made);
+        let others = others(alloc, self.partitions)?;
+        let finder = &SetsOut(key);
+        let things = others.as_slice();
+        (made, (Found(DeploymentOf(key)), Each { finder, things })).put(alloc, state, moment, out)
     }
-    Ok(())
+}
+
+// The deployment of a definition, under a key of its own.
+#[derive(Drop)]
+struct DeploymentOf(Key);
+
+impl Find for DeploymentOf {
+    ghost finds = { λ it p. deployment_of p it.0 };
+
+    fn find(self, _alloc: Global, state: &State) -> Result<Option<Event>, AllocError> {
+        Ok(Some(Event::DeploymentCreated(DeploymentCreated {
+            key: state.next_key(),
+            definition: self.0,
+        })))
+    }
+}
+
+// A definition sets out for a partition.
+#[derive(Clone, Copy)]
+struct SetsOut(Key);
+
+impl FindEach<u32> for SetsOut {
+    ghost finds = { λ it partition p moment. just (sent_to it.0 partition) };
+
+    fn find(
+        &self,
+        _alloc: Global,
+        _state: &State,
+        _moment: Moment,
+        partition: &u32,
+    ) -> Result<Option<Event>, AllocError> {
+        Ok(Some(Event::CommandDistributionDistributing(CommandDistributionDistributing {
+            key: self.0,
+            partition: *partition,
+        })))
+    }
+}
+
+// The partitions but the first, of so many.
+fn others(alloc: Global, partitions: u32) -> Result<Vec<u32>, AllocError>
+    ensures { IfOk result (λ others. others.items ≡ range_with_len 2 (partitions - 1)) }
+{
+    let mut others = Vec::new(alloc);
+    for behind in 1..partitions {
+        others.push(behind + 1)?;
+    }
+    Ok(others)
 }
 
 // The definition of a model that is deployed.
@@ -97,22 +132,6 @@ fn definition(alloc: Global, state: &State, model: &Model) -> Result<ProcessCrea
         version: version_behind(state.greatest_version(model.process.as_str())),
         model: model.copy(alloc)?,
     })
-}
-
-// Two events, one behind the other.
-fn both(alloc: Global, first: Event, second: Event) -> Result<List<Event>, AllocError>
-    ensures { IfOk result (λ events. events ≡ first ∷ second ∷ []) }
-{
-    let mut events = List::empty(alloc);
-    match events.push(first) {
-        Ok(()) => {}
-        Err(AllocError) => {
-            drop(second);
-            return Err(AllocError);
-        }
-    }
-    events.push(second)?;
-    Ok(events)
 }
 
 // The version behind this one; it stands still at the greatest number of 32 bits.

@@ -5,10 +5,11 @@ ghost use Rattle.zb_rules.specs.Distribute.{reason_to_turn_back, reason_to_distr
 ghost use Rattle.zb_state.specs.State.{IsStateOf};
 
 use crate::deploy;
+use crate::making::Maker;
 use crate::rejection::in_the_way;
 use std::alloc::{AllocError, Global};
-use zb_model::{DeploymentDistribute, Event, Key, List, ProcessCreated, Rejection, TryCopy};
-use zb_state::State;
+use zb_model::{DeploymentDistribute, Event, Key, Moment, ProcessCreated, Rejection, TryCopy};
+use zb_state::{Out, Refusal, State};
 
 /// Why a definition isn't taken: its model has a fault, or a definition with its key is there.
 pub fn reason(
@@ -38,15 +39,22 @@ fn reason_to_turn_back(
     Ok(None)
 }
 
-/// The event of a definition that is taken. It costs a copy of its model.
-pub fn own(alloc: Global, sent: &DeploymentDistribute) -> Result<List<Event>, AllocError>
-    ensures { IfOk result (λ events. events ≡ distributed sent.now) }
-{
-    let mut events = List::empty(alloc);
-    events.push(Event::ProcessCreated(ProcessCreated {
-        key: sent.key,
-        version: sent.version,
-        model: sent.model.copy(alloc)?,
-    }))?;
-    Ok(events)
+/// The definition is taken. It costs a copy of its model.
+impl Maker for &DeploymentDistribute {
+    ghost making = { λ sent p moment. distributed sent.now };
+
+    fn put(
+        self,
+        alloc: Global,
+        state: &mut State,
+        moment: Moment,
+        out: &mut Out,
+    ) -> Result<(), Refusal> {
+        let taken = Event::ProcessCreated(ProcessCreated {
+            key: self.key,
+            version: self.version,
+            model: self.model.copy(alloc)?,
+        });
+        taken.put(alloc, state, moment, out)
+    }
 }

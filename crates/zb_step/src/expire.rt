@@ -4,10 +4,11 @@ ghost use Rattle.zb_model.specs.declared.record.Event.{Event};
 ghost use Rattle.zb_rules.specs.Expire.{reason_to_expire, expired};
 ghost use Rattle.zb_state.specs.State.{IsStateOf};
 
+use crate::making::Maker;
 use crate::rejection::{no_such, wrong_state};
 use std::alloc::{AllocError, Global};
-use zb_model::{Event, Key, List, Moment, Rejection};
-use zb_state::State;
+use zb_model::{Event, Key, Moment, Rejection};
+use zb_state::{Out, Refusal, State};
 
 /// Why a message doesn't expire: it isn't buffered, or its deadline lies ahead. It goes through the buffered
 /// messages.
@@ -31,11 +32,20 @@ pub fn reason(
     }
 }
 
-/// The event of a message that expires.
-pub fn own(alloc: Global, key: Key) -> Result<List<Event>, AllocError>
-    ensures { IfOk result (λ events. events ≡ expired key) }
-{
-    let mut events = List::empty(alloc);
-    events.push(Event::MessageExpired(key))?;
-    Ok(events)
+/// The message expires.
+#[derive(Drop)]
+pub struct Expired(pub Key);
+
+impl Maker for Expired {
+    ghost making = { λ it p moment. expired it.0 };
+
+    fn put(
+        self,
+        alloc: Global,
+        state: &mut State,
+        moment: Moment,
+        out: &mut Out,
+    ) -> Result<(), Refusal> {
+        Event::MessageExpired(self.0).put(alloc, state, moment, out)
+    }
 }

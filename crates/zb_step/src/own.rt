@@ -1,46 +1,65 @@
-// A command's own events.
-ghost use Rattle.std.specs.Prelude.{◌≡◌, ◌≤◌, List, Some, None, IfOk};
-ghost use Rattle.zb_model.specs.declared.record.Event.{Event};
-ghost use Rattle.zb_rules.specs.Reason.{reason_for};
-ghost use Rattle.zb_rules.specs.Own.{IsSupported, own_events};
-ghost use Rattle.zb_rules.specs.Sound.{HasKeys};
-ghost use Rattle.zb_state.specs.State.{partition_of, IsStateOf, IsReached};
-ghost use Rattle.zb_step.specs.AtOnce.{IsMadeAtOnce};
+// What each command makes of the events before it.
+ghost use Rattle.std.specs.Option.{option_map_or};
+ghost use Rattle.std.specs.Prelude.{[]};
+ghost use Rattle.zb_rules.specs.Own.{own};
 
-use crate::{create, deploy, distribute, expire, jobs, publish, resolve};
-use std::alloc::{AllocError, Global};
-use zb_model::{Command, Event, List, Moment};
-use zb_state::State;
+use crate::cancel::Cancelled;
+use crate::deploy::Deployed;
+use crate::expire::Expired;
+use crate::making::{Found, Maker};
+use crate::resolve::Resolved;
+use crate::time_out::TimedOut;
+use crate::trigger::TriggeredTimer;
+use std::alloc::Global;
+use zb_model::{Command, Moment};
+use zb_state::{Out, Refusal, State};
 
-/// The events that a command makes of the state as it stands, at one of so many partitions, where two keys are left
-/// and there is no reason against the command, and each is made of that state alone.
-pub fn own_events(
-    alloc: Global,
-    state: &State,
-    partitions: u32,
-    moment: Moment,
-    command: &Command,
-) -> Result<List<Event>, AllocError>
-    requires most { partitions ≤ 16 }
-    requires run { IsSupported command.now }
-    requires at_once { IsMadeAtOnce command.now }
-    requires reached { IsReached state.now }
-    requires keys { (es : List Event) → IsStateOf es state.now → HasKeys (partition_of state.now) es 2 }
-    requires unrefused { (es : List Event) → IsStateOf es state.now → reason_for es moment command.now ≡ None }
-    ensures { (es : List Event) → IsStateOf es state.now
-        → IfOk result (λ events. own_events (partition_of state.now) partitions es moment command.now ≡ Some events) }
-{
-    match command {
-        Command::DeploymentCreate(model) => deploy::own(alloc, state, partitions, model),
-        Command::DeploymentDistribute(sent) => distribute::own(alloc, sent),
-        Command::ProcessInstanceCreationCreate(instance) => create::own(alloc, state, instance),
-        Command::JobThrowError(error) => jobs::throw(alloc, error),
-        Command::JobUpdateRetries(update) => jobs::retry(alloc, update),
-        Command::JobTimeOut(key) => jobs::time_out(alloc, *key),
-        Command::IncidentResolve(key) => resolve::own(alloc, state, *key),
-        Command::MessagePublish(message) => publish::own(alloc, state, moment, message),
-        Command::MessageExpire(key) => expire::own(alloc, *key),
-        Command::ProcessInstanceBatchContinue => Ok(List::empty(alloc)),
-        _ => unreachable!(),
+/// A command's own events, at one of so many partitions; none of a command that isn't run.
+#[derive(Drop)]
+pub struct Own<'a> {
+    pub partitions: u32,
+    pub command: &'a Command,
+}
+
+impl Maker for Own<'_> {
+    ghost making = { λ it p moment before. option_map_or (λ make. make before) (own p it.partitions moment it.command.now) [] };
+
+    fn put(
+        self,
+        alloc: Global,
+        state: &mut State,
+        moment: Moment,
+        out: &mut Out,
+    ) -> Result<(), Refusal> {
+        let partitions = self.partitions;
+        match self.command {
+            Command::DeploymentCreate(model) => {
+                Deployed { partitions, model }.put(alloc, state, moment, out)
+            }
+            Command::ProcessInstanceCreationCreate(made) => made.put(alloc, state, moment, out),
+            Command::ProcessInstanceCancel(key) => Cancelled(*key).put(alloc, state, moment, out),
+            Command::VariableDocumentUpdate(made) => made.put(alloc, state, moment, out),
+            Command::JobBatchActivate(asked) => asked.put(alloc, state, moment, out),
+            Command::JobComplete(done) => done.put(alloc, state, moment, out),
+            Command::JobFail(failed) => failed.put(alloc, state, moment, out),
+            Command::JobThrowError(error) => error.put(alloc, state, moment, out),
+            Command::JobUpdateRetries(update) => update.put(alloc, state, moment, out),
+            Command::JobTimeOut(key) => TimedOut(*key).put(alloc, state, moment, out),
+            Command::TimerTrigger(key) => TriggeredTimer(*key).put(alloc, state, moment, out),
+            Command::IncidentResolve(key) => Found(Resolved(*key)).put(alloc, state, moment, out),
+            Command::MessagePublish(message) => message.put(alloc, state, moment, out),
+            Command::MessageExpire(key) => Expired(*key).put(alloc, state, moment, out),
+            Command::DeploymentDistribute(sent) => sent.put(alloc, state, moment, out),
+            Command::CommandDistributionAcknowledge(told) => told.put(alloc, state, moment, out),
+            Command::ProcessInstanceBatchContinue
+            | Command::ProcessInstanceMigrationMigrate(_)
+            | Command::MessageSubscriptionCreate(_)
+            | Command::MessageSubscriptionCorrelate(_)
+            | Command::MessageSubscriptionReject(_)
+            | Command::MessageSubscriptionDelete(_)
+            | Command::ProcessMessageSubscriptionCreate(_)
+            | Command::ProcessMessageSubscriptionCorrelate(_)
+            | Command::ProcessMessageSubscriptionDelete(_) => Ok(()),
+        }
     }
 }

@@ -1,16 +1,16 @@
 // Publishing a message.
 ghost use Rattle.std.specs.Prelude.{◌≡◌, List, IfOk, string_bytes};
 ghost use Rattle.zb_model.specs.declared.record.Event.{Event};
-ghost use Rattle.zb_views.specs.View.{next_key};
-ghost use Rattle.zb_rules.specs.Publish.{reason_to_publish, is_repeated, buffered_text, message_under, published_under};
-ghost use Rattle.zb_state.specs.State.{partition_of, IsStateOf};
+ghost use Rattle.zb_rules.specs.Publish.{reason_to_publish, is_repeated, buffered_text, message_under, published};
+ghost use Rattle.zb_state.specs.State.{IsStateOf};
 
+use crate::making::Maker;
 use crate::rejection::rejection;
 use std::alloc::{AllocError, Global};
 use zb_model::{
-    Event, Key, List, MessagePublish, MessagePublished, Moment, Rejection, RejectionKind, TryCopy,
+    Event, Key, MessagePublish, MessagePublished, Moment, Rejection, RejectionKind, TryCopy,
 };
-use zb_state::State;
+use zb_state::{Out, Refusal, State};
 
 /// Why a message isn't published: one with its name, correlation key and id is buffered, and the id isn't
 /// empty. That costs a step for each buffered message, and only where the id isn't empty.
@@ -56,23 +56,25 @@ fn text_of_repeated(alloc: Global, command: &MessagePublish) -> Result<String, A
     Ok(text)
 }
 
-/// The events of a message that is published.
-pub fn own(
-    alloc: Global,
-    state: &State,
-    moment: Moment,
-    command: &MessagePublish,
-) -> Result<List<Event>, AllocError>
-    ensures { (es : List Event) → IsStateOf es state.now
-        → IfOk result (λ events. events ≡ published_under (next_key (partition_of state.now) es) moment command.now) }
-{
-    let key = state.next_key();
-    let mut events = List::empty(alloc);
-    events.push(Event::MessagePublished(message(alloc, key, moment, command)?))?;
-    if command.time_to_live == 0 {
-        events.push(Event::MessageExpired(key))?;
+/// The message is published under a fresh key, and expires at once where it has no time to live.
+impl Maker for &MessagePublish {
+    ghost making = { λ command p moment. published p moment command.now };
+
+    fn put(
+        self,
+        alloc: Global,
+        state: &mut State,
+        moment: Moment,
+        out: &mut Out,
+    ) -> Result<(), Refusal> {
+        let key = state.next_key();
+        let message = Event::MessagePublished(message(alloc, key, moment, self)?);
+        let expiry = match self.time_to_live {
+            0 => Some(Event::MessageExpired(key)),
+            _ => None,
+        };
+        (message, expiry).put(alloc, state, moment, out)
     }
-    Ok(events)
 }
 
 // The message under this key.

@@ -4,8 +4,8 @@ ghost use Rattle.zb_rules.specs.Reason.{reason_for};
 ghost use Rattle.zb_state.specs.State.{IsStateOf};
 
 use crate::{
-    acknowledge, activate, cancel, create, deploy, distribute, expire, go_on, jobs, publish,
-    resolve, trigger, update,
+    acknowledge, activate, cancel, create, deploy, distribute, ending, expire, go_on, publish,
+    resolve, retries, time_out, trigger, update,
 };
 use std::alloc::{AllocError, Global};
 use zb_model::{Command, Moment, Rejection};
@@ -29,11 +29,11 @@ pub fn reason(
         Command::ProcessInstanceCancel(key) => cancel::reason(alloc, state, *key),
         Command::VariableDocumentUpdate(made) => update::reason(alloc, state, made.scope),
         Command::JobBatchActivate(asked) => activate::reason(alloc, asked),
-        Command::JobComplete(done) => jobs::reason_to_end(alloc, state, done.key),
-        Command::JobFail(failed) => jobs::reason_to_end(alloc, state, failed.key),
-        Command::JobThrowError(error) => jobs::reason_to_end(alloc, state, error.key),
-        Command::JobUpdateRetries(update) => jobs::reason_to_retry(alloc, state, update),
-        Command::JobTimeOut(key) => jobs::reason_to_time_out(alloc, state, moment, *key),
+        Command::JobComplete(done) => ending::reason(alloc, state, done.key),
+        Command::JobFail(failed) => ending::reason(alloc, state, failed.key),
+        Command::JobThrowError(error) => ending::reason(alloc, state, error.key),
+        Command::JobUpdateRetries(update) => retries::reason(alloc, state, update),
+        Command::JobTimeOut(key) => time_out::reason(alloc, state, moment, *key),
         Command::TimerTrigger(key) => trigger::reason(alloc, state, moment, *key),
         Command::IncidentResolve(key) => resolve::reason(alloc, state, *key),
         Command::MessagePublish(message) => publish::reason(alloc, state, message),

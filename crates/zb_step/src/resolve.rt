@@ -4,9 +4,10 @@ ghost use Rattle.zb_model.specs.declared.record.Event.{Event};
 ghost use Rattle.zb_rules.specs.Resolve.{is_without_retries, reason_to_resolve, resolved};
 ghost use Rattle.zb_state.specs.State.{IsStateOf};
 
+use crate::making::Find;
 use crate::rejection::{no_such, wrong_state};
 use std::alloc::{AllocError, Global};
-use zb_model::{Event, IncidentResolved, Key, List, Rejection};
+use zb_model::{Event, IncidentResolved, Key, Rejection};
 use zb_state::State;
 
 /// Why an incident isn't resolved: none has this key, or the job that is its cause has no try left.
@@ -33,15 +34,20 @@ fn is_without_retries(state: &State, job: Key) -> bool
     }
 }
 
-/// The event of an incident that is resolved, if it stands. It costs what `State::incident` does.
-pub fn own(alloc: Global, state: &State, key: Key) -> Result<List<Event>, AllocError>
-    ensures { (es : List Event) → IsStateOf es state.now → IfOk result (λ events. events ≡ resolved key es) }
-{
-    let mut events = List::empty(alloc);
-    if let Some(incident) = state.incident(key) {
-        let key = incident.key;
-        let job = incident.job;
-        events.push(Event::IncidentResolved(IncidentResolved { key, job }))?;
+/// The incident is resolved, if it stands. It costs what `State::incident` does.
+#[derive(Drop)]
+pub struct Resolved(pub Key);
+
+impl Find for Resolved {
+    ghost finds = { λ it p. resolved it.0 };
+
+    fn find(self, _alloc: Global, state: &State) -> Result<Option<Event>, AllocError> {
+        match state.incident(self.0) {
+            Some(incident) => Ok(Some(Event::IncidentResolved(IncidentResolved {
+                key: incident.key,
+                job: incident.job,
+            }))),
+            None => Ok(None),
+        }
     }
-    Ok(events)
 }

@@ -1,14 +1,15 @@
 // Updating variables from a scope on up.
-ghost use Rattle.std.specs.Prelude.{◌≡◌, ◌++◌, List, IfOk, OnOk};
+ghost use Rattle.std.specs.Prelude.{◌≡◌, List, IfOk};
 ghost use Rattle.zb_model.specs.declared.record.Event.{Event};
 ghost use Rattle.zb_rules.specs.Update.{reason_to_update, updated};
-ghost use Rattle.zb_state.specs.State.{partition_of, IsStateOf, AdmitsMade};
+ghost use Rattle.zb_state.specs.State.{IsStateOf};
 
-use crate::assigning::put_each;
+use crate::assigning::Place;
+use crate::making::{Each, Maker};
 use crate::rejection::no_such;
 use std::alloc::{AllocError, Global};
-use zb_model::{Event, Key, Rejection, VariableDocumentUpdate};
-use zb_state::{Out, State};
+use zb_model::{Event, Key, Moment, Rejection, VariableDocumentUpdate};
+use zb_state::{Out, Refusal, State};
 
 /// Why variables aren't updated: no cell has the key of their scope.
 pub fn reason(alloc: Global, state: &State, scope: Key) -> Result<Option<Rejection>, AllocError>
@@ -20,27 +21,23 @@ pub fn reason(alloc: Global, state: &State, scope: Key) -> Result<Option<Rejecti
     Ok(Some(no_such(alloc, "no scope ", scope)?))
 }
 
-/// Sets the variables one after the other, and then says that the document is updated. Each costs what
-/// `State::holder_of` and `Out::put` do. After a refusal the state and the events are only dropped.
-pub fn put_own(
-    alloc: Global,
-    state: &mut State,
-    command: &VariableDocumentUpdate,
-    out: &mut Out,
-) -> Result<(), AllocError>
-    requires { AdmitsMade state.old (updated command.now) }
-    ensures put { (es : List Event) → IsStateOf es state.old → OnOk result (out.new ≡ out.old ++ updated command.now es) }
-    ensures state { (es : List Event) → IsStateOf es state.old → OnOk result (IsStateOf (es ++ updated command.now es) state.new) }
-    ensures place { partition_of state.new ≡ partition_of state.old }
-{
-    let scope = command.scope;
-    put_each(
-        alloc,
-        state,
-        command.local,
-        scope,
-        command.variables.as_slice(),
-        out,
-    )?;
-    out.put(alloc, state, Event::VariableDocumentUpdated(scope))
+/// The variables are set one after the other, and then the document is updated. Each costs what `State::holder_of` and
+/// `Out::put` do.
+impl Maker for &VariableDocumentUpdate {
+    ghost making = { λ command p moment. updated command.now };
+
+    fn put(
+        self,
+        alloc: Global,
+        state: &mut State,
+        moment: Moment,
+        out: &mut Out,
+    ) -> Result<(), Refusal> {
+        let scope = self.scope;
+        let local = self.local;
+        let finder = &Place { local, scope };
+        let things = self.variables.as_slice();
+        let updated = Event::VariableDocumentUpdated(scope);
+        (Each { finder, things }, updated).put(alloc, state, moment, out)
+    }
 }

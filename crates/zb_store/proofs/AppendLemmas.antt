@@ -8,9 +8,9 @@ use Rattle.std.proofs.lemmas.Nat.{from_be_bytes-to_be_bytes_8}
 use Rattle.zb_disk.specs.Disk.{overwritten, Torn, Only}
 use Rattle.zb_store.specs.Calls.{LeftByWriting}
 use Rattle.zb_store.specs.Log.{framed}
-use Rattle.zb_store.specs.LogLaws.{framed_length}
+use Rattle.zb_store.proofs.LogLaws.{framed_length}
 use Rattle.zb_store.specs.Stands.{next_gate, IsFrame, Leads, Stands, EndsAt, StandsWithOrWithout}
-use Rattle.zb_store.specs.StandsLaws.{closed_stands}
+use Rattle.zb_store.proofs.StandsLaws.{closed_stands}
 use Rattle.zb_store.proofs.GateLemmas.{next_behind}
 use Rattle.zb_store.proofs.BodyLemmas.{leads_push}
 use Rattle.zb_store.proofs.PieceLemmas.{byte_kept, part_kept, next_kept}

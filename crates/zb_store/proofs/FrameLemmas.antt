@@ -4,12 +4,12 @@ use Rattle.std.proofs.lemmas.List.{take-append-le, length_push}
 use Rattle.zb_disk.specs.Disk.{Only}
 use Rattle.zb_disk.specs.declared.disk.Disk.{Ghosts}
 use Rattle.zb_store.specs.Calls.{LeavesOnly}
-use Rattle.zb_store.specs.CallLaws.{leaves_since}
+use Rattle.zb_store.proofs.CallLaws.{leaves_since}
 use Rattle.zb_store.specs.Log.{framed, extent}
-use Rattle.zb_store.specs.LogLaws.{framed_length, extent_more}
+use Rattle.zb_store.proofs.LogLaws.{framed_length, extent_more}
 use Rattle.zb_store.specs.Stands.{Leads, EndsAt, StandsWithOrWithout}
 use Rattle.zb_store.specs.GateLog.{count_of, last_gate_of, HasFrames, HasClosedFrames}
-use Rattle.zb_store.specs.GateLogLaws.{log_stands}
+use Rattle.zb_store.proofs.GateLogLaws.{log_stands}
 use Rattle.zb_store.proofs.BodyLemmas.{leads_extent, leads_split}
 use Rattle.zb_store.specs.declared.gate_log.GateLog.{GateLog}
 

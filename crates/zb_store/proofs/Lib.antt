@@ -7,3 +7,7 @@ mod OpeningLemmas
 mod Settling
 mod AppendLemmas
 mod FrameLemmas
+pub mod LogLaws
+pub mod StandsLaws
+pub mod CallLaws
+pub mod GateLogLaws

@@ -4,7 +4,7 @@ use Rattle.std.specs.Prelude.{IfOk}
 use Rattle.zb_store.specs.Calls.{LeavesOnly, LeftByOpening}
 use Rattle.zb_store.specs.Stands.{Stands, IsCutAfter}
 use Rattle.zb_store.specs.GateLog.{disk_of_log, disk_after_log, is_whole_log, HasFrames, HasClosedFrames}
-use Rattle.zb_store.specs.GateLogLaws.{log_stands}
+use Rattle.zb_store.proofs.GateLogLaws.{log_stands}
 use Rattle.zb_store.specs.declared.fault.StoreFault.{StoreFault}
 use Rattle.zb_store.specs.declared.gate_log.GateLog.{GateLog}
 use Rattle.zb_disk.specs.declared.disk.Disk.{Ghosts}

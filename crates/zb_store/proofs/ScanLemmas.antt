@@ -8,7 +8,7 @@ use Rattle.zb_store.specs.declared.step.Step.{Step}
 use Rattle.zb_store.specs.declared.step.Step.TheVariants.{Next}
 use Rattle.zb_store.specs.Step.{IsAtGate}
 use Rattle.zb_store.specs.Stands.{next_gate, IsFrame, Leads}
-use Rattle.zb_store.specs.LogLaws.{extent_more}
+use Rattle.zb_store.proofs.LogLaws.{extent_more}
 use Rattle.zb_store.specs.Window.{IsPieceOf}
 use Rattle.zb_store.specs.Scan.{count_of_scan, gate_of_scan, body_found, HasFound}
 use Rattle.zb_store.proofs.BodyLemmas.{leads_push, frame_size}

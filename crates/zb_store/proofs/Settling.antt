@@ -3,7 +3,7 @@ use Rattle.std.proofs.Common.{◌≡◌, inl, inr, ℕ, ◌≤◌, List, length,
 use Rattle.zb_disk.specs.Disk.{Only, Elapses}
 use Rattle.zb_disk.specs.declared.disk.Disk.{Ghosts}
 use Rattle.zb_store.specs.Calls.{IsAsOpened, Settles, LeftByOpening}
-use Rattle.zb_store.specs.CallLaws.{Opens, leaves_call, settles_first, settles_then}
+use Rattle.zb_store.proofs.CallLaws.{Opens, leaves_call, settles_first, settles_then}
 
 -- the file itself is as it was opened
 as_opened : (file c : List ℕ) → c ≡ file → IsAsOpened file c

@@ -1,12 +1,8 @@
 pub mod Log
-pub mod LogLaws
 pub mod Stands
-pub mod StandsLaws
 pub mod Step
 pub mod Cause
 pub mod Calls
-pub mod CallLaws
 pub mod Window
 pub mod Scan
 pub mod GateLog
-pub mod GateLogLaws

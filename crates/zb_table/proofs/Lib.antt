@@ -5,3 +5,4 @@ pub mod Growing
 pub mod Backwards
 pub mod Reading
 pub mod Counting
+pub mod EarliestLaws

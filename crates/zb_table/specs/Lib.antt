@@ -1,4 +1,3 @@
 pub mod Rows
 pub mod Places
 pub mod Earliest
-pub mod EarliestLaws

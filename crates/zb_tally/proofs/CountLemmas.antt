@@ -7,7 +7,7 @@ use Rattle.std.proofs.lemmas.Option.{slice_get_within, get_or_from_slice_get}
 use Rattle.zb_disk.specs.declared.disk.Disk.{Ghosts}
 use Rattle.zb_model.specs.declared.record.Batch.{Batch}
 use Rattle.zb_views.specs.View.{events_in, events_of}
-use Rattle.zb_views.specs.ViewLaws.{events_of_more}
+use Rattle.zb_views.proofs.ViewLaws.{events_of_more}
 use Rattle.zb_store.specs.Stands.{Stands}
 use Rattle.zb_store.specs.declared.volume.Volume.{Volume}
 use Rattle.zb_partition.specs.Log.{bodies_of, AreBatches}

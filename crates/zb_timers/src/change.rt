@@ -1,7 +1,6 @@
 // What an event says of timers.
 ghost use Rattle.std.specs.Prelude.{◌≡◌, IfOk};
-ghost use Rattle.zb_views.specs.Timers.{timer_of};
-ghost use Rattle.zb_views.specs.TimerLaws.{says_nothing_of_timers};
+ghost use Rattle.zb_views.specs.Timers.{timer_of, says_nothing_of_timers};
 
 use std::alloc::{AllocError, Global};
 use zb_model::{Event, TimerCreated, TryCopy};

@@ -3,8 +3,6 @@
 
 mod cells;
 mod change;
-mod laws;
 mod timers;
 
-pub use laws::fitting_events_have_place;
 pub use timers::Timers;

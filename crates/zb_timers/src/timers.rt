@@ -2,8 +2,7 @@ ghost use Rattle.std.specs.Prelude.{◌≡◌, ◌==◌, ◌++◌, ◌∷◌, []
 ghost use Rattle.std.specs.List.{find};
 ghost use Rattle.std.specs.Option.{option_copied};
 ghost use Rattle.zb_table.specs.Rows.{Ascend, are_below, without};
-ghost use Rattle.zb_views.specs.Timers.{timer_of};
-ghost use Rattle.zb_views.specs.TimerLaws.{timers_by};
+ghost use Rattle.zb_views.specs.Timers.{timer_of, timers_by};
 ghost use Rattle.zb_timers.specs.Table.{has_place_for_timer, keys_on, place_of_timer, due_timer};
 
 use crate::cells::keys_under;

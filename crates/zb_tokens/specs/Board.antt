@@ -63,6 +63,15 @@ is_phase a b = false
 abbrev pub is_root : Cell → Bool
 is_root c = c.scope == 0
 
+-- the cells from the one with a key on up to its root; no more are above it than there are (BPMN 2.0.2, 13.2)
+abbrev pub up_from : List Cell → Board → ℕ → List Cell
+up_from [] b key = []
+up_from (more ∷ cells) b key = option_map_or (λ c. c ∷ up_from cells b c.scope) (cell_at b key) []
+
+-- of the cell with a key and those above it the nearest that passes (BPMN 2.0.2, 13.2)
+abbrev pub nearest : (Cell → Bool) → Board → ℕ → Option Cell
+nearest passes b key = find passes (up_from b.cells b key)
+
 -- a scope, in which tokens move: a root, or a cell at a subprocess (BPMN 2.0.2, 13.2 and 13.3.4)
 abbrev pub is_scope_in : Model → Cell → Bool
 is_scope_in m c = is_root c || is_at m c.node is_subprocess

@@ -28,13 +28,4 @@ pub mod Game
 pub mod Forced
 pub mod Effects
 pub mod Chosen
-pub mod ErrorLaws
-pub mod GameLaws
-pub mod EffectLaws
-pub mod ChoiceLaws
-pub mod LeaveLaws
 pub mod Mapped
-pub mod MappingLaws
-pub mod VisibleLaws
-pub mod CatcherLaws
-pub mod ForcedLaws

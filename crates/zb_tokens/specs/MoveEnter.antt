@@ -45,7 +45,7 @@ has_come m tokens scope node via = is_some (node_with m node) && arrives m node 
 
 -- in a scope a node may be entered by a flow: tokens have come, and nothing calls the scope off (BPMN 2.0.2, 13.3.2)
 abbrev pub may_enter : Board → ℕ → List ℕ → List ℕ → Bool
-may_enter b scope node via = option_map_or (λ c. not (is_called_off b.cells b scope)
+may_enter b scope node via = option_map_or (λ c. not (is_called_off b scope)
     && option_map_or (λ m. has_come m b.tokens scope node via) (model_under b c.definition) false) (cell_at b scope) false
 
 -- when: the node may be entered by the flow (BPMN 2.0.2, 13.3.2)

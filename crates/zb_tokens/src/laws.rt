@@ -1,4 +1,4 @@
-ghost use Rattle.std.specs.Prelude.{◌≡◌, ℕ, ◌==◌, IsTrue, IsFalse, is_some, List, Option, Some, None, Ok, Err, ◌⊎◌, option_map, [], ◌∷◌, ◌++◌, All, Contains, not, ◌||◌};
+ghost use Rattle.std.specs.Prelude.{◌≡◌, ℕ, ◌==◌, IsTrue, IsFalse, List, Option, Some, None, Ok, Err, ◌⊎◌, option_map, [], ◌∷◌, ◌++◌, All, Contains, not, ◌||◌};
 ghost use Rattle.std.specs.List.{find};
 ghost use Rattle.std.specs.Result.{is_ok};
 ghost use Rattle.zb_base.specs.declared.value.Value.{Value};
@@ -13,16 +13,14 @@ ghost use Rattle.zb_tokens.specs.declared.board.Cell.{Cell};
 ghost use Rattle.zb_tokens.specs.declared.board.Token.{Token};
 ghost use Rattle.zb_tokens.specs.declared.board.Incident.{Incident};
 ghost use Rattle.zb_tokens.specs.declared.board.Move.{Move};
-ghost use Rattle.zb_tokens.specs.declared.board.Mover.{Mover};
 ghost use Rattle.zb_tokens.specs.declared.board.Phase.TheVariants as phases;
 ghost use Rattle.zb_tokens.specs.declared.board.Enter.{Enter};
 ghost use Rattle.zb_tokens.specs.declared.board.Leave.{Leave};
 ghost use Rattle.zb_tokens.specs.declared.board.Take.{Take};
-ghost use Rattle.zb_tokens.specs.Board.{Board, cell_at, model_under, is_at, is_root, in_phase, CellsAscend};
+ghost use Rattle.zb_tokens.specs.Board.{Board, cell_at, model_under, is_at, is_root, in_phase};
 ghost use Rattle.zb_tokens.specs.declared.board.Triggered.{Triggered};
-ghost use Rattle.zb_tokens.specs.Errors.{catcher, first_for, is_for};
-ghost use Rattle.zb_tokens.specs.ErrorLaws.{IsCaughtAt};
-ghost use Rattle.zb_tokens.specs.Game.{fits, agrees, played};
+ghost use Rattle.zb_tokens.specs.Errors.{catcher, first_for, is_for, IsCaughtAt};
+ghost use Rattle.zb_tokens.specs.Game.{played};
 ghost use Rattle.zb_tokens.specs.Effects.{is_stand, is_of_incident, other_cells, other_tokens, scope_ended_by, is_emptied, IsEntered};
 ghost use Rattle.zb_tokens.specs.MoveEnter.{play_enter};
 ghost use Rattle.zb_tokens.specs.Names.{value_seen, visible};
@@ -35,24 +33,7 @@ ghost use Rattle.zb_tokens.specs.MoveLeave.{flows_of, exit_of, completion_of, pl
 ghost use Rattle.zb_tokens.specs.MoveTake.{play_take, spot_behind};
 ghost use Rattle.zb_tokens.specs.MoveHalt.{play_halt};
 ghost use Rattle.zb_tokens.specs.Doom.{is_doomed};
-ghost use Rattle.zb_tokens.specs.Forced.{is_forced, can_enter, next_mover, move_at, move_of, IsQuiet, IsEnd};
-
-/// Who is forced has a move, where the cells stand in the order of their keys.
-pub fn movers_have_moves()
-    ensures { (board : Board) (moment key : ℕ) (mover : Mover)
-        → CellsAscend 0 board.cells → next_mover board ≡ Some mover
-        → IsTrue (is_some (move_of board moment key mover)) }
-{}
-
-/// A forced move fits the board and agrees with what it evaluates, where the cells stand in the order of their keys.
-pub fn moves_of_movers_fit()
-    ensures fits { (board : Board) (moment key : ℕ) (mover : Mover) (move : Move)
-        → CellsAscend 0 board.cells → next_mover board ≡ Some mover
-        → move_of board moment key mover ≡ Some move → IsTrue (fits board move) }
-    ensures agrees { (board : Board) (moment key : ℕ) (mover : Mover) (move : Move)
-        → CellsAscend 0 board.cells → next_mover board ≡ Some mover
-        → move_of board moment key mover ≡ Some move → IsTrue (agrees board moment move) }
-{}
+ghost use Rattle.zb_tokens.specs.Forced.{is_forced, can_enter, move_at, IsQuiet, IsEnd};
 
 /// A cell that is called off does nothing but end: it begins to terminate, or is gone, or waits for what runs in it.
 pub fn doomed_cells_end()
@@ -116,11 +97,6 @@ pub fn quiet_games_rest()
         → All (λ (cell : Cell). IsFalse (is_forced board cell)) board.cells }
     ensures tokens { (board : Board) → IsQuiet board
         → All (λ (token : Token). IsFalse (can_enter board token)) board.tokens }
-{}
-
-/// A move that fits can be played.
-pub fn fitting_moves_are_played()
-    ensures { (board : Board) (move : Move) → IsTrue (fits board move) → IsTrue (is_some (played board move)) }
 {}
 
 /// A flow that is taken makes exactly one token, on that flow, in the scope of the cell that is left; before the

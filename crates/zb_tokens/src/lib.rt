@@ -13,9 +13,8 @@ pub use board::{
 };
 pub use laws::{
     doomed_cells_end, ended_scopes_are_emptied, entries_take_first_tokens,
-    errors_are_caught_by_their_code, fitting_moves_are_played, gateways_choose_one_flow,
-    halted_cells_are_emptied, incidents_stay, mappings_are_evaluated_first, models_stay,
-    movers_have_moves, moves_leave_others_alone, moves_of_movers_fit, outputs_come_before_exits,
-    quiet_games_rest, stuck_cells_wait, taken_flows_make_one_token,
+    errors_are_caught_by_their_code, gateways_choose_one_flow, halted_cells_are_emptied,
+    incidents_stay, mappings_are_evaluated_first, models_stay, moves_leave_others_alone,
+    outputs_come_before_exits, quiet_games_rest, stuck_cells_wait, taken_flows_make_one_token,
     visible_variables_are_those_seen,
 };

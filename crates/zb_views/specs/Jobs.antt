@@ -1,5 +1,5 @@
 -- The jobs of a log: queries over all its events.
-use Rattle.std.specs.Prelude.{ℕ, List, [], ◌∷◌, ◌++◌, Bool, true, false, ◌==◌, ◌&&◌, if◌then◌else◌, Option, Some, None, option_map, option_and_then, filter, take}
+use Rattle.std.specs.Prelude.{ℕ, List, [], ◌∷◌, ◌++◌, Bool, true, false, ◌==◌, ◌&&◌, if◌then◌else◌, Option, Some, None, option_map, option_and_then, filter, take, map, not}
 use Rattle.std.specs.Option.{option_map_or}
 use Rattle.std.specs.List.{find, list_any}
 use Rattle.std.specs.Str.{bytes_eq}
@@ -128,3 +128,34 @@ called_off_behind before (e ∷ next ∷ es) = called_off_behind (before ++ e �
 -- the job that the last event calls off, if it does: it is canceled next (Zeebe, the records)
 abbrev pub called_off : List Event → Option ℕ
 called_off es = called_off_behind [] es
+
+-- the job as one event more says (Zeebe, jobs)
+abbrev pub job_changed : Event → Job → Job
+job_changed e j = record j {
+  retries = option_map_or (λ n. n) (retries_told j.key e) j.retries;
+  phase = option_map_or (λ s. s) (phase_told j.key e) j.phase;
+  deadline = option_map_or (λ m. m) (deadline_told j.key e) j.deadline;
+}
+
+-- the job that an event makes, as it is first (own)
+abbrev pub job_made : Option JobCreated → List Job
+job_made None = []
+job_made (Some made) = job_behind made [] ∷ []
+
+-- what an event makes of the jobs: those that it ends are gone, the others are as it says, and the one that it makes is behind them (own)
+abbrev pub jobs_by : Event → List Job → List Job
+jobs_by e js = map (job_changed e) (filter (λ j. not (ends_job j.key j.cell e)) js) ++ job_made (job_told e)
+
+-- an event makes no job, ends none and changes none (own)
+abbrev pub says_nothing_of_jobs : Event → Bool
+says_nothing_of_jobs (events.JobCreated e) = false
+says_nothing_of_jobs (events.JobActivated e) = false
+says_nothing_of_jobs (events.JobTimedOut key) = false
+says_nothing_of_jobs (events.JobCompleted key) = false
+says_nothing_of_jobs (events.JobCanceled key) = false
+says_nothing_of_jobs (events.JobFailed e) = false
+says_nothing_of_jobs (events.JobErrorThrown e) = false
+says_nothing_of_jobs (events.JobRetriesUpdated e) = false
+says_nothing_of_jobs (events.ElementTerminating key) = false
+says_nothing_of_jobs (events.IncidentResolved e) = false
+says_nothing_of_jobs _ = true

@@ -1,5 +1,5 @@
 -- The timers of a log: queries over all its events.
-use Rattle.std.specs.Prelude.{ℕ, ◌==◌, List, [], ◌∷◌, ◌++◌, filter, count_by, Bool, true, false, ◌&&◌, is_some, if◌then◌else◌, Option, Some, None}
+use Rattle.std.specs.Prelude.{ℕ, ◌==◌, List, [], ◌∷◌, ◌++◌, filter, count_by, Bool, true, false, ◌&&◌, is_some, if◌then◌else◌, Option, Some, None, not, is_none}
 use Rattle.std.specs.Option.{option_map_or}
 use Rattle.std.specs.List.{find, list_any}
 use Rattle.zb_instance_records.specs.declared.happening.TimerCreated.{TimerCreated}
@@ -80,3 +80,20 @@ fits_timers before e = makes_later_timer before (timer_told e) && ends_timer_the
 abbrev pub all_fit_timers : List Event → List Event → Bool
 all_fit_timers before [] = true
 all_fit_timers before (e ∷ es) = fits_timers before e && all_fit_timers (before ++ e ∷ []) es
+
+-- the timer that an event makes, if it does (own)
+abbrev pub timer_made : Option Timer → List Timer
+timer_made None = []
+timer_made (Some t) = t ∷ []
+
+-- the timers that an event doesn't end (own)
+abbrev pub timers_left : Event → List Timer → List Timer
+timers_left e ts = filter (λ t. not (ends_timer t.key e)) ts
+
+-- what an event makes of the timers: the one that it ends is gone, and the one that it makes is behind the others (own)
+abbrev pub timers_by : Event → List Timer → List Timer
+timers_by e ts = timers_left e ts ++ timer_made (timer_told e)
+
+-- an event makes no timer and ends none (own)
+abbrev pub says_nothing_of_timers : Event → Bool
+says_nothing_of_timers e = is_none (timer_told e) && is_none (timer_ended e)

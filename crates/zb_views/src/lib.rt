@@ -13,5 +13,5 @@ pub use begun::Begun;
 pub use definition::Definition;
 pub use distribution::Distribution;
 pub use job::{Job, JobPhase};
-pub use laws::{buffered_grows, distributions_grow, jobs_grow, timers_end_once, timers_grow};
+pub use laws::timers_end_once;
 pub use timer::Timer;

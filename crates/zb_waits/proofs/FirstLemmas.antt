@@ -4,8 +4,8 @@ use Rattle.std.specs.List.{find, list_any}
 use Rattle.std.specs.Option.{option_map_or}
 use Rattle.std.proofs.lemmas.Bool.Decides.{nat_tests}
 use Rattle.zb_table.specs.Rows.{Ascend}
-use Rattle.zb_table.specs.Earliest.{is_earlier, earliest, place_in_time, is_due, first_due}
-use Rattle.zb_table.specs.EarliestLaws.{any_of, any_kept, earliest_found, earlier_of, earliest_more}
+use Rattle.zb_table.specs.Earliest.{is_earlier, earliest, place_in_time, is_due, first_due, earlier_of}
+use Rattle.zb_table.proofs.EarliestLaws.{any_of, any_kept, earliest_found, earliest_more}
 use Rattle.zb_waits.proofs.FoundLemmas.{found_above, found_passes}
 
 -- what is found passes another test, so one does

@@ -3,8 +3,7 @@ use Rattle.std.specs.Prelude.{◌≡◌, ℕ, ◌==◌, ◌&&◌, ◌||◌, nat_
 use Rattle.std.specs.List.{find, list_any}
 use Rattle.std.specs.Option.{option_map_or}
 use Rattle.std.specs.BTreeSet.{BTreeSet}
-use Rattle.zb_table.specs.Earliest.{is_earlier}
-use Rattle.zb_table.specs.EarliestLaws.{earlier_of}
+use Rattle.zb_table.specs.Earliest.{is_earlier, earlier_of}
 use Rattle.zb_table.specs.Rows.{Ascend}
 use Rattle.zb_waits.specs.Pairs.{has_pair, is_number, is_row_under}
 

@@ -1,3 +1,4 @@
 pub mod LineLemmas
 pub mod FaultLemmas
 pub mod MemberLemmas
+pub mod RequestLaws

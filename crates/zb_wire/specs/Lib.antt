@@ -7,4 +7,3 @@ pub mod Ops
 pub mod Asked
 pub mod Request
 pub mod Reading
-pub mod RequestLaws

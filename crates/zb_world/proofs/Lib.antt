@@ -1,2 +1,6 @@
 pub mod Worked
 pub mod SentLemmas
+pub mod EntryLaws
+pub mod HistoryLaws
+pub mod OnceLaws
+pub mod PacketLaws

@@ -13,7 +13,7 @@ use Rattle.zb_world.specs.Entries.{part_of, places_of, happenings}
 use Rattle.zb_world.specs.declared.entry.Entry.{Entry}
 use Rattle.zb_world.specs.History.{IsEntryOf, IsHistory}
 use Rattle.zb_world.specs.Once.{correlates, HappensOnce}
-use Rattle.zb_world.specs.HistoryLaws.{history_none, history_more}
+use Rattle.zb_world.proofs.HistoryLaws.{history_none, history_more}
 
 -- a batch that expires a message that isn't there, at a moment: it is rejected
 abbrev unknown : ℕ → ℕ → Batch

@@ -7,11 +7,12 @@ use zb_table::Query;
 use zb_tokens::{Cell, Phase};
 
 impl Game {
-    // Whether a cell or one above it calls off what is in it. It takes constant time where none is kept that does.
+    // Whether a cell or one above it calls off what is in it. It goes up the scopes; it takes constant time where no cell
+    // is kept that does.
     pub(super) fn is_called_off(&self, key: Key) -> bool
-        ensures { result ≡ is_called_off self.now.cells self.now key }
+        ensures { result ≡ is_called_off self.now key }
     {
-        !self.has_none_calling() && self.is_called_off_above(key)
+        !self.has_none_calling() && self.nearest(key, &CallsOff).is_some()
     }
 
     // Whether it is known that no cell calls off what is in it.
@@ -19,25 +20,6 @@ impl Game {
         ensures { result ≡ true → All (λ c. calls_off c ≡ false) self.now.cells }
     {
         self.ascends && !self.calling.any(&Each)
-    }
-
-    // The same, up the scopes.
-    fn is_called_off_above(&self, key: Key) -> bool
-        ensures { result ≡ is_called_off self.now.cells self.now key }
-    {
-        let mut key = key;
-        for _step in 0..self.cells.len() {
-            match self.cell(key) {
-                Some(cell) => {
-                    if calls_off(cell) {
-                        return true;
-                    }
-                    key = cell.scope;
-                }
-                None => return false,
-            }
-        }
-        false
     }
 
     // Whether a cell above this one calls it off.
@@ -49,10 +31,14 @@ impl Game {
 }
 
 // Whether a cell is terminating, or a terminate end event ends it.
-fn calls_off(cell: &Cell) -> bool
-    ensures { result ≡ calls_off cell.now }
-{
-    cell.phase == Phase::Terminating || cell.ending
+struct CallsOff;
+
+impl Query<Cell> for CallsOff {
+    ghost passes = { λ _ c. calls_off c };
+
+    fn passes(&self, cell: &Cell) -> bool {
+        cell.phase == Phase::Terminating || cell.ending
+    }
 }
 
 // Each key.

@@ -3,7 +3,7 @@ ghost use Rattle.std.specs.Prelude.{◌≡◌, false, filter, option_map};
 ghost use Rattle.std.specs.List.{find, list_any};
 ghost use Rattle.std.specs.Option.{option_copied, option_map_or};
 ghost use Rattle.zb_faults.specs.Elements.{is_boundary_of};
-ghost use Rattle.zb_tokens.specs.Errors.{catcher, caught, error_event, error_event_of, first_for, is_for, is_same_event};
+ghost use Rattle.zb_tokens.specs.Errors.{catcher, catches, caught, error_event, error_event_of, first_for, is_for, is_same_event};
 ghost use Rattle.zb_tokens.specs.MoveTrigger.{comes_about_by};
 ghost use Rattle.zb_game.specs.Searches.{comes_about_at, error_event_in};
 
@@ -75,21 +75,13 @@ impl Game {
     }
 
     // Where an error is caught that is thrown in the cell with a key. It goes up the scopes, and through the boundary events
-    // of each cell.
+    // of each cell; of the one that catches it twice.
     fn catcher(&self, code: &str, thrown: Key) -> Option<(Key, &Text)>
         ensures { option_map (λ e. record { cell = e.0; node = e.1.now }) result ≡ catcher self.now code.now thrown }
     {
-        let mut key = thrown;
-        for _step in 0..self.cells.len() {
-            let Some(cell) = self.cell(key) else {
-                return None;
-            };
-            match self.error_event_of(code, cell) {
-                Some(event) => return Some((key, &event.id)),
-                None => key = cell.scope,
-            }
-        }
-        None
+        let cell = self.nearest(thrown, &Catches { game: self, code })?;
+        let event = self.error_event_of(code, cell)?;
+        Some((cell.key, &event.id))
     }
 
     // The event at the boundary of a cell that catches an error; a root has none.
@@ -157,6 +149,22 @@ fn is_for(code: &str, node: &Node) -> bool
     ensures { result ≡ is_for code.now node.now }
 {
     is_error_boundary(node.kind) && node.name.as_str() == code
+}
+
+// Whether at the boundary of a cell there is an event that catches an error.
+#[derive(Drop)]
+struct Catches<'a> {
+    game: &'a Game,
+    code: &'a str,
+}
+
+impl<'a> Query<Cell> for Catches<'a> {
+    ghost passes = { λ q c. catches q.game.now q.code.now c };
+
+    fn passes(&self, cell: &Cell) -> bool {
+        let game = self.game;
+        game.error_event_of(self.code, cell).is_some()
+    }
 }
 
 // Whether at an event the error of the cell with a key comes about.

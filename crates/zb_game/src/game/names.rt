@@ -6,6 +6,7 @@ ghost use Rattle.zb_tokens.specs.Names.{holder_of, value_seen};
 
 use crate::Game;
 use zb_base::{Key, Value};
+use zb_table::Query;
 use zb_tokens::{Cell, Phase};
 
 impl Game {
@@ -14,35 +15,17 @@ impl Game {
     pub fn holder_of(&self, scope: Key, name: &str) -> Option<Key>
         ensures { result ≡ holder_of self.now scope name.now }
     {
-        let mut key = scope;
-        for _step in 0..self.cells.len() {
-            let Some(cell) = self.cell(key) else {
-                return None;
-            };
-            if holds(name, cell) {
-                return Some(key);
-            }
-            key = cell.scope;
-        }
-        None
+        let cell = self.nearest(scope, &IsHolder { name })?;
+        Some(cell.key)
     }
 
     // What a cell sees under a name: its value in the cell, or in the nearest one around it that has it. It goes up
-    // the scopes, as `holder_of` does.
+    // the scopes, as `holder_of` does, and through the variables of the one that has it once more.
     pub(super) fn value_seen(&self, scope: Key, name: &str) -> Option<&Value>
         ensures { option_copied result ≡ value_seen self.now scope name.now }
     {
-        let mut key = scope;
-        for _step in 0..self.cells.len() {
-            let Some(cell) = self.cell(key) else {
-                return None;
-            };
-            match cell.variables.get(name) {
-                Some(value) => return Some(value),
-                None => key = cell.scope,
-            }
-        }
-        None
+        let cell = self.nearest(scope, &HasName { name })?;
+        cell.variables.get(name)
     }
 
     /// Whether a cell is there and has a variable with this name. It goes through the variables of the cell, which is
@@ -77,16 +60,37 @@ impl Game {
     }
 }
 
-// Whether a value that is handed up under a name stays in this cell: it has the name, or is a root.
-fn holds(name: &str, cell: &Cell) -> bool
-    ensures { result ≡ (has_name name.now cell.now || is_root cell.now) }
-{
-    has_name(name, cell) || cell.scope == Key::new(0)
-}
-
 // Whether a cell has a variable with this name.
 pub(super) fn has_name(name: &str, cell: &Cell) -> bool
     ensures { result ≡ has_name name.now cell.now }
 {
     cell.variables.get(name).is_some()
+}
+
+// The same, as a question.
+#[derive(Drop)]
+struct HasName<'a> {
+    name: &'a str,
+}
+
+impl<'a> Query<Cell> for HasName<'a> {
+    ghost passes = { λ q c. has_name q.name.now c };
+
+    fn passes(&self, cell: &Cell) -> bool {
+        has_name(self.name, cell)
+    }
+}
+
+// Whether a value that is handed up under a name stays in a cell: it has the name, or is a root.
+#[derive(Drop)]
+struct IsHolder<'a> {
+    name: &'a str,
+}
+
+impl<'a> Query<Cell> for IsHolder<'a> {
+    ghost passes = { λ q c. has_name q.name.now c || is_root c };
+
+    fn passes(&self, cell: &Cell) -> bool {
+        has_name(self.name, cell) || cell.scope == Key::new(0)
+    }
 }

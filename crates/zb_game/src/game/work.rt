@@ -1,7 +1,7 @@
 // The work that cells wait for at service tasks, and where it is done.
 ghost use Rattle.std.specs.Prelude.{◌≡◌, option_map};
 ghost use Rattle.std.specs.Option.{option_copied};
-ghost use Rattle.zb_tokens.specs.Board.{cell_at};
+ghost use Rattle.zb_tokens.specs.Board.{cell_at, is_root};
 ghost use Rattle.zb_tokens.specs.Mappings.{gives_outputs, node_of};
 ghost use Rattle.zb_tokens.specs.Marks.{awaits_work, is_service_cell};
 ghost use Rattle.zb_tokens.specs.Names.{root_of};
@@ -12,6 +12,7 @@ use crate::kinds::is_service_at;
 use crate::marks::is_unset;
 use zb_base::{Key, Text};
 use zb_process::Node;
+use zb_table::Query;
 use zb_tokens::{Cell, Phase};
 
 impl Game {
@@ -40,17 +41,8 @@ impl Game {
     pub fn root_of(&self, cell: Key) -> Option<Key>
         ensures { result ≡ root_of self.now cell }
     {
-        let mut key = cell;
-        for _step in 0..self.cells.len() {
-            let Some(around) = self.cell(key) else {
-                return None;
-            };
-            if around.scope == Key::new(0) {
-                return Some(key);
-            }
-            key = around.scope;
-        }
-        None
+        let root = self.nearest(cell, &IsRoot)?;
+        Some(root.key)
     }
 
     /// Whether a cell is at a node, in an instance. It costs what `root_of` does.
@@ -137,5 +129,16 @@ impl Game {
             Some(model) => model.node_with(cell.node.as_str()),
             None => None,
         }
+    }
+}
+
+// Whether a cell is a root.
+struct IsRoot;
+
+impl Query<Cell> for IsRoot {
+    ghost passes = { λ _ c. is_root c };
+
+    fn passes(&self, cell: &Cell) -> bool {
+        cell.scope == Key::new(0)
     }
 }

@@ -1,9 +1,7 @@
 // What is due first.
 ghost use Rattle.std.specs.Prelude.{◌≡◌, List, Some, option_map};
 ghost use Rattle.zb_model.specs.declared.record.Event.{Event};
-ghost use Rattle.zb_jobs.specs.EarlierLaws.{earlier_option};
-ghost use Rattle.zb_table.specs.Earliest.{is_earlier};
-ghost use Rattle.zb_table.specs.EarliestLaws.{earlier_of};
+ghost use Rattle.zb_table.specs.Earliest.{is_earlier, earlier_of, earlier_option};
 ghost use Rattle.zb_rules.specs.Due.{place_of_alarm, due_command};
 ghost use Rattle.zb_rules.specs.Trigger.{waits_for};
 ghost use Rattle.zb_state.specs.State.{IsStateOf};

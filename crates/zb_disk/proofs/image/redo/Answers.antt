@@ -1,7 +1,7 @@
 use Rattle.std.proofs.Common.{◌≡◌, ◌∙◌, ◌+◌, ◌++◌, ◌∷◌, [], ap, sym, take}
 use Rattle.std.proofs.lemmas.List.{take_more}
 use Rattle.zb_disk.specs.Kept.{after, file_after}
-use Rattle.zb_disk.specs.MomentLaws.{file_push}
+use Rattle.zb_disk.proofs.PushLemmas.{file_push}
 use Rattle.zb_disk.proofs.image.redo.Goals as goal
 
 pub loop-call-preserved : goal.loop-call-preserved

@@ -3,7 +3,8 @@ use Rattle.std.specs.Option.{option_or}
 use Rattle.std.proofs.lemmas.List.{take_more}
 use Rattle.zb_base.specs.declared.vars.Variable.{Variable}
 use Rattle.zb_base.specs.Vars.{value_named}
-use Rattle.zb_game.proofs.UnseenLemmas.{or_assoc, value_of_both}
+use Rattle.zb_tokens.proofs.VisibleLaws.{value_of_both}
+use Rattle.zb_game.proofs.UnseenLemmas.{or_assoc}
 use Rattle.zb_game.proofs.unseen.add_unseen.Goals as goal
 
 pub loop-variable-preserved : goal.loop-variable-preserved

@@ -1,5 +1,5 @@
 use Rattle.std.proofs.Common.{◌∙◌, ◌++◌, ◌∷◌, [], IsFalse, refl, arith, rules}
-use Rattle.zb_store.specs.CallLaws.{leaves_none, reads_then}
+use Rattle.zb_store.proofs.CallLaws.{leaves_none, reads_then}
 use Rattle.zb_store.specs.Scan.{disk_of_scan, is_over}
 use Rattle.zb_partition.proofs.opening.read_frames.Goals as goal
 

@@ -1,4 +1,4 @@
-use Rattle.zb_rules.specs.SoundLaws.{board_is_there, board_is_sound}
+use Rattle.zb_rules.proofs.SoundLaws.{board_is_there, board_is_sound}
 use Rattle.zb_rules.proofs.laws.boards_of_logs_are_sound.Goals as goal
 
 pub returns-clause-there : goal.returns-clause-there

@@ -1,4 +1,4 @@
-use Rattle.zb_rules.specs.DueLaws.{due_command_first, due_command_none}
+use Rattle.zb_rules.proofs.DueLaws.{due_command_first, due_command_none}
 use Rattle.zb_rules.proofs.laws.due_commands_come_first.Goals as goal
 
 pub returns-clause-first : goal.returns-clause-first

@@ -1,4 +1,4 @@
-use Rattle.zb_rules.specs.DueLaws.{due_command_unrefused, due_command_is_run}
+use Rattle.zb_rules.proofs.DueLaws.{due_command_unrefused, due_command_is_run}
 use Rattle.zb_rules.proofs.laws.due_commands_have_no_reason.Goals as goal
 
 pub returns-clause-no_reason : goal.returns-clause-no_reason

@@ -1,11 +1,11 @@
 use Rattle.zb_tokens.specs.Board.{model_under}
-use Rattle.zb_rules.specs.AppliedLaws.{some_of}
-use Rattle.zb_rules.specs.GatewayLaws.{leaves_one_way, told_once}
-use Rattle.zb_rules.specs.ModelsLaws.{formed_under}
-use Rattle.zb_rules.specs.OwesLaws.{HasModel}
-use Rattle.zb_rules.specs.MadeLaws.{is_keyed}
-use Rattle.zb_rules.specs.SoundLaws.{board_keeps}
-use Rattle.zb_tokens.specs.GameLaws.{found_holds}
+use Rattle.zb_rules.proofs.AppliedLaws.{some_of}
+use Rattle.zb_rules.proofs.GatewayLaws.{leaves_one_way, told_once}
+use Rattle.zb_rules.proofs.ModelsLaws.{formed_under}
+use Rattle.zb_rules.proofs.OwesLaws.{HasModel}
+use Rattle.zb_rules.proofs.MadeLaws.{is_keyed}
+use Rattle.zb_rules.proofs.SoundLaws.{board_keeps}
+use Rattle.zb_tokens.proofs.GameLaws.{found_holds}
 use Rattle.zb_rules.proofs.laws.event_gateways_take_one_way.Goals as goal
 
 pub returns-clause-way : goal.returns-clause-way

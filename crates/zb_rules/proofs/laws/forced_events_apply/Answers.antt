@@ -1,4 +1,4 @@
-use Rattle.zb_rules.specs.ProgressLaws.{forced_event}
+use Rattle.zb_rules.proofs.ProgressLaws.{forced_event}
 use Rattle.zb_rules.proofs.laws.forced_events_apply.Goals as goal
 
 pub returns : goal.returns

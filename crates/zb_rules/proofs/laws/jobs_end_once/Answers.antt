@@ -1,4 +1,4 @@
-use Rattle.zb_rules.specs.JobEndsLaws.{ended_once, ended_home}
+use Rattle.zb_rules.proofs.JobEndsLaws.{ended_once, ended_home}
 use Rattle.zb_rules.proofs.laws.jobs_end_once.Goals as goal
 
 pub returns-clause-once : goal.returns-clause-once

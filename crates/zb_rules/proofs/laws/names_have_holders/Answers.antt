@@ -1,4 +1,4 @@
-use Rattle.zb_rules.specs.UpdateLaws.{holder_is_there, update_is_whole}
+use Rattle.zb_rules.proofs.UpdateLaws.{holder_is_there, update_is_whole}
 use Rattle.zb_rules.proofs.laws.names_have_holders.Goals as goal
 
 pub returns-clause-holders : goal.returns-clause-holders

@@ -1,4 +1,4 @@
-use Rattle.zb_rules.specs.TimerEndsLaws.{timer_ended_once, timer_ended_home}
+use Rattle.zb_rules.proofs.TimerEndsLaws.{timer_ended_once, timer_ended_home}
 use Rattle.zb_rules.proofs.laws.timers_end_once.Goals as goal
 
 pub returns-clause-once : goal.returns-clause-once

@@ -1,4 +1,4 @@
-use Rattle.zb_rules.specs.OnTimeLaws.{triggered_on_time}
+use Rattle.zb_rules.proofs.OnTimeLaws.{triggered_on_time}
 use Rattle.zb_rules.proofs.laws.timers_fire_on_time.Goals as goal
 
 pub returns : goal.returns

@@ -1,5 +1,5 @@
 use Rattle.std.proofs.Common.{◌++◌, map, length, ◌∙◌, ap, arith}
-use Rattle.zb_outside.specs.ClockLaws.{gone_further}
+use Rattle.zb_outside.proofs.ClockLaws.{gone_further}
 use Rattle.zb_session.specs.Answer.{found_in, entries_made}
 use Rattle.zb_session.specs.Session.{streams_of, session_ends}
 use Rattle.zb_engine.specs.Solo.{basis_in, partitions_in, stamps_in}

@@ -2,7 +2,7 @@ use Rattle.std.proofs.Common.{◌≡◌, ℕ, ◌++◌, List, [], length, Some, 
 use Rattle.zb_reply.specs.Reply.{line_of}
 use Rattle.std.proofs.lemmas.Result.{on_ok_weaker, IfErr-weaker}
 use Rattle.zb_world.specs.declared.entry.Entry.{Entry}
-use Rattle.zb_wire.specs.RequestLaws.{Tells-fault}
+use Rattle.zb_wire.proofs.RequestLaws.{Tells-fault}
 use Rattle.zb_wire.specs.declared.request.LineFault.TheVariants as faults
 use Rattle.zb_wire.specs.declared.request.Request.{Request}
 use Rattle.zb_wire.specs.declared.request.LineFault.{LineFault}

@@ -1,6 +1,6 @@
 use Rattle.std.proofs.Common.{arith, refl, ◌+◌, ◌∙◌, sym, subst, IsTrue}
-use Rattle.zb_lines.specs.TakenLaws.{takes_nothing}
-use Rattle.zb_outside.specs.ClockLaws.{gone_nowhere, gone_further}
+use Rattle.zb_lines.proofs.TakenLaws.{takes_nothing}
+use Rattle.zb_outside.proofs.ClockLaws.{gone_nowhere, gone_further}
 use Rattle.zb_session.specs.Session.{most_taken, streams_of}
 use Rattle.zb_session.specs.Serving.{began_of, clocks_of, facts_by, service_of, stand_of}
 use Rattle.zb_session.proofs.TurnLemmas.{few, serving_first}

@@ -2,7 +2,7 @@ use Rattle.std.proofs.Common.{◌≡◌, [], ◌++◌, ◌≤◌, length, refl, 
 use Rattle.std.proofs.lemmas.List.{append-nil, take_all, length-map}
 use Rattle.zb_model.specs.Record.{bytes_of}
 use Rattle.zb_partition.specs.Log.{bodies_of}
-use Rattle.zb_store.specs.CallLaws.{leaves_none, reads_then}
+use Rattle.zb_store.proofs.CallLaws.{leaves_none, reads_then}
 use Rattle.zb_store.specs.GateLog.{disk_of_log}
 use Rattle.zb_show.specs.Lines.{lines_from, log_lines}
 use Rattle.zb_show.proofs.ShowLemmas.{told_more, told_part, all_written, written_all, cause_since}

@@ -1,6 +1,6 @@
 use Rattle.std.proofs.Common.{List, ℕ, sym, ◌∙◌, subst, arith}
 use Rattle.zb_partition.specs.Log.{bodies_of}
-use Rattle.zb_store.specs.CallLaws.{opens_then}
+use Rattle.zb_store.proofs.CallLaws.{opens_then}
 use Rattle.zb_store.specs.GateLog.{disk_of_log, HasClosedFrames}
 use Rattle.zb_show.specs.Lines.{log_lines}
 use Rattle.zb_show.specs.Status.{IsBadLog}

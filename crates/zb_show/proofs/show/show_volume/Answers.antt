@@ -1,9 +1,9 @@
 use Rattle.std.proofs.Common.{◌≡◌, ◌≤◌, inl, inr, refl, ap, sym, ◌∙◌, subst, arith}
 use Rattle.zb_partition.specs.Log.{bodies_of}
 use Rattle.zb_store.specs.GateLog.{disk_of_log}
-use Rattle.zb_store.specs.GateLogLaws.{log_stands}
+use Rattle.zb_store.proofs.GateLogLaws.{log_stands}
 use Rattle.zb_store.specs.Stands.{Stands}
-use Rattle.zb_store.specs.CallLaws.{Opens}
+use Rattle.zb_store.proofs.CallLaws.{Opens}
 use Rattle.zb_show.specs.Lines.{log_lines}
 use Rattle.zb_show.proofs.ShowLemmas.{opens_again, frame_of, open_cause, of_opening, of_opened, told_written, err_then, err_since}
 use Rattle.zb_show.proofs.show.show_volume.Goals as goal

@@ -1,7 +1,7 @@
-use Rattle.std.proofs.Common.{◌≡◌, ◌++◌, ◌-◌, ℕ, List, length}
+use Rattle.std.proofs.Common.{◌≡◌, ◌++◌, ◌-◌, List, length}
 use Rattle.zb_model.specs.declared.record.Event.{Event}
 use Rattle.zb_rules.specs.Settling.{full}
-use Rattle.zb_state.specs.State.{partition_of, IsStateOf, IsReached}
+use Rattle.zb_state.specs.State.{partition_of, IsStateOf, IsUnreached}
 use Rattle.zb_step.proofs.TurnLemmas.{GoesOn}
 use Rattle.zb_step.proofs.settling.settle.Given as goal
 
@@ -9,9 +9,9 @@ use Rattle.zb_step.proofs.settling.settle.Given as goal
 abbrev pub invariant-loop-alloc : goal.invariant-loop-alloc
 invariant-loop-alloc l = record {
   place : partition_of l.state ≡ partition_of l.initial.state;
-  reached : IsReached l.state;
-  goes_on : (n : ℕ) (before : List Event) → IsStateOf (before ++ l.initial.out) l.initial.state → GoesOn (partition_of l.initial.state) n l.moment before l.initial.out l.out;
+  goes_on : (before : List Event) → IsStateOf (before ++ l.initial.out) l.initial.state → GoesOn (partition_of l.initial.state) l.moment before l.initial.out l.out;
   comes_to : (before : List Event) → IsStateOf (before ++ l.initial.out) l.initial.state → IsStateOf (before ++ l.out) l.state;
+  unreached : IsUnreached l.state → IsUnreached l.initial.state;
 }
 
 abbrev pub decreases-loop-alloc : goal.decreases-loop-alloc

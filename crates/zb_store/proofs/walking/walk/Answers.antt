@@ -1,5 +1,5 @@
 use Rattle.std.proofs.Common.{◌≡◌, ◌+◌, ℕ, List, suc, take, sym, subst, ◌∙◌, ap, arith}
-use Rattle.zb_store.specs.CallLaws.{reads_then}
+use Rattle.zb_store.proofs.CallLaws.{reads_then}
 use Rattle.zb_store.specs.Stands.{next_gate, Leads}
 use Rattle.zb_store.proofs.BodyLemmas.{frame_at}
 use Rattle.zb_store.proofs.walking.walk.Goals as goal

@@ -1,6 +1,6 @@
 use Rattle.std.proofs.Common.{length, inl, inr}
 use Rattle.std.proofs.lemmas.Result.{on_ok_weaker}
-use Rattle.zb_store.specs.CallLaws.{leaves_weaker, leaves_then}
+use Rattle.zb_store.proofs.CallLaws.{leaves_weaker, leaves_then}
 use Rattle.zb_store.proofs.AppendLemmas.{awaits, ends_standing, ends_kept, gate_torn, gate_opened, left_behind, left_on}
 use Rattle.zb_store.proofs.writing.write_frame.Goals as goal
 

@@ -4,7 +4,7 @@ use Rattle.zb_model.specs.Record.{bytes_of}
 use Rattle.zb_model.specs.declared.record.Batch.{Batch}
 use Rattle.zb_model.specs.declared.record.Event.{Event}
 use Rattle.zb_views.specs.View.{events_of}
-use Rattle.zb_views.specs.ViewLaws.{events_of_more}
+use Rattle.zb_views.proofs.ViewLaws.{events_of_more}
 use Rattle.zb_partition.specs.Log.{bodies_of}
 use Rattle.zb_state.specs.State.{IsStateOf}
 use Rattle.zb_tally.proofs.CountLemmas.{AreCounted, counted_none, counted_more, front_more, tally_is}

@@ -1,4 +1,4 @@
-use Rattle.zb_tokens.specs.ForcedLaws.{doomed_ends}
+use Rattle.zb_tokens.proofs.ForcedLaws.{doomed_ends}
 use Rattle.zb_tokens.proofs.laws.doomed_cells_end.Goals as goal
 
 pub returns : goal.returns

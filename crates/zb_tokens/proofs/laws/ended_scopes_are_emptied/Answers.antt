@@ -1,4 +1,4 @@
-use Rattle.zb_tokens.specs.EffectLaws.{end_marks, end_empties}
+use Rattle.zb_tokens.proofs.EffectLaws.{end_marks, end_empties}
 use Rattle.zb_tokens.proofs.laws.ended_scopes_are_emptied.Goals as goal
 
 pub returns-clause-scope : goal.returns-clause-scope

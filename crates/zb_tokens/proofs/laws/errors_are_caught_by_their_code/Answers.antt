@@ -1,4 +1,4 @@
-use Rattle.zb_tokens.specs.CatcherLaws.{catchers_are_there, code_first}
+use Rattle.zb_tokens.proofs.CatcherLaws.{catchers_are_there, code_first}
 use Rattle.zb_tokens.proofs.laws.errors_are_caught_by_their_code.Goals as goal
 
 pub returns-clause-there : goal.returns-clause-there

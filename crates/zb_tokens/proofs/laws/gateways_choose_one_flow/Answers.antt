@@ -1,4 +1,4 @@
-use Rattle.zb_tokens.specs.LeaveLaws.{choice_is_made, choice_fails, all_are_owed}
+use Rattle.zb_tokens.proofs.LeaveLaws.{choice_is_made, choice_fails, all_are_owed}
 use Rattle.zb_tokens.proofs.laws.gateways_choose_one_flow.Goals as goal
 
 pub returns-clause-chosen : goal.returns-clause-chosen

@@ -1,4 +1,4 @@
-use Rattle.zb_tokens.specs.EffectLaws.{halted_terminates, halted_empties}
+use Rattle.zb_tokens.proofs.EffectLaws.{halted_terminates, halted_empties}
 use Rattle.zb_tokens.proofs.laws.halted_cells_are_emptied.Goals as goal
 
 pub returns-clause-cell : goal.returns-clause-cell

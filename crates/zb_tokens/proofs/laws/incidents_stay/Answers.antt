@@ -1,4 +1,4 @@
-use Rattle.zb_tokens.specs.EffectLaws.{incidents_stay, incidents_alone}
+use Rattle.zb_tokens.proofs.EffectLaws.{incidents_stay, incidents_alone}
 use Rattle.zb_tokens.proofs.laws.incidents_stay.Goals as goal
 
 pub returns-clause-others : goal.returns-clause-others

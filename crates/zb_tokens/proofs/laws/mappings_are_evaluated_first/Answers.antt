@@ -1,4 +1,4 @@
-use Rattle.zb_tokens.specs.MappingLaws.{values_mapped, first_fault_mapped}
+use Rattle.zb_tokens.proofs.MappingLaws.{values_mapped, first_fault_mapped}
 use Rattle.zb_tokens.proofs.laws.mappings_are_evaluated_first.Goals as goal
 
 pub returns-clause-values : goal.returns-clause-values

@@ -1,4 +1,4 @@
-use Rattle.zb_tokens.specs.EffectLaws.{other_cells_stay, other_tokens_stay}
+use Rattle.zb_tokens.proofs.EffectLaws.{other_cells_stay, other_tokens_stay}
 use Rattle.zb_tokens.proofs.laws.moves_leave_others_alone.Goals as goal
 
 pub returns-clause-cells : goal.returns-clause-cells

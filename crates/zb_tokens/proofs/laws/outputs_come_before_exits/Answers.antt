@@ -1,4 +1,4 @@
-use Rattle.zb_tokens.specs.MappingLaws.{completed_with, completion_fails}
+use Rattle.zb_tokens.proofs.MappingLaws.{completed_with, completion_fails}
 use Rattle.zb_tokens.proofs.laws.outputs_come_before_exits.Goals as goal
 
 pub returns-clause-completed : goal.returns-clause-completed

@@ -1,4 +1,4 @@
-use Rattle.zb_tokens.specs.ForcedLaws.{quiet_cells, quiet_tokens}
+use Rattle.zb_tokens.proofs.ForcedLaws.{quiet_cells, quiet_tokens}
 use Rattle.zb_tokens.proofs.laws.quiet_games_rest.Goals as goal
 
 pub returns-clause-cells : goal.returns-clause-cells

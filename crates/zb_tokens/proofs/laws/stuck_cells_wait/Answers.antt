@@ -1,4 +1,4 @@
-use Rattle.zb_tokens.specs.ForcedLaws.{stuck_waits}
+use Rattle.zb_tokens.proofs.ForcedLaws.{stuck_waits}
 use Rattle.zb_tokens.proofs.laws.stuck_cells_wait.Goals as goal
 
 pub returns : goal.returns

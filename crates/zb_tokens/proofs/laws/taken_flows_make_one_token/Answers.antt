@@ -1,4 +1,4 @@
-use Rattle.zb_tokens.specs.GameLaws.{take_makes_one}
+use Rattle.zb_tokens.proofs.GameLaws.{take_makes_one}
 use Rattle.zb_tokens.proofs.laws.taken_flows_make_one_token.Goals as goal
 
 pub returns : goal.returns

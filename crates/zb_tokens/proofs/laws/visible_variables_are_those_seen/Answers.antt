@@ -1,4 +1,4 @@
-use Rattle.zb_tokens.specs.VisibleLaws.{visible_named, visible_ascends}
+use Rattle.zb_tokens.proofs.VisibleLaws.{visible_named, visible_ascends}
 use Rattle.zb_tokens.proofs.laws.visible_variables_are_those_seen.Goals as goal
 
 pub returns-clause-values : goal.returns-clause-values

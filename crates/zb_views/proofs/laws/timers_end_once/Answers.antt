@@ -1,4 +1,4 @@
-use Rattle.zb_views.specs.TimerEndsLaws.{timers_ascend, timer_made_once, timer_ends_once}
+use Rattle.zb_views.proofs.TimerEndsLaws.{timers_ascend, timer_made_once, timer_ends_once}
 use Rattle.zb_views.proofs.laws.timers_end_once.Goals as goal
 
 pub returns-clause-ascend : goal.returns-clause-ascend

@@ -1,4 +1,4 @@
-use Rattle.zb_world.specs.HistoryLaws.{cut_is_history, front_is_cut, whole_is_cut}
+use Rattle.zb_world.proofs.HistoryLaws.{cut_is_history, front_is_cut, whole_is_cut}
 use Rattle.zb_world.proofs.laws.cuts_are_histories.Goals as goal
 
 pub returns-clause-history : goal.returns-clause-history

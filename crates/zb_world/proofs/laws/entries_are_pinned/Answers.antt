@@ -1,5 +1,5 @@
-use Rattle.zb_world.specs.EntryLaws.{pinned}
-use Rattle.zb_world.specs.HistoryLaws.{history_pinned}
+use Rattle.zb_world.proofs.EntryLaws.{pinned}
+use Rattle.zb_world.proofs.HistoryLaws.{history_pinned}
 use Rattle.zb_world.proofs.laws.entries_are_pinned.Goals as goal
 
 pub returns-clause-entries : goal.returns-clause-entries

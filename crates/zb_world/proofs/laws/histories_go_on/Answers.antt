@@ -1,4 +1,4 @@
-use Rattle.zb_world.specs.HistoryLaws.{history_none, history_more, history_joined, history_front}
+use Rattle.zb_world.proofs.HistoryLaws.{history_none, history_more, history_joined, history_front}
 use Rattle.zb_world.proofs.laws.histories_go_on.Goals as goal
 
 pub returns-clause-none : goal.returns-clause-none

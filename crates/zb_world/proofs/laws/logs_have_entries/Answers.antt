@@ -1,5 +1,5 @@
-use Rattle.zb_world.specs.EntryLaws.{part_of_entries, places_of_entries}
-use Rattle.zb_world.specs.HistoryLaws.{history_of_one}
+use Rattle.zb_world.proofs.EntryLaws.{part_of_entries, places_of_entries}
+use Rattle.zb_world.proofs.HistoryLaws.{history_of_one}
 use Rattle.zb_world.proofs.laws.logs_have_entries.Goals as goal
 
 pub returns-clause-alone : goal.returns-clause-alone

@@ -1,5 +1,5 @@
-use Rattle.zb_world.specs.EntryLaws.{part_of_joined, places_of_joined, places_of_count}
-use Rattle.zb_world.specs.HistoryLaws.{parts_are_steps}
+use Rattle.zb_world.proofs.EntryLaws.{part_of_joined, places_of_joined, places_of_count}
+use Rattle.zb_world.proofs.HistoryLaws.{parts_are_steps}
 use Rattle.zb_world.proofs.laws.parts_are_logs_of_steps.Goals as goal
 
 pub returns-clause-steps : goal.returns-clause-steps

@@ -1,4 +1,4 @@
-use Rattle.std.proofs.Common.{◌≡◌, ℕ, nat_le, nat_cmp, true, false, Option, sym, ap, ◌∙◌, is_gt, arith}
+use Rattle.std.proofs.Common.{◌≡◌, ℕ, nat_le, true, Option, sym, ap, ◌∙◌, arith}
 use Rattle.std.specs.List.{list_any}
 use Rattle.std.specs.Option.{option_map_or}
 use Rattle.std.proofs.lemmas.Bool.Decides.{nat_tests}

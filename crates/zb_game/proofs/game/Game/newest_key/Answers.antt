@@ -11,4 +11,4 @@ returns-then-has_none_calling c =
     let b = c.args.self.now in
     let kept : IsIndexed b c.self.inside.tokens c.self.inside.inside c.self.inside.stuck.entries c.self.inside.ready c.self.inside.calling c.self.inside.coming = subst (λ (x : Board). IsIndexed x c.self.inside.tokens c.self.inside.inside c.self.inside.stuck.entries c.self.inside.ready c.self.inside.calling c.self.inside.coming) c.self.view_is (c.self.invariant c.if-self.true) in
     let none : c.has_none_calling.result ≡ true = search rules in
-    c.last_key.ensures.key ∙ (option_map_id _ ∙ newest_ready b c.self.inside.tokens c.self.inside.inside c.self.inside.stuck.entries c.self.inside.ready c.self.inside.calling c.self.inside.coming kept (λ x. none_called b (c.has_none_calling.ensures none) b.cells x.scope) c.last_key.ensures.order)
+    c.last_key.ensures.key ∙ (option_map_id _ ∙ newest_ready b c.self.inside.tokens c.self.inside.inside c.self.inside.stuck.entries c.self.inside.ready c.self.inside.calling c.self.inside.coming kept (λ x. none_called b (c.has_none_calling.ensures none) x.scope) c.last_key.ensures.order)

@@ -1,7 +1,8 @@
 use Rattle.std.proofs.Common.{◌==◌, refl, sym, ap, ◌∙◌}
 use Rattle.std.proofs.lemmas.Result.{on_ok_weaker}
 use Rattle.zb_model.specs.declared.record.Event.TheVariants as events
-use Rattle.zb_views.specs.JobLaws.{jobs_by, jobs_by_silent}
+use Rattle.zb_views.specs.Jobs.{jobs_by}
+use Rattle.zb_views.proofs.JobLaws.{jobs_by_silent}
 use Rattle.zb_jobs.proofs.RowLemmas.{by_creation, by_ending, by_changing}
 use Rattle.zb_jobs.proofs.jobs.Jobs.apply.Goals as goal
 

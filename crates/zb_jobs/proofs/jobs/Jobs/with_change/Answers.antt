@@ -1,7 +1,7 @@
 use Rattle.std.proofs.Common.{◌≡◌, ◌==◌, List, map, refl, sym, ap, subst, ◌∙◌}
 use Rattle.std.specs.List.{find}
 use Rattle.zb_views.specs.declared.job.Job.{Job}
-use Rattle.zb_views.specs.JobLaws.{job_changed}
+use Rattle.zb_views.specs.Jobs.{job_changed}
 use Rattle.zb_jobs.specs.Indexed.{HasIndexes}
 use Rattle.zb_waits.proofs.FoundLemmas.{map_absent, edited_all}
 use Rattle.zb_jobs.proofs.IndexLemmas.{IsOffered, with_one_changed, found_before, none_before}

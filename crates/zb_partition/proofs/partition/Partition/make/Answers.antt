@@ -9,5 +9,4 @@ invariant_of-self g c = record {
   limited = search rules;
   counted = search rules;
   resting = λ live. absurd (false≢true (sym c.requires.stopped ∙ live));
-  reached = λ live. absurd (false≢true (sym c.requires.stopped ∙ live));
 }

@@ -1,5 +1,5 @@
 use Rattle.std.proofs.lemmas.Result.{IfErr-weaker}
-use Rattle.zb_store.specs.CallLaws.{opens_then, settles_read, settles_weaker, on_ok}
+use Rattle.zb_store.proofs.CallLaws.{opens_then, settles_read, settles_weaker, on_ok}
 use Rattle.zb_store.specs.Scan.{disk_of_scan}
 use Rattle.zb_partition.specs.Log.{bodies_of}
 use Rattle.zb_partition.specs.Opening.{disk_after}

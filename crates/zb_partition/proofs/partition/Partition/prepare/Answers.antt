@@ -1,6 +1,6 @@
 use Rattle.std.proofs.Common.{◌≡◌, ◌+◌, length, refl, ap, ◌∙◌, arith}
 use Rattle.zb_model.specs.Record.{bytes_of}
-use Rattle.zb_store.specs.LogLaws.{framed_length}
+use Rattle.zb_store.proofs.LogLaws.{framed_length}
 use Rattle.zb_partition.proofs.partition.Partition.prepare.Goals as goal
 
 pub returns-in-Some-clause-full : goal.returns-in-Some-clause-full

@@ -2,7 +2,6 @@ use Rattle.std.proofs.Common.{◌≡◌, ◌≤◌, rules, ◌++◌, ◌∷◌, 
 use Rattle.zb_model.specs.declared.record.Batch.{Batch}
 use Rattle.zb_model.specs.declared.stop.Stop.{Stop}
 use Rattle.zb_model.specs.declared.stop.Stop.TheVariants as stops
-use Rattle.zb_state.specs.State.{IsReached}
 use Rattle.zb_store.specs.Calls.{LeavesOnly}
 use Rattle.zb_store.specs.GateLog as gates
 use Rattle.zb_store.specs.Log.{extent}
@@ -72,7 +71,6 @@ invariant_of-self-in-Ok-write g c = record {
   limited = search rules;
   counted = search rules;
   resting = λ live. c.in-Ok-write.ensures.resting ∙ (c.in-Ok.ensures.in_writing ∙ c.args.self.now.resting c.requires.live);
-  reached = λ live. subst IsReached (sym c.write.ensures.state) c.in-Ok.ensures.reached;
 }
 
 pub returns-in-Ok-write-clause-fits : goal.returns-in-Ok-write-clause-fits

@@ -3,10 +3,10 @@ use Rattle.std.proofs.lemmas.Bool.{false≢true}
 use Rattle.zb_model.specs.declared.record.Batch.{Batch}
 use Rattle.zb_model.specs.Record.{bytes_of}
 use Rattle.zb_store.specs.Calls.{LeavesOnly}
-use Rattle.zb_store.specs.CallLaws.{leaves_weaker}
+use Rattle.zb_store.proofs.CallLaws.{leaves_weaker}
 use Rattle.zb_store.specs.GateLog as gates
 use Rattle.zb_store.specs.Log.{extent}
-use Rattle.zb_store.specs.LogLaws.{framed_length}
+use Rattle.zb_store.proofs.LogLaws.{framed_length}
 use Rattle.zb_store.specs.declared.gate_log.GateLog.{GateLog}
 use Rattle.zb_partition.specs.Log.{bodies_of}
 use Rattle.zb_partition.specs.Partition.{disk_of, limit_of, in_writing}
@@ -33,7 +33,6 @@ invariant_of-self-in-Err-append g c = record {
   limited = search rules;
   counted = search rules;
   resting = λ live. absurd (false≢true (sym c.requires.stopped ∙ sym c.in-Ok.ensures.live ∙ live));
-  reached = λ live. absurd (false≢true (sym c.requires.stopped ∙ sym c.in-Ok.ensures.live ∙ live));
 }
 
 pub returns-in-Ok-append-clause-log : goal.returns-in-Ok-append-clause-log

@@ -1,4 +1,4 @@
-use Rattle.zb_rules.specs.SoundLaws.{board_keeps}
+use Rattle.zb_rules.proofs.SoundLaws.{board_keeps}
 use Rattle.zb_state.proofs.DueLemmas.{first_by_tables}
 use Rattle.zb_state.proofs.state.State.due.Goals as goal
 

@@ -2,7 +2,7 @@ use Rattle.std.proofs.Common.{◌≡◌, Bor, Option, Some, None, is_some, refl,
 use Rattle.std.specs.Option.{option_copied}
 use Rattle.zb_tokens.specs.Board.{Board, model_under}
 use Rattle.zb_rules.specs.Shown.{board_of}
-use Rattle.zb_rules.specs.ModelsLaws.{is_there_where_defined}
+use Rattle.zb_rules.proofs.ModelsLaws.{is_there_where_defined}
 use Rattle.zb_state.specs.State.{partition_of}
 use Rattle.zb_state.proofs.StateLemmas.{same_board}
 use Rattle.zb_state.proofs.state.State.graph.Goals as goal

@@ -2,8 +2,8 @@ use Rattle.std.proofs.Common.{◌≡◌, ◌+◌, ◌++◌, ◌∷◌, [], ℕ, 
 use Rattle.zb_store.specs.GateLog.{last_gate_of, HasClosedFrames}
 use Rattle.zb_store.specs.Stands.{EndsAt}
 use Rattle.zb_store.specs.Log.{framed}
-use Rattle.zb_store.specs.LogLaws.{framed_length}
-use Rattle.zb_store.specs.CallLaws.{leaves_none}
+use Rattle.zb_store.proofs.LogLaws.{framed_length}
+use Rattle.zb_store.proofs.CallLaws.{leaves_none}
 use Rattle.zb_store.proofs.FrameLemmas.{ends_at, stands_still, stood_since, log_more}
 use Rattle.zb_store.proofs.gate_log.GateLog.append.Goals as goal
 

@@ -1,5 +1,5 @@
 use Rattle.std.proofs.Common.{[]}
-use Rattle.zb_store.specs.CallLaws.{opens_then, settles_read, on_ok}
+use Rattle.zb_store.proofs.CallLaws.{opens_then, settles_read, on_ok}
 use Rattle.zb_store.specs.GateLog.{disk_after_log}
 use Rattle.zb_store.proofs.OpeningLemmas.{whole_opened, cut_opened, since_standing}
 use Rattle.zb_store.proofs.gate_log.GateLog.open.Goals as goal

@@ -2,8 +2,8 @@ use Rattle.std.proofs.Common.{◌++◌, ◌∷◌, [], List, refl, sym, ap, ◌�
 use Rattle.std.proofs.lemmas.Result.{on_ok_weaker}
 use Rattle.zb_model.specs.declared.record.Event.TheVariants as events
 use Rattle.zb_views.specs.declared.timer.Timer.{Timer}
-use Rattle.zb_views.specs.Timers.{timer_of}
-use Rattle.zb_views.specs.TimerLaws.{timers_by, timers_by_silent, left_all}
+use Rattle.zb_views.specs.Timers.{timer_of, timers_by}
+use Rattle.zb_views.proofs.TimerLaws.{timers_by_silent, left_all}
 use Rattle.zb_timers.proofs.timers.Timers.apply.Goals as goal
 
 pub returns-then-says_nothing_of_timers : goal.returns-then-says_nothing_of_timers

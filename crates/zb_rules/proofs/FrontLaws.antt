@@ -1,0 +1,150 @@
+-- The events in front of that of a move apply, and evaluate nothing; behind them the move still fits.
+use Rattle.std.proofs.Common.{◌≡◌, ℕ, List, [], ◌∷◌, ◌++◌, Bool, true, false, ◌&&◌, if◌then◌else◌, IsTrue, Option, Some, None, length, refl, append-nil}
+use Rattle.std.specs.Option.{option_map_or}
+use Rattle.std.specs.Result.{result_unwrap_or}
+use Rattle.zb_base.specs.declared.vars.Variable.{Variable}
+use Rattle.zb_model.specs.declared.record.Event.{Event}
+use Rattle.zb_model.specs.declared.record.Event.TheVariants as events
+use Rattle.zb_tokens.specs.declared.board.Assigned.{Assigned}
+use Rattle.zb_tokens.specs.declared.board.Cell.{Cell}
+use Rattle.zb_tokens.specs.declared.board.Leave.{Leave}
+use Rattle.zb_tokens.specs.declared.board.Assignments.{Assignments}
+use Rattle.zb_tokens.specs.declared.board.Move.{Move}
+use Rattle.zb_tokens.specs.declared.board.Move.TheVariants as moves
+use Rattle.zb_tokens.specs.declared.board.Phase.TheVariants as phases
+use Rattle.zb_tokens.specs.Edits.{edited}
+use Rattle.zb_tokens.specs.Board.{Board, cell_at, is_phase, is_root}
+use Rattle.zb_tokens.specs.Mappings.{inputs_of, outputs_of, assignments_of}
+use Rattle.zb_tokens.specs.MoveAssign.{with_variable}
+use Rattle.zb_tokens.specs.MoveOpen.{opens}
+use Rattle.zb_tokens.specs.MoveLeave.{may_owe}
+use Rattle.zb_tokens.specs.Game.{fits}
+use Rattle.zb_tokens.proofs.GameLaws.{holds_some, found_holds}
+use Rattle.zb_rules.specs.Shown.{board_of}
+use Rattle.zb_rules.specs.Applies.{has_cell, holds_of_game, all_apply}
+use Rattle.zb_rules.specs.Sound.{holds_others}
+use Rattle.zb_rules.specs.Create.{variable_event}
+use Rattle.zb_rules.specs.Update.{is_named_in, set_in, place_of, set_by, set_each}
+use Rattle.zb_rules.specs.InFront.{set_all, count_in_front, events_in_front}
+use Rattle.zb_rules.proofs.AppliedLaws.{some_of}
+use Rattle.zb_rules.proofs.MadeLaws.{is_keyed, mapped_holds}
+use Rattle.zb_rules.proofs.LegalLaws.{NeverEvaluate, shows_some, joined_never}
+use Rattle.zb_rules.proofs.PlacedLaws.{InScope, inner_scope, key_found}
+use Rattle.zb_rules.proofs.ScopesLaws.{kept_edited}
+use Rattle.zb_rules.proofs.SoundLaws.{BoardKeeps, board_keeps}
+use Rattle.zb_rules.proofs.UpdateLaws.{KeptBySetting, each_set}
+
+-- a variable that is set evaluates nothing
+set_never : (t : Bool) (cell : ℕ) (v : Variable) → NeverEvaluate (if t then events.VariableUpdated (record { scope = cell; name = v.name; value = v.value }) ∷ [] else variable_event cell v ∷ [])
+set_never true cell v = (λ before b moment move is. shows_some b moment (moves.Update (record { scope = cell; name = v.name; value = v.value })) move refl is, tt)
+set_never false cell v = (λ before b moment move is. shows_some b moment (moves.Assign (record { scope = cell; name = v.name; value = v.value })) move refl is, tt)
+
+place_never : (place : Option ℕ) (v : Variable) (es : List Event) → NeverEvaluate (option_map_or (λ cell. set_in cell v es) place [])
+place_never None v es = tt
+place_never (Some cell) v es = set_never (holds_of_game (is_named_in cell v.name) es) cell v
+
+-- nor does each of some
+pub each_never : (local : Bool) (scope : ℕ) (vs : List Variable) (es : List Event) → NeverEvaluate (set_each local scope vs es)
+each_never local scope [] es = tt
+each_never local scope (v ∷ vs) es =
+    let made = set_by local scope v es in
+    joined_never made (set_each local scope vs (es ++ made)) (place_never (place_of local scope v.name es) v es) (each_never local scope vs (es ++ made))
+
+-- nor do those of assignments
+pub all_never : (assignments : Option Assignments) (es : List Event) → NeverEvaluate (option_map_or (λ s. set_all s es) assignments [])
+all_never None es = tt
+all_never (Some s) es = each_never s.local s.scope s.variables es
+
+-- the events in front of that of a move evaluate nothing
+pub front_never : (b : Board) (move : Move) (es : List Event) → NeverEvaluate (events_in_front b move es)
+front_never b move es = all_never (assignments_of b move) es
+
+-- the first of some events is one by which a cell begins to terminate
+abbrev pub begins_end : List Event → Bool
+begins_end [] = false
+begins_end (events.ElementTerminating key ∷ es) = true
+begins_end (e ∷ es) = false
+
+set_no_end : (t : Bool) (cell : ℕ) (v : Variable) (rest : List Event) → begins_end ((if t then events.VariableUpdated (record { scope = cell; name = v.name; value = v.value }) ∷ [] else variable_event cell v ∷ []) ++ rest) ≡ false
+set_no_end true cell v rest = refl
+set_no_end false cell v rest = refl
+
+place_no_end : (place : Option ℕ) (v : Variable) (es rest : List Event) → begins_end rest ≡ false → begins_end (option_map_or (λ cell. set_in cell v es) place [] ++ rest) ≡ false
+place_no_end None v es rest none = none
+place_no_end (Some cell) v es rest none = set_no_end (holds_of_game (is_named_in cell v.name) es) cell v rest
+
+each_no_end : (local : Bool) (scope : ℕ) (vs : List Variable) (es : List Event) → begins_end (set_each local scope vs es) ≡ false
+each_no_end local scope [] es = refl
+each_no_end local scope (v ∷ vs) es =
+    let made = set_by local scope v es in
+    place_no_end (place_of local scope v.name es) v es (set_each local scope vs (es ++ made)) (each_no_end local scope vs (es ++ made))
+
+all_no_end : (assignments : Option Assignments) (es : List Event) → begins_end (option_map_or (λ s. set_all s es) assignments []) ≡ false
+all_no_end None es = refl
+all_no_end (Some s) es = each_no_end s.local s.scope s.variables es
+
+-- in front of an event there is none by which a cell begins to terminate
+pub front_begins_no_end : (b : Board) (move : Move) (es : List Event) → begins_end (events_in_front b move es) ≡ false
+front_begins_no_end b move es = all_no_end (assignments_of b move) es
+
+-- what doesn't look at variables holds of a cell still as one of them is set
+still_of : (holds : Cell → Bool) (key : ℕ) (b after : Board) (a : Assigned) → ((c : Cell) → IsTrue (holds c) → IsTrue (holds (with_variable a.name a.value c))) → edited (is_keyed a.scope) (with_variable a.name a.value) b.cells ≡ Some after.cells
+    → IsTrue (option_map_or holds (cell_at b key) false) → IsTrue (option_map_or holds (cell_at after key) false)
+still_of holds key b after a blind made is = kept_edited holds a.scope (with_variable a.name a.value) b.cells after.cells (λ c. refl) (λ c found h. blind c h) made key is
+
+-- a cell that may become active may still
+open_still : (key : ℕ) → KeptBySetting (λ (x : Board). IsTrue (fits x (moves.Open key)))
+open_still key b after a made fit = mapped_holds (λ (x : Board). IsTrue (fits x (moves.Open key))) (λ cells. record b { cells = cells }) (edited (is_keyed a.scope) (with_variable a.name a.value) b.cells) after
+    (λ cells set. still_of (λ (c : Cell). is_phase c.phase phases.Activating && opens b c) key b (record b { cells = cells }) a (λ c h. h) set fit) made
+
+-- and so may one that has completed be left
+leave_still : (l : Leave) → KeptBySetting (λ (x : Board). IsTrue (fits x (moves.Leave l)))
+leave_still l b after a made fit = mapped_holds (λ (x : Board). IsTrue (fits x (moves.Leave l))) (λ cells. record b { cells = cells }) (edited (is_keyed a.scope) (with_variable a.name a.value) b.cells) after
+    (λ cells set. still_of (λ (c : Cell). is_phase c.phase phases.Completing && may_owe b c l.owed) l.key b (record b { cells = cells }) a (λ c h. h) set fit) made
+
+-- so many events in front of that of a move apply, and behind them it fits
+pub record IsInFront (p : ℕ) (es : List Event) (move : Move) (count : ℕ) (front : List Event) : Type 0 where
+  pub after : Board
+  pub is : board_of (es ++ front) ≡ Some after
+  pub applied : IsTrue (all_apply p es front)
+  pub fit : IsTrue (fits after move)
+  pub counted : length front ≡ count
+
+module _ (p : ℕ) (es : List Event) (b : Board) (is : board_of es ≡ Some b) (k : BoardKeeps p es b) where
+  none_in_front : (move : Move) → IsTrue (fits b move) → IsInFront p es move 0 []
+  none_in_front move fit = record { after = b; is = rw (append-nil es) is; applied = refl; fit = fit; counted = refl }
+
+  all_in_front : (move : Move) (s : Assignments) → KeptBySetting (λ (x : Board). IsTrue (fits x move)) → IsTrue (has_cell s.scope b) → IsTrue (fits b move) → IsInFront p es move (length s.variables) (set_all s es)
+  all_in_front move s keeps there fit =
+      let r = each_set p s.local s.scope (λ (x : Board). IsTrue (fits x move)) keeps s.variables es b is k fit there in
+      record { after = r.after; is = r.is; applied = r.applied; fit = r.holds; counted = r.counted }
+
+  opens_behind : (key : ℕ) (c : Cell) → cell_at b key ≡ Some c → IsTrue (fits b (moves.Open key)) → IsInFront p es (moves.Open key) (count_in_front b (moves.Open key)) (events_in_front b (moves.Open key) es)
+  opens_behind key c found fit =
+      let there : IsTrue (has_cell c.key b) = rw (key_found b key c found, found) refl in
+      rw found (all_in_front (moves.Open key) (record { scope = c.key; local = true; variables = result_unwrap_or (inputs_of b c) [] }) (open_still key) there fit)
+
+  -- where a cell is a root it gives nothing out; else the scope around it is there
+  leaves_by : (l : Leave) (c : Cell) (root : Bool) → is_root c ≡ root → cell_at b l.key ≡ Some c → IsTrue (fits b (moves.Leave l)) → IsInFront p es (moves.Leave l) (length (result_unwrap_or (outputs_of b c) [])) (set_each false c.scope (result_unwrap_or (outputs_of b c) []) es)
+  leaves_by l c true top found fit = rw top (none_in_front (moves.Leave l) fit)
+  leaves_by l c false inner found fit =
+      let scope = inner_scope b c (found_holds (is_keyed l.key) (InScope b) b.cells c k.placed.scopes found).0 inner in
+      let there : IsTrue (has_cell c.scope b) = holds_some (holds_others b) (cell_at b c.scope) scope.0 in
+      all_in_front (moves.Leave l) (record { scope = c.scope; local = false; variables = result_unwrap_or (outputs_of b c) [] }) (leave_still l) there fit
+
+  leaves_behind : (l : Leave) (c : Cell) → cell_at b l.key ≡ Some c → IsTrue (fits b (moves.Leave l)) → IsInFront p es (moves.Leave l) (count_in_front b (moves.Leave l)) (events_in_front b (moves.Leave l) es)
+  leaves_behind l c found fit = rw found (leaves_by l c (is_root c) refl found fit)
+
+  -- the events in front of that of a move that fits
+  pub in_front : (move : Move) → IsTrue (fits b move) → IsInFront p es move (count_in_front b move) (events_in_front b move es)
+  in_front (moves.Open key) fit =
+      let found = some_of (cell_at b key) (holds_some _ (cell_at b key) fit) in
+      opens_behind key found.0 found.1 fit
+  in_front (moves.Leave l) fit =
+      let found = some_of (cell_at b l.key) (holds_some _ (cell_at b l.key) fit) in
+      leaves_behind l found.0 found.1 fit
+  in_front move fit = none_in_front move fit
+
+-- there is one for each variable that the move sets
+pub front_counts : (p : ℕ) (es : List Event) (b : Board) (move : Move) → IsTrue (all_apply p [] es) → board_of es ≡ Some b → IsTrue (fits b move) → length (events_in_front b move es) ≡ count_in_front b move
+front_counts p es b move apply is fit = (in_front p es b is (board_keeps p es b apply is) move fit).counted

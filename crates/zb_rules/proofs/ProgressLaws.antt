@@ -1,0 +1,434 @@
+-- Who is forced has an event that applies; where nobody is, the game is quiet.
+use Rattle.std.proofs.Common.{◌≡◌, ℕ, ◌-◌, ◌==◌, List, [], ◌∷◌, ◌++◌, map, Bool, true, false, if◌then◌else◌, IsTrue, is_some, Option, Some, None, ◌↔◌, refl, sym, ap, ◌∙◌, subst, append-nil, append_assoc, arith}
+use Rattle.std.specs.List.{find, range_with_len}
+use Rattle.std.proofs.lemmas.Bool.Decides.{nat_tests}
+use Rattle.zb_instance_records.specs.declared.instance.Role.TheVariants as roles
+use Rattle.zb_base.specs.declared.vars.Variable.{Variable}
+use Rattle.zb_process.specs.declared.model.Model.{Model}
+use Rattle.zb_instance_records.specs.declared.instance.ProcessInstanceCreationCreate.{ProcessInstanceCreationCreate}
+use Rattle.zb_instance_records.specs.declared.happening.VariableDocumentUpdate.{VariableDocumentUpdate}
+use Rattle.zb_exchange_records.specs.declared.job.JobFail.{JobFail}
+use Rattle.zb_exchange_records.specs.declared.message.MessagePublish.{MessagePublish}
+use Rattle.zb_model.specs.declared.record.Command.{Command}
+use Rattle.zb_model.specs.declared.record.Command.TheVariants as commands
+use Rattle.zb_views.specs.Definitions.{definition_for}
+use Rattle.zb_model.specs.declared.record.Event.{Event}
+use Rattle.zb_model.specs.declared.record.Event.TheVariants as events
+use Rattle.zb_views.specs.View.{next_key}
+use Rattle.zb_tokens.specs.declared.board.Cell.{Cell}
+use Rattle.zb_tokens.specs.declared.board.Enter.{Enter}
+use Rattle.zb_tokens.specs.declared.board.Move.{Move}
+use Rattle.zb_tokens.specs.declared.board.Move.TheVariants as moves
+use Rattle.zb_tokens.specs.declared.board.Mover.{Mover}
+use Rattle.zb_tokens.specs.Board.{Board, CellsAscend, cell_at}
+use Rattle.zb_tokens.specs.Incidents.{incident_on}
+use Rattle.zb_tokens.specs.Game.{fits, agrees, played}
+use Rattle.zb_tokens.proofs.GameLaws.{both_left, holds_some}
+use Rattle.zb_tokens.specs.Forced.{next_mover, move_of}
+use Rattle.zb_tokens.proofs.ForcedLaws.{movers_move, movers_fit, movers_agree}
+use Rattle.zb_rules.specs.Shown.{shown, board_of, event_of}
+use Rattle.zb_rules.specs.Applies.{is_fresh, holds_own, holds_of_game, applies, all_apply, is_definition_of}
+use Rattle.zb_rules.specs.InFront.{events_in_front}
+use Rattle.zb_rules.specs.Behind.{canceled, resolved_on, events_behind, with_events_behind, timers_canceled_on}
+use Rattle.zb_rules.specs.Settling.{turn_of, turn, HasQuietGame}
+use Rattle.zb_rules.specs.Legal.{AllLegal, EachLegal}
+use Rattle.zb_rules.specs.Reason.{reason_for}
+use Rattle.zb_rules.specs.Own.{IsSupported, keys_for, own_events}
+use Rattle.zb_rules.specs.Deploy.{sent_to, deployed}
+use Rattle.zb_rules.specs.Distribute.{distributed}
+use Rattle.zb_rules.specs.Acknowledge.{acknowledged}
+use Rattle.zb_rules.specs.Create.{created, variable_event, instance_under}
+use Rattle.zb_rules.specs.Cancel.{reason_to_cancel, cancelled}
+use Rattle.zb_rules.specs.Update.{set_each, updated}
+use Rattle.zb_rules.specs.Publish.{published_under, published}
+use Rattle.zb_rules.specs.Expire.{expired}
+use Rattle.zb_rules.specs.Resolve.{resolved}
+use Rattle.zb_rules.specs.Activate.{activated}
+use Rattle.zb_rules.specs.Complete.{completed}
+use Rattle.zb_rules.specs.Fail.{failed}
+use Rattle.zb_rules.specs.Throw.{thrown}
+use Rattle.zb_rules.specs.Retries.{retried}
+use Rattle.zb_rules.specs.TimeOut.{timed_out}
+use Rattle.zb_rules.proofs.ActivateLaws.{activate_applies, activated_never}
+use Rattle.zb_rules.proofs.WorkerLaws.{complete_applies, throw_applies, fail_applies, retry_applies, time_out_applies, completed_never, thrown_never, failed_never}
+use Rattle.zb_rules.proofs.MadeLaws.{made_of_any}
+use Rattle.zb_rules.proofs.LegalLaws.{made_legally, NeverEvaluate, shows_none, shows_some, joined_never, legal_by, each_legal_by}
+use Rattle.zb_rules.proofs.StepLaws.{all_apply_on, all_legal_on}
+use Rattle.zb_rules.proofs.FrontLaws.{each_never, front_never, begins_end, front_begins_no_end, in_front}
+use Rattle.zb_rules.proofs.BehindLaws.{MayHaveWork, MayFollow, resolve_applies, canceled_apply, behind_apply, resolved_never, behind_never, sound_over}
+use Rattle.zb_rules.proofs.CellsLaws.{ascend_between}
+use Rattle.zb_rules.proofs.OpenedLaws.{IsSetBehind, set_behind, front_are, opens_free, opened_may_work, follows_by}
+use Rattle.zb_rules.proofs.ModelsLaws.{Knows, board_knows}
+use Rattle.zb_rules.proofs.OwnLaws.{publish_applies, expire_applies}
+use Rattle.zb_rules.proofs.DeployLaws.{deploy_applies, distribute_applies, acknowledge_applies}
+use Rattle.zb_rules.proofs.CreateLaws.{create_applies}
+use Rattle.zb_rules.proofs.CancelLaws.{cancel_applies}
+use Rattle.zb_rules.proofs.UpdateLaws.{update_applies}
+use Rattle.zb_rules.specs.Sound.{HasKeys, keys_of_turn, HasOrderedNames, IsForcedEvent}
+use Rattle.zb_rules.proofs.MoversLaws.{IsMade, mover_made, found_key, from_none, event_there}
+use Rattle.zb_rules.proofs.AppliedLaws.{Advances, applied_from, some_of, game_holds_from, applied_board, board_behind}
+use Rattle.zb_rules.proofs.SoundLaws.{BoardKeeps, board_is_there, cells_ascend, keeps_on, board_keeps}
+use Rattle.zb_rules.proofs.IncidentsLaws.{none_behind}
+use Rattle.zb_views.specs.Jobs.{called_off}
+use Rattle.zb_views.specs.Distributions.{is_distributed}
+use Rattle.zb_rules.specs.Trigger.{triggered}
+use Rattle.zb_rules.proofs.TriggerLaws.{told_halts, trigger_applies, triggered_never}
+use Rattle.zb_rules.proofs.TimerSoundLaws.{canceled_on_apply}
+
+module _ (p moment : ℕ) (es : List Event) (b : Board) (mover : Mover) (is : board_of es ≡ Some b) (k : BoardKeeps p es b) where
+  event_by : (move : Move) (e : Event) → move_of b moment (next_key p es) mover ≡ Some move → IsTrue (fits b move) → IsTrue (agrees b moment move) → event_of b move ≡ Some e
+      → IsTrue (holds_own p (es ++ events_in_front b move es) e) → shown (es ++ events_in_front b move es) e ≡ Some move → IsForcedEvent p moment es b mover
+  event_by move e made fit agreed told own shows =
+      let r = in_front p es b is k move fit in
+      record {
+        move = move;
+        event = e;
+        is_move = made;
+        is_event = told;
+        in_front = r.applied;
+        applied = applied_from p (es ++ events_in_front b move es) r.after e move r.is own shows r.fit;
+        shows = shows;
+        agreed = agreed;
+      }
+
+  enters_in : (e : Enter) (c : Cell) → cell_at b e.scope ≡ Some c → CellsAscend 1 b.cells → HasKeys p es 1 → e.key ≡ next_key p es → move_of b moment (next_key p es) mover ≡ Some (moves.Enter e) → IsTrue (fits b (moves.Enter e)) → IsForcedEvent p moment es b mover
+  enters_in e c found up keys its made fit =
+      let above = found_key 1 e.scope b.cells c up found in
+      let inner : (e.scope == 0) ≡ false = grind (arith, nat_tests, above) in
+      let fresh : IsTrue (is_fresh p es e.key) = grind (arith, nat_tests) in
+      let same : (c.definition == c.definition) ≡ true = grind (arith, nat_tests) in
+      let of_scope : IsTrue (holds_of_game (is_definition_of e.scope c.definition) es) = game_holds_from (is_definition_of e.scope c.definition) es b is (rw (found, same) refl) in
+      event_by (moves.Enter e) (events.ElementActivating (record { key = e.key; scope = e.scope; definition = c.definition; node = e.node; role = roles.Plain; via = e.via; started = [] }))
+      made fit refl (rw found refl) (rw (append-nil es, inner, fresh, of_scope) refl) (rw inner refl)
+
+  enters : (e : Enter) → CellsAscend 1 b.cells → HasKeys p es 1 → e.key ≡ next_key p es → move_of b moment (next_key p es) mover ≡ Some (moves.Enter e) → IsTrue (fits b (moves.Enter e)) → IsForcedEvent p moment es b mover
+  enters e up keys its made fit =
+      let found = some_of (cell_at b e.scope) (holds_some _ (cell_at b e.scope) fit) in
+      enters_in e found.0 found.1 up keys its made fit
+
+  forced_by : (move : Move) → CellsAscend 1 b.cells → HasKeys p es 1 → IsMade (next_key p es) move → move_of b moment (next_key p es) mover ≡ Some move → IsTrue (fits b move) → IsTrue (agrees b moment move) → IsForcedEvent p moment es b mover
+  forced_by (moves.Stand d) up keys from made fit agreed = absurd from
+  forced_by (moves.Start s) up keys from made fit agreed = absurd from
+  forced_by (moves.Enter e) up keys from made fit agreed = enters e up keys from made fit
+  forced_by (moves.Open key) up keys from made fit agreed = event_by (moves.Open key) (events.ElementActivated (record { key = key; items = [] })) made fit agreed refl refl refl
+  forced_by (moves.Finish key) up keys from made fit agreed = event_by (moves.Finish key) (events.ElementCompleting key) made fit agreed refl refl refl
+  forced_by (moves.Leave l) up keys from made fit agreed = event_by (moves.Leave l) (events.ElementCompleted (record { key = l.key; owed = l.owed })) made fit agreed refl refl refl
+  forced_by (moves.Take t) up keys from made fit agreed = event_by (moves.Take t) (events.SequenceFlowTaken (record { key = t.key; flow = t.flow })) made fit agreed refl refl refl
+  forced_by (moves.Halt key) up keys from made fit agreed = event_by (moves.Halt key) (events.ElementTerminating key) made fit agreed refl refl refl
+  forced_by (moves.Gone key) up keys from made fit agreed = event_by (moves.Gone key) (events.ElementTerminated key) made fit agreed refl refl refl
+  forced_by (moves.Assign a) up keys from made fit agreed = absurd from
+  forced_by (moves.Update a) up keys from made fit agreed = absurd from
+  forced_by (moves.Done key) up keys from made fit agreed = absurd from
+  forced_by (moves.Throw t) up keys from made fit agreed = absurd from
+  forced_by (moves.Trigger t) up keys from made fit agreed = event_by (moves.Trigger t) (events.ProcessEventTriggered (record { cell = t.cell; node = t.node })) made fit agreed refl refl refl
+  forced_by (moves.Incident i) up keys from made fit agreed =
+      let fresh : IsTrue (is_fresh p es i.key) = (let key = from.0 in grind (arith, nat_tests)) in
+      event_by (moves.Incident i) (events.IncidentCreated (record { key = i.key; kind = i.kind; cell = i.cell; job = i.job; text = i.text })) made fit agreed refl (rw (append-nil es, fresh, from.2, from.1) refl) refl
+  forced_by (moves.Repair key) up keys from made fit agreed = absurd from
+
+-- who is forced has an event, which applies and shows a move that agrees with what it evaluates
+pub forced_event : (p moment : ℕ) (es : List Event) (b : Board) (mover : Mover) → IsTrue (all_apply p [] es) → HasKeys p es 1 → board_of es ≡ Some b → next_mover b ≡ Some mover → IsForcedEvent p moment es b mover
+forced_event p moment es b mover apply keys is next =
+    let up1 = cells_ascend p es b apply is in
+    let up = from_none b.cells up1 in
+    let found = some_of (move_of b moment (next_key p es) mover) (movers_move b moment (next_key p es) mover up next) in
+    forced_by p moment es b mover is (board_keeps p es b apply is) found.0 up1 keys (mover_made b moment (next_key p es) mover found.0 found.1) found.1
+    (movers_fit b moment (next_key p es) mover found.0 up next found.1) (movers_agree b moment (next_key p es) mover found.0 up next found.1)
+
+some_move : (a m : Move) → Some a ≡ Some m → a ≡ m
+some_move a m is = cc
+
+-- the turn of a mover is its event, with the events in front of that and those behind it
+turn_made : (p moment : ℕ) (es : List Event) (b : Board) (mover : Mover) (move : Move) (e : Event) → move_of b moment (next_key p es) mover ≡ Some move → event_of b move ≡ Some e
+    → turn_of p moment es b mover ≡ Some (events_in_front b move es ++ with_events_behind p moment e (es ++ events_in_front b move es))
+turn_made p moment es b mover move e made told = rw (made, told) refl
+
+turn_there : (p moment : ℕ) (es : List Event) (b : Board) (mover : Mover) → CellsAscend 0 b.cells → next_mover b ≡ Some mover → IsTrue (is_some (turn_of p moment es b mover))
+turn_there p moment es b mover up next =
+    let found = some_of (move_of b moment (next_key p es) mover) (movers_move b moment (next_key p es) mover up next) in
+    let event = some_of (event_of b found.0) (event_there b (next_key p es) found.0 (mover_made b moment (next_key p es) mover found.0 found.1) (movers_fit b moment (next_key p es) mover found.0 up next found.1)) in
+    let made = turn_made p moment es b mover found.0 event.0 found.1 event.1 in
+    ap is_some made
+
+quiet_by : (p moment : ℕ) (es : List Event) (b : Board) (next : Option Mover) → board_of es ≡ Some b → next_mover b ≡ next → CellsAscend 0 b.cells → turn p moment es ≡ None → HasQuietGame es
+unfolding turn
+quiet_by p moment es b None is nobody up none = record { board = b; is = is; quiet = nobody }
+quiet_by p moment es b (Some mover) is next up none =
+    let its : turn_of p moment es b mover ≡ None = rw (is, next) at none in
+    let there = turn_there p moment es b mover up next in
+    absurd (let missing : IsTrue (is_some {T = List Event} None) = rw its at there in cc)
+
+no_turn : (p moment : ℕ) (es : List Event) → HasQuietGame es → turn p moment es ≡ None
+unfolding turn
+no_turn p moment es q = rw (q.is, q.quiet) refl
+
+-- the turn of a mover is there exactly where somebody is forced
+pub no_turn_is_quiet : (p moment : ℕ) (es : List Event) → IsTrue (all_apply p [] es) → turn p moment es ≡ None ↔ HasQuietGame es
+no_turn_is_quiet p moment es apply =
+    let found = some_of (board_of es) (board_is_there p es apply) in
+    (quiet_by p moment es found.0 (next_mover found.0) found.1 refl (from_none found.0.cells (cells_ascend p es found.0 apply found.1)), no_turn p moment es)
+
+-- a forced event, those in front of it and those behind it apply, and each of their moves is legal
+module _ (p moment : ℕ) (es : List Event) (b : Board) (mover : Mover) (is : board_of es ≡ Some b) (k : BoardKeeps p es b) (keys : HasKeys p es keys_of_turn) (next : next_mover b ≡ Some mover) (f : IsForcedEvent p moment es b mover) where
+  abbrev front : List Event
+  front = events_in_front b f.move es
+
+  abbrev behind : List Event
+  behind = events_behind p moment (es ++ front) f.event ((es ++ front) ++ f.event ∷ [])
+
+  agrees_there : (m : Move) → shown (es ++ front) f.event ≡ Some m → IsTrue (agrees b moment m)
+  agrees_there m shows = let e : Some f.move ≡ Some m = sym f.shows ∙ shows in subst (λ (x : Move). IsTrue (agrees b moment x)) (some_move f.move m e) f.agreed
+
+  set_in_front : IsSetBehind p es b front
+  set_in_front = set_behind p front es b (front_are b f.move es) is k keys f.in_front
+
+  open_follows : (key : ℕ) → f.move ≡ moves.Open key → (event : Event) (after : Board) → events.ElementActivated (record { key = key; items = [] }) ≡ event
+      → Advances p (es ++ front) set_in_front.after event after → MayHaveWork p ((es ++ front) ++ events.ElementActivated (record { key = key; items = [] }) ∷ []) after key
+  open_follows key its event after told h =
+      let s = set_in_front in
+      let up = from_none b.cells (ascend_between 1 (next_key p es) b.cells k.stands.between) in
+      let made : move_of b moment (next_key p es) mover ≡ Some (moves.Open key) = f.is_move ∙ ap Some its in
+      let free = opens_free b moment (next_key p es) key mover up next made in
+      let still : incident_on s.after key ≡ None = ap (find (λ i. i.cell == key)) s.incidents ∙ free in
+      opened_may_work p (es ++ front) s.after s.is s.keeps s.keys key still after (subst (λ (x : Event). Advances p (es ++ front) s.after x after) (sym told) h)
+
+  forced_apply : IsTrue (all_apply p es (front ++ f.event ∷ behind)) × AllLegal moment es es (front ++ f.event ∷ behind)
+  forced_apply =
+      let first = f.applied in
+      let ahead = f.in_front in
+      let s = set_in_front in
+      let r = applied_board p (es ++ front) s.after f.event s.is first in
+      let after_is = board_behind p (es ++ front) s.after f.event r.0 r.1 in
+      let keeps = keeps_on p (es ++ front) s.after f.event r.0 r.1 s.keeps in
+      let may : MayFollow p ((es ++ front) ++ f.event ∷ []) r.0 f.event = follows_by p ((es ++ front) ++ f.event ∷ []) r.0 b f.move f.event f.is_event
+      (λ key its.
+      let told : events.ElementActivated (record { key = key; items = [] }) ≡ f.event = (let e : event_of b (moves.Open key) ≡ Some f.event = subst (λ (m : Move). event_of b m ≡ Some f.event) its f.is_event in cc) in
+      subst (λ (x : Event). MayHaveWork p ((es ++ front) ++ x ∷ []) r.0 key) told (open_follows key its f.event r.0 told r.1))
+      (λ key. (keeps.incidents.apart, keeps.timers))
+      (λ t its.
+      let shows : shown (es ++ front) f.event ≡ Some (moves.Trigger t) = f.shows ∙ ap Some its in
+      let fit : IsTrue (fits s.after (moves.Trigger t)) = (let h = r.1.fit in rw shows at h) in
+      let led : played s.after (moves.Trigger t) ≡ Some r.0 = (let h = r.1.leads in rw shows at h) in
+      record { halts = told_halts p (es ++ front) s.after r.0 t s.keeps fit led; apart = keeps.incidents.apart; timed = keeps.timers }) keeps.timers in
+      let second = behind_apply p ((es ++ front) ++ f.event ∷ []) r.0 after_is moment (es ++ front) f.event may in (
+        rw (all_apply_on p es front (f.event ∷ behind), ahead, first) second,
+        all_legal_on moment es es front (f.event ∷ behind) (legal_by p moment es b is es front (front_never b f.move es) ahead)
+            (made_legally p moment es b is (es ++ front) f.event first agrees_there, legal_by p moment es b is ((es ++ front) ++ f.event ∷ []) behind (behind_never p moment (es ++ front) f.event ((es ++ front) ++ f.event ∷ [])) second),
+      )
+
+turn_by : (p moment : ℕ) (es : List Event) (b : Board) (next : Option Mover) (made : List Event) → IsTrue (all_apply p [] es) → HasKeys p es keys_of_turn → board_of es ≡ Some b → next_mover b ≡ next → turn p moment es ≡ Some made
+    → IsTrue (all_apply p es made) × AllLegal moment es es made
+unfolding turn
+turn_by p moment es b None made apply keys is nobody told = let none : None ≡ Some made = rw (is, nobody) at told in absurd (cc)
+turn_by p moment es b (Some mover) made apply keys is next told =
+    let f = forced_event p moment es b mover apply (omega (arith, keys)) is next in
+    let its : turn_of p moment es b mover ≡ Some made = rw (is, next) at told in
+    let k = board_keeps p es b apply is in
+    let same : front p moment es b mover is k keys next f ++ f.event ∷ behind p moment es b mover is k keys next f ≡ made = (let e = sym (turn_made p moment es b mover f.move f.event f.is_move f.is_event) ∙ its in cc) in
+    subst (λ (x : List Event). IsTrue (all_apply p es x) × AllLegal moment es es x) same (forced_apply p moment es b mover is k keys next f)
+
+-- each event of a turn applies, where there are keys for it
+pub turn_applies : (p moment : ℕ) (es made : List Event) → IsTrue (all_apply p [] es) → HasKeys p es keys_of_turn → turn p moment es ≡ Some made → IsTrue (all_apply p es made)
+turn_applies p moment es made apply keys told =
+    let found = some_of (board_of es) (board_is_there p es apply) in
+    (turn_by p moment es found.0 (next_mover found.0) made apply keys found.1 refl told).0
+
+-- and each of its moves is legal
+pub turn_legal : (p moment : ℕ) (es made : List Event) → IsTrue (all_apply p [] es) → HasKeys p es keys_of_turn → turn p moment es ≡ Some made → AllLegal moment es es made
+turn_legal p moment es made apply keys told =
+    let found = some_of (board_of es) (board_is_there p es apply) in
+    (turn_by p moment es found.0 (next_mover found.0) made apply keys found.1 refl told).1
+
+-- behind a turn in which a cell begins to terminate no incident stands on it
+module _ (p moment : ℕ) (es : List Event) (key : ℕ) (apply : IsTrue (all_apply p [] es)) where
+  abbrev begins : Event
+  begins = events.ElementTerminating key
+
+  ended_by : (b after : Board) → board_of es ≡ Some b → IsTrue (applies p es begins) → board_of (es ++ begins ∷ events_behind p moment es begins (es ++ begins ∷ [])) ≡ Some after → incident_on after key ≡ None
+  ended_by b after is first led =
+      let r = applied_board p es b begins is first in
+      let k = keeps_on p es b begins r.0 r.1 (board_keeps p es b apply is) in
+      let over = es ++ begins ∷ [] in
+      let called = canceled_apply p over r.0 (board_behind p es b begins r.0 r.1) in
+      let next = over ++ canceled over in
+      let closed = timers_canceled_on key next in
+      let timed = canceled_on_apply p next r.0 key called.1 (sound_over p over (called_off over) k.timers) in
+      let line : (next ++ closed) ++ resolved_on key (next ++ closed) ≡ es ++ begins ∷ events_behind p moment es begins over =
+      append_assoc next closed (resolved_on key (next ++ closed)) ∙ (append_assoc over (canceled over) (closed ++ resolved_on key (next ++ closed)) ∙ append_assoc es (begins ∷ []) (canceled over ++ (closed ++ resolved_on key (next ++ closed)))) in
+      none_behind (next ++ closed) r.0 key timed.1 k.incidents.apart after (ap board_of line ∙ led)
+
+  -- no event stands in front of it, so it is the one that is forced
+  its_own : (front rest : List Event) (e : Event) → begins_end front ≡ false → IsTrue (applies p (es ++ front) e) → front ++ with_events_behind p moment e (es ++ front) ≡ begins ∷ rest
+      → IsTrue (applies p es begins) × (events_behind p moment es begins (es ++ begins ∷ []) ≡ rest)
+  its_own [] rest e none first is =
+      let same : e ≡ begins = cc in
+      let behind : events_behind p moment (es ++ []) e ((es ++ []) ++ e ∷ []) ≡ rest = cc in
+      let alone = append-nil es in
+      let its : IsTrue (applies p es e) = rw alone at first in
+      let its_behind : events_behind p moment es e (es ++ e ∷ []) ≡ rest = rw alone at behind in
+      (subst (λ (x : Event). IsTrue (applies p es x)) same its, subst (λ (x : Event). events_behind p moment es x (es ++ x ∷ []) ≡ rest) same its_behind)
+  its_own (x ∷ front) rest e none first is =
+      let same : x ≡ begins = cc in
+      let ends : begins_end (begins ∷ front) ≡ false = subst (λ (y : Event). begins_end (y ∷ front) ≡ false) same none in
+      absurd (cc)
+
+  turn_ends_by : (b : Board) (next : Option Mover) (rest : List Event) (after : Board) → HasKeys p es 1 → board_of es ≡ Some b → next_mover b ≡ next → turn p moment es ≡ Some (begins ∷ rest)
+      → board_of (es ++ begins ∷ rest) ≡ Some after → incident_on after key ≡ None
+  unfolding turn
+  turn_ends_by b None rest after keys is nobody told led = let none : None ≡ Some (begins ∷ rest) = rw (is, nobody) at told in absurd (cc)
+  turn_ends_by b (Some mover) rest after keys is next told led =
+      let f = forced_event p moment es b mover apply keys is next in
+      let its : turn_of p moment es b mover ≡ Some (begins ∷ rest) = rw (is, next) at told in
+      let in_front = events_in_front b f.move es in
+      let e : Some (in_front ++ with_events_behind p moment f.event (es ++ in_front)) ≡ Some (begins ∷ rest) = sym (turn_made p moment es b mover f.move f.event f.is_move f.is_event) ∙ its in
+      let whole : in_front ++ with_events_behind p moment f.event (es ++ in_front) ≡ begins ∷ rest = cc in
+      let r = its_own in_front rest f.event (front_begins_no_end b f.move es) f.applied whole in
+      ended_by b after is r.0 (ap (λ (more : List Event). board_of (es ++ begins ∷ more)) r.1 ∙ led)
+
+  -- on the board behind it
+  pub turn_ends_incident : (rest : List Event) (after : Board) → HasKeys p es 1 → turn p moment es ≡ Some (begins ∷ rest) → board_of (es ++ begins ∷ rest) ≡ Some after → incident_on after key ≡ None
+  turn_ends_incident rest after keys told led =
+      let found = some_of (board_of es) (board_is_there p es apply) in
+      turn_ends_by found.0 (next_mover found.0) rest after keys found.1 refl told led
+
+  -- nor behind a cancel on its root
+  pub cancel_ends_incident : (after : Board) → reason_to_cancel es key ≡ None → board_of (es ++ cancelled p moment key es) ≡ Some after → incident_on after key ≡ None
+  cancel_ends_incident after none led =
+      let found = some_of (board_of es) (board_is_there p es apply) in
+      let own = cancel_applies p es found.0 found.1 (board_keeps p es found.0 apply found.1) moment key none in
+      ended_by found.0 after found.1 (both_left (applies p es begins) _ own) led
+
+-- a command that is run has own events
+pub own_there : (p n : ℕ) (es : List Event) (moment : ℕ) (command : Command) → IsSupported command → reason_for es moment command ≡ None → IsTrue (is_some (own_events p n es moment command))
+own_there p n es moment (commands.DeploymentCreate m) supported none = refl
+own_there p n es moment (commands.ProcessInstanceCreationCreate c) supported none = refl
+own_there p n es moment (commands.ProcessInstanceCancel key) supported none = refl
+own_there p n es moment (commands.VariableDocumentUpdate c) supported none = refl
+own_there p n es moment (commands.JobBatchActivate c) supported none = refl
+own_there p n es moment (commands.JobComplete c) supported none = refl
+own_there p n es moment (commands.JobFail c) supported none = refl
+own_there p n es moment (commands.JobThrowError c) supported none = refl
+own_there p n es moment (commands.JobUpdateRetries c) supported none = refl
+own_there p n es moment (commands.JobTimeOut key) supported none = refl
+own_there p n es moment (commands.TimerTrigger key) supported none = refl
+own_there p n es moment (commands.IncidentResolve key) supported none = refl
+own_there p n es moment (commands.MessagePublish c) supported none = refl
+own_there p n es moment (commands.MessageExpire key) supported none = refl
+own_there p n es moment commands.ProcessInstanceBatchContinue supported none = refl
+own_there p n es moment (commands.DeploymentDistribute c) supported none = refl
+own_there p n es moment (commands.CommandDistributionAcknowledge c) supported none = refl
+own_there p n es moment _ supported none = absurd supported
+
+variables_never : (root : ℕ) (vs : List Variable) → NeverEvaluate (map (variable_event root) vs)
+variables_never root [] = tt
+variables_never root (v ∷ vs) = (λ before b moment move is. shows_some b moment (moves.Assign (record { scope = root; name = v.name; value = v.value })) move refl is, variables_never root vs)
+
+instance_never : (key definition : ℕ) (c : ProcessInstanceCreationCreate) → NeverEvaluate (instance_under key definition c)
+instance_never key definition c = (
+  λ before b moment move is. shows_none b moment move is,
+  (λ before b moment move is. shows_some b moment (moves.Start (record { key = key; definition = definition })) move refl is, variables_never key c.variables),
+)
+
+sent_never : (definition : ℕ) (qs : List ℕ) → NeverEvaluate (map (sent_to definition) qs)
+sent_never definition [] = tt
+sent_never definition (q ∷ qs) = (λ before b moment move is. shows_none b moment move is, sent_never definition qs)
+
+deployed_never : (p n : ℕ) (m : Model) (before : List Event) → NeverEvaluate (deployed p n m before)
+deployed_never p n m es = (
+  λ before b moment move is. shows_some b moment (moves.Stand (record { key = next_key p es; model = m })) move refl is,
+  (λ before b moment move is. shows_none b moment move is, sent_never (next_key p es) (range_with_len 2 (n - 1))),
+)
+
+finished_never : (t : Bool) (definition : ℕ) → NeverEvaluate (if t then [] else events.CommandDistributionFinished definition ∷ [])
+finished_never true definition = tt
+finished_never false definition = (λ before b moment move is. shows_none b moment move is, tt)
+
+expiry_never : (t : Bool) (key : ℕ) → NeverEvaluate (if t then events.MessageExpired key ∷ [] else [])
+expiry_never true key = (λ before b moment move is. shows_none b moment move is, tt)
+expiry_never false key = tt
+
+published_never : (key moment : ℕ) (c : MessagePublish) → NeverEvaluate (published_under key moment c)
+published_never key moment c = (λ before b moment move is. shows_none b moment move is, expiry_never (c.time_to_live == 0) key)
+
+updated_never : (c : VariableDocumentUpdate) (es : List Event) → NeverEvaluate (updated c es)
+updated_never c es = joined_never (set_each c.local c.scope c.variables es) (events.VariableDocumentUpdated c.scope ∷ []) (each_never c.local c.scope c.variables es) (λ before b moment move is. shows_none b moment move is, tt)
+
+some_never : (made own : List Event) → NeverEvaluate made → Some made ≡ Some own → NeverEvaluate own
+some_never made own never is = subst NeverEvaluate (let same : made ≡ own = cc in same) never
+
+failure_never : (p : ℕ) (c : JobFail) (es own : List Event) → IsTrue (all_apply p es own) → failed p c es ≡ own → NeverEvaluate own
+failure_never p c es own apply is = subst NeverEvaluate is (failed_never p c es (subst (λ (x : List Event). IsTrue (all_apply p es x)) (sym is) apply))
+
+own_never : (p n : ℕ) (es : List Event) (moment : ℕ) (command : Command) (own : List Event) → IsTrue (all_apply p es own) → own_events p n es moment command ≡ Some own → NeverEvaluate own
+own_never p n es moment (commands.DeploymentCreate m) own apply is = some_never (deployed p n m es) own (deployed_never p n m es) is
+own_never p n es moment (commands.ProcessInstanceCreationCreate c) own apply is =
+    some_never (created p c es) own (made_of_any NeverEvaluate (λ d. instance_under (next_key p es) d.key c) (definition_for c.process c.version es) tt (λ d found. instance_never (next_key p es) d.key c)) is
+own_never p n es moment (commands.ProcessInstanceCancel key) own apply is =
+    some_never (cancelled p moment key es) own (λ before b moment move is. shows_some b moment (moves.Halt key) move refl is, behind_never p moment es (events.ElementTerminating key) (es ++ events.ElementTerminating key ∷ [])) is
+own_never p n es moment (commands.VariableDocumentUpdate c) own apply is = some_never (updated c es) own (updated_never c es) is
+own_never p n es moment (commands.JobBatchActivate c) own apply is = some_never (activated p moment c es) own (activated_never p moment c es) is
+own_never p n es moment (commands.JobComplete c) own apply is = some_never (completed c es) own (completed_never c es) is
+own_never p n es moment (commands.JobFail c) own apply is = failure_never p c es own apply (let same : failed p c es ≡ own = cc in same)
+own_never p n es moment (commands.JobThrowError c) own apply is = some_never (thrown c es) own (thrown_never c es) is
+own_never p n es moment (commands.JobUpdateRetries c) own apply is = some_never (retried c es) own (λ before b moment move is. shows_none b moment move is, tt) is
+own_never p n es moment (commands.JobTimeOut key) own apply is = some_never (timed_out key es) own (λ before b moment move is. shows_none b moment move is, tt) is
+own_never p n es moment (commands.TimerTrigger key) own apply is = some_never (triggered p moment key es) own (triggered_never p moment key es) is
+own_never p n es moment (commands.IncidentResolve key) own apply is = some_never (resolved key es) own (resolved_never key es) is
+own_never p n es moment (commands.MessagePublish c) own apply is = some_never (published p moment c es) own (published_never (next_key p es) moment c) is
+own_never p n es moment (commands.MessageExpire key) own apply is = some_never (expired key es) own (λ before b moment move is. shows_none b moment move is, tt) is
+own_never p n es moment commands.ProcessInstanceBatchContinue own apply is = some_never [] own tt is
+own_never p n es moment (commands.DeploymentDistribute c) own apply is =
+    some_never (distributed c es) own (λ before b moment move is. shows_some b moment (moves.Stand (record { key = c.key; model = c.model })) move refl is, tt) is
+own_never p n es moment (commands.CommandDistributionAcknowledge c) own apply is =
+    some_never (acknowledged c es) own (λ before b moment move is. shows_none b moment move is, finished_never (is_distributed c.key (es ++ events.CommandDistributionAcknowledged (record { key = c.key; partition = c.partition }) ∷ [])) c.key) is
+own_never p n es moment _ own apply is = absurd (cc)
+
+-- each of the moves that own events show is legal
+pub own_legal : (p n : ℕ) (es : List Event) (moment : ℕ) (command : Command) (own : List Event) → IsTrue (all_apply p es own) → own_events p n es moment command ≡ Some own → EachLegal moment es own
+own_legal p n es moment command own apply is = each_legal_by p moment es own (own_never p n es moment command own apply is) apply
+
+-- the own events of a command without a reason apply
+own_apply_by : (p n : ℕ) (es : List Event) (b : Board) (moment : ℕ) (command : Command) (own : List Event) → board_of es ≡ Some b → IsTrue (all_apply p [] es) → BoardKeeps p es b → Knows p es b → HasKeys p es (keys_for command) → HasOrderedNames command
+    → IsSupported command → reason_for es moment command ≡ None → own_events p n es moment command ≡ Some own → IsTrue (all_apply p es own)
+own_apply_by p n es b moment (commands.DeploymentCreate m) own is apply k knows keys ordered supported none made =
+    subst (λ (x : List Event). IsTrue (all_apply p es x)) (let same : deployed p n m es ≡ own = cc in same) (deploy_applies p es b is knows n m keys none)
+own_apply_by p n es b moment (commands.ProcessInstanceCreationCreate c) own is apply k knows keys ordered supported none made =
+    subst (λ (x : List Event). IsTrue (all_apply p es x)) (let same : created p c es ≡ own = cc in same) (create_applies p es b is k.stands knows c keys ordered)
+own_apply_by p n es b moment (commands.ProcessInstanceCancel key) own is apply k knows keys ordered supported none made =
+    subst (λ (x : List Event). IsTrue (all_apply p es x)) (let same : cancelled p moment key es ≡ own = cc in same) (cancel_applies p es b is k moment key none)
+own_apply_by p n es b moment (commands.VariableDocumentUpdate c) own is apply k knows keys ordered supported none made =
+    subst (λ (x : List Event). IsTrue (all_apply p es x)) (let same : updated c es ≡ own = cc in same) (update_applies p es b is k c none)
+own_apply_by p n es b moment (commands.JobBatchActivate c) own is apply k knows keys ordered supported none made =
+    subst (λ (x : List Event). IsTrue (all_apply p es x)) (let same : activated p moment c es ≡ own = cc in same) (activate_applies p moment c es b is k keys)
+own_apply_by p n es b moment (commands.JobComplete c) own is apply k knows keys ordered supported none made =
+    subst (λ (x : List Event). IsTrue (all_apply p es x)) (let same : completed c es ≡ own = cc in same) (complete_applies p es b is k c none)
+own_apply_by p n es b moment (commands.JobFail c) own is apply k knows keys ordered supported none made =
+    subst (λ (x : List Event). IsTrue (all_apply p es x)) (let same : failed p c es ≡ own = cc in same) (fail_applies p es b is k c keys none)
+own_apply_by p n es b moment (commands.JobThrowError c) own is apply k knows keys ordered supported none made =
+    subst (λ (x : List Event). IsTrue (all_apply p es x)) (let same : thrown c es ≡ own = cc in same) (throw_applies p es b is k c none)
+own_apply_by p n es b moment (commands.JobUpdateRetries c) own is apply k knows keys ordered supported none made =
+    subst (λ (x : List Event). IsTrue (all_apply p es x)) (let same : retried c es ≡ own = cc in same) (retry_applies p es b is k c none)
+own_apply_by p n es b moment (commands.JobTimeOut key) own is apply k knows keys ordered supported none made =
+    subst (λ (x : List Event). IsTrue (all_apply p es x)) (let same : timed_out key es ≡ own = cc in same) (time_out_applies p es b is k moment key none)
+own_apply_by p n es b moment (commands.TimerTrigger key) own is apply k knows keys ordered supported none made =
+    subst (λ (x : List Event). IsTrue (all_apply p es x)) (let same : triggered p moment key es ≡ own = cc in same) (trigger_applies p moment es b is k key none)
+own_apply_by p n es b moment (commands.IncidentResolve key) own is apply k knows keys ordered supported none made =
+    subst (λ (x : List Event). IsTrue (all_apply p es x)) (let same : resolved key es ≡ own = cc in same) (resolve_applies p es b is key none)
+own_apply_by p n es b moment (commands.MessagePublish c) own is apply k knows keys ordered supported none made =
+    subst (λ (x : List Event). IsTrue (all_apply p es x)) (let same : published p moment c es ≡ own = cc in same) (publish_applies p es b is knows moment c keys ordered)
+own_apply_by p n es b moment (commands.MessageExpire key) own is apply k knows keys ordered supported none made =
+    subst (λ (x : List Event). IsTrue (all_apply p es x)) (let same : expired key es ≡ own = cc in same) (expire_applies p es b is knows key moment none)
+own_apply_by p n es b moment commands.ProcessInstanceBatchContinue own is apply k knows keys ordered supported none made =
+    subst (λ (x : List Event). IsTrue (all_apply p es x)) (let same : [] ≡ own = cc in same) refl
+own_apply_by p n es b moment (commands.DeploymentDistribute c) own is apply k knows keys ordered supported none made =
+    subst (λ (x : List Event). IsTrue (all_apply p es x)) (let same : distributed c es ≡ own = cc in same) (distribute_applies p es b c is apply none)
+own_apply_by p n es b moment (commands.CommandDistributionAcknowledge c) own is apply k knows keys ordered supported none made =
+    subst (λ (x : List Event). IsTrue (all_apply p es x)) (let same : acknowledged c es ≡ own = cc in same) (acknowledge_applies p es b c is apply none)
+own_apply_by p n es b moment _ own is apply k knows keys ordered supported none made = absurd supported
+
+-- behind any log whose events apply
+pub own_apply : (p n : ℕ) (es : List Event) (moment : ℕ) (command : Command) (own : List Event) → IsTrue (all_apply p [] es) → HasKeys p es (keys_for command) → HasOrderedNames command
+    → IsSupported command → reason_for es moment command ≡ None → own_events p n es moment command ≡ Some own → IsTrue (all_apply p es own)
+own_apply p n es moment command own apply keys ordered supported none made =
+    let found = some_of (board_of es) (board_is_there p es apply) in
+    own_apply_by p n es found.0 moment command own found.1 apply (board_keeps p es found.0 apply found.1) (board_knows p es found.0 apply found.1) keys ordered supported none made

@@ -1,0 +1,54 @@
+// Taking a job back from its worker.
+ghost use Rattle.std.specs.Prelude.{◌≡◌, List, IfOk};
+ghost use Rattle.zb_model.specs.declared.record.Event.{Event};
+ghost use Rattle.zb_rules.specs.TimeOut.{reason_to_time_out, timed_out};
+ghost use Rattle.zb_state.specs.State.{IsStateOf};
+
+use crate::making::Maker;
+use crate::rejection::{no_such, wrong_state};
+use std::alloc::{AllocError, Global};
+use zb_model::{Event, Key, Moment, Rejection};
+use zb_state::{Out, Refusal, State};
+use zb_views::JobPhase;
+
+/// Why a job isn't taken back from its worker: it isn't there, no worker has it, or its deadline lies ahead.
+pub fn reason(
+    alloc: Global,
+    state: &State,
+    moment: Moment,
+    key: Key,
+) -> Result<Option<Rejection>, AllocError>
+    ensures { (es : List Event) → IsStateOf es state.now → IfOk result (λ rejection. rejection ≡ reason_to_time_out es moment key) }
+{
+    match state.job(key) {
+        None => Ok(Some(no_such(alloc, "no job ", key)?)),
+        Some(job) if !matches!(job.phase, JobPhase::Activated) => Ok(Some(wrong_state(
+            alloc,
+            "job ",
+            job.key,
+            " isn't activated",
+        )?)),
+        Some(job) if moment < job.deadline => {
+            Ok(Some(wrong_state(alloc, "job ", job.key, " isn't due")?))
+        }
+        Some(_) => Ok(None),
+    }
+}
+
+/// The job is taken back.
+#[derive(Drop)]
+pub struct TimedOut(pub Key);
+
+impl Maker for TimedOut {
+    ghost making = { λ it p moment. timed_out it.0 };
+
+    fn put(
+        self,
+        alloc: Global,
+        state: &mut State,
+        moment: Moment,
+        out: &mut Out,
+    ) -> Result<(), Refusal> {
+        Event::JobTimedOut(self.0).put(alloc, state, moment, out)
+    }
+}

@@ -1,0 +1,10 @@
+pub mod FoundLaws
+pub mod ErrorLaws
+pub mod GameLaws
+pub mod EffectLaws
+pub mod ChoiceLaws
+pub mod LeaveLaws
+pub mod MappingLaws
+pub mod VisibleLaws
+pub mod CatcherLaws
+pub mod ForcedLaws
