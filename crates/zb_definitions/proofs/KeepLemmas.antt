@@ -1,5 +1,5 @@
 -- Queries over definitions, where there is one more behind the others.
-use Rattle.std.proofs.Common.{◌≡◌, ℕ, ◌==◌, max, List, [], ◌∷◌, ◌++◌, Bool, true, false, ◌&&◌, ◌||◌, cond, if◌then◌else◌, is_some, Option, Some, None, refl, sym, ap, subst, ◌∙◌, option_map, append-nil, arith}
+use Rattle.std.proofs.Common.{◌≡◌, ℕ, ◌==◌, max, List, [], ◌∷◌, ◌++◌, Bool, true, false, ◌&&◌, ◌||◌, cond, if◌then◌else◌, is_some, Option, Some, None, refl, sym, ap, ◌∙◌, option_map, arith}
 use Rattle.std.specs.List.{find, list_any}
 use Rattle.std.specs.Option.{option_or}
 use Rattle.std.specs.Str.{bytes_eq}
@@ -8,8 +8,6 @@ use Rattle.std.proofs.lemmas.List.Folds.{find-append}
 use Rattle.zb_views.specs.declared.definition.Definition.{Definition}
 use Rattle.zb_views.specs.Definitions.{greatest_version, newer_definition, version_of}
 use Rattle.zb_definitions.specs.Versions.{greater_key}
-use Rattle.zb_definitions.specs.Kept.{KeepsDefinitions, KeepsMoreDefinitions}
-use Rattle.zb_definitions.specs.declared.definitions.Definitions.{Definitions}
 
 -- the key of a definition, if there is one
 abbrev key_found : Option Definition → Option ℕ
@@ -80,11 +78,3 @@ found_any key (d ∷ ds) = by_test (d.key == key) (found_any key ds)
         → is_some (option_map (λ x. x.version) (cond t (Some d) (find (λ x. x.key == key) ds))) ≡ (t || list_any (λ x. x.key == key) ds)
     by_test true later = refl
     by_test false later = later
-
--- where nothing has changed, no definition more is kept
-pub keeps_same : (old new : Definitions) (more : List Definition) → new ≡ old → more ≡ [] → KeepsMoreDefinitions more old new
-keeps_same old new more same none = λ ds keeps.
-    let still : KeepsDefinitions ds new = subst (KeepsDefinitions ds) (sym same) keeps in
-    subst (λ (l : List Definition). KeepsDefinitions l new) (sym (ap (λ (m : List Definition). ds ++ m) none ∙ append-nil ds)) still
-
-pub ruleset kept = (keeps_same)

@@ -3,7 +3,8 @@ ghost use Rattle.std.specs.List.{find, list_any};
 ghost use Rattle.std.specs.Option.{option_or};
 ghost use Rattle.std.specs.Str.{bytes_eq};
 ghost use Rattle.indexmap.specs.IndexMap.{get_by_text};
-ghost use Rattle.zb_views.specs.Definitions.{greatest_version, version_of};
+ghost use Rattle.zb_model.specs.declared.record.Event.TheVariants as events;
+ghost use Rattle.zb_views.specs.Definitions.{definition_told, greatest_version, version_of};
 ghost use Rattle.zb_views.specs.declared.definition.Definition.{Definition};
 ghost use Rattle.zb_definitions.specs.Versions.{greater_key};
 
@@ -11,9 +12,8 @@ use crate::process::Process;
 use crate::version::Defined;
 use indexmap::IndexMap;
 use std::alloc::{AllocError, Global};
-use zb_model::Key;
+use zb_model::{Event, Key, ProcessDefinition};
 use zb_table::Table;
-use zb_views::Definition;
 
 /// The definitions of a log. What it says of them it says of every list of definitions that it keeps (`KeepsDefinitions`).
 #[derive(Drop)]
@@ -37,18 +37,28 @@ impl Definitions {
         }
     }
 
-    /// Adds a definition behind the others. After a refusal they are only dropped. It takes constant time on average
-    /// where its key and its version are the greatest, and else a step for each greater one.
-    pub fn push(&mut self, alloc: Global, definition: Definition) -> Result<(), AllocError>
-        ensures { OnOk result (KeepsMoreDefinitions (definition ∷ []) self.old self.new) }
+    /// Takes in the definition that an event makes, behind the others. After a refusal they are only dropped. It takes
+    /// constant time on average where its key and its version are the greatest, and else a step for each greater one.
+    pub fn apply(&mut self, alloc: Global, event: &Event) -> Result<(), AllocError>
+        ensures { OnOk result (KeepsMoreDefinitions (definition_told event.now) self.old self.new) }
     {
-        let Definition {
-            key,
-            version,
-            process,
-        } = definition;
-        self.keep_key(key, version)?;
-        self.keep_version(alloc, process.as_str(), version, key)?;
+        match event {
+            Event::ProcessCreated(process) => self.push(alloc, process),
+            _ => Ok(()),
+        }
+    }
+
+    // Adds the definition of a process behind the others.
+    fn push(&mut self, alloc: Global, process: &ProcessDefinition) -> Result<(), AllocError>
+        ensures { OnOk result (KeepsMoreDefinitions (definition_told (events.ProcessCreated process.now)) self.old self.new) }
+    {
+        self.keep_key(process.key, process.version)?;
+        self.keep_version(
+            alloc,
+            process.model.process.as_str(),
+            process.version,
+            process.key,
+        )?;
         Ok(())
     }
 

@@ -14,7 +14,8 @@ use Rattle.zb_model.specs.declared.record.Command.TheVariants as commands
 use Rattle.zb_model.specs.declared.record.Packet.{Packet}
 use Rattle.zb_views.specs.View.{events_in, events_of}
 use Rattle.zb_views.specs.Standing.{begun_by}
-use Rattle.zb_record.specs.Packets.{answer_packet, kept_by, outbox_of, delivery_of, is_by_packet}
+use Rattle.zb_record.specs.Answers.{answer_packet}
+use Rattle.zb_record.specs.Packets.{kept_by, outbox_of, delivery_of, is_by_packet}
 use Rattle.zb_rules.specs.Step.{IsStep, EachOn, AreStepsOn}
 use Rattle.zb_rules.proofs.StepLaws.{each_on_more, are_steps_more}
 use Rattle.zb_world.specs.Entries.{IsPartitionOf, part_of, parts_of}
@@ -26,7 +27,7 @@ use Rattle.zb_world.proofs.PacketLaws.{outbox_was_sent}
 use Rattle.zb_wire.specs.declared.request.Request.{Request}
 use Rattle.zb_desk.specs.Serial.{Basis, log_behind, place_behind, next_asked, is_unit_command, is_unit, units_in, answers_sent, unit_in_logs, next_unit, IsNextEntry, IsNextUnit}
 use Rattle.zb_desk.proofs.SerialLaws.{asked_no_unit}
-use Rattle.zb_desk.proofs.UnitLaws.{AllHave, first_has, first_sent_in, unit_in}
+use Rattle.zb_desk.proofs.UnitLaws.{AllHave, first_has, answers_have, first_sent_in, unit_in}
 
 -- an entry stands among some
 abbrev pub StandsIn : List Entry → Entry → Type 0
@@ -108,7 +109,7 @@ module _ (n : ℕ) (h : List Entry) where
   all_taken (packet ∷ packets) all = ((λ by. (packet, all.0, refl)), all_taken packets all.1)
 
   -- the answer of an entry that stands in it was sent
-  answer_taken : (unit : Entry) → StandsIn h unit → (answer : Option Packet) → answer_packet unit.partition n unit.batch.command ≡ answer → AllHave WasTaken (begun_by answer)
+  answer_taken : (unit : Entry) → StandsIn h unit → (answer : Option Packet) → answer_packet unit.partition n unit.batch ≡ answer → AllHave WasTaken (begun_by answer)
   answer_taken unit there None is = tt
   answer_taken unit there (Some packet) is = (
     (λ by. (
@@ -118,22 +119,15 @@ module _ (n : ℕ) (h : List Entry) where
         sender = unit;
         at = there.1;
         before = slice_get_within h there.0 unit there.1;
-        sends = Contains-append_right (kept_by unit.partition n (events_in unit.batch.outcome)) (begun_by (answer_packet unit.partition n unit.batch.command)) packet (rw is (0, omega arith, refl));
+        sends = Contains-append_right (kept_by unit.partition n (events_in unit.batch.outcome)) (begun_by (answer_packet unit.partition n unit.batch)) packet (rw is (0, omega arith, refl));
       },
       refl,
     )),
     tt,
   )
 
-  joined_taken : (a b : List Packet) → AllHave WasTaken a → AllHave WasTaken b → AllHave WasTaken (a ++ b)
-  joined_taken [] b first second = second
-  joined_taken (packet ∷ a) b first second = (first.0, joined_taken a b first.1 second)
-
   answers_taken : (units : List Entry) → AllByRecursion (StandsIn h) units → AllHave WasTaken (answers_sent n units)
-  answers_taken [] all = tt
-  answers_taken (unit ∷ units) all =
-      joined_taken (begun_by (answer_packet unit.partition n unit.batch.command)) (answers_sent n units)
-      (answer_taken unit all.0 (answer_packet unit.partition n unit.batch.command) refl) (answers_taken units all.1)
+  answers_taken units all = answers_have WasTaken n (StandsIn h) (λ unit there. answer_taken unit there (answer_packet unit.partition n unit.batch) refl) units all
 
 -- the part of each partition, by its place
 part_at : (base : List Entry) (start n k : ℕ) (log : List Batch) → slice_get (map (λ p. part_of p base) (range_with_len start n)) k ≡ Some log → part_of (start + k) base ≡ log

@@ -9,7 +9,10 @@ use Rattle.zb_model.specs.declared.record.Command.{Command}
 use Rattle.zb_model.specs.declared.record.Command.TheVariants as commands
 use Rattle.zb_views.specs.View.{events_of}
 use Rattle.zb_views.specs.Standing.{begun_by}
-use Rattle.zb_record.specs.Packets.{answer_packet}
+use Rattle.zb_record.specs.declared.sending.Sending.{Sending}
+use Rattle.zb_record.specs.declared.sending.Sending.TheVariants as sending
+use Rattle.zb_record.specs.Answers.{is_answer}
+use Rattle.zb_record.specs.Packets.{packet_alone}
 use Rattle.zb_rules.specs.Due.{due_command}
 use Rattle.zb_rules.proofs.DueLaws.{due_command_has}
 use Rattle.zb_rules.specs.Step.{EachOn}
@@ -17,7 +20,7 @@ use Rattle.zb_rules.proofs.StepLaws.{each_on_front, each_on_all, each_on_joined}
 use Rattle.zb_world.specs.declared.entry.Entry.{Entry}
 use Rattle.zb_wire.specs.declared.request.Request.{Request}
 use Rattle.zb_wire.specs.declared.request.Request.TheVariants as requests
-use Rattle.zb_desk.proofs.UnitLaws.{AllHave, first_has, answers_have, unit_has}
+use Rattle.zb_desk.proofs.UnitLaws.{AllHave, first_has, all_answers_have, unit_has}
 use Rattle.zb_desk.specs.Serial.{Basis, log_behind, due_in_logs, once, next_asked, is_unit_command, is_unit, units_in, asked_in, answers_sent, unit_in_logs, next_unit, next_of, IsEntryBy, IsNextEntry, AreMadeFor, IsCarriedOut, IsNextUnit, AreUnits, AreAllUnits, IsNextAsked, AreAsked}
 
 -- the command of some pair
@@ -61,15 +64,23 @@ asked_no_unit logs request reading earlier done q command is = once_no_unit _ _ 
 abbrev IsUnitNext : ℕ × Command → Type 0
 IsUnitNext next = is_unit_command next.1 ≡ true
 
-answer_unit : (p n : ℕ) (command : Command) → AllHave IsUnitNext (begun_by (answer_packet p n command))
-answer_unit p n (commands.DeploymentDistribute c) = (refl, tt)
-answer_unit p n command = tt
+answer_unit : (command : Command) → is_answer command ≡ true → is_unit_command command ≡ true
+answer_unit (commands.CommandDistributionAcknowledge c) is = refl
+answer_unit (commands.ProcessMessageSubscriptionCreate key) is = refl
+answer_unit (commands.MessageSubscriptionCorrelate c) is = refl
+answer_unit (commands.MessageSubscriptionReject c) is = refl
+answer_unit (commands.ProcessMessageSubscriptionDelete key) is = refl
+answer_unit command is = absurd (cc)
+
+alone_unit : (p n : ℕ) (s : Sending) → AllHave IsUnitNext (begun_by (packet_alone p n s))
+alone_unit p n (sending.Definition d) = tt
+alone_unit p n s = (refl, tt)
 
 logs_unit : (logs : List (List Batch)) (units entries : List Entry) (q : ℕ) (command : Command) → unit_in_logs logs units entries ≡ Some (q, command) → is_unit_command command ≡ true
 logs_unit logs units entries q command is =
     let n = length logs in
-    unit_has IsUnitNext n (λ p d version m. refl) logs units entries refl (λ k above below. refl)
-    (first_has IsUnitNext _ (answers_sent n units) (answers_have IsUnitNext n units (λ p c. answer_unit p n c))) (q, command) is
+    unit_has IsUnitNext n (λ p d version m. refl) (λ p s. alone_unit p n s) logs units entries refl (λ k above below. refl)
+    (first_has IsUnitNext _ (answers_sent n units) (all_answers_have IsUnitNext n (λ key c. answer_unit c) units)) (q, command) is
 
 few_unit : (few : Bool) (next : Option (ℕ × Command)) (q : ℕ) (command : Command) → (next ≡ Some (q, command) → is_unit_command command ≡ true) → (if few then next else None) ≡ Some (q, command) → is_unit_command command ≡ true
 few_unit true next q command is_one is = is_one is

@@ -8,7 +8,8 @@ use Rattle.zb_model.specs.declared.record.Command.TheVariants as commands
 use Rattle.zb_model.specs.declared.record.Packet.{Packet}
 use Rattle.zb_views.specs.View.{events_of, moment_of_last}
 use Rattle.zb_views.specs.Standing.{begun_by}
-use Rattle.zb_record.specs.Packets.{first_packet, answer_packet, delivery_of, is_answer, is_by_packet}
+use Rattle.zb_record.specs.Answers.{answer_packet, is_answer}
+use Rattle.zb_record.specs.Packets.{first_packet, delivery_of, is_by_packet}
 use Rattle.zb_rules.specs.Step.{EachOn}
 use Rattle.zb_rules.specs.Due.{due_command}
 use Rattle.zb_rules.specs.Continue.{is_quiet}
@@ -83,7 +84,7 @@ going_on p (log ∷ logs) entries =
 
 -- the answers that some units of work at n partitions have sent, in order
 abbrev pub answers_sent : (n : ℕ) → List Entry → List Packet
-answers_sent n units = flat_map (λ entry. begun_by (answer_packet entry.partition n entry.batch.command)) units
+answers_sent n units = flat_map (λ entry. begun_by (answer_packet entry.partition n entry.batch)) units
 
 -- the answers of them that are still in hand, the oldest first: as many of those that were sent were taken as units took one (own)
 abbrev pub answers_in_hand : (n : ℕ) → List Entry → List Packet

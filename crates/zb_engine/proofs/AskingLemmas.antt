@@ -18,7 +18,6 @@ use Rattle.zb_rules.specs.Step.{IsAcceptance, IsOutcomeBy, IsStep, EachOn}
 use Rattle.zb_rules.proofs.StepLaws.{each_on_none, each_on_more}
 use Rattle.zb_world.specs.Entries.{as_entry}
 use Rattle.zb_world.specs.declared.entry.Entry.{Entry}
-use Rattle.zb_base.specs.Key.{home_of}
 use Rattle.zb_record.specs.Partitions.{partition_of_key}
 use Rattle.zb_wire.specs.Asked.{command_of, key_named, partition_asked}
 use Rattle.zb_wire.specs.declared.request.Request.{Request}
@@ -33,7 +32,7 @@ use Rattle.zb_desk.proofs.SerialLaws.{made_by_asking, next_by_asking, made_with_
 use Rattle.zb_desk.proofs.UnitLaws.{AnyHas, either_has}
 use Rattle.zb_engine.specs.Solo.{Start, many_in, logs_in, basis_in, HasMade, HasEnded, IsPlaced, IsTurnedAway, IsDone, IsCutOff}
 use Rattle.zb_engine.specs.declared.solo.Solo.{Solo}
-use Rattle.zb_engine.proofs.DeliveryLemmas.{lt_is, not_lt, partition_known_within}
+use Rattle.zb_engine.proofs.DeliveryLemmas.{lt_is, not_lt, partition_known_within, home_within}
 use Rattle.zb_engine.proofs.ListLemmas.{append_none}
 use Rattle.zb_engine.proofs.MadeLemmas.{all_more}
 use Rattle.zb_engine.proofs.NextLemmas.{AreMade, entry_next, command_is, next_none, next_more}
@@ -69,9 +68,6 @@ due_is_within reading logs entries next is =
     due_has (λ next. next.0 ≤ length logs) reading 1 logs entries (λ k log command at is. omega (arith, slice_get_within logs k log at)) next is
 
 -- the partition that a request asks is there
-home_within : (key : List ℕ) (n : ℕ) → 1 ≤ n → home_of key n ≤ n
-home_within key n some = omega arith
-
 named_within : (n : ℕ) (named : Option ℕ) → 1 ≤ n → option_map_or (partition_of_key n) named 1 ≤ n
 named_within n None some = some
 named_within n (Some key) some = partition_known_within n _ some

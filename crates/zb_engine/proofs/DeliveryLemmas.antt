@@ -1,5 +1,6 @@
 -- Units of work that are done one after the other, and the answers that are in hand.
-use Rattle.std.proofs.Common.{◌≡◌, ◌<◌, ◌≤◌, ◌+◌, nat_lt, ℕ, zero, suc, List, [], ◌∷◌, ◌++◌, length, filter, drop, slice_get, Bool, true, false, if◌then◌else◌, Option, Some, None, option_map, refl, sym, ap, ◌∙◌, subst, inl, inr, arith, length-append, append-nil}
+use Rattle.std.proofs.Common.{◌≡◌, ◌<◌, ◌≤◌, ◌+◌, nat_lt, nat_le, ℕ, zero, suc, List, [], ◌∷◌, ◌++◌, length, filter, drop, slice_get, Bool, true, false, IsTrue, if◌then◌else◌, Option, Some, None, option_map, refl, sym, ap, ◌∙◌, subst, inl, inr, arith, length-append, append-nil}
+use Rattle.std.specs.List.{filter_map, AllByRecursion}
 use Rattle.std.proofs.lemmas.Bool.{cases_eq}
 use Rattle.std.proofs.lemmas.Bool.Decides.{nat_tests}
 use Rattle.std.proofs.lemmas.List.{length-map}
@@ -9,22 +10,34 @@ use Rattle.zb_disk.specs.declared.disk.Disk.{Ghosts}
 use Rattle.zb_model.specs.declared.record.Batch.{Batch}
 use Rattle.zb_model.specs.declared.record.Command.{Command}
 use Rattle.zb_model.specs.declared.record.Command.TheVariants as commands
+use Rattle.zb_base.specs.Key.{home_of}
+use Rattle.zb_model.specs.declared.record.Event.{Event}
+use Rattle.zb_model.specs.declared.record.Outcome.{Outcome}
 use Rattle.zb_model.specs.declared.record.Packet.{Packet}
 use Rattle.zb_model.specs.declared.stop.Stop.{Stop}
 use Rattle.zb_model.specs.declared.stop.Stop.TheVariants as stops
 use Rattle.zb_views.specs.Standing.{begun_by}
-use Rattle.zb_record.specs.Partitions.{partition_known}
-use Rattle.zb_record.specs.Packets.{answer_packet, delivery_of, is_answer}
+use Rattle.zb_views.specs.View.{events_of}
+use Rattle.zb_views.specs.Distributions.{distributions}
+use Rattle.zb_record.specs.declared.sending.Sending.{Sending}
+use Rattle.zb_record.specs.declared.sending.Sending.TheVariants as sending
+use Rattle.zb_record.specs.Partitions.{partition_known, home_known}
+use Rattle.zb_record.specs.Answers.{answer_by, answer_packet, is_answer}
+use Rattle.zb_record.specs.Packets.{packet_alone, packet_for, outbox_of, delivery_of}
+use Rattle.zb_rules.specs.Applies.{all_apply}
 use Rattle.zb_rules.specs.Own.{IsSupported}
 use Rattle.zb_world.specs.Entries.{as_entry}
 use Rattle.zb_world.specs.declared.entry.Entry.{Entry}
 use Rattle.zb_desk.specs.Asking.{IsDelivered, IsDeliveryCut}
-use Rattle.zb_desk.specs.Serial.{answers_sent, answers_in_hand, first_sent, unit_in_logs, next_unit}
-use Rattle.zb_desk.proofs.UnitLaws.{AnyHas, AllHave, first_has, answers_have, first_sent_has, unit_has}
+use Rattle.zb_world.proofs.SendingLaws.{definitions_are_sent}
+use Rattle.zb_desk.specs.Serial.{log_behind, answers_sent, answers_in_hand, first_sent, unit_in_logs, next_unit}
+use Rattle.zb_desk.proofs.UnitLaws.{AnyHas, AllHave, first_has, answers_have, all_answers_have, first_sent_in, unit_in, definitions_have, first_sent_has, unit_has}
 use Rattle.zb_engine.specs.Ledger.{Opening}
 use Rattle.zb_engine.specs.Solo.{Start, many_in, logs_in, basis_in, HasMade, HasEnded, IsPlaced, IsTurnedAway}
 use Rattle.zb_engine.specs.declared.solo.Solo.{Solo}
+use Rattle.zb_engine.proofs.MadeLemmas.{all_more}
 use Rattle.zb_engine.proofs.NextLemmas.{AreMade, entry_next, command_is, next_none, next_more}
+use Rattle.zb_engine.proofs.StandingLemmas.{LogsApply, logs_apply}
 
 -- the test of an order
 pub lt_is : (a b : ℕ) → a < b → nat_lt a b ≡ true
@@ -37,28 +50,60 @@ not_lt a b ge = grind (arith, nat_tests)
 abbrev IsRun : ℕ × Command → Type 0
 IsRun next = IsSupported next.1
 
-answer_run : (p n : ℕ) (command : Command) → AllHave IsRun (begun_by (answer_packet p n command))
-answer_run p n (commands.DeploymentDistribute c) = (tt, tt)
-answer_run p n command = tt
+-- and these were
+abbrev pub AreRun : List Entry → Type 0
+AreRun units = AllByRecursion (λ unit. IsSupported unit.batch.command) units
 
-pub unit_is_run : (logs : List (List Batch)) (units entries : List Entry) (next : ℕ × Command) → unit_in_logs logs units entries ≡ Some next → IsSupported next.1
-unit_is_run logs units entries next is =
+-- what answers a command that is run is run
+answer_run : (p n : ℕ) (command : Command) (outcome : Outcome) → IsSupported command → AllHave IsRun (begun_by (answer_by p n command outcome))
+answer_run p n (commands.DeploymentDistribute c) outcome run = (tt, tt)
+answer_run p n (commands.MessageSubscriptionCreate c) outcome run = absurd run
+answer_run p n (commands.MessageSubscriptionDelete c) outcome run = absurd run
+answer_run p n (commands.ProcessMessageSubscriptionCorrelate c) outcome run = absurd run
+answer_run p n command outcome run = tt
+
+-- and so is what events that apply send
+sent_is_run : (p n : ℕ) (es : List Event) → IsTrue (all_apply p [] es) → AllHave IsRun (outbox_of p n es)
+sent_is_run p n es apply =
+    subst (λ (ss : List Sending). AllHave IsRun (filter_map (packet_for p n es) ss)) (sym (definitions_are_sent p es apply)) (definitions_have IsRun n (λ q d version m. tt) p es (distributions es))
+
+-- the next unit of work is run, behind logs whose events apply, where the units before it were
+pub unit_is_run : (logs : List (List Batch)) (units entries : List Entry) (next : ℕ × Command) → LogsApply logs entries → AreRun units → unit_in_logs logs units entries ≡ Some next → IsSupported next.1
+unit_is_run logs units entries next apply run is =
     let n = length logs in
-    unit_has IsRun n (λ p d version m. tt) logs units entries refl (λ k above below. tt) (first_has IsRun _ (answers_sent n units) (answers_have IsRun n units (λ p c. answer_run p n c))) next is
+    unit_in IsRun n logs units entries refl (λ k above below. tt)
+    (first_has IsRun _ (answers_sent n units) (answers_have IsRun n (λ unit. IsSupported unit.batch.command) (λ unit its. answer_run unit.partition n unit.batch.command unit.batch.outcome its) units run))
+    (first_sent_in IsRun n 1 logs entries (λ k log at. sent_is_run (1 + k) n (events_of (log_behind (1 + k) log entries)) (apply k log at))) next is
 
 -- at a partition that there is
 pub partition_known_within : (n q : ℕ) → 1 ≤ n → partition_known n q ≤ n
 partition_known_within n q some = grind (arith, nat_tests)
 
-answer_within : (p n : ℕ) (command : Command) → 1 ≤ n → AllHave (λ next. next.0 ≤ n) (begun_by (answer_packet p n command))
-answer_within p n (commands.DeploymentDistribute c) some = (partition_known_within n _ some, tt)
-answer_within p n command some = tt
+pub home_within : (key : List ℕ) (n : ℕ) → 1 ≤ n → home_of key n ≤ n
+home_within key n some = omega arith
+
+home_known_within : (n : ℕ) (key : List ℕ) → 1 ≤ n → home_known n key ≤ n
+home_known_within n key some = by_test (nat_le 1 n)
+  where
+    by_test : (t : Bool) → (if t then home_of key n else 1) ≤ n
+    by_test true = home_within key n some
+    by_test false = some
+
+-- a unit of work is at a partition that there is
+abbrev IsWithin : ℕ → ℕ × Command → Type 0
+IsWithin n next = next.0 ≤ n
+
+alone_within : (p n : ℕ) (s : Sending) → 1 ≤ n → AllHave (IsWithin n) (begun_by (packet_alone p n s))
+alone_within p n (sending.Definition d) some = tt
+alone_within p n (sending.Opening s) some = (home_known_within n s.correlation_key some, tt)
+alone_within p n (sending.Correlating c) some = (partition_known_within n _ some, tt)
+alone_within p n (sending.Closing s) some = (home_known_within n s.correlation_key some, tt)
 
 pub unit_is_within : (logs : List (List Batch)) (units entries : List Entry) (next : ℕ × Command) → 1 ≤ length logs → unit_in_logs logs units entries ≡ Some next → next.0 ≤ length logs
 unit_is_within logs units entries next some is =
     let n = length logs in
-    unit_has (λ next. next.0 ≤ n) n (λ p d version m. partition_known_within n d.partition some) logs units entries refl (λ k above below. below)
-    (first_has (λ next. next.0 ≤ n) _ (answers_sent n units) (answers_have (λ next. next.0 ≤ n) n units (λ p c. answer_within p n c some))) next is
+    unit_has (IsWithin n) n (λ p d version m. partition_known_within n d.partition some) (λ p s. alone_within p n s some) logs units entries refl (λ k above below. below)
+    (first_has (IsWithin n) _ (answers_sent n units) (all_answers_have (IsWithin n) n (λ key c answer. partition_known_within n _ some) units)) next is
 
 -- how many answers were taken
 abbrev pub taken : List Entry → ℕ
@@ -69,8 +114,8 @@ abbrev pub AreSent : ℕ → List Entry → Type 0
 AreSent n units = taken units ≤ length (answers_sent n units)
 
 -- what is in hand behind a unit, if these were in hand before
-abbrev pub hand_behind : (n p : ℕ) → Command → List Packet → List Packet
-hand_behind n p command hand = (if is_answer command then drop 1 hand else hand) ++ begun_by (answer_packet p n command)
+abbrev pub hand_behind : (n p : ℕ) → Batch → List Packet → List Packet
+hand_behind n p batch hand = (if is_answer batch.command then drop 1 hand else hand) ++ begun_by (answer_packet p n batch)
 
 none_left : {A : Type 0} (xs : List A) → slice_get (drop (length xs) xs) 0 ≡ None
 none_left [] = refl
@@ -86,15 +131,25 @@ drop_front zero xs ys few = refl
 drop_front (suc k) [] ys few = absurd (let no : ⊥ = omega (arith, few) in no)
 drop_front (suc k) (x ∷ xs) ys few = drop_front k xs ys (omega (arith, few))
 
--- an answer that is a unit of work was in hand
+-- what is sent again is no answer
 abbrev NoAnswer : ℕ × Command → Type 0
 NoAnswer next = is_answer next.1 ≡ false
+
+alone_is_none : (p n : ℕ) (s : Sending) → AllHave NoAnswer (begun_by (packet_alone p n s))
+alone_is_none p n (sending.Definition d) = tt
+alone_is_none p n s = (refl, tt)
+
+pub sent_is_no_answer : (n p : ℕ) (logs : List (List Batch)) (entries : List Entry) (packet : Packet) → first_sent n p logs entries ≡ Some packet → is_answer packet.command ≡ false
+sent_is_no_answer n p logs entries packet is =
+    first_sent_has NoAnswer n (λ q d version m. refl) (λ q s. alone_is_none q n s) p logs entries (delivery_of packet) (ap (option_map delivery_of) is)
+
+-- an answer that is a unit of work was in hand
 
 answer_left : (logs : List (List Batch)) (units entries : List Entry) (next : ℕ × Command) → AreSent (length logs) units → unit_in_logs logs units entries ≡ Some next → is_answer next.1 ≡ true
     → taken units < length (answers_sent (length logs) units)
 answer_left logs units entries next sent is answer =
     elim (cases_eq (taken units) (length (answers_sent (length logs) units))) [
-      | inl all ↦ absurd (let other = unit_has NoAnswer (length logs) (λ p d version m. refl) logs units entries refl (λ k above below. refl) (none_in_hand all) next is in let no : ⊥ = cc (sym answer ∙ other) in no)
+      | inl all ↦ absurd (let other = unit_has NoAnswer (length logs) (λ p d version m. refl) (λ p s. alone_is_none p (length logs) s) logs units entries refl (λ k above below. refl) (none_in_hand all) next is in let no : ⊥ = cc (sym answer ∙ other) in no)
       | inr other ↦ omega (arith, sent, other)
     ]
   where
@@ -108,25 +163,16 @@ answer_left logs units entries next sent is answer =
 abbrev IsAnswer : ℕ × Command → Type 0
 IsAnswer next = is_answer next.1 ≡ true
 
-an_answer : (p n : ℕ) (command : Command) → AllHave IsAnswer (begun_by (answer_packet p n command))
-an_answer p n (commands.DeploymentDistribute c) = (refl, tt)
-an_answer p n command = tt
-
 pub hand_is_answers : (n : ℕ) (units : List Entry) (packet : Packet) → slice_get (answers_in_hand n units) 0 ≡ Some packet → is_answer packet.command ≡ true
 hand_is_answers n units packet is =
-    first_has IsAnswer (taken units) (answers_sent n units) (answers_have IsAnswer n units (λ p c. an_answer p n c)) (delivery_of packet) (ap (option_map delivery_of) is)
-
--- and what is sent again are none
-pub sent_is_no_answer : (n p : ℕ) (logs : List (List Batch)) (entries : List Entry) (packet : Packet) → first_sent n p logs entries ≡ Some packet → is_answer packet.command ≡ false
-sent_is_no_answer n p logs entries packet is =
-    first_sent_has NoAnswer n (λ q d version m. refl) p logs entries (delivery_of packet) (ap (option_map delivery_of) is)
+    first_has IsAnswer (taken units) (answers_sent n units) (all_answers_have IsAnswer n (λ key c answer. answer) units) (delivery_of packet) (ap (option_map delivery_of) is)
 
 module _ (n p : ℕ) (batch : Batch) (units : List Entry) where
   abbrev answer : List Packet
-  answer = begun_by (answer_packet p n batch.command)
+  answer = begun_by (answer_packet p n batch)
 
   sent_more : answers_sent n (units ++ as_entry p batch ∷ []) ≡ answers_sent n units ++ answer
-  sent_more = flat_map-append (λ (entry : Entry). begun_by (answer_packet entry.partition n entry.batch.command)) units (as_entry p batch ∷ []) ∙ ap (λ more. answers_sent n units ++ more) (append-nil answer)
+  sent_more = flat_map-append (λ (entry : Entry). begun_by (answer_packet entry.partition n entry.batch)) units (as_entry p batch ∷ []) ∙ ap (λ more. answers_sent n units ++ more) (append-nil answer)
 
   taken_more : (is : Bool) → is_answer batch.command ≡ is → taken (units ++ as_entry p batch ∷ []) ≡ (if is then taken units + 1 else taken units)
   taken_more true is = ap length (filter-append (λ (entry : Entry). is_answer entry.batch.command) units (as_entry p batch ∷ [])) ∙ rw is (length-append (filter (λ (entry : Entry). is_answer entry.batch.command) units) (as_entry p batch ∷ []))
@@ -134,7 +180,7 @@ module _ (n p : ℕ) (batch : Batch) (units : List Entry) where
 
   -- the hand behind one more unit
   pub hand_more : AreSent n units → (is_answer batch.command ≡ true → taken units < length (answers_sent n units))
-      → (hand_behind n p batch.command (answers_in_hand n units) ≡ answers_in_hand n (units ++ as_entry p batch ∷ [])) × AreSent n (units ++ as_entry p batch ∷ [])
+      → (hand_behind n p batch (answers_in_hand n units) ≡ answers_in_hand n (units ++ as_entry p batch ∷ [])) × AreSent n (units ++ as_entry p batch ∷ [])
   hand_more sent left = by_answer (is_answer batch.command) refl
     where
       by_answer : (is : Bool) → is_answer batch.command ≡ is
@@ -171,15 +217,22 @@ module _ {D : Type 0} {disks : Ghosts D} (start : Start D) (made : List Entry) (
   -- so many so far, with these answers in hand
   pub record IsWorking (done : ℕ) (hand : List Packet) (solo : Solo D disks) : Type 0 where
     pub are : AreMade start made (coming start made) reading done solo
+    pub run : AreRun are.more
     pub sent : AreSent (many_in start) are.more
     pub in_hand : hand ≡ answers_in_hand (many_in start) are.more
 
   pub working_none : (hand : List Packet) (solo : Solo D disks) → hand ≡ [] → HasMade start made solo → IsWorking 0 hand solo
-  working_none hand solo none has = record { are = next_none start made (coming start made) reading solo has; sent = omega arith; in_hand = none }
+  working_none hand solo none has = record { are = next_none start made (coming start made) reading solo has; run = tt; sent = omega arith; in_hand = none }
+
+  -- the next one is run
+  pub working_runs : (done : ℕ) (hand : List Packet) (solo : Solo D disks) (w : IsWorking done hand solo) (p : ℕ) (command : Command) → unit_behind start made w.are.more ≡ Some (p, command) → IsSupported command
+  working_runs done hand solo w p command comes =
+      unit_is_run (logs_in start) w.are.more (made ++ w.are.more) (p, command) (logs_apply start (made ++ w.are.more) solo w.are.holds) w.run comes
 
   -- one more
   pub working_more : (done : ℕ) (hand hand_then : List Packet) (old new : Solo D disks) (w : IsWorking done hand old) (p : ℕ) (command : Command) (batch : Batch) → done < start.units
-      → unit_behind start made w.are.more ≡ Some (p, command) → IsPlaced start (made ++ w.are.more) reading (p, command) batch new → hand_then ≡ hand_behind (many_in start) p command hand
+      → unit_behind start made w.are.more ≡ Some (p, command) → IsPlaced start (made ++ w.are.more) reading (p, command) batch new
+      → hand_then ≡ (if is_answer command then drop 1 hand else hand) ++ begun_by (answer_packet p (many_in start) batch)
       → IsWorking (done + 1) hand_then new
   working_more done hand hand_then old new w p command batch few comes placed takes =
       let is = command_is (logs_in start) p command reading (made ++ w.are.more) batch placed.by in
@@ -188,10 +241,12 @@ module _ {D : Type 0} {disks : Ghosts D} (start : Start D) (made : List Entry) (
       let left : is_answer batch.command ≡ true → taken w.are.more < length (answers_sent (many_in start) w.are.more) =
       λ answer. subst (λ (n : ℕ). taken w.are.more < length (answers_sent n w.are.more)) (many start made) (answer_left (logs_in start) w.are.more (made ++ w.are.more) (p, command) sent comes (ap is_answer is ∙ answer)) in
       let both = hand_more (many_in start) p batch w.are.more w.sent left in
+      let behind : hand_then ≡ hand_behind (many_in start) p batch hand = takes ∙ ap (λ (c : Command). (if is_answer c then drop 1 hand else hand) ++ begun_by (answer_packet p (many_in start) batch)) is in
       record {
         are = next_more start made (coming start made) reading done old new w.are p command batch (coming_is start made w.are.more within ∙ comes) placed;
+        run = all_more (λ (unit : Entry). IsSupported unit.batch.command) w.are.more (as_entry p batch) w.run (subst IsSupported is (working_runs done hand old w p command comes));
         sent = both.1;
-        in_hand = takes ∙ (ap (λ (c : Command). hand_behind (many_in start) p c hand) is ∙ (ap (hand_behind (many_in start) p batch.command) w.in_hand ∙ both.0));
+        in_hand = behind ∙ (ap (hand_behind (many_in start) p batch) w.in_hand ∙ both.0);
       }
 
   -- and no more come

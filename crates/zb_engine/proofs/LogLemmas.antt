@@ -21,8 +21,26 @@ use Rattle.zb_partition.specs.Partition.{disk_of, slots_of, in_writing, HasLog}
 use Rattle.zb_partition.specs.Stopping.{IsLeft, IsHurt, IsStepOf, IsStopCause, IsStopped, IsLogOrMore}
 use Rattle.zb_store.specs.Calls.{LeavesOnly}
 use Rattle.zb_partition.specs.declared.partition.Partition.{Partition}
-use Rattle.zb_engine.specs.Ledger.{Opening, Account, log_of, with_more, view_in, IsFront, AreMadeBatches, IsOpen, HasAccount, HasStopped, HasRefused, IsHurtSince, IsLeftIn, first_disk}
+use Rattle.zb_engine.specs.Ledger.{Opening, Account, log_of, account_of, view_in, IsFront, AreMadeBatches, IsOpen, HasAccount, HasStopped, IsHurtSince, IsLeftIn, first_disk}
 use Rattle.zb_engine.proofs.ListLemmas.{append_none}
+
+-- the account with more batches
+abbrev pub with_more : {D : Type 0} → Account D → List Batch → Account D
+with_more account more = record { opening = account.opening; made = account.made ++ more }
+
+-- behind what an account has, this command was submitted at a reading of the clock with this begin, and this is its batch
+pub record IsCommitted {D : Type 0} {disks : Ghosts D} (account : Account D) (reading from : ℕ) (command : Command) (batch : Batch) (partition : Partition D disks) : Type 0 where
+  pub step : IsStep account.opening.place account.opening.partitions (log_of account) batch
+  pub moment : batch.moment ≡ max (moment_of_last (log_of account)) reading
+  pub begin : batch.begin ≡ from
+  pub is : batch.command ≡ command
+  pub holds : HasAccount (account_of account.opening (account.made ++ batch ∷ [])) partition
+
+-- behind what an account has, this command at a reading of the clock with this begin stopped the partition
+pub record HasRefused {D : Type 0} {disks : Ghosts D} (account : Account D) (reading begin : ℕ) (command : Command) (stop : Stop) (partition : Partition D disks) : Type 0 where
+  pub refused : Option Batch
+  pub next : (batch : Batch) → refused ≡ Some batch → IsStepOf account.opening.place account.opening.partitions (log_of account) (max (moment_of_last (log_of account)) reading) begin command batch
+  pub stopped : HasStopped account refused stop partition
 
 -- a count that rose later rose
 pub rose_since : (start old new : ℕ) → start ≤ old → Rose old new → Rose start new

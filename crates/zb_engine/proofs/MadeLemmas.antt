@@ -14,10 +14,10 @@ use Rattle.zb_world.proofs.EntryLaws.{part_of_joined, part_of_its, part_of_other
 use Rattle.zb_partition.specs.declared.partition.Partition.{Partition}
 use Rattle.zb_desk.specs.Numbered.{EachFrom}
 use Rattle.zb_desk.specs.Serial.{log_behind, place_behind, IsEntryBy}
-use Rattle.zb_engine.specs.Ledger.{Opening, Account, account_of, HasAccount, IsCommitted, HasStopped, HasRefused}
+use Rattle.zb_engine.specs.Ledger.{Opening, Account, account_of, HasAccount, HasStopped}
 use Rattle.zb_engine.specs.Solo.{Start, many_in, logs_in, place_at_start, account_in, HasPart, partitions_in, stamps_in, kept_in, HasMade, IsBatchOf, IsLeftPart, HasEnded, IsPlaced, IsTurnedAway}
 use Rattle.zb_engine.specs.declared.solo.Solo.{Solo}
-use Rattle.zb_engine.proofs.LogLemmas.{stopped_resting}
+use Rattle.zb_engine.proofs.LogLemmas.{IsCommitted, HasRefused, stopped_resting}
 use Rattle.zb_engine.proofs.NumberLemmas.{each_from_length, each_from_at, each_from_set, range_map_set, range_map_get, slice_get_made, get_within, put_same, member}
 
 -- all of some, and one more

@@ -21,6 +21,18 @@ module _ {A B : Type 0} where
   each_from_at R at n [] (y ∷ ys) i d is within all = absurd all
   each_from_at R at n (x ∷ xs) [] i d is within all = absurd all
 
+  -- what each pair has of what is made of its first
+  pub each_from_made : {C : Type 0} (R : ℕ → A → B → Type 0) (P : ℕ → C → Type 0) (f : A → C) → ((k : ℕ) (x : A) (y : B) → R k x y → P k (f x)) → (n : ℕ) (xs : List A) (ys : List B) → EachFrom R n xs ys
+      → (i : ℕ) (z : C) → slice_get (map f xs) i ≡ Some z → P (n + i) z
+  each_from_made R P f goes n [] [] all i z is = absurd (cc)
+  each_from_made R P f goes n (x ∷ xs) (y ∷ ys) all zero z is =
+      let same : f x ≡ z = cc in
+      subst (P (n + 0)) same (subst (λ (k : ℕ). P k (f x)) (let here : n ≡ n + 0 = omega arith in here) (goes n x y all.0))
+  each_from_made R P f goes n (x ∷ xs) (y ∷ ys) all (suc i) z is =
+      subst (λ (k : ℕ). P k z) (let on : suc n + i ≡ n + suc i = omega arith in on) (each_from_made R P f goes (suc n) xs ys all.1 i z is)
+  each_from_made R P f goes n [] (y ∷ ys) all i z is = absurd all
+  each_from_made R P f goes n (x ∷ xs) [] all i z is = absurd all
+
   -- what holds of all holds of all in other words
   pub each_from_weaker : (R Q : ℕ → A → B → Type 0) (n : ℕ) (xs : List A) (ys : List B) → ((k : ℕ) (x : A) (y : B) → n ≤ k → R k x y → Q k x y) → EachFrom R n xs ys → EachFrom Q n xs ys
   each_from_weaker R Q n [] [] goes all = tt

@@ -1,21 +1,19 @@
 -- What is known of a partition's log, from the beginning of the run on.
-use Rattle.std.specs.Prelude.{◌≡◌, ◌⊎◌, ◌≤◌, max, ℕ, List, [], ◌∷◌, ◌++◌, take, IsTrue, Option, Some}
+use Rattle.std.specs.Prelude.{◌≡◌, ◌⊎◌, ◌≤◌, ℕ, List, [], ◌++◌, take, IsTrue, Option, Some}
 use Rattle.zb_disk.specs.Disk.{DiskView}
 use Rattle.zb_disk.specs.declared.disk.Disk.{Ghosts}
 use Rattle.zb_model.specs.declared.record.Batch.{Batch}
-use Rattle.zb_model.specs.declared.record.Command.{Command}
 use Rattle.zb_model.specs.declared.stop.Stop.{Stop}
 use Rattle.zb_model.specs.declared.stop.Stop.TheVariants as stops
 use Rattle.zb_store.specs.Calls.{IsByFirstCall}
 use Rattle.zb_store.specs.Log.{extent}
 use Rattle.zb_store.specs.Stands.{Stands}
 use Rattle.zb_store.specs.declared.volume.Volume.{Volume}
-use Rattle.zb_views.specs.View.{moment_of_last}
 use Rattle.zb_rules.specs.Step.{IsStep, AreStepsOn}
 use Rattle.zb_partition.specs.Log.{bodies_of, AreBatches, IsApplied}
 use Rattle.zb_partition.specs.Partition.{disk_of, slots_of, partition_number_of, partitions_of, limit_of, is_live, in_writing, HasLog}
 use Rattle.zb_partition.specs.declared.partition.Partition.{Partition}
-use Rattle.zb_partition.specs.Stopping.{IsLeft, IsHurt, IsStepOf, IsStopCause}
+use Rattle.zb_partition.specs.Stopping.{IsLeft, IsHurt, IsStopCause}
 
 -- how a log was opened: the number of its partition, of how many; its volume as the run began; how many bytes the log
 -- may have; the batches that it had; and the moment of its disk at which it was open
@@ -43,10 +41,6 @@ first_disk account = account.opening.volume.log
 -- the log of an account
 abbrev pub log_of : {D : Type 0} → Account D → List Batch
 log_of account = account.opening.batches ++ account.made
-
--- the account with more batches
-abbrev pub with_more : {D : Type 0} → Account D → List Batch → Account D
-with_more account more = record { opening = account.opening; made = account.made ++ more }
 
 -- the disk of a partition's log as plain data
 abbrev pub view_in : {D : Type 0} {disks : Ghosts D} → Partition D disks → DiskView
@@ -97,14 +91,6 @@ pub record HasAccount {D : Type 0} {disks : Ghosts D} (account : Account D) (par
   pub steady : IsTrue disks.counts_failures → (view_in partition).faults ≡ (disks.view (first_disk account)).faults
   pub slots : slots_of partition ≡ slots_in account.opening.volume
 
--- behind what an account has, this command was submitted at a reading of the clock with this begin, and this is its batch
-pub record IsCommitted {D : Type 0} {disks : Ghosts D} (account : Account D) (reading from : ℕ) (command : Command) (batch : Batch) (partition : Partition D disks) : Type 0 where
-  pub step : IsStep account.opening.place account.opening.partitions (log_of account) batch
-  pub moment : batch.moment ≡ max (moment_of_last (log_of account)) reading
-  pub begin : batch.begin ≡ from
-  pub is : batch.command ≡ command
-  pub holds : HasAccount (account_of account.opening (account.made ++ batch ∷ [])) partition
-
 -- the disk was hurt since the run began
 abbrev pub IsHurtSince : {D : Type 0} {disks : Ghosts D} → Account D → Partition D disks → Type 0
 IsHurtSince {D} {disks} account partition = IsHurt disks.takes_memory (disks.view (first_disk account)).faults (view_in partition).faults
@@ -125,9 +111,3 @@ pub record HasStopped {D : Type 0} {disks : Ghosts D} (account : Account D) (ref
   pub time : IsTrue disks.tells_images → LeftSince disks account.opening (disk_of partition) (λ image. IsFront account.opening.batches account.made image ⊎ IsLeftIn account partition image)
   pub steady : IsTrue disks.counts_failures → (stop ≡ stops.DiskFault → ⊥) → (view_in partition).faults ≡ (disks.view (first_disk account)).faults
   pub slots : slots_of partition ≡ slots_in account.opening.volume
-
--- behind what an account has, this command at a reading of the clock with this begin stopped the partition
-pub record HasRefused {D : Type 0} {disks : Ghosts D} (account : Account D) (reading begin : ℕ) (command : Command) (stop : Stop) (partition : Partition D disks) : Type 0 where
-  pub refused : Option Batch
-  pub next : (batch : Batch) → refused ≡ Some batch → IsStepOf account.opening.place account.opening.partitions (log_of account) (max (moment_of_last (log_of account)) reading) begin command batch
-  pub stopped : HasStopped account refused stop partition

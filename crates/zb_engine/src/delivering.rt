@@ -2,7 +2,7 @@
 ghost use Rattle.std.specs.Prelude.{◌≡◌, ◌≤◌, ℕ, List, ◌++◌, drop, if◌then◌else◌, IfOk, IfErr, IfSome, OnOk};
 ghost use Rattle.zb_model.specs.declared.record.Batch.{Batch as Record};
 ghost use Rattle.zb_views.specs.Standing.{begun_by};
-ghost use Rattle.zb_record.specs.Packets as packets;
+ghost use Rattle.zb_record.specs.Answers as answers;
 ghost use Rattle.zb_world.specs.declared.entry.Entry.{Entry};
 ghost use Rattle.zb_desk.specs.Asking.{IsDelivered, IsDeliveryCut};
 ghost use Rattle.zb_desk.specs.Serial.{answers_in_hand, packet_next, unit_in_logs};
@@ -58,7 +58,7 @@ fn next_unit<D: Disk>(
         → IfOk result (λ next. next ≡ unit_in_logs (logs_in start) units made) }
     ensures taken { (n : ℕ) (units : List Entry) → hand.old.items ≡ answers_in_hand n units
         → IfOk result (λ next. IfSome next (λ unit.
-        hand.new.items ≡ (if packets.is_answer unit.1 then drop 1 hand.old.items else hand.old.items))) }
+        hand.new.items ≡ (if answers.is_answer unit.1 then drop 1 hand.old.items else hand.old.items))) }
 {
     if let Some(partition) = solo.going_on() {
         return Ok(Some((partition, Command::ProcessInstanceBatchContinue)));
@@ -79,7 +79,7 @@ fn next_packet<D: Disk>(
         → IfOk result (λ packet. packet ≡ packet_next (logs_in start) units made) }
     ensures taken { (n : ℕ) (units : List Entry) → hand.old.items ≡ answers_in_hand n units
         → IfOk result (λ packet. IfSome packet (λ sent.
-        hand.new.items ≡ (if packets.is_answer sent.command then drop 1 hand.old.items else hand.old.items))) }
+        hand.new.items ≡ (if answers.is_answer sent.command then drop 1 hand.old.items else hand.old.items))) }
 {
     if hand.is_empty() {
         return solo.first_sent(alloc);
@@ -88,7 +88,7 @@ fn next_packet<D: Disk>(
     Ok(Some(packet))
 }
 
-// Does one unit of work at a partition, and takes its answer in hand.
+// Does one unit of work at a partition, and takes the answer of its batch in hand.
 fn do_unit<D: Disk>(
     alloc: Global,
     solo: &mut Solo<D>,
@@ -101,7 +101,7 @@ fn do_unit<D: Disk>(
     requires run { IsSupported command }
     ensures placed { (start : Start D) (made : List Entry) → HasMade start made solo.old
         → OnOk result ((batch : Record) × IsPlaced start made reading (partition, command) batch solo.new
-        × (hand.new.items ≡ hand.old.items ++ begun_by (packets.answer_packet partition (many_in start) command))) }
+        × (hand.new.items ≡ hand.old.items ++ begun_by (answers.answer_packet partition (many_in start) batch))) }
     ensures stopped { (start : Start D) (made : List Entry) → HasMade start made solo.old
         → IfErr result (λ stop. IsTurnedAway start made reading (partition, command) stop solo.new) }
 {
@@ -116,7 +116,7 @@ fn do_unit<D: Disk>(
         Ok(batch) => batch,
         Err(stop) => return Err(stop),
     };
-    if let Some(answer) = answer_packet(&batch.command, partition, solo.count()) {
+    if let Some(answer) = answer_packet(&batch, partition, solo.count()) {
         hand.push_reserved(answer);
     }
     drop(batch);

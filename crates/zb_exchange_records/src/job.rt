@@ -2,7 +2,7 @@
 ghost use Rattle.zb_exchange_records.specs.Layouts as layouts;
 
 use std::alloc::{AllocError, Global};
-use zb_base::{Key, List, Moment, Text, Vars};
+use zb_base::{Key, List, Moment, Text, TryCopy, Vars};
 use zb_format::{Cursor, Encoder, Fields, Format, ReadFault, Skip, pairs};
 
 /// What JOB_BATCH ACTIVATE asks for: jobs of a kind for a worker.
@@ -70,86 +70,105 @@ impl Skip for JobComplete {
     }
 }
 
-/// What JOB FAIL asks for: the job failed.
+/// The job failed: what JOB FAIL tells, and JOB FAILED.
 #[derive(Drop)]
-pub struct JobFail {
+pub struct JobFailure {
     pub key: Key,
     /// How many tries are left.
     pub retries: u32,
     pub text: Text,
 }
 
-#[tactic(auto, unfolding(crate::specs::Layouts::job_fail))]
-impl Format for JobFail {
-    ghost layout = { layouts.job_fail };
+#[tactic(auto, unfolding(crate::specs::Layouts::job_failure))]
+impl Format for JobFailure {
+    ghost layout = { layouts.job_failure };
 
     fn write(&self, encoder: &mut Encoder) -> Result<(), AllocError> {
         pairs!(&self.key, &self.retries, &self.text).encode(encoder)
     }
 
-    fn read(alloc: Global, cursor: &mut Cursor<'_>) -> Result<JobFail, ReadFault> {
+    fn read(alloc: Global, cursor: &mut Cursor<'_>) -> Result<JobFailure, ReadFault> {
         let pairs!(key, retries, text) = Format::read(alloc, cursor)?;
-        Ok(JobFail { key, retries, text })
+        Ok(JobFailure { key, retries, text })
     }
 }
 
-#[tactic(auto, using(zb_format::proofs::SkipLemmas::skips), unfolding(crate::specs::Layouts::job_fail))]
-impl Skip for JobFail {
+#[tactic(auto, using(zb_format::proofs::SkipLemmas::skips), unfolding(crate::specs::Layouts::job_failure))]
+impl Skip for JobFailure {
     fn skip(alloc: Global, cursor: &mut Cursor<'_>) -> Result<(), ReadFault> {
         <(Key, (u32, Text))>::skip(alloc, cursor)
     }
 }
 
-/// What JOB THROW_ERROR asks for: the job ends by an error of the process.
+impl TryCopy for JobFailure {
+    fn copy(&self, alloc: Global) -> Result<JobFailure, AllocError> {
+        Ok(JobFailure {
+            key: self.key,
+            retries: self.retries,
+            text: self.text.copy(alloc)?,
+        })
+    }
+}
+
+/// The job ends by an error of the process: what JOB THROW_ERROR tells, and JOB ERROR_THROWN.
 #[derive(Drop)]
-pub struct JobThrowError {
+pub struct JobError {
     pub key: Key,
     pub code: Text,
 }
 
-#[tactic(auto, unfolding(crate::specs::Layouts::job_throw_error))]
-impl Format for JobThrowError {
-    ghost layout = { layouts.job_throw_error };
+#[tactic(auto, unfolding(crate::specs::Layouts::job_error))]
+impl Format for JobError {
+    ghost layout = { layouts.job_error };
 
     fn write(&self, encoder: &mut Encoder) -> Result<(), AllocError> {
         (&self.key, &self.code).encode(encoder)
     }
 
-    fn read(alloc: Global, cursor: &mut Cursor<'_>) -> Result<JobThrowError, ReadFault> {
+    fn read(alloc: Global, cursor: &mut Cursor<'_>) -> Result<JobError, ReadFault> {
         let (key, code) = Format::read(alloc, cursor)?;
-        Ok(JobThrowError { key, code })
+        Ok(JobError { key, code })
     }
 }
 
-#[tactic(auto, using(zb_format::proofs::SkipLemmas::skips), unfolding(crate::specs::Layouts::job_throw_error))]
-impl Skip for JobThrowError {
+#[tactic(auto, using(zb_format::proofs::SkipLemmas::skips), unfolding(crate::specs::Layouts::job_error))]
+impl Skip for JobError {
     fn skip(alloc: Global, cursor: &mut Cursor<'_>) -> Result<(), ReadFault> {
         <(Key, Text)>::skip(alloc, cursor)
     }
 }
 
-/// What JOB UPDATE_RETRIES asks for.
+impl TryCopy for JobError {
+    fn copy(&self, alloc: Global) -> Result<JobError, AllocError> {
+        Ok(JobError {
+            key: self.key,
+            code: self.code.copy(alloc)?,
+        })
+    }
+}
+
+/// So many tries are left: what JOB UPDATE_RETRIES asks for, and JOB RETRIES_UPDATED.
 #[derive(Clone, Copy)]
-pub struct JobUpdateRetries {
+pub struct JobRetries {
     pub key: Key,
     pub retries: u32,
 }
 
-#[tactic(auto, unfolding(crate::specs::Layouts::job_update_retries))]
-impl Format for JobUpdateRetries {
-    ghost layout = { layouts.job_update_retries };
+#[tactic(auto, unfolding(crate::specs::Layouts::job_retries))]
+impl Format for JobRetries {
+    ghost layout = { layouts.job_retries };
 
     fn write(&self, encoder: &mut Encoder) -> Result<(), AllocError> {
         (&self.key, &self.retries).encode(encoder)
     }
 
-    fn read(alloc: Global, cursor: &mut Cursor<'_>) -> Result<JobUpdateRetries, ReadFault> {
+    fn read(alloc: Global, cursor: &mut Cursor<'_>) -> Result<JobRetries, ReadFault> {
         let (key, retries) = Format::read(alloc, cursor)?;
-        Ok(JobUpdateRetries { key, retries })
+        Ok(JobRetries { key, retries })
     }
 }
 
-impl Skip for JobUpdateRetries {}
+impl Skip for JobRetries {}
 
 /// JOB CREATED: the element waits for this job.
 #[derive(Drop)]
@@ -224,71 +243,6 @@ impl Format for JobActivated {
             retries,
             variables,
         })
-    }
-}
-
-/// JOB FAILED: the job failed.
-#[derive(Drop)]
-pub struct JobFailed {
-    pub key: Key,
-    /// How many tries are left.
-    pub retries: u32,
-    pub text: Text,
-}
-
-#[tactic(auto, unfolding(crate::specs::Layouts::job_failed))]
-impl Format for JobFailed {
-    ghost layout = { layouts.job_failed };
-
-    fn write(&self, encoder: &mut Encoder) -> Result<(), AllocError> {
-        pairs!(&self.key, &self.retries, &self.text).encode(encoder)
-    }
-
-    fn read(alloc: Global, cursor: &mut Cursor<'_>) -> Result<JobFailed, ReadFault> {
-        let pairs!(key, retries, text) = Format::read(alloc, cursor)?;
-        Ok(JobFailed { key, retries, text })
-    }
-}
-
-/// JOB ERROR_THROWN: the job ended by an error of the process.
-#[derive(Drop)]
-pub struct JobErrorThrown {
-    pub key: Key,
-    pub code: Text,
-}
-
-#[tactic(auto, unfolding(crate::specs::Layouts::job_error_thrown))]
-impl Format for JobErrorThrown {
-    ghost layout = { layouts.job_error_thrown };
-
-    fn write(&self, encoder: &mut Encoder) -> Result<(), AllocError> {
-        (&self.key, &self.code).encode(encoder)
-    }
-
-    fn read(alloc: Global, cursor: &mut Cursor<'_>) -> Result<JobErrorThrown, ReadFault> {
-        let (key, code) = Format::read(alloc, cursor)?;
-        Ok(JobErrorThrown { key, code })
-    }
-}
-
-/// JOB RETRIES_UPDATED: so many tries are left.
-#[derive(Clone, Copy)]
-pub struct JobRetriesUpdated {
-    pub key: Key,
-    pub retries: u32,
-}
-
-#[tactic(auto, unfolding(crate::specs::Layouts::job_retries_updated))]
-impl Format for JobRetriesUpdated {
-    ghost layout = { layouts.job_retries_updated };
-
-    fn write(&self, encoder: &mut Encoder) -> Result<(), AllocError> {
-        (&self.key, &self.retries).encode(encoder)
-    }
-
-    fn read(alloc: Global, cursor: &mut Cursor<'_>) -> Result<JobRetriesUpdated, ReadFault> {
-        let (key, retries) = Format::read(alloc, cursor)?;
-        Ok(JobRetriesUpdated { key, retries })
     }
 }
 

@@ -7,15 +7,12 @@ mod message;
 mod subscription;
 
 pub use job::{
-    JobActivated, JobBatchActivate, JobBatchActivated, JobComplete, JobCreated, JobErrorThrown,
-    JobFail, JobFailed, JobRetriesUpdated, JobThrowError, JobUpdateRetries,
+    JobActivated, JobBatchActivate, JobBatchActivated, JobComplete, JobCreated, JobError,
+    JobFailure, JobRetries,
 };
 pub use message::{MessagePublish, MessagePublished};
 pub use subscription::{
-    MessageStartEventSubscriptionCorrelated, MessageSubscriptionCorrelate,
-    MessageSubscriptionCorrelated, MessageSubscriptionCorrelating, MessageSubscriptionCreate,
-    MessageSubscriptionCreated, MessageSubscriptionDelete, MessageSubscriptionReject,
-    MessageSubscriptionRejected, ProcessMessageSubscriptionCorrelate,
-    ProcessMessageSubscriptionCorrelated, ProcessMessageSubscriptionCreating,
-    ProcessMessageSubscriptionDeleting,
+    MessageCorrelation, MessageStartEventSubscriptionCorrelated, MessageSubscription,
+    MessageSubscriptionDelete, ProcessMessageSubscriptionCreating,
+    ProcessMessageSubscriptionDeleting, SubscribedMessage,
 };

@@ -2,12 +2,13 @@
 ghost use Rattle.zb_exchange_records.specs.Layouts as layouts;
 
 use std::alloc::{AllocError, Global};
-use zb_base::{Key, List, Text, Vars};
+use zb_base::{Key, List, Text, TryCopy, Vars};
 use zb_format::{Cursor, Encoder, Fields, Format, ReadFault, Skip, pairs};
 
-/// What MESSAGE_SUBSCRIPTION CREATE asks for: messages of this name and correlation key are wanted.
+/// Messages of this name and correlation key are wanted: what MESSAGE_SUBSCRIPTION CREATE asks for, and
+/// MESSAGE_SUBSCRIPTION CREATED.
 #[derive(Drop)]
-pub struct MessageSubscriptionCreate {
+pub struct MessageSubscription {
     pub subscription: Key,
     pub name: Text,
     pub correlation_key: Text,
@@ -16,9 +17,9 @@ pub struct MessageSubscriptionCreate {
     pub cancel: bool,
 }
 
-#[tactic(auto, unfolding(crate::specs::Layouts::message_subscription_create))]
-impl Format for MessageSubscriptionCreate {
-    ghost layout = { layouts.message_subscription_create };
+#[tactic(auto, unfolding(crate::specs::Layouts::message_subscription))]
+impl Format for MessageSubscription {
+    ghost layout = { layouts.message_subscription };
 
     fn write(&self, encoder: &mut Encoder) -> Result<(), AllocError> {
         pairs!(
@@ -31,14 +32,11 @@ impl Format for MessageSubscriptionCreate {
         .encode(encoder)
     }
 
-    fn read(
-        alloc: Global,
-        cursor: &mut Cursor<'_>,
-    ) -> Result<MessageSubscriptionCreate, ReadFault> {
+    fn read(alloc: Global, cursor: &mut Cursor<'_>) -> Result<MessageSubscription, ReadFault> {
         let pairs!(subscription, name, correlation_key, process, cancel) = Format::read(
             alloc, cursor,
         )?;
-        Ok(MessageSubscriptionCreate {
+        Ok(MessageSubscription {
             subscription,
             name,
             correlation_key,
@@ -48,70 +46,52 @@ impl Format for MessageSubscriptionCreate {
     }
 }
 
-#[tactic(auto, using(zb_format::proofs::SkipLemmas::skips), unfolding(crate::specs::Layouts::message_subscription_create))]
-impl Skip for MessageSubscriptionCreate {
+#[tactic(auto, using(zb_format::proofs::SkipLemmas::skips), unfolding(crate::specs::Layouts::message_subscription))]
+impl Skip for MessageSubscription {
     fn skip(alloc: Global, cursor: &mut Cursor<'_>) -> Result<(), ReadFault> {
         <(Key, (Text, (Text, (Text, bool))))>::skip(alloc, cursor)
     }
 }
 
-/// What MESSAGE_SUBSCRIPTION CORRELATE tells: the message has been taken.
+impl TryCopy for MessageSubscription {
+    fn copy(&self, alloc: Global) -> Result<MessageSubscription, AllocError> {
+        Ok(MessageSubscription {
+            subscription: self.subscription,
+            name: self.name.copy(alloc)?,
+            correlation_key: self.correlation_key.copy(alloc)?,
+            process: self.process.copy(alloc)?,
+            cancel: self.cancel,
+        })
+    }
+}
+
+/// A message and the subscription that it is for: that it was taken, or wasn't. So tell
+/// MESSAGE_SUBSCRIPTION CORRELATE and REJECT, CORRELATED and REJECTED, and PROCESS_MESSAGE_SUBSCRIPTION
+/// CORRELATED.
 #[derive(Clone, Copy)]
-pub struct MessageSubscriptionCorrelate {
+pub struct SubscribedMessage {
     pub subscription: Key,
     pub message: Key,
 }
 
-#[tactic(auto, unfolding(crate::specs::Layouts::message_subscription_correlate))]
-impl Format for MessageSubscriptionCorrelate {
-    ghost layout = { layouts.message_subscription_correlate };
+#[tactic(auto, unfolding(crate::specs::Layouts::subscribed_message))]
+impl Format for SubscribedMessage {
+    ghost layout = { layouts.subscribed_message };
 
     fn write(&self, encoder: &mut Encoder) -> Result<(), AllocError> {
         (&self.subscription, &self.message).encode(encoder)
     }
 
-    fn read(
-        alloc: Global,
-        cursor: &mut Cursor<'_>,
-    ) -> Result<MessageSubscriptionCorrelate, ReadFault> {
+    fn read(alloc: Global, cursor: &mut Cursor<'_>) -> Result<SubscribedMessage, ReadFault> {
         let (subscription, message) = Format::read(alloc, cursor)?;
-        Ok(MessageSubscriptionCorrelate {
+        Ok(SubscribedMessage {
             subscription,
             message,
         })
     }
 }
 
-impl Skip for MessageSubscriptionCorrelate {}
-
-/// What MESSAGE_SUBSCRIPTION REJECT tells: the message was not taken.
-#[derive(Clone, Copy)]
-pub struct MessageSubscriptionReject {
-    pub subscription: Key,
-    pub message: Key,
-}
-
-#[tactic(auto, unfolding(crate::specs::Layouts::message_subscription_reject))]
-impl Format for MessageSubscriptionReject {
-    ghost layout = { layouts.message_subscription_reject };
-
-    fn write(&self, encoder: &mut Encoder) -> Result<(), AllocError> {
-        (&self.subscription, &self.message).encode(encoder)
-    }
-
-    fn read(
-        alloc: Global,
-        cursor: &mut Cursor<'_>,
-    ) -> Result<MessageSubscriptionReject, ReadFault> {
-        let (subscription, message) = Format::read(alloc, cursor)?;
-        Ok(MessageSubscriptionReject {
-            subscription,
-            message,
-        })
-    }
-}
-
-impl Skip for MessageSubscriptionReject {}
+impl Skip for SubscribedMessage {}
 
 /// What MESSAGE_SUBSCRIPTION DELETE asks for: no message is wanted any longer. These were taken.
 #[derive(Drop)]
@@ -139,28 +119,26 @@ impl Format for MessageSubscriptionDelete {
 
 impl Skip for MessageSubscriptionDelete {}
 
-/// What PROCESS_MESSAGE_SUBSCRIPTION CORRELATE asks for: the message is for this subscription.
+/// The message is sent to who wants it: MESSAGE_SUBSCRIPTION CORRELATING, and what
+/// PROCESS_MESSAGE_SUBSCRIPTION CORRELATE asks for.
 #[derive(Drop)]
-pub struct ProcessMessageSubscriptionCorrelate {
+pub struct MessageCorrelation {
     pub subscription: Key,
     pub message: Key,
     pub variables: Vars,
 }
 
-#[tactic(auto, unfolding(crate::specs::Layouts::process_message_subscription_correlate))]
-impl Format for ProcessMessageSubscriptionCorrelate {
-    ghost layout = { layouts.process_message_subscription_correlate };
+#[tactic(auto, unfolding(crate::specs::Layouts::message_correlation))]
+impl Format for MessageCorrelation {
+    ghost layout = { layouts.message_correlation };
 
     fn write(&self, encoder: &mut Encoder) -> Result<(), AllocError> {
         pairs!(&self.subscription, &self.message, &self.variables).encode(encoder)
     }
 
-    fn read(
-        alloc: Global,
-        cursor: &mut Cursor<'_>,
-    ) -> Result<ProcessMessageSubscriptionCorrelate, ReadFault> {
+    fn read(alloc: Global, cursor: &mut Cursor<'_>) -> Result<MessageCorrelation, ReadFault> {
         let pairs!(subscription, message, variables) = Format::read(alloc, cursor)?;
-        Ok(ProcessMessageSubscriptionCorrelate {
+        Ok(MessageCorrelation {
             subscription,
             message,
             variables,
@@ -168,10 +146,20 @@ impl Format for ProcessMessageSubscriptionCorrelate {
     }
 }
 
-#[tactic(auto, using(zb_format::proofs::SkipLemmas::skips), unfolding(crate::specs::Layouts::process_message_subscription_correlate))]
-impl Skip for ProcessMessageSubscriptionCorrelate {
+#[tactic(auto, using(zb_format::proofs::SkipLemmas::skips), unfolding(crate::specs::Layouts::message_correlation))]
+impl Skip for MessageCorrelation {
     fn skip(alloc: Global, cursor: &mut Cursor<'_>) -> Result<(), ReadFault> {
         <(Key, (Key, Vars))>::skip(alloc, cursor)
+    }
+}
+
+impl TryCopy for MessageCorrelation {
+    fn copy(&self, alloc: Global) -> Result<MessageCorrelation, AllocError> {
+        Ok(MessageCorrelation {
+            subscription: self.subscription,
+            message: self.message,
+            variables: self.variables.copy(alloc)?,
+        })
     }
 }
 
@@ -200,132 +188,6 @@ impl Format for MessageStartEventSubscriptionCorrelated {
             message,
             definition,
             instance,
-        })
-    }
-}
-
-/// MESSAGE_SUBSCRIPTION CREATED: messages of this name and correlation key are wanted.
-#[derive(Drop)]
-pub struct MessageSubscriptionCreated {
-    pub subscription: Key,
-    pub name: Text,
-    pub correlation_key: Text,
-    pub process: Text,
-    /// False only for a boundary event that lets its element go on.
-    pub cancel: bool,
-}
-
-#[tactic(auto, unfolding(crate::specs::Layouts::message_subscription_created))]
-impl Format for MessageSubscriptionCreated {
-    ghost layout = { layouts.message_subscription_created };
-
-    fn write(&self, encoder: &mut Encoder) -> Result<(), AllocError> {
-        pairs!(
-            &self.subscription,
-            &self.name,
-            &self.correlation_key,
-            &self.process,
-            &self.cancel
-        )
-        .encode(encoder)
-    }
-
-    fn read(
-        alloc: Global,
-        cursor: &mut Cursor<'_>,
-    ) -> Result<MessageSubscriptionCreated, ReadFault> {
-        let pairs!(subscription, name, correlation_key, process, cancel) = Format::read(
-            alloc, cursor,
-        )?;
-        Ok(MessageSubscriptionCreated {
-            subscription,
-            name,
-            correlation_key,
-            process,
-            cancel,
-        })
-    }
-}
-
-/// MESSAGE_SUBSCRIPTION CORRELATING: the message is sent to who wants it.
-#[derive(Drop)]
-pub struct MessageSubscriptionCorrelating {
-    pub subscription: Key,
-    pub message: Key,
-    pub variables: Vars,
-}
-
-#[tactic(auto, unfolding(crate::specs::Layouts::message_subscription_correlating))]
-impl Format for MessageSubscriptionCorrelating {
-    ghost layout = { layouts.message_subscription_correlating };
-
-    fn write(&self, encoder: &mut Encoder) -> Result<(), AllocError> {
-        pairs!(&self.subscription, &self.message, &self.variables).encode(encoder)
-    }
-
-    fn read(
-        alloc: Global,
-        cursor: &mut Cursor<'_>,
-    ) -> Result<MessageSubscriptionCorrelating, ReadFault> {
-        let pairs!(subscription, message, variables) = Format::read(alloc, cursor)?;
-        Ok(MessageSubscriptionCorrelating {
-            subscription,
-            message,
-            variables,
-        })
-    }
-}
-
-/// MESSAGE_SUBSCRIPTION CORRELATED: the message has been taken.
-#[derive(Clone, Copy)]
-pub struct MessageSubscriptionCorrelated {
-    pub subscription: Key,
-    pub message: Key,
-}
-
-#[tactic(auto, unfolding(crate::specs::Layouts::message_subscription_correlated))]
-impl Format for MessageSubscriptionCorrelated {
-    ghost layout = { layouts.message_subscription_correlated };
-
-    fn write(&self, encoder: &mut Encoder) -> Result<(), AllocError> {
-        (&self.subscription, &self.message).encode(encoder)
-    }
-
-    fn read(
-        alloc: Global,
-        cursor: &mut Cursor<'_>,
-    ) -> Result<MessageSubscriptionCorrelated, ReadFault> {
-        let (subscription, message) = Format::read(alloc, cursor)?;
-        Ok(MessageSubscriptionCorrelated {
-            subscription,
-            message,
-        })
-    }
-}
-
-/// MESSAGE_SUBSCRIPTION REJECTED: the message was not taken.
-#[derive(Clone, Copy)]
-pub struct MessageSubscriptionRejected {
-    pub subscription: Key,
-    pub message: Key,
-}
-
-#[tactic(auto, unfolding(crate::specs::Layouts::message_subscription_rejected))]
-impl Format for MessageSubscriptionRejected {
-    ghost layout = { layouts.message_subscription_rejected };
-
-    fn write(&self, encoder: &mut Encoder) -> Result<(), AllocError> {
-        (&self.subscription, &self.message).encode(encoder)
-    }
-
-    fn read(
-        alloc: Global,
-        cursor: &mut Cursor<'_>,
-    ) -> Result<MessageSubscriptionRejected, ReadFault> {
-        let (subscription, message) = Format::read(alloc, cursor)?;
-        Ok(MessageSubscriptionRejected {
-            subscription,
-            message,
         })
     }
 }
@@ -385,33 +247,6 @@ impl Format for ProcessMessageSubscriptionCreating {
     }
 }
 
-/// PROCESS_MESSAGE_SUBSCRIPTION CORRELATED: the element has taken the message.
-#[derive(Clone, Copy)]
-pub struct ProcessMessageSubscriptionCorrelated {
-    pub subscription: Key,
-    pub message: Key,
-}
-
-#[tactic(auto, unfolding(crate::specs::Layouts::process_message_subscription_correlated))]
-impl Format for ProcessMessageSubscriptionCorrelated {
-    ghost layout = { layouts.process_message_subscription_correlated };
-
-    fn write(&self, encoder: &mut Encoder) -> Result<(), AllocError> {
-        (&self.subscription, &self.message).encode(encoder)
-    }
-
-    fn read(
-        alloc: Global,
-        cursor: &mut Cursor<'_>,
-    ) -> Result<ProcessMessageSubscriptionCorrelated, ReadFault> {
-        let (subscription, message) = Format::read(alloc, cursor)?;
-        Ok(ProcessMessageSubscriptionCorrelated {
-            subscription,
-            message,
-        })
-    }
-}
-
 /// PROCESS_MESSAGE_SUBSCRIPTION DELETING: no message is wanted any longer. These were taken.
 #[derive(Drop)]
 pub struct ProcessMessageSubscriptionDeleting {
@@ -437,6 +272,16 @@ impl Format for ProcessMessageSubscriptionDeleting {
             subscription,
             correlation_key,
             keys,
+        })
+    }
+}
+
+impl TryCopy for ProcessMessageSubscriptionDeleting {
+    fn copy(&self, alloc: Global) -> Result<ProcessMessageSubscriptionDeleting, AllocError> {
+        Ok(ProcessMessageSubscriptionDeleting {
+            subscription: self.subscription,
+            correlation_key: self.correlation_key.copy(alloc)?,
+            keys: self.keys.copy(alloc)?,
         })
     }
 }

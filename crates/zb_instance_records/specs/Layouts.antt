@@ -6,27 +6,21 @@ use Rattle.zb_instance_records.specs.declared.happening.IncidentKind.{IncidentKi
 use Rattle.zb_instance_records.specs.declared.happening.IncidentKind.TheVariants as incidents
 use Rattle.zb_instance_records.specs.declared.instance.Role.{Role}
 use Rattle.zb_instance_records.specs.declared.instance.Role.TheVariants as roles
-use Rattle.zb_instance_records.specs.declared.deployment.CommandDistributionAcknowledge.{CommandDistributionAcknowledge}
-use Rattle.zb_instance_records.specs.declared.deployment.CommandDistributionAcknowledged.{CommandDistributionAcknowledged}
-use Rattle.zb_instance_records.specs.declared.deployment.CommandDistributionDistributing.{CommandDistributionDistributing}
-use Rattle.zb_instance_records.specs.declared.deployment.DeploymentCreated.{DeploymentCreated}
-use Rattle.zb_instance_records.specs.declared.deployment.DeploymentDistribute.{DeploymentDistribute}
-use Rattle.zb_instance_records.specs.declared.deployment.ProcessCreated.{ProcessCreated}
+use Rattle.zb_instance_records.specs.declared.deployment.CommandDistribution.{CommandDistribution}
+use Rattle.zb_instance_records.specs.declared.deployment.DefinitionLink.{DefinitionLink}
+use Rattle.zb_instance_records.specs.declared.deployment.ProcessDefinition.{ProcessDefinition}
 use Rattle.zb_instance_records.specs.declared.happening.IncidentCreated.{IncidentCreated}
 use Rattle.zb_instance_records.specs.declared.happening.IncidentResolved.{IncidentResolved}
+use Rattle.zb_instance_records.specs.declared.happening.ScopeVariable.{ScopeVariable}
 use Rattle.zb_instance_records.specs.declared.happening.TimerCreated.{TimerCreated}
-use Rattle.zb_instance_records.specs.declared.happening.VariableCreated.{VariableCreated}
 use Rattle.zb_instance_records.specs.declared.happening.VariableDocumentUpdate.{VariableDocumentUpdate}
-use Rattle.zb_instance_records.specs.declared.happening.VariableUpdated.{VariableUpdated}
 use Rattle.zb_instance_records.specs.declared.instance.ElementActivated.{ElementActivated}
 use Rattle.zb_instance_records.specs.declared.instance.ElementActivating.{ElementActivating}
 use Rattle.zb_instance_records.specs.declared.instance.ElementCompleted.{ElementCompleted}
 use Rattle.zb_instance_records.specs.declared.instance.ElementMigrated.{ElementMigrated}
 use Rattle.zb_instance_records.specs.declared.instance.ProcessEventTriggered.{ProcessEventTriggered}
 use Rattle.zb_instance_records.specs.declared.instance.ProcessInstanceCreationCreate.{ProcessInstanceCreationCreate}
-use Rattle.zb_instance_records.specs.declared.instance.ProcessInstanceCreationCreated.{ProcessInstanceCreationCreated}
-use Rattle.zb_instance_records.specs.declared.instance.ProcessInstanceMigrationMigrate.{ProcessInstanceMigrationMigrate}
-use Rattle.zb_instance_records.specs.declared.instance.ProcessInstanceMigrationMigrated.{ProcessInstanceMigrationMigrated}
+use Rattle.zb_instance_records.specs.declared.instance.ProcessInstanceMigration.{ProcessInstanceMigration}
 use Rattle.zb_instance_records.specs.declared.instance.SequenceFlowTaken.{SequenceFlowTaken}
 
 -- the byte of an element's role in its scope
@@ -67,37 +61,17 @@ process_instance_creation_create = made (λ r. (r.process, (r.version, r.variabl
 unfoldable pub variable_document_update : Layout VariableDocumentUpdate
 variable_document_update = made (λ r. (r.scope, (r.local, r.variables))) (λ p. record { scope = p.0; local = p.1.0; variables = p.1.1 }) (λ r. refl) (λ p. refl) (both long (both flag variables))
 
--- PROCESS_INSTANCE_MIGRATION MIGRATE
-unfoldable pub process_instance_migration_migrate : Layout ProcessInstanceMigrationMigrate
-process_instance_migration_migrate = made (λ r. (r.key, (r.target, r.pairs))) (λ p. record { key = p.0; target = p.1.0; pairs = p.1.1 }) (λ r. refl) (λ p. refl) (both long (both long (counted pair)))
+-- DEPLOYMENT DISTRIBUTE and PROCESS CREATED
+unfoldable pub process_definition : Layout ProcessDefinition
+process_definition = made (λ r. (r.key, (r.version, r.model))) (λ p. record { key = p.0; version = p.1.0; model = p.1.1 }) (λ r. refl) (λ p. refl) (both long (both number model))
 
--- DEPLOYMENT DISTRIBUTE
-unfoldable pub deployment_distribute : Layout DeploymentDistribute
-deployment_distribute = made (λ r. (r.key, (r.version, r.model))) (λ p. record { key = p.0; version = p.1.0; model = p.1.1 }) (λ r. refl) (λ p. refl) (both long (both number model))
+-- COMMAND_DISTRIBUTION DISTRIBUTING, ACKNOWLEDGE and ACKNOWLEDGED
+unfoldable pub command_distribution : Layout CommandDistribution
+command_distribution = made (λ r. (r.key, r.partition)) (λ p. record { key = p.0; partition = p.1 }) (λ r. refl) (λ p. refl) (both long number)
 
--- COMMAND_DISTRIBUTION ACKNOWLEDGE
-unfoldable pub command_distribution_acknowledge : Layout CommandDistributionAcknowledge
-command_distribution_acknowledge = made (λ r. (r.key, r.partition)) (λ p. record { key = p.0; partition = p.1 }) (λ r. refl) (λ p. refl) (both long number)
-
--- PROCESS CREATED
-unfoldable pub process_created : Layout ProcessCreated
-process_created = made (λ r. (r.key, (r.version, r.model))) (λ p. record { key = p.0; version = p.1.0; model = p.1.1 }) (λ r. refl) (λ p. refl) (both long (both number model))
-
--- DEPLOYMENT CREATED
-unfoldable pub deployment_created : Layout DeploymentCreated
-deployment_created = made (λ r. (r.key, r.definition)) (λ p. record { key = p.0; definition = p.1 }) (λ r. refl) (λ p. refl) (both long long)
-
--- COMMAND_DISTRIBUTION DISTRIBUTING
-unfoldable pub command_distribution_distributing : Layout CommandDistributionDistributing
-command_distribution_distributing = made (λ r. (r.key, r.partition)) (λ p. record { key = p.0; partition = p.1 }) (λ r. refl) (λ p. refl) (both long number)
-
--- COMMAND_DISTRIBUTION ACKNOWLEDGED
-unfoldable pub command_distribution_acknowledged : Layout CommandDistributionAcknowledged
-command_distribution_acknowledged = made (λ r. (r.key, r.partition)) (λ p. record { key = p.0; partition = p.1 }) (λ r. refl) (λ p. refl) (both long number)
-
--- PROCESS_INSTANCE_CREATION CREATED
-unfoldable pub process_instance_creation_created : Layout ProcessInstanceCreationCreated
-process_instance_creation_created = made (λ r. (r.key, r.definition)) (λ p. record { key = p.0; definition = p.1 }) (λ r. refl) (λ p. refl) (both long long)
+-- DEPLOYMENT CREATED and PROCESS_INSTANCE_CREATION CREATED
+unfoldable pub definition_link : Layout DefinitionLink
+definition_link = made (λ r. (r.key, r.definition)) (λ p. record { key = p.0; definition = p.1 }) (λ r. refl) (λ p. refl) (both long long)
 
 -- PROCESS_INSTANCE ELEMENT_ACTIVATING
 unfoldable pub element_activating : Layout ElementActivating
@@ -119,9 +93,9 @@ sequence_flow_taken = made (λ r. (r.key, r.flow)) (λ p. record { key = p.0; fl
 unfoldable pub element_migrated : Layout ElementMigrated
 element_migrated = made (λ r. (r.key, r.node)) (λ p. record { key = p.0; node = p.1 }) (λ r. refl) (λ p. refl) (both long text)
 
--- PROCESS_INSTANCE_MIGRATION MIGRATED
-unfoldable pub process_instance_migration_migrated : Layout ProcessInstanceMigrationMigrated
-process_instance_migration_migrated = made (λ r. (r.key, (r.definition, r.pairs))) (λ p. record { key = p.0; definition = p.1.0; pairs = p.1.1 }) (λ r. refl) (λ p. refl) (both long (both long (counted pair)))
+-- PROCESS_INSTANCE_MIGRATION MIGRATE and MIGRATED
+unfoldable pub process_instance_migration : Layout ProcessInstanceMigration
+process_instance_migration = made (λ r. (r.key, (r.definition, r.pairs))) (λ p. record { key = p.0; definition = p.1.0; pairs = p.1.1 }) (λ r. refl) (λ p. refl) (both long (both long (counted pair)))
 
 -- TIMER CREATED
 unfoldable pub timer_created : Layout TimerCreated
@@ -131,13 +105,9 @@ timer_created = made (λ r. (r.key, (r.cell, (r.node, r.due)))) (λ p. record { 
 unfoldable pub process_event_triggered : Layout ProcessEventTriggered
 process_event_triggered = made (λ r. (r.cell, r.node)) (λ p. record { cell = p.0; node = p.1 }) (λ r. refl) (λ p. refl) (both long text)
 
--- VARIABLE CREATED
-unfoldable pub variable_created : Layout VariableCreated
-variable_created = made (λ r. (r.scope, (r.name, r.value))) (λ p. record { scope = p.0; name = p.1.0; value = p.1.1 }) (λ r. refl) (λ p. refl) (both long (both text value))
-
--- VARIABLE UPDATED
-unfoldable pub variable_updated : Layout VariableUpdated
-variable_updated = made (λ r. (r.scope, (r.name, r.value))) (λ p. record { scope = p.0; name = p.1.0; value = p.1.1 }) (λ r. refl) (λ p. refl) (both long (both text value))
+-- VARIABLE CREATED and UPDATED
+unfoldable pub scope_variable : Layout ScopeVariable
+scope_variable = made (λ r. (r.scope, (r.name, r.value))) (λ p. record { scope = p.0; name = p.1.0; value = p.1.1 }) (λ r. refl) (λ p. refl) (both long (both text value))
 
 -- INCIDENT CREATED
 unfoldable pub incident_created : Layout IncidentCreated

@@ -2,29 +2,30 @@
 ghost use Rattle.zb_instance_records.specs.Layouts as layouts;
 
 use std::alloc::{AllocError, Global};
-use zb_base::Key;
+use zb_base::{Key, TryCopy};
 use zb_format::{Cursor, Encoder, Fields, Format, ReadFault, Skip, pairs};
 use zb_process::Model;
 
-/// What DEPLOYMENT DISTRIBUTE asks for: the model is to stand here under the key that another partition drew.
+/// The model stands under its key: PROCESS CREATED, and what DEPLOYMENT DISTRIBUTE asks for of a partition
+/// that didn't draw the key.
 #[derive(Drop)]
-pub struct DeploymentDistribute {
+pub struct ProcessDefinition {
     pub key: Key,
     pub version: u32,
     pub model: Model,
 }
 
-#[tactic(auto, unfolding(crate::specs::Layouts::deployment_distribute))]
-impl Format for DeploymentDistribute {
-    ghost layout = { layouts.deployment_distribute };
+#[tactic(auto, unfolding(crate::specs::Layouts::process_definition))]
+impl Format for ProcessDefinition {
+    ghost layout = { layouts.process_definition };
 
     fn write(&self, encoder: &mut Encoder) -> Result<(), AllocError> {
         pairs!(&self.key, &self.version, &self.model).encode(encoder)
     }
 
-    fn read(alloc: Global, cursor: &mut Cursor<'_>) -> Result<DeploymentDistribute, ReadFault> {
+    fn read(alloc: Global, cursor: &mut Cursor<'_>) -> Result<ProcessDefinition, ReadFault> {
         let pairs!(key, version, model) = Format::read(alloc, cursor)?;
-        Ok(DeploymentDistribute {
+        Ok(ProcessDefinition {
             key,
             version,
             model,
@@ -32,130 +33,65 @@ impl Format for DeploymentDistribute {
     }
 }
 
-#[tactic(auto, using(zb_format::proofs::SkipLemmas::skips), unfolding(crate::specs::Layouts::deployment_distribute))]
-impl Skip for DeploymentDistribute {
+#[tactic(auto, using(zb_format::proofs::SkipLemmas::skips), unfolding(crate::specs::Layouts::process_definition))]
+impl Skip for ProcessDefinition {
     fn skip(alloc: Global, cursor: &mut Cursor<'_>) -> Result<(), ReadFault> {
         <(Key, (u32, Model))>::skip(alloc, cursor)
     }
 }
 
-/// PROCESS CREATED: the model stands under its key.
-#[derive(Drop)]
-pub struct ProcessCreated {
-    pub key: Key,
-    pub version: u32,
-    pub model: Model,
-}
-
-#[tactic(auto, unfolding(crate::specs::Layouts::process_created))]
-impl Format for ProcessCreated {
-    ghost layout = { layouts.process_created };
-
-    fn write(&self, encoder: &mut Encoder) -> Result<(), AllocError> {
-        pairs!(&self.key, &self.version, &self.model).encode(encoder)
-    }
-
-    fn read(alloc: Global, cursor: &mut Cursor<'_>) -> Result<ProcessCreated, ReadFault> {
-        let pairs!(key, version, model) = Format::read(alloc, cursor)?;
-        Ok(ProcessCreated {
-            key,
-            version,
-            model,
+impl TryCopy for ProcessDefinition {
+    fn copy(&self, alloc: Global) -> Result<ProcessDefinition, AllocError> {
+        Ok(ProcessDefinition {
+            key: self.key,
+            version: self.version,
+            model: self.model.copy(alloc)?,
         })
     }
 }
 
-/// DEPLOYMENT CREATED: the deployment made this definition.
+/// What has this key is of this definition: a deployment made it (DEPLOYMENT CREATED), or an instance of it
+/// begins (PROCESS_INSTANCE_CREATION CREATED).
 #[derive(Clone, Copy)]
-pub struct DeploymentCreated {
+pub struct DefinitionLink {
     pub key: Key,
     pub definition: Key,
 }
 
-#[tactic(auto, unfolding(crate::specs::Layouts::deployment_created))]
-impl Format for DeploymentCreated {
-    ghost layout = { layouts.deployment_created };
+#[tactic(auto, unfolding(crate::specs::Layouts::definition_link))]
+impl Format for DefinitionLink {
+    ghost layout = { layouts.definition_link };
 
     fn write(&self, encoder: &mut Encoder) -> Result<(), AllocError> {
         (&self.key, &self.definition).encode(encoder)
     }
 
-    fn read(alloc: Global, cursor: &mut Cursor<'_>) -> Result<DeploymentCreated, ReadFault> {
+    fn read(alloc: Global, cursor: &mut Cursor<'_>) -> Result<DefinitionLink, ReadFault> {
         let (key, definition) = Format::read(alloc, cursor)?;
-        Ok(DeploymentCreated { key, definition })
+        Ok(DefinitionLink { key, definition })
     }
 }
 
-/// What COMMAND_DISTRIBUTION ACKNOWLEDGE tells: the definition stands at that partition.
+/// The definition is sent to that partition (COMMAND_DISTRIBUTION DISTRIBUTING), or stands there
+/// (ACKNOWLEDGE and ACKNOWLEDGED).
 #[derive(Clone, Copy)]
-pub struct CommandDistributionAcknowledge {
+pub struct CommandDistribution {
     pub key: Key,
     pub partition: u32,
 }
 
-#[tactic(auto, unfolding(crate::specs::Layouts::command_distribution_acknowledge))]
-impl Format for CommandDistributionAcknowledge {
-    ghost layout = { layouts.command_distribution_acknowledge };
+#[tactic(auto, unfolding(crate::specs::Layouts::command_distribution))]
+impl Format for CommandDistribution {
+    ghost layout = { layouts.command_distribution };
 
     fn write(&self, encoder: &mut Encoder) -> Result<(), AllocError> {
         (&self.key, &self.partition).encode(encoder)
     }
 
-    fn read(
-        alloc: Global,
-        cursor: &mut Cursor<'_>,
-    ) -> Result<CommandDistributionAcknowledge, ReadFault> {
+    fn read(alloc: Global, cursor: &mut Cursor<'_>) -> Result<CommandDistribution, ReadFault> {
         let (key, partition) = Format::read(alloc, cursor)?;
-        Ok(CommandDistributionAcknowledge { key, partition })
+        Ok(CommandDistribution { key, partition })
     }
 }
 
-impl Skip for CommandDistributionAcknowledge {}
-
-/// COMMAND_DISTRIBUTION DISTRIBUTING: the definition is sent to that partition.
-#[derive(Clone, Copy)]
-pub struct CommandDistributionDistributing {
-    pub key: Key,
-    pub partition: u32,
-}
-
-#[tactic(auto, unfolding(crate::specs::Layouts::command_distribution_distributing))]
-impl Format for CommandDistributionDistributing {
-    ghost layout = { layouts.command_distribution_distributing };
-
-    fn write(&self, encoder: &mut Encoder) -> Result<(), AllocError> {
-        (&self.key, &self.partition).encode(encoder)
-    }
-
-    fn read(
-        alloc: Global,
-        cursor: &mut Cursor<'_>,
-    ) -> Result<CommandDistributionDistributing, ReadFault> {
-        let (key, partition) = Format::read(alloc, cursor)?;
-        Ok(CommandDistributionDistributing { key, partition })
-    }
-}
-
-/// COMMAND_DISTRIBUTION ACKNOWLEDGED: the definition stands at that partition.
-#[derive(Clone, Copy)]
-pub struct CommandDistributionAcknowledged {
-    pub key: Key,
-    pub partition: u32,
-}
-
-#[tactic(auto, unfolding(crate::specs::Layouts::command_distribution_acknowledged))]
-impl Format for CommandDistributionAcknowledged {
-    ghost layout = { layouts.command_distribution_acknowledged };
-
-    fn write(&self, encoder: &mut Encoder) -> Result<(), AllocError> {
-        (&self.key, &self.partition).encode(encoder)
-    }
-
-    fn read(
-        alloc: Global,
-        cursor: &mut Cursor<'_>,
-    ) -> Result<CommandDistributionAcknowledged, ReadFault> {
-        let (key, partition) = Format::read(alloc, cursor)?;
-        Ok(CommandDistributionAcknowledged { key, partition })
-    }
-}
+impl Skip for CommandDistribution {}

@@ -78,47 +78,25 @@ impl Skip for VariableDocumentUpdate {
     }
 }
 
-/// VARIABLE CREATED: the scope has this variable.
+/// The scope has this variable, with this value: VARIABLE CREATED and UPDATED.
 #[derive(Drop)]
-pub struct VariableCreated {
+pub struct ScopeVariable {
     pub scope: Key,
     pub name: Text,
     pub value: Value,
 }
 
-#[tactic(auto, unfolding(crate::specs::Layouts::variable_created))]
-impl Format for VariableCreated {
-    ghost layout = { layouts.variable_created };
+#[tactic(auto, unfolding(crate::specs::Layouts::scope_variable))]
+impl Format for ScopeVariable {
+    ghost layout = { layouts.scope_variable };
 
     fn write(&self, encoder: &mut Encoder) -> Result<(), AllocError> {
         pairs!(&self.scope, &self.name, &self.value).encode(encoder)
     }
 
-    fn read(alloc: Global, cursor: &mut Cursor<'_>) -> Result<VariableCreated, ReadFault> {
+    fn read(alloc: Global, cursor: &mut Cursor<'_>) -> Result<ScopeVariable, ReadFault> {
         let pairs!(scope, name, value) = Format::read(alloc, cursor)?;
-        Ok(VariableCreated { scope, name, value })
-    }
-}
-
-/// VARIABLE UPDATED: the variable has this value.
-#[derive(Drop)]
-pub struct VariableUpdated {
-    pub scope: Key,
-    pub name: Text,
-    pub value: Value,
-}
-
-#[tactic(auto, unfolding(crate::specs::Layouts::variable_updated))]
-impl Format for VariableUpdated {
-    ghost layout = { layouts.variable_updated };
-
-    fn write(&self, encoder: &mut Encoder) -> Result<(), AllocError> {
-        pairs!(&self.scope, &self.name, &self.value).encode(encoder)
-    }
-
-    fn read(alloc: Global, cursor: &mut Cursor<'_>) -> Result<VariableUpdated, ReadFault> {
-        let pairs!(scope, name, value) = Format::read(alloc, cursor)?;
-        Ok(VariableUpdated { scope, name, value })
+        Ok(ScopeVariable { scope, name, value })
     }
 }
 

@@ -55,57 +55,6 @@ impl Skip for ProcessInstanceCreationCreate {
     }
 }
 
-/// What PROCESS_INSTANCE_MIGRATION MIGRATE asks for: the instance goes on in the target definition, each node under its new id.
-#[derive(Drop)]
-pub struct ProcessInstanceMigrationMigrate {
-    pub key: Key,
-    pub target: Key,
-    pub pairs: List<Pair>,
-}
-
-#[tactic(auto, unfolding(crate::specs::Layouts::process_instance_migration_migrate))]
-impl Format for ProcessInstanceMigrationMigrate {
-    ghost layout = { layouts.process_instance_migration_migrate };
-
-    fn write(&self, encoder: &mut Encoder) -> Result<(), AllocError> {
-        pairs!(&self.key, &self.target, &self.pairs).encode(encoder)
-    }
-
-    fn read(
-        alloc: Global,
-        cursor: &mut Cursor<'_>,
-    ) -> Result<ProcessInstanceMigrationMigrate, ReadFault> {
-        let pairs!(key, target, pairs) = Format::read(alloc, cursor)?;
-        Ok(ProcessInstanceMigrationMigrate { key, target, pairs })
-    }
-}
-
-impl Skip for ProcessInstanceMigrationMigrate {}
-
-/// PROCESS_INSTANCE_CREATION CREATED: an instance of the definition begins.
-#[derive(Clone, Copy)]
-pub struct ProcessInstanceCreationCreated {
-    pub key: Key,
-    pub definition: Key,
-}
-
-#[tactic(auto, unfolding(crate::specs::Layouts::process_instance_creation_created))]
-impl Format for ProcessInstanceCreationCreated {
-    ghost layout = { layouts.process_instance_creation_created };
-
-    fn write(&self, encoder: &mut Encoder) -> Result<(), AllocError> {
-        (&self.key, &self.definition).encode(encoder)
-    }
-
-    fn read(
-        alloc: Global,
-        cursor: &mut Cursor<'_>,
-    ) -> Result<ProcessInstanceCreationCreated, ReadFault> {
-        let (key, definition) = Format::read(alloc, cursor)?;
-        Ok(ProcessInstanceCreationCreated { key, definition })
-    }
-}
-
 /// PROCESS_INSTANCE ELEMENT_ACTIVATING: an element begins.
 #[derive(Drop)]
 pub struct ElementActivating {
@@ -237,34 +186,34 @@ impl Format for ElementMigrated {
     }
 }
 
-/// PROCESS_INSTANCE_MIGRATION MIGRATED: the instance goes on in this definition.
+/// The instance goes on in this definition, each node under its new id: what PROCESS_INSTANCE_MIGRATION
+/// MIGRATE asks for, and MIGRATED.
 #[derive(Drop)]
-pub struct ProcessInstanceMigrationMigrated {
+pub struct ProcessInstanceMigration {
     pub key: Key,
     pub definition: Key,
     pub pairs: List<Pair>,
 }
 
-#[tactic(auto, unfolding(crate::specs::Layouts::process_instance_migration_migrated))]
-impl Format for ProcessInstanceMigrationMigrated {
-    ghost layout = { layouts.process_instance_migration_migrated };
+#[tactic(auto, unfolding(crate::specs::Layouts::process_instance_migration))]
+impl Format for ProcessInstanceMigration {
+    ghost layout = { layouts.process_instance_migration };
 
     fn write(&self, encoder: &mut Encoder) -> Result<(), AllocError> {
         pairs!(&self.key, &self.definition, &self.pairs).encode(encoder)
     }
 
-    fn read(
-        alloc: Global,
-        cursor: &mut Cursor<'_>,
-    ) -> Result<ProcessInstanceMigrationMigrated, ReadFault> {
+    fn read(alloc: Global, cursor: &mut Cursor<'_>) -> Result<ProcessInstanceMigration, ReadFault> {
         let pairs!(key, definition, pairs) = Format::read(alloc, cursor)?;
-        Ok(ProcessInstanceMigrationMigrated {
+        Ok(ProcessInstanceMigration {
             key,
             definition,
             pairs,
         })
     }
 }
+
+impl Skip for ProcessInstanceMigration {}
 
 /// PROCESS_EVENT TRIGGERED: what the element waited for has come, at this node.
 #[derive(Drop)]

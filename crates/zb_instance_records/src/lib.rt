@@ -6,16 +6,12 @@ mod deployment;
 mod happening;
 mod instance;
 
-pub use deployment::{
-    CommandDistributionAcknowledge, CommandDistributionAcknowledged,
-    CommandDistributionDistributing, DeploymentCreated, DeploymentDistribute, ProcessCreated,
-};
+pub use deployment::{CommandDistribution, DefinitionLink, ProcessDefinition};
 pub use happening::{
-    IncidentCreated, IncidentKind, IncidentResolved, TimerCreated, VariableCreated,
-    VariableDocumentUpdate, VariableUpdated,
+    IncidentCreated, IncidentKind, IncidentResolved, ScopeVariable, TimerCreated,
+    VariableDocumentUpdate,
 };
 pub use instance::{
     ElementActivated, ElementActivating, ElementCompleted, ElementMigrated, ProcessEventTriggered,
-    ProcessInstanceCreationCreate, ProcessInstanceCreationCreated, ProcessInstanceMigrationMigrate,
-    ProcessInstanceMigrationMigrated, Role, SequenceFlowTaken,
+    ProcessInstanceCreationCreate, ProcessInstanceMigration, Role, SequenceFlowTaken,
 };

@@ -1,15 +1,10 @@
 -- Jobs on cells of their own: one more, one fewer, or one changed; and what an event makes of all.
-use Rattle.std.proofs.Common.{◌≡◌, ℕ, ◌+◌, ◌==◌, List, [], ◌∷◌, ◌++◌, map, filter, Bool, true, false, not, ◌&&◌, is_none, cond, Option, Some, None, refl, sym, ap, ◌∙◌, arith, append-nil}
+use Rattle.std.proofs.Common.{◌≡◌, ℕ, ◌+◌, ◌==◌, List, [], ◌∷◌, ◌++◌, map, filter, Bool, true, false, not, ◌&&◌, is_none, cond, Option, Some, None, refl, sym, ap, ◌∙◌, arith}
 use Rattle.std.proofs.lemmas.Bool.Decides.{nat_tests}
 use Rattle.zb_table.specs.Rows.{Ascend, are_below, without}
 use Rattle.zb_table.proofs.Changing.{without_none}
-use Rattle.zb_waits.proofs.FoundLemmas.{none_here, none_later, none_more, none_kept, none_mapped, all_stay, found_above, map_same, filter_all}
-use Rattle.std.proofs.lemmas.List.Elements.{filter_agree}
-use Rattle.zb_exchange_records.specs.declared.job.JobCreated.{JobCreated}
-use Rattle.zb_model.specs.declared.record.Event.{Event}
-use Rattle.zb_model.specs.declared.record.Event.TheVariants as events
+use Rattle.zb_waits.proofs.FoundLemmas.{none_here, none_later, none_more, none_kept, none_mapped, all_stay, found_above}
 use Rattle.zb_views.specs.declared.job.Job.{Job}
-use Rattle.zb_views.specs.Jobs.{job_told, ends_job, job_behind, job_changed, jobs_by}
 use Rattle.zb_jobs.specs.Table.{job_of_cell, HaveOwnCells}
 
 -- one more job has its own cell
@@ -55,24 +50,6 @@ cell_gone cell low (x ∷ js) j up own is = by_test (x.cell == cell) refl is (ce
         let found = found_above (λ o. o.key) (λ o. o.cell == cell) (x.key + 1) js j up.1 is in
         let apart : (x.key == j.key) ≡ false = grind (arith, nat_tests, found) in
         rw apart (ap (λ (l : List Job). x ∷ l) (later is))
-
--- what an event that makes a job, ends some or changes one makes of all
-module _ (e : Event) (js : List Job) where
-  abbrev pub changed : Job → Job
-  changed = job_changed e
-
-  pub by_creation : (made : JobCreated) → e ≡ events.JobCreated made → jobs_by e js ≡ js ++ job_behind made [] ∷ []
-  by_creation made is = rw (is, filter_all js, map_same (job_changed (events.JobCreated made)) js (λ j. refl)) refl
-
-  pub by_ending : (ends : Job → Bool) → ((j : Job) → ends_job j.key j.cell e ≡ ends j) → job_told e ≡ None → ((j : Job) → job_changed e j ≡ j) → jobs_by e js ≡ filter (λ j. not (ends j)) js
-  by_ending ends is none same =
-      rw (none, filter_agree (λ j. not (ends_job j.key j.cell e)) (λ j. not (ends j)) (λ j. ap not (is j)) js)
-      (append-nil (map (job_changed e) (filter (λ j. not (ends j)) js)) ∙ map_same (job_changed e) (filter (λ j. not (ends j)) js) same)
-
-  pub by_changing : ((j : Job) → ends_job j.key j.cell e ≡ false) → job_told e ≡ None → jobs_by e js ≡ map (job_changed e) js
-  by_changing lasts none =
-      rw (none, filter_agree (λ j. not (ends_job j.key j.cell e)) (λ j. true) (λ j. ap not (lasts j)) js, filter_all js)
-      (append-nil (map (job_changed e) js))
 
 -- where a job has its place: its key is greater than all, and its cell has none
 pub has_place : (key cell : ℕ) (js : List Job) → (are_below (λ j. j.key) key js && is_none (job_of_cell cell js)) ≡ true → (are_below (λ j. j.key) key js ≡ true) × (job_of_cell cell js ≡ None)

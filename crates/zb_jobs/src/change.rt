@@ -1,6 +1,6 @@
 // What an event makes of a job.
-ghost use Rattle.std.specs.Prelude.{◌≡◌, [], IfOk};
-ghost use Rattle.zb_views.specs.Jobs.{failed_phase, job_behind, job_changed, says_nothing_of_jobs};
+ghost use Rattle.std.specs.Prelude.{◌≡◌, IfOk};
+ghost use Rattle.zb_views.specs.Jobs.{failed_phase, new_job, job_changed, says_nothing_of_jobs};
 
 use std::alloc::{AllocError, Global};
 use zb_model::{Event, JobCreated, Moment, TryCopy};
@@ -9,7 +9,7 @@ use zb_views::{Job, JobPhase};
 
 /// The job that is made, as it is first. It costs a copy of its type.
 pub fn made(alloc: Global, made: &JobCreated) -> Result<Job, AllocError>
-    ensures { IfOk result (λ job. job ≡ job_behind made.now []) }
+    ensures { IfOk result (λ job. job ≡ new_job made.now) }
 {
     Ok(Job {
         key: made.key,

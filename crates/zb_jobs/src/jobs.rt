@@ -1,8 +1,10 @@
-ghost use Rattle.std.specs.Prelude.{◌≡◌, ◌==◌, ◌&&◌, ◌++◌, ◌∷◌, [], IsTrue, OnOk, IfOk, filter, map, take, not, is_none, option_map};
+ghost use Rattle.std.specs.Prelude.{◌≡◌, ◌==◌, ◌&&◌, ◌++◌, ◌∷◌, [], List, IsTrue, OnOk, IfOk, filter, map, take, not, is_none, option_map};
 ghost use Rattle.std.specs.List.{find};
 ghost use Rattle.std.specs.Option.{option_copied};
 ghost use Rattle.zb_table.specs.Rows.{Ascend, are_below, without};
-ghost use Rattle.zb_views.specs.Jobs.{job_behind, is_offered, job_changed, jobs_by};
+ghost use Rattle.zb_model.specs.declared.record.Event.{Event};
+ghost use Rattle.zb_views.specs.Standing.{standing_by};
+ghost use Rattle.zb_views.specs.Jobs.{new_job, is_offered, job_changed, job_sort};
 ghost use Rattle.zb_jobs.specs.Table.{job_of_cell, HaveOwnCells, has_place_for, ChangesOnly, place_of_job, due_job};
 
 use crate::change::{AsTold, made, says_nothing_of_jobs};
@@ -91,7 +93,7 @@ impl Jobs {
     /// many jobs there are, on average.
     pub fn apply(&mut self, alloc: Global, event: &Event) -> Result<(), AllocError>
         requires { IsTrue (has_place_for self.old event.now) }
-        ensures { OnOk result (self.new ≡ jobs_by event.now self.old) }
+        ensures { (before : List Event) → OnOk result (self.new ≡ standing_by job_sort before event.now self.old) }
     {
         if says_nothing_of_jobs(event) {
             return Ok(());
@@ -114,7 +116,7 @@ impl Jobs {
     // Adds the job that is made.
     fn add(&mut self, alloc: Global, created: &JobCreated) -> Result<(), AllocError>
         requires { IsTrue (are_below (λ j. j.key) created.now.key self.old && is_none (job_of_cell created.now.cell self.old)) }
-        ensures { OnOk result (self.new ≡ self.old ++ job_behind created.now [] ∷ []) }
+        ensures { OnOk result (self.new ≡ self.old ++ new_job created.now ∷ []) }
     {
         let whole = mem::replace(self, Jobs::empty(alloc));
         *self = whole.with(alloc, created)?;
@@ -124,7 +126,7 @@ impl Jobs {
     // These jobs and the one that is made.
     fn with(mut self, alloc: Global, created: &JobCreated) -> Result<Jobs, AllocError>
         requires { IsTrue (are_below (λ j. j.key) created.now.key self && is_none (job_of_cell created.now.cell self)) }
-        ensures { IfOk result (λ more. more ≡ self ++ job_behind created.now [] ∷ []) }
+        ensures { IfOk result (λ more. more ≡ self ++ new_job created.now ∷ []) }
     {
         self.cells.insert(created.cell, created.key)?;
         self.waiting

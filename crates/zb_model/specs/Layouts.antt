@@ -2,9 +2,8 @@
 use Rattle.std.proofs.Common.{ℕ, List, [], ◌∷◌, refl}
 use Rattle.zb_format.specs.Kinds.{of_kinds}
 use Rattle.zb_format.specs.Layout.{Layout, both, made, by_byte, text}
-use Rattle.zb_model.specs.CommandLaws.{command_spelled, command_back}
+use Rattle.zb_model.specs.TableLaws.{command_spelled, command_back, event_spelled, event_back}
 use Rattle.zb_model.specs.Commands.{commands_from_1, command_told}
-use Rattle.zb_model.specs.EventLaws.{event_spelled, event_back}
 use Rattle.zb_model.specs.Events.{events_from_1, event_told}
 use Rattle.zb_model.specs.declared.record.Command.{Command}
 use Rattle.zb_model.specs.declared.record.Event.{Event}
@@ -33,8 +32,8 @@ rejection = made (λ r. (r.kind, r.reason)) (λ p. record { kind = p.0; reason =
 
 -- a command, by its number and its fields
 unfoldable pub command : Layout Command
-command = of_kinds commands_from_1 command_told command_spelled command_back
+command = of_kinds commands_from_1 (λ c. (command_told c).value) command_spelled command_back
 
 -- an event, by its number and its fields
 unfoldable pub event : Layout Event
-event = of_kinds events_from_1 event_told event_spelled event_back
+event = of_kinds events_from_1 (λ e. (event_told e).value) event_spelled event_back

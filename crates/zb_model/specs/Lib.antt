@@ -1,11 +1,11 @@
 pub mod Batches
-pub mod CommandLaws
 pub mod Commands
-pub mod EventLaws
 pub mod Events
 pub mod Layouts
 pub mod OutcomeLaws
 pub mod Outcomes
 pub mod Record
 pub mod RecordFits
+pub mod TableLaws
+pub mod ToldRecords
 pub mod Upshots

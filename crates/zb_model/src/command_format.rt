@@ -1,11 +1,21 @@
-// The format of commands.
-ghost use Rattle.zb_format.specs.Reading.{Reads};
+// The format of commands, and passing over them.
+ghost use Rattle.zb_format.specs.Reading.{Reads, skipped_at};
 ghost use Rattle.zb_model.specs.Commands as tables;
 ghost use Rattle.zb_model.specs.Layouts as layouts;
 
 use crate::Command;
 use std::alloc::{AllocError, Global};
-use zb_format::{Cursor, Encoder, Format, ReadFault, write_tagged};
+use zb_base::Key;
+use zb_exchange_records::{
+    JobBatchActivate, JobComplete, JobError, JobFailure, JobRetries, MessageCorrelation,
+    MessagePublish, MessageSubscription, MessageSubscriptionDelete, SubscribedMessage,
+};
+use zb_format::{Cursor, Encoder, Format, ReadFault, Skip, write_tagged};
+use zb_instance_records::{
+    CommandDistribution, ProcessDefinition, ProcessInstanceCreationCreate,
+    ProcessInstanceMigration, VariableDocumentUpdate,
+};
+use zb_process::Model;
 
 impl Format for Command {
     ghost layout = { layouts.command };
@@ -91,6 +101,59 @@ fn read_from_14(alloc: Global, number: u8, cursor: &mut Cursor<'_>) -> Result<Co
         23 => Ok(Command::MessageSubscriptionReject(Format::read(alloc, cursor)?)),
         24 => Ok(Command::MessageSubscriptionDelete(Format::read(alloc, cursor)?)),
         25 => Ok(Command::ProcessMessageSubscriptionDelete(Format::read(alloc, cursor)?)),
+        _ => Err(ReadFault::NotSpelled),
+    }
+}
+
+impl Skip for Command {
+    #[tactic(auto, unfolding(crate::specs::Layouts::command))]
+    fn skip(alloc: Global, cursor: &mut Cursor<'_>) -> Result<(), ReadFault> {
+        let number = cursor.byte()?;
+        skip_from_1(alloc, number, cursor)
+    }
+}
+
+// Passes over the fields behind the number of a command, from 1 on.
+#[tactic(auto, using(zb_format::proofs::SkipLemmas::skips), unfolding(crate::specs::Commands::commands_from_1))]
+fn skip_from_1(alloc: Global, number: u8, cursor: &mut Cursor<'_>) -> Result<(), ReadFault>
+    ensures { Reads (skipped_at (tables.commands_from_1.behind number) cursor.old) result cursor.new }
+{
+    match number {
+        1 => Model::skip(alloc, cursor),
+        2 => ProcessInstanceCreationCreate::skip(alloc, cursor),
+        3 => Key::skip(alloc, cursor),
+        4 => VariableDocumentUpdate::skip(alloc, cursor),
+        5 => JobBatchActivate::skip(alloc, cursor),
+        6 => JobComplete::skip(alloc, cursor),
+        7 => JobFailure::skip(alloc, cursor),
+        8 => JobError::skip(alloc, cursor),
+        9 => JobRetries::skip(alloc, cursor),
+        10 => Key::skip(alloc, cursor),
+        11 => Key::skip(alloc, cursor),
+        12 => MessagePublish::skip(alloc, cursor),
+        13 => Key::skip(alloc, cursor),
+        _ => skip_from_14(alloc, number, cursor),
+    }
+}
+
+// Passes over the fields behind the number of a command, from 14 on.
+#[tactic(auto, using(zb_format::proofs::SkipLemmas::skips), unfolding(crate::specs::Commands::commands_from_14))]
+fn skip_from_14(alloc: Global, number: u8, cursor: &mut Cursor<'_>) -> Result<(), ReadFault>
+    ensures { Reads (skipped_at (tables.commands_from_14.behind number) cursor.old) result cursor.new }
+{
+    match number {
+        14 => Key::skip(alloc, cursor),
+        15 => ProcessInstanceMigration::skip(alloc, cursor),
+        16 => Ok(()),
+        17 => ProcessDefinition::skip(alloc, cursor),
+        18 => CommandDistribution::skip(alloc, cursor),
+        19 => MessageSubscription::skip(alloc, cursor),
+        20 => Key::skip(alloc, cursor),
+        21 => MessageCorrelation::skip(alloc, cursor),
+        22 => SubscribedMessage::skip(alloc, cursor),
+        23 => SubscribedMessage::skip(alloc, cursor),
+        24 => MessageSubscriptionDelete::skip(alloc, cursor),
+        25 => Key::skip(alloc, cursor),
         _ => Err(ReadFault::NotSpelled),
     }
 }

@@ -3,7 +3,6 @@
 
 mod batch_format;
 mod command_format;
-mod command_skip;
 mod event_format;
 mod record;
 mod stop;
@@ -16,22 +15,15 @@ pub use zb_base::{
     Key, List, Moment, Pair, PartitionId, Text, TryCopy, Value, Variable, Vars, home_of,
 };
 pub use zb_exchange_records::{
-    JobActivated, JobBatchActivate, JobBatchActivated, JobComplete, JobCreated, JobErrorThrown,
-    JobFail, JobFailed, JobRetriesUpdated, JobThrowError, JobUpdateRetries, MessagePublish,
-    MessagePublished, MessageStartEventSubscriptionCorrelated, MessageSubscriptionCorrelate,
-    MessageSubscriptionCorrelated, MessageSubscriptionCorrelating, MessageSubscriptionCreate,
-    MessageSubscriptionCreated, MessageSubscriptionDelete, MessageSubscriptionReject,
-    MessageSubscriptionRejected, ProcessMessageSubscriptionCorrelate,
-    ProcessMessageSubscriptionCorrelated, ProcessMessageSubscriptionCreating,
-    ProcessMessageSubscriptionDeleting,
+    JobActivated, JobBatchActivate, JobBatchActivated, JobComplete, JobCreated, JobError,
+    JobFailure, JobRetries, MessageCorrelation, MessagePublish, MessagePublished,
+    MessageStartEventSubscriptionCorrelated, MessageSubscription, MessageSubscriptionDelete,
+    ProcessMessageSubscriptionCreating, ProcessMessageSubscriptionDeleting, SubscribedMessage,
 };
 pub use zb_instance_records::{
-    CommandDistributionAcknowledge, CommandDistributionAcknowledged,
-    CommandDistributionDistributing, DeploymentCreated, DeploymentDistribute, ElementActivated,
-    ElementActivating, ElementCompleted, ElementMigrated, IncidentCreated, IncidentKind,
-    IncidentResolved, ProcessCreated, ProcessEventTriggered, ProcessInstanceCreationCreate,
-    ProcessInstanceCreationCreated, ProcessInstanceMigrationMigrate,
-    ProcessInstanceMigrationMigrated, Role, SequenceFlowTaken, TimerCreated, VariableCreated,
-    VariableDocumentUpdate, VariableUpdated,
+    CommandDistribution, DefinitionLink, ElementActivated, ElementActivating, ElementCompleted,
+    ElementMigrated, IncidentCreated, IncidentKind, IncidentResolved, ProcessDefinition,
+    ProcessEventTriggered, ProcessInstanceCreationCreate, ProcessInstanceMigration, Role,
+    ScopeVariable, SequenceFlowTaken, TimerCreated, VariableDocumentUpdate,
 };
 pub use zb_process::{Expr, ExprNode, Flow, Mapping, Model, Multi, Node, NodeKind, Operator};

@@ -1,2 +1,6 @@
+pub mod KeptLaws
+pub mod SendingLaws
+pub mod AnswerLaws
+pub mod TextLemmas
 pub mod ToldLemmas
 mod Worked

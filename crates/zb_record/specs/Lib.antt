@@ -1,2 +1,4 @@
 pub mod Partitions
+pub mod Sendings
+pub mod Answers
 pub mod Packets

@@ -1,42 +1,23 @@
-ghost use Rattle.std.specs.Prelude.{◌≡◌, ◌≤◌, ◌++◌, List, IfOk, OnOk, map, option_map};
+ghost use Rattle.std.specs.Prelude.{◌≡◌, ◌≤◌, ◌++◌, IfOk, OnOk, option_map, option_and_then};
 ghost use Rattle.std.specs.Option.{option_copied};
-ghost use Rattle.zb_views.specs.View.{events_in};
-ghost use Rattle.zb_views.specs.Standing.{begun_by};
-ghost use Rattle.zb_views.specs.Distributions.{distribution_told};
-ghost use Rattle.zb_record.specs.Partitions as spec;
 ghost use Rattle.zb_views.specs.Processes.{process_told, process_in};
-ghost use Rattle.zb_record.specs.Packets.{packet_with, packets_told, kept_by, sent_by};
+ghost use Rattle.zb_record.specs.Sendings.{sending_told};
+ghost use Rattle.zb_record.specs.Packets.{packet_with, packet_of_definition, packet_for, kept_by, sent_by};
 ghost use Rattle.zb_record.specs.Packets as packet_spec;
 
+use crate::answers::answer_packet;
+use crate::partitions::partition_known;
+use crate::sending::{Sending, sending_in};
 use std::alloc::{AllocError, Global};
 use zb_model::{
-    Batch, Command, CommandDistributionAcknowledge, DeploymentDistribute, Event, Key, Model,
-    Outcome, Packet, PartitionId, ProcessCreated, TryCopy,
+    Batch, Command, Event, Key, Model, Outcome, Packet, PartitionId, ProcessDefinition, TryCopy,
 };
 use zb_views::Distribution;
 
-/// The partition with this number, of so many; the first one where there is none with it.
-pub fn partition_known(number: u64, partitions: u32) -> PartitionId
-    requires { partitions ≤ 16 }
-    ensures { result ≡ spec.partition_known partitions number }
-{
-    if number < 1 || u64::from(partitions) < number {
-        return PartitionId::new(1);
-    }
-    PartitionId::new(number as u32)
-}
-
-/// The partition that a key names, of so many; the first one where it names none.
-pub fn partition_of_key(key: Key, partitions: u32) -> PartitionId
-    requires { partitions ≤ 16 }
-    ensures { result ≡ spec.partition_of_key partitions key }
-{
-    partition_known(key.partition(), partitions)
-}
-
 /// The packets that a batch of a partition sends, of so many partitions: those that are sent again until an event of
-/// the sender ends them, in the order of the events, and then the answer, if the batch is of a packet. It goes through
-/// the events once for each that is sent, and copies its model.
+/// the sender ends them, in the order of the events, and then the answer, if the batch is of a packet that is answered.
+/// Each costs a copy of what is sent; for a definition it goes back through the events before, to the process that is
+/// sent.
 pub fn packets_of(
     alloc: Global,
     batch: &Batch,
@@ -50,7 +31,7 @@ pub fn packets_of(
     if let Outcome::Accepted(events) = &batch.outcome {
         add_kept(alloc, events.as_slice(), from, partitions, &mut packets)?;
     }
-    if let Some(answer) = answer_packet(&batch.command, from, partitions) {
+    if let Some(answer) = answer_packet(batch, from, partitions) {
         packets.push(answer)?;
     }
     Ok(packets)
@@ -67,56 +48,62 @@ fn add_kept(
     requires { partitions ≤ 16 }
     ensures { OnOk result (packets.new.items ≡ packets.old.items ++ kept_by from partitions events.now) }
 {
-    for event in events {
-        if let Some(packet) = packet_of(alloc, event, events, from, partitions)? {
+    for place in 0..events.len() {
+        let before = &events[..place];
+        if let Some(packet) = packet_of(alloc, &events[place], before, from, partitions)? {
             packets.push(packet)?;
         }
     }
     Ok(())
 }
 
-// The packet that an event sends, if it sends one and the process that it sends is made by one of these events.
+// The packet that an event sends behind some others, if it sends one; where it sends a definition, if one of those makes
+// that.
 fn packet_of(
     alloc: Global,
     event: &Event,
-    events: &[Event],
+    before: &[Event],
     from: PartitionId,
     partitions: u32,
 ) -> Result<Option<Packet>, AllocError>
     requires { partitions ≤ 16 }
-    ensures { IfOk result (λ packet. packets_told from partitions events.now event.now ≡ begun_by packet) }
+    ensures { IfOk result (λ packet. packet ≡ option_and_then (packet_for from partitions before.now) (sending_told event.now)) }
 {
-    let Some(distribution) = distribution_in(event) else {
-        return Ok(None);
-    };
-    let Some(made) = process_in(distribution.definition, events) else {
-        return Ok(None);
-    };
-    Ok(Some(distribute(
-        alloc,
-        from,
-        partitions,
-        distribution,
-        made.version,
-        &made.model,
-    )?))
+    match sending_in(alloc, event)? {
+        Some(Sending::Definition(distribution)) => {
+            definition_packet(alloc, distribution, before, from, partitions)
+        }
+        Some(sending) => Ok(sending.into_packet(from, partitions)),
+        None => Ok(None),
+    }
 }
 
-// The distribution that an event begins.
-fn distribution_in(event: &Event) -> Option<Distribution>
-    ensures { result ≡ distribution_told event.now }
+// The packet of a definition, if one of these events makes that.
+fn definition_packet(
+    alloc: Global,
+    distribution: Distribution,
+    before: &[Event],
+    from: PartitionId,
+    partitions: u32,
+) -> Result<Option<Packet>, AllocError>
+    requires { partitions ≤ 16 }
+    ensures { IfOk result (λ packet. packet ≡ packet_of_definition from partitions before.now distribution) }
 {
-    match event {
-        Event::CommandDistributionDistributing(sent) => Some(Distribution {
-            definition: sent.key,
-            partition: sent.partition,
-        }),
-        _ => None,
+    match process_in(distribution.definition, before) {
+        Some(made) => Ok(Some(distribute(
+            alloc,
+            from,
+            partitions,
+            distribution,
+            made.version,
+            &made.model,
+        )?)),
+        None => Ok(None),
     }
 }
 
 // The process with a key, as the last of these events makes one with it.
-fn process_in(key: Key, events: &[Event]) -> Option<&ProcessCreated>
+fn process_in(key: Key, events: &[Event]) -> Option<&ProcessDefinition>
     ensures { option_copied result ≡ process_in key events.now }
 {
     for place in (0..events.len()).rev() {
@@ -128,7 +115,7 @@ fn process_in(key: Key, events: &[Event]) -> Option<&ProcessCreated>
 }
 
 // The process that an event makes, if it has this key.
-fn process_told(key: Key, event: &Event) -> Option<&ProcessCreated>
+fn process_told(key: Key, event: &Event) -> Option<&ProcessDefinition>
     ensures { option_copied result ≡ process_told key event.now }
 {
     match event {
@@ -150,32 +137,13 @@ pub fn distribute(
     requires { partitions ≤ 16 }
     ensures { IfOk result (λ packet. packet ≡ packet_with from partitions distribution version model.now) }
 {
-    let command = Command::DeploymentDistribute(DeploymentDistribute {
+    let command = Command::DeploymentDistribute(ProcessDefinition {
         key: distribution.definition,
         version,
         model: model.copy(alloc)?,
     });
     let to = partition_known(u64::from(distribution.partition), partitions);
     Ok(Packet { from, to, command })
-}
-
-/// The answer to a packet with this command that a partition, of so many, took; `None` where it is no packet that is
-/// answered.
-pub fn answer_packet(command: &Command, from: PartitionId, partitions: u32) -> Option<Packet>
-    requires { partitions ≤ 16 }
-    ensures { result ≡ packet_spec.answer_packet from partitions command.now }
-{
-    match command {
-        Command::DeploymentDistribute(sent) => Some(Packet {
-            from,
-            to: partition_of_key(sent.key, partitions),
-            command: Command::CommandDistributionAcknowledge(CommandDistributionAcknowledge {
-                key: sent.key,
-                partition: from.number(),
-            }),
-        }),
-        _ => None,
-    }
 }
 
 /// What takes a packet, if there is one: a command, at the partition that the packet goes to.
@@ -186,11 +154,4 @@ pub fn delivery_of(packet: Option<Packet>) -> Option<(PartitionId, Command)>
         Some(packet) => Some((packet.to, packet.command)),
         None => None,
     }
-}
-
-/// Whether a packet is an answer, which nobody sends again.
-pub fn is_answer(packet: &Packet) -> bool
-    ensures { result ≡ packet_spec.is_answer packet.now.command }
-{
-    matches!(packet.command, Command::CommandDistributionAcknowledge(_))
 }

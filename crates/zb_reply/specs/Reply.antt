@@ -8,8 +8,8 @@ use Rattle.zb_base.specs.declared.value.Value.{Value}
 use Rattle.zb_base.specs.declared.value.Value.TheVariants as values
 use Rattle.zb_base.specs.declared.vars.Variable.{Variable}
 use Rattle.zb_exchange_records.specs.declared.job.JobActivated.{JobActivated}
-use Rattle.zb_instance_records.specs.declared.deployment.ProcessCreated.{ProcessCreated}
-use Rattle.zb_instance_records.specs.declared.instance.ProcessInstanceCreationCreated.{ProcessInstanceCreationCreated}
+use Rattle.zb_instance_records.specs.declared.deployment.ProcessDefinition.{ProcessDefinition}
+use Rattle.zb_instance_records.specs.declared.deployment.DefinitionLink.{DefinitionLink}
 use Rattle.zb_model.specs.declared.record.Command.{Command}
 use Rattle.zb_model.specs.declared.record.Command.TheVariants as commands
 use Rattle.zb_model.specs.declared.record.Event.{Event}
@@ -30,11 +30,11 @@ use Rattle.zb_reply.specs.declared.reply.Reply.{Reply}
 use Rattle.zb_reply.specs.declared.reply.Reply.TheVariants as replies
 
 -- what is told of a definition
-abbrev pub deployed_of : ProcessCreated → DeployedReply
+abbrev pub deployed_of : ProcessDefinition → DeployedReply
 deployed_of e = record { definition = e.key; process = e.model.process; version = e.version }
 
 -- what is told of an instance
-abbrev pub created_of : ProcessInstanceCreationCreated → Created
+abbrev pub created_of : DefinitionLink → Created
 created_of e = record { definition = e.definition; instance = e.key }
 
 -- what is told of a job that a worker was given

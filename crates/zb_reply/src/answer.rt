@@ -7,7 +7,7 @@ ghost use Rattle.zb_reply.specs.Reply.{deploy_answer, create_answer, publish_ans
 
 use crate::{ActivatedJob, Created, DeployedReply, Reply};
 use std::alloc::{AllocError, Global};
-use zb_model::{Batch, Command, Event, JobActivated, List, Outcome, ProcessCreated, TryCopy};
+use zb_model::{Batch, Command, Event, JobActivated, List, Outcome, ProcessDefinition, TryCopy};
 
 /// The reply to the request whose command became this batch.
 #[tactic(auto, unfolding(crate::specs::Reply::answer_of))]
@@ -112,7 +112,7 @@ fn first_told<A: Answering>(alloc: Global, events: &[Event]) -> Result<Reply, Al
 }
 
 // What is told of a definition.
-fn deployed_of(alloc: Global, created: &ProcessCreated) -> Result<DeployedReply, AllocError>
+fn deployed_of(alloc: Global, created: &ProcessDefinition) -> Result<DeployedReply, AllocError>
     ensures { IfOk result (λ deployed. deployed ≡ deployed_of created.now) }
 {
     Ok(DeployedReply {

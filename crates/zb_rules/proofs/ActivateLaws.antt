@@ -24,12 +24,11 @@ use Rattle.zb_tokens.specs.Work.{is_work_in}
 use Rattle.zb_rules.specs.Shown.{board_of}
 use Rattle.zb_rules.specs.Applies.{holds_of_game, is_fresh, holds_own, applies, all_apply}
 use Rattle.zb_rules.specs.JobEvents.{has_job, is_job_in, are_jobs, hands_out}
-use Rattle.zb_rules.specs.Activate.{job_given, given_out, each_given_out, batch_told, activated}
+use Rattle.zb_rules.specs.Activate.{job_given, given_out, each_given_out, activated}
 use Rattle.zb_rules.specs.Sound.{HasKeys}
 use Rattle.zb_rules.proofs.AppliedLaws.{some_of, game_holds_from}
 use Rattle.zb_rules.proofs.CellsLaws.{ascend_between}
 use Rattle.zb_rules.proofs.HolderLaws.{HasRoot, root_there}
-use Rattle.zb_rules.proofs.LegalLaws.{NeverEvaluate, shows_none, joined_never}
 use Rattle.zb_rules.proofs.NamedLaws.{keys_left}
 use Rattle.zb_rules.proofs.OpenedLaws.{cell_counted}
 use Rattle.zb_rules.proofs.OwnLaws.{fresh_from, silent_applies, board_after}
@@ -197,21 +196,3 @@ module _ (p moment : ℕ) (c : JobBatchActivate) where
       let last : IsTrue (applies p (es ++ made) e) = silent_applies p (es ++ made) b e g.is (rw (fresh, there) refl) refl in
       let applied = g.applied in
       rw (all_apply_on p es made (e ∷ []), applied, last) refl
-
-  given_never_by : (found : Option Job) (board : Option Board) → NeverEvaluate (option_map_or (λ (j : Job). option_map_or (λ (b : Board). events.JobActivated (job_given moment c b j) ∷ []) board []) found [])
-  given_never_by None board = tt
-  given_never_by (Some j) None = tt
-  given_never_by (Some j) (Some b) = (λ before x at move shows. shows_none x at move shows, tt)
-
-  each_given_never : (jobs : List ℕ) (es : List Event) → NeverEvaluate (each_given_out moment c jobs es)
-  each_given_never [] es = tt
-  each_given_never (key ∷ jobs) es =
-      let made = given_out moment c key es in
-      joined_never made (each_given_out moment c jobs (es ++ made)) (given_never_by (job_at key es) (board_of es)) (each_given_never jobs (es ++ made))
-
-  -- and evaluate nothing
-  pub activated_never : (es : List Event) → NeverEvaluate (activated p moment c es)
-  activated_never es =
-      let jobs = map (λ (j : Job). j.key) (offered c.kind c.most es) in
-      let made = each_given_out moment c jobs es in
-      joined_never made (batch_told p jobs (es ++ made)) (each_given_never jobs es) (λ before b at move shows. shows_none b at move shows, tt)

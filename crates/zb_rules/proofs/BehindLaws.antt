@@ -1,4 +1,4 @@
--- The events behind an event apply, and evaluate nothing; an incident that stands may be resolved.
+-- The events behind an event apply; an incident that stands may be resolved.
 use Rattle.std.proofs.Common.{◌≡◌, ℕ, ◌<◌, ◌==◌, List, [], ◌∷◌, ◌++◌, length, ◌+◌, ◌≤◌, Bool, true, false, if◌then◌else◌, IsTrue, is_some, All, Option, Some, None, option_and_then, Result, Ok, Err, refl, sym, ap, subst, append-nil, arith}
 use Rattle.std.specs.Option.{option_map_or}
 use Rattle.std.proofs.lemmas.Bool.Decides.{nat_tests}
@@ -20,7 +20,7 @@ use Rattle.zb_instance_records.specs.declared.happening.TimerCreated.{TimerCreat
 use Rattle.zb_faults.specs.Faults.{is_well_formed, most_nodes}
 use Rattle.zb_table.specs.Rows.{Ascend}
 use Rattle.zb_views.specs.declared.timer.Timer.{Timer}
-use Rattle.zb_views.specs.Timers.{timers, timers_on, says_nothing_of_timers}
+use Rattle.zb_views.specs.Timers.{timers, says_nothing_of_timers}
 use Rattle.zb_views.proofs.TimerLaws.{timers_kept}
 use Rattle.std.specs.Result.{result_unwrap_or}
 use Rattle.std.proofs.lemmas.List.Elements.{All-head, All-tail, All-weaker}
@@ -28,23 +28,26 @@ use Rattle.zb_tokens.specs.Board.{Board, cell_at, model_under, is_phase}
 use Rattle.zb_tokens.specs.Incidents.{Hindrance, incident_at, incident_on}
 use Rattle.zb_tokens.proofs.GameLaws.{both_left, found_passes}
 use Rattle.zb_tokens.specs.Work.{work_at, may_have_job, is_cause_of}
-use Rattle.zb_views.specs.Jobs.{job_on, called_off}
+use Rattle.zb_views.specs.declared.job.Job.{Job}
+use Rattle.zb_views.specs.Jobs.{job_on}
+use Rattle.zb_views.specs.Left.{left}
+use Rattle.zb_views.specs.declared.left.Left.TheVariants as lefts
+use Rattle.zb_views.proofs.ViewLaws.{left_more}
 use Rattle.zb_views.specs.View.{counter_at, greatest_counter, next_key}
 use Rattle.zb_views.proofs.ViewLaws.{greatest_counter_more}
 use Rattle.zb_process.specs.declared.model.Node.{Node}
 use Rattle.zb_rules.specs.JobEvents.{begins_job}
 use Rattle.zb_rules.specs.Shown.{board_of}
 use Rattle.zb_rules.specs.Applies.{is_fresh, holds_own, holds_of_game, applies, all_apply}
-use Rattle.zb_rules.proofs.LegalLaws.{NeverEvaluate, shows_none, shows_some, joined_never}
 use Rattle.zb_rules.proofs.StepLaws.{all_apply_on}
 use Rattle.zb_rules.proofs.OwnLaws.{fresh_from, next_counted, one_more, silent_applies, board_after}
 use Rattle.zb_rules.specs.Making.{and_then, each_made}
-use Rattle.zb_rules.specs.Behind.{repair_event, resolved_on, job_of, job_made_on, canceled, timer_opened, timers_made_on, timers_canceled_on, ended_on, halted_on, events_behind}
+use Rattle.zb_rules.specs.Behind.{repair_event, resolved_on, job_of, job_made_on, job_canceled_on, timer_opened, timers_made_on, timers_canceled_on, ended_on, halted_on, events_behind}
 use Rattle.zb_rules.specs.TimerEvents.{may_open}
 use Rattle.zb_rules.proofs.OpeningsLaws.{openings_may}
-use Rattle.zb_rules.proofs.TimerSoundLaws.{cancels, canceled_on_apply}
+use Rattle.zb_rules.proofs.TimerSoundLaws.{HasSoundTimers, canceled_on_apply}
 use Rattle.zb_rules.proofs.KeysLaws.{next_key_more}
-use Rattle.zb_rules.specs.Sound.{StandApart, HasKeys, keys_of_turn, HasSoundTimers}
+use Rattle.zb_rules.specs.Sound.{StandApart, HasKeys, keys_of_turn}
 use Rattle.zb_rules.proofs.IncidentsLaws.{found_again}
 use Rattle.zb_rules.specs.Resolve.{no_incident, incident_in, reason_to_leave, reason_to_resolve, resolved}
 use Rattle.zb_rules.proofs.AppliedLaws.{game_holds_from, applied_from, applied_board, board_behind}
@@ -80,54 +83,6 @@ module _ (p : ℕ) (es : List Event) (b : Board) (is : board_of es ≡ Some b) w
   pub resolved_apply : (cell : ℕ) → AllPairs StandApart b.incidents → IsTrue (all_apply p es (resolved_on cell es))
   resolved_apply cell apart = subst (λ (o : Option Board). IsTrue (all_apply p es (option_map_or (λ i. repair_event i ∷ []) (option_and_then (λ x. incident_on x cell) o) []))) (sym is)
       (on_cell cell (incident_on b cell) apart refl)
-
--- no event behind one evaluates anything
-repair_never : (found : Option Incident) → NeverEvaluate (option_map_or (λ i. repair_event i ∷ []) found [])
-repair_never None = tt
-repair_never (Some i) = (λ before b moment move is. shows_some b moment (moves.Repair i.key) move refl is, tt)
-
--- what resolves an incident evaluates nothing
-pub resolved_never : (key : ℕ) (es : List Event) → NeverEvaluate (resolved key es)
-resolved_never key es = repair_never (incident_in key es)
-
-job_never : (p cell : ℕ) (es : List Event) (found : Option Node) → NeverEvaluate (option_map_or (λ n. job_of p cell n es) found [])
-job_never p cell es None = tt
-job_never p cell es (Some n) = (λ before b moment move is. shows_none b moment move is, tt)
-
-cancel_never : (found : Option ℕ) → NeverEvaluate (option_map_or (λ job. events.JobCanceled job ∷ []) found [])
-cancel_never None = tt
-cancel_never (Some job) = (λ before b moment move is. shows_none b moment move is, tt)
-
-timers_never : (p cell : ℕ) (os : List Opening) (es : List Event) → NeverEvaluate (each_made (timer_opened p cell) os es)
-timers_never p cell [] es = tt
-timers_never p cell (o ∷ os) es = (λ before b moment move is. shows_none b moment move is, timers_never p cell os (es ++ timer_opened p cell o es))
-
-cancels_never : (ts : List Timer) → NeverEvaluate (cancels ts)
-cancels_never [] = tt
-cancels_never (t ∷ ts) = (λ before b moment move is. shows_none b moment move is, cancels_never ts)
-
--- what ends with a cell evaluates nothing
-ended_never : (key : ℕ) (es : List Event) → NeverEvaluate (ended_on key es)
-ended_never key es =
-    let over = es ++ canceled es in
-    let closed = timers_canceled_on key over in
-    joined_never (canceled es) (closed ++ resolved_on key (over ++ closed)) (cancel_never (called_off es))
-    (joined_never closed (resolved_on key (over ++ closed)) (cancels_never (timers_on key over)) (repair_never (option_and_then (λ b. incident_on b key) (board_of (over ++ closed)))))
-
-interrupted_never : (t : Bool) (key : ℕ) (es : List Event) → NeverEvaluate (if t then halted_on key es else [])
-interrupted_never false key es = tt
-interrupted_never true key es = (λ before b moment move is. shows_some b moment (moves.Halt key) move refl is, ended_never key (es ++ events.ElementTerminating key ∷ []))
-
--- what comes behind an event evaluates nothing
-pub behind_never : (p moment : ℕ) (seen : List Event) (e : Event) (es : List Event) → NeverEvaluate (events_behind p moment seen e es)
-behind_never p moment seen (events.ElementActivated e) es =
-    let made = job_made_on p e.key es in
-    joined_never made (timers_made_on p moment e.key (es ++ made)) (job_never p e.key es (option_and_then (λ b. work_at b e.key) (board_of es)))
-    (timers_never p e.key (option_map_or (λ b. openings_at b moment e.key) (board_of (es ++ made)) []) (es ++ made))
-behind_never p moment seen (events.ElementCompleting key) es = cancels_never (timers_on key es)
-behind_never p moment seen (events.ElementTerminating key) es = ended_never key es
-behind_never p moment seen (events.ProcessEventTriggered e) es = interrupted_never (holds_of_game (is_interrupting e.cell e.node) es) e.cell es
-behind_never p moment seen e es = tt
 
 -- a cell may get the job and the timers that its node asks for: keys are left, and where there is work the cell waits for it, and has no job; it is
 -- active, of a model without faults, under a key that was drawn (BPMN 2.0.2, 13.3.3 and 13.5.3; Zeebe, jobs)
@@ -232,17 +187,19 @@ module _ (p : ℕ) (es : List Event) (b : Board) (is : board_of es ≡ Some b) (
       subst (λ (made : List Event). IsTrue (all_apply p es (made ++ timers_made_on p moment cell (es ++ made)))) (sym same) (both_by (work_at b cell) refl)
 
 module _ (p : ℕ) (es : List Event) (b : Board) (is : board_of es ≡ Some b) where
-  cancel_goes : (found : Option ℕ) → called_off es ≡ found
-      → IsTrue (all_apply p es (option_map_or (λ job. events.JobCanceled job ∷ []) found [])) × (board_of (es ++ option_map_or (λ job. events.JobCanceled job ∷ []) found []) ≡ Some b)
+  cancel_goes : (found : Option Job) → left es ≡ option_map_or (λ j. lefts.Cancels j.key) found lefts.Nothing
+      → IsTrue (all_apply p es (option_map_or (λ j. events.JobCanceled j.key ∷ []) found [])) × (board_of (es ++ option_map_or (λ j. events.JobCanceled j.key ∷ []) found []) ≡ Some b)
   cancel_goes None off = (refl, rw (append-nil es) is)
-  cancel_goes (Some job) off =
-      let same : (job == job) ≡ true = grind (arith, nat_tests) in
-      let first : IsTrue (applies p es (events.JobCanceled job)) = silent_applies p es b (events.JobCanceled job) is (rw (off, same) refl) refl in
-      (rw first refl, board_after es b b (events.JobCanceled job) is refl)
+  cancel_goes (Some j) off =
+      let same : (j.key == j.key) ≡ true = grind (arith, nat_tests) in
+      let first : IsTrue (applies p es (events.JobCanceled j.key)) = silent_applies p es b (events.JobCanceled j.key) is (rw (off, same) refl) refl in
+      (rw first refl, board_after es b b (events.JobCanceled j.key) is refl)
 
-  -- the job that the last event calls off is canceled, which leaves the board
-  pub canceled_apply : IsTrue (all_apply p es (canceled es)) × (board_of (es ++ canceled es) ≡ Some b)
-  canceled_apply = cancel_goes (called_off es) refl
+-- the job of a cell that has begun to terminate is canceled, which leaves the board
+pub canceled_apply : (p : ℕ) (seen : List Event) (key : ℕ) (b : Board) → board_of (seen ++ events.ElementTerminating key ∷ []) ≡ Some b
+    → IsTrue (all_apply p (seen ++ events.ElementTerminating key ∷ []) (job_canceled_on seen key (seen ++ events.ElementTerminating key ∷ [])))
+    × (board_of ((seen ++ events.ElementTerminating key ∷ []) ++ job_canceled_on seen key (seen ++ events.ElementTerminating key ∷ [])) ≡ Some b)
+canceled_apply p seen key b is = cancel_goes p (seen ++ events.ElementTerminating key ∷ []) b is (job_on key seen) (left_more seen (events.ElementTerminating key))
 
 -- the timers of a log with an event more that makes none and ends none
 sound_kept : (p : ℕ) (es : List Event) (e : Event) → says_nothing_of_timers e ≡ true → HasSoundTimers p es → HasSoundTimers p (es ++ e ∷ [])
@@ -255,21 +212,24 @@ sound_kept p es e none s =
     }
 
 -- timers stay sound behind the event by which a job is canceled, if one is
-pub sound_over : (p : ℕ) (es : List Event) (found : Option ℕ) → HasSoundTimers p es → HasSoundTimers p (es ++ option_map_or (λ job. events.JobCanceled job ∷ []) found [])
+pub sound_over : (p : ℕ) (es : List Event) (found : Option Job) → HasSoundTimers p es → HasSoundTimers p (es ++ option_map_or (λ j. events.JobCanceled j.key ∷ []) found [])
 sound_over p es None s = subst (HasSoundTimers p) (sym (append-nil es)) s
-sound_over p es (Some job) s = sound_kept p es (events.JobCanceled job) refl s
+sound_over p es (Some j) s = sound_kept p es (events.JobCanceled j.key) refl s
 
 -- what waits for a cell that begins to terminate ends
-ended_apply : (p : ℕ) (es : List Event) (b : Board) → board_of es ≡ Some b → (key : ℕ) → AllPairs StandApart b.incidents → HasSoundTimers p es → IsTrue (all_apply p es (ended_on key es))
-ended_apply p es b is key apart timed =
-    let over = es ++ canceled es in
-    let first = canceled_apply p es b is in
-    let second = canceled_on_apply p over b key first.1 (sound_over p es (called_off es) timed) in
+ended_apply : (p : ℕ) (seen : List Event) (key : ℕ) (b : Board) → board_of (seen ++ events.ElementTerminating key ∷ []) ≡ Some b → AllPairs StandApart b.incidents → HasSoundTimers p (seen ++ events.ElementTerminating key ∷ [])
+    → IsTrue (all_apply p (seen ++ events.ElementTerminating key ∷ []) (ended_on seen key (seen ++ events.ElementTerminating key ∷ [])))
+ended_apply p seen key b is apart timed =
+    let es = seen ++ events.ElementTerminating key ∷ [] in
+    let off = job_canceled_on seen key es in
+    let over = es ++ off in
+    let first = canceled_apply p seen key b is in
+    let second = canceled_on_apply p over b key first.1 (sound_over p es (job_on key seen) timed) in
     let closed = timers_canceled_on key over in
     let third = resolved_apply p (over ++ closed) b second.1 key apart in
     let one = first.0 in
     let two = second.0 in
-    rw (all_apply_on p es (canceled es) (closed ++ resolved_on key (over ++ closed)), one, all_apply_on p over closed (resolved_on key (over ++ closed)), two) third
+    rw (all_apply_on p es off (closed ++ resolved_on key (over ++ closed)), one, all_apply_on p over closed (resolved_on key (over ++ closed)), two) third
 
 module _ (p : ℕ) (es : List Event) (b : Board) (is : board_of es ≡ Some b) where
   -- a cell that may begin to terminate does, and what waits for it ends
@@ -280,7 +240,7 @@ module _ (p : ℕ) (es : List Event) (b : Board) (is : board_of es ≡ Some b) w
       let r = applied_board p es b e is first in
       let led : played b (moves.Halt key) ≡ Some r.0 = r.1.leads in
       let still : r.0.incidents ≡ b.incidents = incidents_stay b r.0 (moves.Halt key) refl led in
-      let rest = ended_apply p (es ++ e ∷ []) r.0 (board_behind p es b e r.0 r.1) key (subst (AllPairs StandApart) (sym still) apart) (sound_kept p es e refl timed) in
+      let rest = ended_apply p es key r.0 (board_behind p es b e r.0 r.1) (subst (AllPairs StandApart) (sym still) apart) (sound_kept p es e refl timed) in
       rw first rest
 
   -- a boundary event that interrupts its cell ends it
@@ -289,11 +249,12 @@ module _ (p : ℕ) (es : List Event) (b : Board) (is : board_of es ≡ Some b) w
   interrupted_by true cell node it may = halted_apply cell (may.halts it) may.apart may.timed
 
 -- the events behind an event apply
-pub behind_apply : (p : ℕ) (es : List Event) (b : Board) → board_of es ≡ Some b → (moment : ℕ) (seen : List Event) (e : Event) → MayFollow p es b e → IsTrue (all_apply p es (events_behind p moment seen e es))
-behind_apply p es b is moment seen (events.ElementActivated e) may = opened_apply p es b is moment e.key may
-behind_apply p es b is moment seen (events.ElementCompleting key) may = (canceled_on_apply p es b key is may).0
-behind_apply p es b is moment seen (events.ElementTerminating key) may = ended_apply p es b is key may.0 may.1
-behind_apply p es b is moment seen (events.ProcessEventTriggered e) may =
+pub behind_apply : (p moment : ℕ) (seen : List Event) (e : Event) (b : Board) → board_of (seen ++ e ∷ []) ≡ Some b → MayFollow p (seen ++ e ∷ []) b e → IsTrue (all_apply p (seen ++ e ∷ []) (events_behind p moment seen e (seen ++ e ∷ [])))
+behind_apply p moment seen (events.ElementActivated e) b is may = opened_apply p (seen ++ events.ElementActivated e ∷ []) b is moment e.key may
+behind_apply p moment seen (events.ElementCompleting key) b is may = (canceled_on_apply p (seen ++ events.ElementCompleting key ∷ []) b key is may).0
+behind_apply p moment seen (events.ElementTerminating key) b is may = ended_apply p seen key b is may.0 may.1
+behind_apply p moment seen (events.ProcessEventTriggered e) b is may =
+    let es = seen ++ events.ProcessEventTriggered e ∷ [] in
     let same : holds_of_game (is_interrupting e.cell e.node) es ≡ is_interrupting e.cell e.node b = ap (λ (o : Option Board). option_map_or (is_interrupting e.cell e.node) o false) is in
     subst (λ (t : Bool). IsTrue (all_apply p es (if t then halted_on e.cell es else []))) (sym same) (interrupted_by p es b is (is_interrupting e.cell e.node b) e.cell e.node refl may)
-behind_apply p es b is moment seen e may = refl
+behind_apply p moment seen e b is may = refl

@@ -1,5 +1,5 @@
 -- The own events of a cancel apply: a root that isn't terminating may begin to.
-use Rattle.std.proofs.Common.{◌≡◌, ℕ, List, [], ◌∷◌, ◌++◌, Bool, true, false, not, if◌then◌else◌, IsTrue, Option, Some, None, refl, subst}
+use Rattle.std.proofs.Common.{◌≡◌, ℕ, List, Bool, true, false, not, if◌then◌else◌, IsTrue, Option, Some, None, refl, subst}
 use Rattle.std.specs.Option.{option_map_or}
 use Rattle.zb_model.specs.declared.record.Event.{Event}
 use Rattle.zb_model.specs.declared.record.Event.TheVariants as events
@@ -51,6 +51,6 @@ module _ (p : ℕ) (es : List Event) (b : Board) (is : board_of es ≡ Some b) (
       let runs : is_terminating key b ≡ false = subst (λ (o : Option Board). option_map_or (is_terminating key) o false ≡ false) is r.1 in
       let first : IsTrue (applies p es (events.ElementTerminating key)) = applied_from p es b (events.ElementTerminating key) (moves.Halt key) is refl refl (halts key root runs) in
       let after = applied_board p es b (events.ElementTerminating key) is first in
-      let behind = behind_apply p (es ++ events.ElementTerminating key ∷ []) after.0 (board_behind p es b (events.ElementTerminating key) after.0 after.1) moment es (events.ElementTerminating key)
+      let behind = behind_apply p moment es (events.ElementTerminating key) after.0 (board_behind p es b (events.ElementTerminating key) after.0 after.1)
       ((keeps_on p es b (events.ElementTerminating key) after.0 after.1 k).incidents.apart, (keeps_on p es b (events.ElementTerminating key) after.0 after.1 k).timers) in
       rw (first, behind) refl

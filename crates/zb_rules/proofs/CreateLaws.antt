@@ -21,7 +21,7 @@ use Rattle.zb_model.specs.declared.record.Event.{Event}
 use Rattle.zb_model.specs.declared.record.Event.TheVariants as events
 use Rattle.zb_views.specs.declared.definition.Definition.{Definition}
 use Rattle.zb_views.specs.View.{next_key}
-use Rattle.zb_views.proofs.ViewLaws.{begun_more}
+use Rattle.zb_views.proofs.ViewLaws.{left_more}
 use Rattle.zb_views.specs.Definitions.{definitions, newer_definition, version_of, greatest_version, definition_for}
 use Rattle.zb_tokens.specs.declared.board.Cell.{Cell}
 use Rattle.zb_tokens.specs.declared.board.Move.TheVariants as moves
@@ -140,7 +140,7 @@ module _ (p : ℕ) (es : List Event) (b : Board) (is : board_of es ≡ Some b) (
       let first : IsTrue (applies p es e) = silent_applies p es b e is (rw (fresh_from p es keys, defined) refl) refl in
       let still : board_of (es ++ e ∷ []) ≡ Some b = board_after es b b e is refl in
       let there : IsTrue (holds_of_game (is_process_of d.key c.process) (es ++ e ∷ [])) = game_holds_from (is_process_of d.key c.process) (es ++ e ∷ []) b still its in
-      let own : IsTrue (holds_own p (es ++ e ∷ []) root) = rw (begun_more es e, same_key, same, there) refl in
+      let own : IsTrue (holds_own p (es ++ e ∷ []) root) = rw (left_more es e, same_key, same, there) refl in
       let second : IsTrue (applies p (es ++ e ∷ []) root) = applied_from p (es ++ e ∷ []) b root (moves.Start (record { key = key; definition = d.key })) still own refl (rw found refl) in
       let begun : board_of ((es ++ e ∷ []) ++ root ∷ []) ≡ Some (record b { cells = b.cells ++ new_cell key 0 d.key m.process false ∷ [] }) = board_after (es ++ e ∷ []) b _ root still (rw found refl) in
       let set = assign_all p key c.variables ((es ++ e ∷ []) ++ root ∷ []) (record b { cells = b.cells ++ new_cell key 0 d.key m.process false ∷ [] }) (new_cell key 0 d.key m.process false) begun (root_found d.key m.process)

@@ -1,13 +1,13 @@
 -- The own events of what makes definitions and sends them to other partitions apply, where there is no reason against it.
-use Rattle.std.proofs.Common.{◌≡◌, ℕ, ◌+◌, ◌-◌, ◌≤◌, ◌==◌, List, [], ◌∷◌, ◌++◌, map, filter, Bool, true, false, ◌||◌, not, if◌then◌else◌, IsTrue, is_some, Option, Some, None, option_map, All, refl, sym, ap, ◌∙◌, subst, arith}
+use Rattle.std.proofs.Common.{◌≡◌, ℕ, ◌+◌, ◌-◌, ◌≤◌, ◌==◌, List, [], ◌∷◌, ◌++◌, map, Bool, true, false, ◌||◌, if◌then◌else◌, IsTrue, is_some, Option, Some, None, option_map, All, refl, sym, ap, ◌∙◌, subst, arith}
 use Rattle.std.specs.Option.{option_or}
 use Rattle.std.specs.List.{find, list_any, range_with_len}
 use Rattle.std.proofs.lemmas.Bool.Decides.{nat_tests}
-use Rattle.std.proofs.lemmas.List.Elements.{All-nil, All-cons, All-head, All-tail, All-append, All-weaker, All-filter}
+use Rattle.std.proofs.lemmas.List.Elements.{All-nil, All-cons, All-head, All-tail, All-append, All-weaker, All-contains}
 use Rattle.std.proofs.lemmas.List.Folds.{list_any-append}
 use Rattle.zb_process.specs.declared.model.Model.{Model}
-use Rattle.zb_instance_records.specs.declared.deployment.DeploymentDistribute.{DeploymentDistribute}
-use Rattle.zb_instance_records.specs.declared.deployment.CommandDistributionAcknowledge.{CommandDistributionAcknowledge}
+use Rattle.zb_instance_records.specs.declared.deployment.ProcessDefinition.{ProcessDefinition}
+use Rattle.zb_instance_records.specs.declared.deployment.CommandDistribution.{CommandDistribution}
 use Rattle.zb_model.specs.declared.record.Event.{Event}
 use Rattle.zb_model.specs.declared.record.Event.TheVariants as events
 use Rattle.zb_model.specs.declared.record.Rejection.{Rejection}
@@ -16,12 +16,12 @@ use Rattle.zb_faults.specs.Faults.{first_fault, is_well_formed, fault_text}
 use Rattle.zb_faults.specs.declared.fault.Fault.{Fault}
 use Rattle.zb_views.specs.View.{counter_at, greatest_counter, next_key}
 use Rattle.zb_views.proofs.ViewLaws.{definitions_more}
-use Rattle.zb_views.specs.Standing.{begun_by}
-use Rattle.zb_views.proofs.StandingLaws.{standing_more}
+use Rattle.zb_views.specs.Standing.{left_by, begun_by}
+use Rattle.zb_views.proofs.StandingLaws.{standing_more, each_left}
 use Rattle.zb_views.specs.declared.definition.Definition.{Definition}
 use Rattle.zb_views.specs.declared.distribution.Distribution.{Distribution}
 use Rattle.zb_views.specs.Definitions.{definition_told, definitions, greatest_version}
-use Rattle.zb_views.specs.Distributions.{is_that, distribution_told, ends_distribution, distributions, is_distributed_to, is_distributed}
+use Rattle.zb_views.specs.Distributions.{is_that, distribution_told, distribution_sort, distributions, is_distributed_to, is_distributed}
 use Rattle.zb_tokens.specs.declared.board.Deployed.{Deployed}
 use Rattle.zb_tokens.specs.declared.board.Move.TheVariants as moves
 use Rattle.zb_tokens.specs.Board.{Board, model_under}
@@ -110,12 +110,12 @@ missing None is = refl
 missing (Some x) is = absurd (cc)
 
 -- the own event of a definition that arrives applies
-pub distribute_applies : (p : ℕ) (es : List Event) (b : Board) (c : DeploymentDistribute) → board_of es ≡ Some b → IsTrue (all_apply p [] es) → reason_to_distribute es c ≡ None → IsTrue (all_apply p es (distributed c es))
+pub distribute_applies : (p : ℕ) (es : List Event) (b : Board) (c : ProcessDefinition) → board_of es ≡ Some b → IsTrue (all_apply p [] es) → reason_to_distribute es c ≡ None → IsTrue (all_apply p es (distributed c es))
 distribute_applies p es b c is apply none =
     let reasons = neither (reason_to_deploy c.model) (reason_to_turn_back es c.key) none in
     let undefined : has_definition c.key es ≡ false = untested (has_definition c.key es) _ reasons.1 in
     let new : model_under b c.key ≡ None = missing (model_under b c.key) (is_there_where_defined p es b c.key apply is ∙ undefined) in
-    let e = events.ProcessCreated (record { key = c.key; version = c.version; model = c.model }) in
+    let e = events.ProcessCreated c in
     let first : IsTrue (applies p es e) = applied_from p es b e (moves.Stand (record { key = c.key; model = c.model })) is (formed_by c.model (first_fault c.model) refl reasons.0) refl (rw new refl) in
     rw first refl
 
@@ -133,9 +133,9 @@ defined_on : (p : ℕ) (before : List Event) (b : Board) (e : Event) (after : Bo
 defined_on p before b e after h are =
     let Defined : Distribution → Type 0 = λ d. IsTrue (has_definition d.definition (before ++ e ∷ [])) in
     let still : All Defined (distributions before) = All-weaker (λ (d : Distribution). IsTrue (has_definition d.definition before)) Defined (λ d there. still_defined d.definition before e there) (distributions before) are in
-    let left = All-filter (λ (d : Distribution). not (ends_distribution d e)) Defined (distributions before) still in
-    subst (All Defined) (sym (standing_more distribution_told ends_distribution before e))
-    (All-append Defined (filter (λ (d : Distribution). not (ends_distribution d e)) (distributions before)) (begun_by (distribution_told e)) left (told_defined p before e h.own))
+    subst (All Defined) (sym (standing_more distribution_sort before e))
+    (All-append Defined (left_by distribution_sort before e (distributions before)) (begun_by (distribution_told e))
+    (each_left distribution_sort Defined before e (distributions before) (λ d among out. All-contains Defined (distributions before) d still among)) (told_defined p before e h.own))
 
 -- of some distributions whose definitions are there, one that is found
 found_defined : (definition partition : ℕ) (es : List Event) (ds : List Distribution) → All (λ (d : Distribution). IsTrue (has_definition d.definition es)) ds → list_any (is_that definition partition) ds ≡ true → IsTrue (has_definition definition es)
@@ -158,12 +158,12 @@ finish_apply p definition es b false is there under_way =
     rw first refl
 
 -- the own events of an acknowledgement apply
-pub acknowledge_applies : (p : ℕ) (es : List Event) (b : Board) (c : CommandDistributionAcknowledge) → board_of es ≡ Some b → IsTrue (all_apply p [] es) → reason_to_acknowledge es c ≡ None → IsTrue (all_apply p es (acknowledged c es))
+pub acknowledge_applies : (p : ℕ) (es : List Event) (b : Board) (c : CommandDistribution) → board_of es ≡ Some b → IsTrue (all_apply p [] es) → reason_to_acknowledge es c ≡ None → IsTrue (all_apply p es (acknowledged c es))
 acknowledge_applies p es b c is apply none =
     let under_way : is_distributed_to c.key c.partition es ≡ true = tested (is_distributed_to c.key c.partition es) _ none in
     let are : AreDefined es b = holds_of_all p AreDefined (defined_on p) es b (All-nil (λ (d : Distribution). IsTrue (has_definition d.definition []))) apply is in
     let there = found_defined c.key c.partition es (distributions es) are under_way in
-    let e = events.CommandDistributionAcknowledged (record { key = c.key; partition = c.partition }) in
+    let e = events.CommandDistributionAcknowledged c in
     let first : IsTrue (applies p es e) = silent_applies p es b e is under_way refl in
     let second = finish_apply p c.key (es ++ e ∷ []) b (is_distributed c.key (es ++ e ∷ [])) (board_after es b b e is refl) (still_defined c.key es e there) refl in
     rw first second

@@ -1,12 +1,14 @@
 -- What holds of a job that is found in a log whose events apply, and what an event makes of it.
-use Rattle.std.proofs.Common.{◌≡◌, ℕ, ◌+◌, ◌<◌, ◌≤◌, ◌==◌, List, [], ◌∷◌, ◌++◌, map, filter, not, Bool, true, false, if◌then◌else◌, Some, None, option_map, All, refl, ap, ◌∙◌, append-nil, arith}
+use Rattle.std.proofs.Common.{◌≡◌, ℕ, ◌+◌, ◌<◌, ◌≤◌, ◌==◌, List, [], ◌∷◌, ◌++◌, Bool, true, false, Some, None, option_map, All, refl, ap, ◌∙◌, arith}
 use Rattle.std.specs.List.{find}
 use Rattle.std.proofs.lemmas.Bool.Decides.{nat_tests}
 use Rattle.std.proofs.lemmas.List.Elements.{All-nil, All-cons, All-weaker}
 use Rattle.zb_model.specs.declared.record.Event.{Event}
 use Rattle.zb_table.specs.Rows.{Ascend}
 use Rattle.zb_views.specs.declared.job.Job.{Job}
-use Rattle.zb_views.specs.Jobs.{jobs, job_at, job_told, ends_job, is_failed, job_changed, job_made}
+use Rattle.zb_views.specs.Jobs.{jobs, job_at, job_told, ends_job, is_failed, job_changed, job_sort}
+use Rattle.zb_views.proofs.StandingLaws.{each_changed}
+use Rattle.zb_waits.proofs.FoundLemmas.{found_mapped}
 use Rattle.zb_views.proofs.JobLaws.{jobs_more}
 use Rattle.zb_views.specs.View.{greatest_among, greatest_counter, next_key}
 use Rattle.zb_tokens.specs.Board.{Board}
@@ -68,24 +70,7 @@ module _ (p : ℕ) (es : List Event) (b : Board) (s : HasSoundJobs p es b) (key 
   pub job_free : is_failed j.phase ≡ false → incident_on b j.cell ≡ None
   job_free tries = (found_holds (is_job key) (HasNoIncident b) (jobs es) j s.free found).0 tries
 
--- what an event leaves of jobs that were there
-abbrev kept_by : Event → List Job → List Job
-kept_by e js = map (job_changed e) (filter (λ j. not (ends_job j.key j.cell e)) js)
-
--- what an event that ends no job and makes none makes of the one that is found
-module _ (e : Event) (ends : (j : Job) → ends_job j.key j.cell e ≡ false) where
-  kept_one : (key : ℕ) (x : Job) (js : List Job) (t : Bool) → find (is_job key) (kept_by e js) ≡ option_map (job_changed e) (find (is_job key) js)
-      → (if t then Some (job_changed e x) else find (is_job key) (kept_by e js)) ≡ option_map (job_changed e) (if t then Some x else find (is_job key) js)
-  kept_one key x js true later = refl
-  kept_one key x js false later = later
-
-  kept_found : (key : ℕ) (js : List Job) → find (is_job key) (kept_by e js) ≡ option_map (job_changed e) (find (is_job key) js)
-  kept_found key [] = refl
-  kept_found key (x ∷ js) = rw (ends x) (kept_one key x js (x.key == key) (kept_found key js))
-
-  -- the job with a key after an event that makes none and ends none
-  pub job_at_more : (es : List Event) (key : ℕ) → job_told e ≡ None → job_at key (es ++ e ∷ []) ≡ option_map (job_changed e) (job_at key es)
-  job_at_more es key makes =
-      let none : job_made (job_told e) ≡ [] = ap job_made makes in
-      let its : jobs (es ++ e ∷ []) ≡ kept_by e (jobs es) = jobs_more es e ∙ (ap (λ (more : List Job). kept_by e (jobs es) ++ more) none ∙ append-nil (kept_by e (jobs es))) in
-      ap (find (is_job key)) its ∙ kept_found key (jobs es)
+-- the job with a key after an event that makes none and ends none
+pub job_at_more : (e : Event) → ((j : Job) → ends_job j.key j.cell e ≡ false) → (es : List Event) (key : ℕ) → job_told e ≡ None → job_at key (es ++ e ∷ []) ≡ option_map (job_changed e) (job_at key es)
+job_at_more e lasts es key none =
+    ap (find (is_job key)) (jobs_more es e ∙ each_changed job_sort es e (jobs es) none lasts) ∙ found_mapped (is_job key) (job_changed e) (jobs es) (λ j. refl)

@@ -1,8 +1,7 @@
--- The events in front of that of a move apply, and evaluate nothing; behind them the move still fits.
-use Rattle.std.proofs.Common.{◌≡◌, ℕ, List, [], ◌∷◌, ◌++◌, Bool, true, false, ◌&&◌, if◌then◌else◌, IsTrue, Option, Some, None, length, refl, append-nil}
+-- The events in front of that of a move apply, and behind them the move still fits.
+use Rattle.std.proofs.Common.{◌≡◌, ℕ, List, [], ◌∷◌, ◌++◌, Bool, true, false, ◌&&◌, IsTrue, Some, length, refl, append-nil}
 use Rattle.std.specs.Option.{option_map_or}
 use Rattle.std.specs.Result.{result_unwrap_or}
-use Rattle.zb_base.specs.declared.vars.Variable.{Variable}
 use Rattle.zb_model.specs.declared.record.Event.{Event}
 use Rattle.zb_model.specs.declared.record.Event.TheVariants as events
 use Rattle.zb_tokens.specs.declared.board.Assigned.{Assigned}
@@ -14,50 +13,24 @@ use Rattle.zb_tokens.specs.declared.board.Move.TheVariants as moves
 use Rattle.zb_tokens.specs.declared.board.Phase.TheVariants as phases
 use Rattle.zb_tokens.specs.Edits.{edited}
 use Rattle.zb_tokens.specs.Board.{Board, cell_at, is_phase, is_root}
-use Rattle.zb_tokens.specs.Mappings.{inputs_of, outputs_of, assignments_of}
+use Rattle.zb_tokens.specs.Mappings.{inputs_of, outputs_of}
 use Rattle.zb_tokens.specs.MoveAssign.{with_variable}
 use Rattle.zb_tokens.specs.MoveOpen.{opens}
 use Rattle.zb_tokens.specs.MoveLeave.{may_owe}
 use Rattle.zb_tokens.specs.Game.{fits}
 use Rattle.zb_tokens.proofs.GameLaws.{holds_some, found_holds}
 use Rattle.zb_rules.specs.Shown.{board_of}
-use Rattle.zb_rules.specs.Applies.{has_cell, holds_of_game, all_apply}
+use Rattle.zb_rules.specs.Applies.{has_cell, all_apply}
 use Rattle.zb_rules.specs.Sound.{holds_others}
-use Rattle.zb_rules.specs.Create.{variable_event}
-use Rattle.zb_rules.specs.Update.{is_named_in, set_in, place_of, set_by, set_each}
+use Rattle.zb_rules.specs.Update.{set_each}
 use Rattle.zb_rules.specs.InFront.{set_all, count_in_front, events_in_front}
 use Rattle.zb_rules.proofs.AppliedLaws.{some_of}
 use Rattle.zb_rules.proofs.MadeLaws.{is_keyed, mapped_holds}
-use Rattle.zb_rules.proofs.LegalLaws.{NeverEvaluate, shows_some, joined_never}
+use Rattle.zb_rules.proofs.KindsLaws.{EachOf, sets_variable, front_are}
 use Rattle.zb_rules.proofs.PlacedLaws.{InScope, inner_scope, key_found}
 use Rattle.zb_rules.proofs.ScopesLaws.{kept_edited}
 use Rattle.zb_rules.proofs.SoundLaws.{BoardKeeps, board_keeps}
 use Rattle.zb_rules.proofs.UpdateLaws.{KeptBySetting, each_set}
-
--- a variable that is set evaluates nothing
-set_never : (t : Bool) (cell : ℕ) (v : Variable) → NeverEvaluate (if t then events.VariableUpdated (record { scope = cell; name = v.name; value = v.value }) ∷ [] else variable_event cell v ∷ [])
-set_never true cell v = (λ before b moment move is. shows_some b moment (moves.Update (record { scope = cell; name = v.name; value = v.value })) move refl is, tt)
-set_never false cell v = (λ before b moment move is. shows_some b moment (moves.Assign (record { scope = cell; name = v.name; value = v.value })) move refl is, tt)
-
-place_never : (place : Option ℕ) (v : Variable) (es : List Event) → NeverEvaluate (option_map_or (λ cell. set_in cell v es) place [])
-place_never None v es = tt
-place_never (Some cell) v es = set_never (holds_of_game (is_named_in cell v.name) es) cell v
-
--- nor does each of some
-pub each_never : (local : Bool) (scope : ℕ) (vs : List Variable) (es : List Event) → NeverEvaluate (set_each local scope vs es)
-each_never local scope [] es = tt
-each_never local scope (v ∷ vs) es =
-    let made = set_by local scope v es in
-    joined_never made (set_each local scope vs (es ++ made)) (place_never (place_of local scope v.name es) v es) (each_never local scope vs (es ++ made))
-
--- nor do those of assignments
-pub all_never : (assignments : Option Assignments) (es : List Event) → NeverEvaluate (option_map_or (λ s. set_all s es) assignments [])
-all_never None es = tt
-all_never (Some s) es = each_never s.local s.scope s.variables es
-
--- the events in front of that of a move evaluate nothing
-pub front_never : (b : Board) (move : Move) (es : List Event) → NeverEvaluate (events_in_front b move es)
-front_never b move es = all_never (assignments_of b move) es
 
 -- the first of some events is one by which a cell begins to terminate
 abbrev pub begins_end : List Event → Bool
@@ -65,27 +38,14 @@ begins_end [] = false
 begins_end (events.ElementTerminating key ∷ es) = true
 begins_end (e ∷ es) = false
 
-set_no_end : (t : Bool) (cell : ℕ) (v : Variable) (rest : List Event) → begins_end ((if t then events.VariableUpdated (record { scope = cell; name = v.name; value = v.value }) ∷ [] else variable_event cell v ∷ []) ++ rest) ≡ false
-set_no_end true cell v rest = refl
-set_no_end false cell v rest = refl
-
-place_no_end : (place : Option ℕ) (v : Variable) (es rest : List Event) → begins_end rest ≡ false → begins_end (option_map_or (λ cell. set_in cell v es) place [] ++ rest) ≡ false
-place_no_end None v es rest none = none
-place_no_end (Some cell) v es rest none = set_no_end (holds_of_game (is_named_in cell v.name) es) cell v rest
-
-each_no_end : (local : Bool) (scope : ℕ) (vs : List Variable) (es : List Event) → begins_end (set_each local scope vs es) ≡ false
-each_no_end local scope [] es = refl
-each_no_end local scope (v ∷ vs) es =
-    let made = set_by local scope v es in
-    place_no_end (place_of local scope v.name es) v es (set_each local scope vs (es ++ made)) (each_no_end local scope vs (es ++ made))
-
-all_no_end : (assignments : Option Assignments) (es : List Event) → begins_end (option_map_or (λ s. set_all s es) assignments []) ≡ false
-all_no_end None es = refl
-all_no_end (Some s) es = each_no_end s.local s.scope s.variables es
+sets_no_end : (es : List Event) → EachOf sets_variable es → begins_end es ≡ false
+sets_no_end [] are = refl
+sets_no_end (events.ElementTerminating key ∷ es) are = let sets = are.0 in absurd (cc)
+sets_no_end (e ∷ es) are = refl
 
 -- in front of an event there is none by which a cell begins to terminate
 pub front_begins_no_end : (b : Board) (move : Move) (es : List Event) → begins_end (events_in_front b move es) ≡ false
-front_begins_no_end b move es = all_no_end (assignments_of b move) es
+front_begins_no_end b move es = sets_no_end (events_in_front b move es) (front_are b move es)
 
 -- what doesn't look at variables holds of a cell still as one of them is set
 still_of : (holds : Cell → Bool) (key : ℕ) (b after : Board) (a : Assigned) → ((c : Cell) → IsTrue (holds c) → IsTrue (holds (with_variable a.name a.value c))) → edited (is_keyed a.scope) (with_variable a.name a.value) b.cells ≡ Some after.cells

@@ -7,12 +7,17 @@ use Rattle.std.proofs.lemmas.List.Sums.{sum_by_push}
 use Rattle.zb_model.specs.declared.record.Event.{Event}
 use Rattle.zb_model.specs.declared.record.Event.TheVariants as events
 use Rattle.zb_views.specs.declared.job.Job.{Job}
-use Rattle.zb_views.specs.Jobs.{job_told, ends_job, job_behind, jobs, job_at, job_on, is_given_out, calls_off_job, called_off, job_made, jobs_by}
-use Rattle.zb_views.proofs.JobLaws.{jobs_more, called_off_more}
+use Rattle.zb_views.specs.Jobs.{new_job, job_told, ends_job, job_sort, jobs, job_at, job_on, is_given_out}
+use Rattle.zb_views.specs.Left.{left_told, left, leaves_cancel}
+use Rattle.zb_views.specs.declared.left.Left.{Left}
+use Rattle.zb_views.specs.declared.left.Left.TheVariants as lefts
+use Rattle.zb_views.specs.Standing.{left_by, begun_by, standing_by}
+use Rattle.zb_views.proofs.JobLaws.{jobs_more}
+use Rattle.zb_views.proofs.StandingLaws.{each_left}
+use Rattle.zb_views.proofs.ViewLaws.{left_more}
 use Rattle.zb_views.specs.View.{next_key}
 use Rattle.zb_tokens.specs.Board.{Board}
 use Rattle.zb_tokens.proofs.GameLaws.{both_left, holds_some, none_found}
-use Rattle.zb_tokens.proofs.EffectLaws.{mapped_from}
 use Rattle.zb_rules.specs.Shown.{board_of}
 use Rattle.zb_rules.specs.JobEvents.{is_job_in}
 use Rattle.zb_rules.specs.Applies.{is_fresh, holds_own, all_apply}
@@ -21,7 +26,7 @@ use Rattle.zb_rules.proofs.AppliedLaws.{Advances, some_of, holds_of_all}
 use Rattle.zb_rules.proofs.KeysLaws.{next_key_more, fresh_is}
 use Rattle.zb_rules.proofs.IncidentsLaws.{none_where}
 use Rattle.zb_rules.specs.JobEnds.{is_end_of, times_ended}
-use Rattle.zb_rules.proofs.JobListLaws.{left_by_event, each_left, found_among, job_of_key}
+use Rattle.zb_rules.proofs.JobListLaws.{found_among, job_of_key}
 use Rattle.zb_rules.proofs.SoundLaws.{BoardKeeps, keeps_on, keeps_first, board_is_there}
 
 -- the key is one of partition p
@@ -37,7 +42,7 @@ record IsOver (p : ℕ) (es : List Event) (key : ℕ) : Type 0 where
 -- what each event keeps: a job that was ended is over, and so is one that is called off; jobs are of the partition
 record EndsWell (p : ℕ) (es : List Event) : Type 0 where
   ended : (key : ℕ) → (times_ended key es ≡ 0) ⊎ ((times_ended key es ≡ 1) × IsOver p es key)
-  called : (key : ℕ) → called_off es ≡ Some key → (times_ended key es ≡ 0) × IsOver p es key
+  called : (key : ℕ) → left es ≡ lefts.Cancels key → (times_ended key es ≡ 0) × IsOver p es key
   home : All (λ (j : Job). IsKeyOf p j.key) (jobs es)
 
 -- a fresh key is one of the partition
@@ -50,20 +55,20 @@ times_more key es e = sum_by_push (λ (x : Event). cond (is_end_of key x) 1 0) e
 
 module _ (p : ℕ) (before : List Event) (b : Board) (e : Event) (after : Board) (h : Advances p before b e after) (s : HasSoundJobs p before b) where
   -- the key of a job that is made is greater than those that were drawn
-  made_apart : (key : ℕ) → key < next_key p before → All (λ (j : Job). (j.key == key) ≡ false) (job_made (job_told e))
+  made_apart : (key : ℕ) → key < next_key p before → All (λ (j : Job). (j.key == key) ≡ false) (begun_by (job_told e))
   made_apart key drawn = made_by e h.own
     where
-      made_by : (x : Event) → IsTrue (holds_own p before x) → All (λ (j : Job). (j.key == key) ≡ false) (job_made (job_told x))
+      made_by : (x : Event) → IsTrue (holds_own p before x) → All (λ (j : Job). (j.key == key) ≡ false) (begun_by (job_told x))
       made_by (events.JobCreated made) own =
           let its = (fresh_is p before made.key (both_left (is_fresh p before made.key) _ own)).1 in
-          All-cons (λ (j : Job). (j.key == key) ≡ false) (job_behind made []) [] (grind (arith, nat_tests, its, drawn)) (All-nil (λ (j : Job). (j.key == key) ≡ false))
+          All-cons (λ (j : Job). (j.key == key) ≡ false) (new_job made) [] (grind (arith, nat_tests, its, drawn)) (All-nil (λ (j : Job). (j.key == key) ≡ false))
       made_by x own = All-nil (λ (j : Job). (j.key == key) ≡ false)
 
   -- where none of those that the event leaves has the key, none has it
   gone_from : (key : ℕ) → key < next_key p before → ((j : Job) → Contains (jobs before) j → ends_job j.key j.cell e ≡ false → (j.key == key) ≡ false) → job_at key (before ++ e ∷ []) ≡ None
   gone_from key drawn each =
       let Other : Job → Type 0 = λ (j : Job). (j.key == key) ≡ false in
-      let all : All Other (jobs_by e (jobs before)) = All-append Other (left_by_event e (jobs before)) (job_made (job_told e)) (each_left Other e (jobs before) each) (made_apart key drawn) in
+      let all : All Other (standing_by job_sort before e (jobs before)) = All-append Other (left_by job_sort before e (jobs before)) (begun_by (job_told e)) (each_left job_sort Other before e (jobs before) each) (made_apart key drawn) in
       none_where (λ (j : Job). j.key == key) (jobs (before ++ e ∷ [])) (subst (All Other) (sym (jobs_more before e)) all)
 
   -- a job that is over stays so
@@ -109,6 +114,12 @@ given_out_ends p before b e after key h s w is ends =
 same_key : (key other : ℕ) → (key == other) ≡ true → key ≡ other
 same_key key other is = grind (arith, nat_tests)
 
+-- which job is to be canceled
+cancel_is : (key : ℕ) (found : Left) → IsTrue (leaves_cancel key found) → found ≡ lefts.Cancels key
+cancel_is key (lefts.Cancels job) is = ap (λ (q : ℕ). lefts.Cancels q) (same_key job key is)
+cancel_is key lefts.Nothing is = absurd (cc)
+cancel_is key (lefts.Root begun) is = absurd (cc)
+
 -- the job that an event says is over was not ended before, and is over
 ends_now : (p : ℕ) (before : List Event) (b : Board) (e : Event) (after : Board) (key : ℕ) → Advances p before b e after → HasSoundJobs p before b → EndsWell p before → is_end_of key e ≡ true
     → (times_ended key before ≡ 0) × IsOver p (before ++ e ∷ []) key
@@ -117,38 +128,39 @@ ends_now p before b (events.JobCompleted k) after key h s w is =
 ends_now p before b (events.JobErrorThrown t) after key h s w is =
     subst (λ (q : ℕ). (times_ended q before ≡ 0) × IsOver p (before ++ events.JobErrorThrown t ∷ []) q) (same_key t.key key is) (given_out_ends p before b (events.JobErrorThrown t) after t.key h s w h.own (λ j its. its))
 ends_now p before b (events.JobCanceled k) after key h s w is =
-    let found = some_of (called_off before) (holds_some (λ (job : ℕ). job == k) (called_off before) h.own) in
-    let test : IsTrue (found.0 == k) = subst (λ (o : Option ℕ). IsTrue (option_map_or (λ (job : ℕ). job == k) o false)) found.1 h.own in
-    let its : called_off before ≡ Some key = found.1 ∙ ap (λ (q : ℕ). Some q) (same_key found.0 k test ∙ same_key k key is) in
-    let r = w.called key its in
+    let r = w.called key (cancel_is k (left before) h.own ∙ ap (λ (q : ℕ). lefts.Cancels q) (same_key k key is)) in
     (r.0, over_still p before b (events.JobCanceled k) after h s key r.1)
 ends_now p before b e after key h s w is = absurd (cc)
 
--- the job that an event calls off was not ended, and is over
-called_by : (p : ℕ) (before : List Event) (b : Board) (e : Event) (after : Board) (key : ℕ) → Advances p before b e after → HasSoundJobs p before b → EndsWell p before → calls_off_job before e ≡ Some key
+left_from : (found : Option Job) (key : ℕ) → option_map_or (λ (j : Job). lefts.Cancels j.key) found lefts.Nothing ≡ lefts.Cancels key → (j : Job) × (found ≡ Some j) × (j.key ≡ key)
+left_from None key is = absurd (cc)
+left_from (Some j) key is = (j, refl, cc)
+
+-- the job that is left to be canceled was not ended, and is over
+called_by : (p : ℕ) (before : List Event) (b : Board) (e : Event) (after : Board) (key : ℕ) → Advances p before b e after → HasSoundJobs p before b → EndsWell p before → left_told before e ≡ lefts.Cancels key
     → (times_ended key (before ++ e ∷ []) ≡ 0) × IsOver p (before ++ e ∷ []) key
 called_by p before b (events.ElementTerminating cell) after key h s w is =
     let e = events.ElementTerminating cell in
-    let r = mapped_from (λ (j : Job). j.key) (job_on cell before) key is in
+    let r = left_from (job_on cell before) key is in
     let on = found_among (λ (x : Job). x.cell == cell) (jobs before) r.0 r.1 in
     let found = job_of_key 1 (jobs before) key r.0 s.ascend on.0 r.2 in
     (times_more key before e ∙ ap (λ (n : ℕ). n + 0) (not_ended p before key r.0 w found), over_now p before b e after h s key r.0 found on.1 w.home)
 called_by p before b e after key h s w is = absurd (cc)
 
 -- the keys of jobs are of the partition
-made_home : (p : ℕ) (before : List Event) (e : Event) → IsTrue (holds_own p before e) → All (λ (j : Job). IsKeyOf p j.key) (job_made (job_told e))
-made_home p before (events.JobCreated made) own = All-cons (λ (j : Job). IsKeyOf p j.key) (job_behind made []) [] (fresh_home p before made.key (both_left (is_fresh p before made.key) _ own)) (All-nil (λ (j : Job). IsKeyOf p j.key))
+made_home : (p : ℕ) (before : List Event) (e : Event) → IsTrue (holds_own p before e) → All (λ (j : Job). IsKeyOf p j.key) (begun_by (job_told e))
+made_home p before (events.JobCreated made) own = All-cons (λ (j : Job). IsKeyOf p j.key) (new_job made) [] (fresh_home p before made.key (both_left (is_fresh p before made.key) _ own)) (All-nil (λ (j : Job). IsKeyOf p j.key))
 made_home p before e own = All-nil (λ (j : Job). IsKeyOf p j.key)
 
 -- an event that applies keeps it
 ends_on : (p : ℕ) (before : List Event) (b : Board) (e : Event) (after : Board) → Advances p before b e after → HasSoundJobs p before b → EndsWell p before → EndsWell p (before ++ e ∷ [])
 ends_on p before b e after h s w = record {
   ended = λ key. by_test key (is_end_of key e) refl;
-  called = λ key is. called_by p before b e after key h s w (sym (called_off_more before e) ∙ is);
+  called = λ key is. called_by p before b e after key h s w (sym (left_more before e) ∙ is);
   home =
       let Home : Job → Type 0 = λ (j : Job). IsKeyOf p j.key in
-      subst (All Home) (sym (jobs_more before e)) (All-append Home (left_by_event e (jobs before)) (job_made (job_told e))
-      (each_left Home e (jobs before) (λ j among out. All-contains Home (jobs before) j w.home among)) (made_home p before e h.own));
+      subst (All Home) (sym (jobs_more before e)) (All-append Home (left_by job_sort before e (jobs before)) (begun_by (job_told e))
+      (each_left job_sort Home before e (jobs before) (λ j among out. All-contains Home (jobs before) j w.home among)) (made_home p before e h.own));
 }
   where
     by_test : (key : ℕ) (t : Bool) → is_end_of key e ≡ t → (times_ended key (before ++ e ∷ []) ≡ 0) ⊎ ((times_ended key (before ++ e ∷ []) ≡ 1) × IsOver p (before ++ e ∷ []) key)

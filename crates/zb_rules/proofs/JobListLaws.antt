@@ -1,29 +1,16 @@
--- Laws of lists of jobs: of those whose keys ascend, and whose cells are apart, and of what an event leaves of them.
-use Rattle.std.proofs.Common.{◌≡◌, ℕ, zero, suc, ◌+◌, ◌<◌, ◌≤◌, ◌==◌, get_or, List, [], ◌∷◌, ◌++◌, map, filter, Bool, true, false, not, cond, Some, All, Contains, refl, sym, ◌∙◌, subst, arith}
+-- Laws of lists of jobs: of those whose keys ascend, and whose cells are apart.
+use Rattle.std.proofs.Common.{◌≡◌, ℕ, zero, suc, ◌+◌, ◌<◌, ◌≤◌, ◌==◌, get_or, List, [], ◌∷◌, ◌++◌, Bool, true, false, Some, All, Contains, refl, sym, ◌∙◌, subst, arith}
 use Rattle.std.specs.List.{find, AllPairs}
-use Rattle.std.proofs.lemmas.Bool.{not-true}
 use Rattle.std.proofs.lemmas.Bool.Decides.{nat_tests}
-use Rattle.std.proofs.lemmas.List.Elements.{All-nil, All-cons, All-head, All-tail, All-map, All-weaker, All-filter, All-contains, All-contains_itself, filter_passes}
-use Rattle.std.proofs.lemmas.List.Kept.{AllPairs-cons, AllPairs-filter}
-use Rattle.zb_model.specs.declared.record.Event.{Event}
+use Rattle.std.proofs.lemmas.List.Elements.{All-nil, All-cons, All-head, All-tail, All-weaker, All-contains, All-contains_itself}
 use Rattle.zb_table.specs.Rows.{Ascend}
 use Rattle.zb_tokens.proofs.GameLaws.{found_holds}
 use Rattle.zb_views.specs.declared.job.Job.{Job}
-use Rattle.zb_views.specs.Jobs.{ends_job, job_changed}
 use Rattle.zb_rules.specs.Sound.{AreApartJobs}
 
 -- the keys of the jobs ascend, from `low` on
 abbrev pub JobsAscend : ℕ → List Job → Type 0
 JobsAscend low js = Ascend (λ (j : Job). j.key) low js
-
--- what an event leaves of jobs that were there
-abbrev pub left_by_event : Event → List Job → List Job
-left_by_event e js = map (job_changed e) (filter (λ j. not (ends_job j.key j.cell e)) js)
-
--- the lower bound may be less
-ascend_lower : (less low : ℕ) (js : List Job) → less ≤ low → JobsAscend low js → JobsAscend less js
-ascend_lower less low [] below is = tt
-ascend_lower less low (j ∷ js) below is = (omega (arith, is.0), is.1)
 
 -- no key lies below the bound
 pub ascend_above : (low : ℕ) (js : List Job) → JobsAscend low js → All (λ (j : Job). low ≤ j.key) js
@@ -39,36 +26,11 @@ ascend_push low (x ∷ js) j is below least =
     let head = All-head (λ (y : Job). y.key < j.key) x js below in
     (is.0, ascend_push (x.key + 1) js j is.1 (All-tail (λ (y : Job). y.key < j.key) x js below) (omega (arith, head)))
 
-ascend_by : (e : Event) (low : ℕ) (j : Job) (rest : List Job) (t : Bool) → low ≤ j.key → JobsAscend (j.key + 1) (map (job_changed e) rest) → JobsAscend low (map (job_changed e) (cond t (j ∷ rest) rest))
-ascend_by e low j rest true least is = (least, is)
-ascend_by e low j rest false least is = ascend_lower low (j.key + 1) (map (job_changed e) rest) (omega (arith, least)) is
-
--- those that an event leaves ascend
-pub ascend_left : (e : Event) (low : ℕ) (js : List Job) → JobsAscend low js → JobsAscend low (left_by_event e js)
-ascend_left e low [] is = tt
-ascend_left e low (j ∷ js) is = ascend_by e low j (filter (λ x. not (ends_job x.key x.cell e)) js) (not (ends_job j.key j.cell e)) is.0 (ascend_left e (j.key + 1) js is.1)
-
--- what holds of each that an event doesn't end, as it says, holds of those that it leaves
-pub each_left : (P : Job → Type 0) (e : Event) (js : List Job) → ((j : Job) → Contains js j → ends_job j.key j.cell e ≡ false → P (job_changed e j)) → All P (left_by_event e js)
-each_left P e js each =
-    let lasts : Job → Bool = λ j. not (ends_job j.key j.cell e) in
-    let among = All-filter lasts (Contains js) js (All-contains_itself js) in
-    let last = filter_passes lasts js in
-    All-map P (job_changed e) (filter lasts js) (λ k d within. each (get_or (filter lasts js) k d) (among k d within) (not-true (ends_job (get_or (filter lasts js) k d).key (get_or (filter lasts js) k d).cell e) (last k d within)))
-
 head_apart : (x : Job) (xs : List Job) → AllPairs AreApartJobs (x ∷ xs) → All (AreApartJobs x) xs
 head_apart x xs apart = λ k d within. apart zero (suc k) d (omega arith) (omega arith)
 
 tail_apart : (x : Job) (xs : List Job) → AllPairs AreApartJobs (x ∷ xs) → AllPairs AreApartJobs xs
 tail_apart x xs apart = λ i j d lt within. apart (suc i) (suc j) d (omega arith) (omega arith)
-
-apart_mapped : (e : Event) (js : List Job) → AllPairs AreApartJobs js → AllPairs AreApartJobs (map (job_changed e) js)
-apart_mapped e [] apart = λ i j d lt within. absurd (omega arith)
-apart_mapped e (x ∷ js) apart = AllPairs-cons AreApartJobs (job_changed e x) (map (job_changed e) js) (All-map (AreApartJobs (job_changed e x)) (job_changed e) js (head_apart x js apart)) (apart_mapped e js (tail_apart x js apart))
-
--- those that an event leaves are apart
-pub apart_left : (e : Event) (js : List Job) → AllPairs AreApartJobs js → AllPairs AreApartJobs (left_by_event e js)
-apart_left e js apart = apart_mapped e (filter (λ j. not (ends_job j.key j.cell e)) js) (AllPairs-filter AreApartJobs (λ j. not (ends_job j.key j.cell e)) js apart)
 
 -- one that is found is among them, and passes
 pub found_among : (passes : Job → Bool) (js : List Job) (j : Job) → find passes js ≡ Some j → Contains js j × (passes j ≡ true)

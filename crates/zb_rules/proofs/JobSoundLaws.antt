@@ -15,7 +15,9 @@ use Rattle.zb_model.specs.declared.record.Event.TheVariants as events
 use Rattle.zb_views.specs.declared.job.Job.{Job}
 use Rattle.zb_views.specs.declared.job.JobPhase.{JobPhase}
 use Rattle.zb_views.specs.declared.job.JobPhase.TheVariants as phases
-use Rattle.zb_views.specs.Jobs.{job_told, ends_job, failed_phase, job_behind, jobs, job_at, job_on, is_activatable, is_given_out, is_activated, is_failed, job_changed, job_made, jobs_by}
+use Rattle.zb_views.specs.Jobs.{new_job, job_told, ends_job, failed_phase, job_sort, jobs, job_at, job_on, is_activatable, is_given_out, is_activated, is_failed, job_changed}
+use Rattle.zb_views.specs.Standing.{left_by, begun_by, standing_by}
+use Rattle.zb_views.proofs.StandingLaws.{one_more, each_left, pairs_left, ascend_left}
 use Rattle.zb_views.proofs.JobLaws.{jobs_more, jobs_kept}
 use Rattle.zb_views.specs.View.{next_key}
 use Rattle.zb_tokens.specs.declared.board.Cell.{Cell}
@@ -50,7 +52,7 @@ use Rattle.zb_rules.proofs.PlacedLaws.{key_found}
 use Rattle.zb_rules.proofs.IncidentsLaws.{none_where}
 use Rattle.zb_rules.proofs.ScopesLaws.{at_cell}
 use Rattle.zb_rules.proofs.JobCellsLaws.{ends_wait, waits_on}
-use Rattle.zb_rules.proofs.JobListLaws.{JobsAscend, left_by_event, ascend_above, ascend_push, ascend_left, each_left, apart_left, found_among, job_of_key, one_of_cell}
+use Rattle.zb_rules.proofs.JobListLaws.{JobsAscend, ascend_above, ascend_push, found_among, job_of_key, one_of_cell}
 
 -- the job that is the cause of an incident was made before
 abbrev pub IsDrawn : ℕ → List Event → Incident → Type 0
@@ -182,7 +184,7 @@ module _ (p : ℕ) (before : List Event) (b : Board) (s : HasSoundJobs p before 
   its_phase passes key j among its h = at_job (λ (k : Job). passes k.phase) (job_at key before) j (job_there key j among its) h
 
   -- one that hasn't failed where it is in another phase now hadn't before
-  lasted_by : (key : ℕ) (j : Job) (phase : JobPhase) (t : Bool) → (j.key == key) ≡ t → (j.key ≡ key → is_failed j.phase ≡ false) → is_failed (option_map_or (λ (x : JobPhase). x) (if t then Some phase else None) j.phase) ≡ false → is_failed j.phase ≡ false
+  lasted_by : (key : ℕ) (j : Job) (phase : JobPhase) (t : Bool) → (j.key == key) ≡ t → (j.key ≡ key → is_failed j.phase ≡ false) → is_failed (if t then phase else j.phase) ≡ false → is_failed j.phase ≡ false
   lasted_by key j phase true same named is = named (grind (arith, nat_tests))
   lasted_by key j phase false other named is = is
 
@@ -254,35 +256,35 @@ module _ (p : ℕ) (before : List Event) (b : Board) (s : HasSoundJobs p before 
         subst (λ (is : List Incident). find (λ (i : Incident). i.cell == j.cell) is ≡ None) (sym (incidents_kept silent)) (All-contains (HasNoIncident b) (jobs before) j s.free among was)
 
     -- an incident that stands still is on the cell of its cause still
-    cause_lasts : (i : Incident) → ((made : JobCreated) → job_told e ≡ Some made → i.job < made.key) → HasJobOfCell before i → HasJobOfCell (before ++ e ∷ []) i
+    cause_lasts : (i : Incident) → ((made : Job) → job_told e ≡ Some made → i.job < made.key) → HasJobOfCell before i → HasJobOfCell (before ++ e ∷ []) i
     cause_lasts i drawn had j found =
         let Of : Job → Type 0 = λ (x : Job). (x.key == i.job) ≡ true → x.cell ≡ i.cell in
         let r = found_among (λ (x : Job). x.key == i.job) (jobs (before ++ e ∷ [])) j found in
-        let left : All Of (left_by_event e (jobs before)) = each_left Of e (jobs before) (λ x among out its. had x (job_there i.job x among (grind (arith, nat_tests)))) in
-        let all : All Of (jobs_by e (jobs before)) = All-append Of (left_by_event e (jobs before)) (job_made (job_told e)) left (made_by (job_told e) drawn) in
+        let left : All Of (left_by job_sort before e (jobs before)) = each_left job_sort Of before e (jobs before) (λ x among out its. had x (job_there i.job x among (grind (arith, nat_tests)))) in
+        let all : All Of (standing_by job_sort before e (jobs before)) = All-append Of (left_by job_sort before e (jobs before)) (begun_by (job_told e)) left (made_by (job_told e) drawn) in
         All-contains Of (jobs (before ++ e ∷ [])) j (subst (All Of) (sym (jobs_more before e)) all) r.0 r.1
       where
-        made_by : (told : Option JobCreated) → ((made : JobCreated) → told ≡ Some made → i.job < made.key) → All (λ (x : Job). (x.key == i.job) ≡ true → x.cell ≡ i.cell) (job_made told)
+        made_by : (told : Option Job) → ((made : Job) → told ≡ Some made → i.job < made.key) → All (λ (x : Job). (x.key == i.job) ≡ true → x.cell ≡ i.cell) (begun_by told)
         made_by None each = All-nil (λ (x : Job). (x.key == i.job) ≡ true → x.cell ≡ i.cell)
         made_by (Some made) each =
             let more = each made refl in
-            All-cons (λ (x : Job). (x.key == i.job) ≡ true → x.cell ≡ i.cell) (job_behind made []) [] (λ its. absurd (grind (arith, nat_tests, its, more))) (All-nil (λ (x : Job). (x.key == i.job) ≡ true → x.cell ≡ i.cell))
+            All-cons (λ (x : Job). (x.key == i.job) ≡ true → x.cell ≡ i.cell) made [] (λ its. absurd (grind (arith, nat_tests, its, more))) (All-nil (λ (x : Job). (x.key == i.job) ≡ true → x.cell ≡ i.cell))
 
     -- where no job is made
     module _ (silent : job_told e ≡ None) where
-      jobs_then : jobs (before ++ e ∷ []) ≡ left_by_event e (jobs before)
-      jobs_then = jobs_more before e ∙ (ap (λ (told : Option JobCreated). left_by_event e (jobs before) ++ job_made told) silent ∙ append-nil (left_by_event e (jobs before)))
+      jobs_then : jobs (before ++ e ∷ []) ≡ left_by job_sort before e (jobs before)
+      jobs_then = jobs_more before e ∙ (ap (λ (told : Option Job). left_by job_sort before e (jobs before) ++ begun_by told) silent ∙ append-nil (left_by job_sort before e (jobs before)))
 
-      none_made : (i : Incident) (made : JobCreated) → job_told e ≡ Some made → i.job < made.key
+      none_made : (i : Incident) (made : Job) → job_told e ≡ Some made → i.job < made.key
       none_made i made told = absurd (cc)
 
       sound_from : ((j : Job) → Contains (jobs before) j → ends_job j.key j.cell e ≡ false → HasNoIncident after (job_changed e j)) → All (HasJobOfCell (before ++ e ∷ [])) after.incidents → HasSoundJobs p (before ++ e ∷ []) after
       sound_from free causes = record {
-        ascend = subst (JobsAscend 1) (sym jobs_then) (ascend_left e 1 (jobs before) s.ascend);
-        below = subst (All (λ (j : Job). j.key < next_key p (before ++ e ∷ []))) (sym jobs_then) (each_left (λ (j : Job). j.key < next_key p (before ++ e ∷ [])) e (jobs before) (λ j among out. below_one j among));
-        apart = subst (AllPairs AreApartJobs) (sym jobs_then) (apart_left e (jobs before) s.apart);
-        awaited = subst (All (IsAwaited after)) (sym jobs_then) (each_left (IsAwaited after) e (jobs before) awaited_one);
-        free = subst (All (HasNoIncident after)) (sym jobs_then) (each_left (HasNoIncident after) e (jobs before) free);
+        ascend = subst (JobsAscend 1) (sym jobs_then) (ascend_left job_sort (λ (j : Job). j.key) 1 before e (jobs before) (λ j. refl) s.ascend);
+        below = subst (All (λ (j : Job). j.key < next_key p (before ++ e ∷ []))) (sym jobs_then) (each_left job_sort (λ (j : Job). j.key < next_key p (before ++ e ∷ [])) before e (jobs before) (λ j among out. below_one j among));
+        apart = subst (AllPairs AreApartJobs) (sym jobs_then) (pairs_left job_sort AreApartJobs before e (jobs before) (λ j k apart. apart) s.apart);
+        awaited = subst (All (IsAwaited after)) (sym jobs_then) (each_left job_sort (IsAwaited after) before e (jobs before) awaited_one);
+        free = subst (All (HasNoIncident after)) (sym jobs_then) (each_left job_sort (HasNoIncident after) before e (jobs before) free);
         causes = causes;
       }
 
@@ -331,7 +333,7 @@ module _ (p : ℕ) (before : List Event) (b : Board) (s : HasSoundJobs p before 
   -- an incident is resolved
   module _ (r : IncidentResolved) (after : Board) (h : Advances p before b (events.IncidentResolved r) after) (apart : AllPairs StandApart b.incidents) where
     free_by : (ys : List Incident) (j : Job) (t : Bool) → removed (λ i. i.key == r.key) b.incidents ≡ Some ys → Contains (jobs before) j → (j.key == r.job) ≡ t
-        → is_failed (option_map_or (λ (x : JobPhase). x) (if t then Some phases.Created else None) j.phase) ≡ false → find (λ (i : Incident). i.cell == j.cell) ys ≡ None
+        → is_failed (if t then phases.Created else j.phase) ≡ false → find (λ (i : Incident). i.cell == j.cell) ys ≡ None
     free_by ys j true gone among same lasts =
         let cause = game_holds (is_cause_of r.job r.key) before b h.board h.own in
         let found = some_of (incident_at b r.key) (holds_some _ (incident_at b r.key) cause) in
@@ -358,9 +360,6 @@ module _ (p : ℕ) (before : List Event) (b : Board) (s : HasSoundJobs p before 
 
   -- a job is made
   module _ (made : JobCreated) (after : Board) (h : Advances p before b (events.JobCreated made) after) (drawn : All (IsDrawn p before) b.incidents) where
-    abbrev new_job : Job
-    new_job = job_behind made []
-
     same_board : b ≡ after
     same_board = let led : Some b ≡ Some after = h.leads in cc
 
@@ -382,35 +381,33 @@ module _ (p : ℕ) (before : List Event) (b : Board) (s : HasSoundJobs p before 
         let found = some_of (cell_at b made.cell) (holds_some _ (cell_at b made.cell) may_begin) in
         (found.0, found.1, at_cell (λ (c : Cell). awaits_work b c && not (is_stuck b c)) (cell_at b made.cell) found.0 found.1 may_begin)
 
-    awaited_new : IsAwaited b new_job
+    awaited_new : IsAwaited b (new_job made)
     awaited_new = let x = its_cell in rw x.1 (both_left (awaits_work b x.0) _ x.2)
 
-    free_new : HasNoIncident b new_job
+    free_new : HasNoIncident b (new_job made)
     free_new lasts =
         let x = its_cell in
         let none = is_some_not (incident_on b x.0.key) (not-true (is_stuck b x.0) (both_right (awaits_work b x.0) _ x.2)) in
         let its : x.0.key ≡ made.cell = key_found b made.cell x.0 x.1 in
         subst (λ (k : ℕ). incident_on b k ≡ None) its none
 
-    jobs_made : jobs (before ++ events.JobCreated made ∷ []) ≡ left_by_event (events.JobCreated made) (jobs before) ++ new_job ∷ []
-    jobs_made = jobs_more before (events.JobCreated made)
+    jobs_made : jobs (before ++ events.JobCreated made ∷ []) ≡ jobs before ++ new_job made ∷ []
+    jobs_made = jobs_more before (events.JobCreated made) ∙ one_more job_sort before (events.JobCreated made) (jobs before) (new_job made) refl (λ j. refl) (λ j. refl)
 
     sound_made : HasSoundJobs p (before ++ events.JobCreated made ∷ []) after
     sound_made =
         let e = events.JobCreated made in
-        let left = left_by_event e (jobs before) in
         let Below : Job → Type 0 = λ j. j.key < next_key p (before ++ e ∷ []) in
-        let below_new = fresh_below p before e made.key is_fresh_key (first_named p made.key (made.cell ∷ [])) in
-        let under : All (λ (j : Job). j.key < made.key) left = each_left (λ (j : Job). j.key < made.key) e (jobs before) (λ j among out. omega (arith, its_key, All-contains (λ (x : Job). x.key < next_key p before) (jobs before) j s.below among)) in
-        let least : 1 ≤ made.key = omega (arith, its_key) in
-        let others : All (λ (j : Job). (j.cell == made.cell) ≡ false) left = each_left (λ (j : Job). (j.cell == made.cell) ≡ false) e (jobs before) (λ j among out. All-contains (λ (x : Job). (x.cell == made.cell) ≡ false) (jobs before) j no_other among) in
+        let more = next_key_more p before e in
+        let under : All (λ (j : Job). j.key < made.key) (jobs before) = subst (λ (k : ℕ). All (λ (j : Job). j.key < k) (jobs before)) (sym its_key) s.below in
+        let still : All Below (jobs before) = All-weaker (λ (j : Job). j.key < next_key p before) Below (λ j less. omega (arith, less, more)) (jobs before) s.below in
         subst (HasSoundJobs p (before ++ e ∷ [])) same_board (record {
-          ascend = subst (JobsAscend 1) (sym jobs_made) (ascend_push 1 left new_job (ascend_left e 1 (jobs before) s.ascend) under least);
-          below = subst (All Below) (sym jobs_made) (All-push Below left new_job (each_left Below e (jobs before) (λ j among out. below_one e after h j among)) below_new);
-          apart = subst (AllPairs AreApartJobs) (sym jobs_made) (all_pairs_push AreApartJobs left new_job (apart_left e (jobs before) s.apart) (λ k d within. others k d within));
-          awaited = subst (All (IsAwaited b)) (sym jobs_made) (All-push (IsAwaited b) left new_job (each_left (IsAwaited b) e (jobs before) (λ j among out. All-contains (IsAwaited b) (jobs before) j s.awaited among)) awaited_new);
-          free = subst (All (HasNoIncident b)) (sym jobs_made) (All-push (HasNoIncident b) left new_job (each_left (HasNoIncident b) e (jobs before) (λ j among out. All-contains (HasNoIncident b) (jobs before) j s.free among)) free_new);
-          causes = λ k d within. cause_lasts e after h (get_or b.incidents k d) (λ other told. let same : made.key ≡ other.key = (let both : Some made ≡ Some other = told in ap (λ (o : Option JobCreated). option_map_or (λ (x : JobCreated). x.key) o 0) both) in let less = drawn k d within in omega (arith, its_key, same, less)) (s.causes k d within);
+          ascend = subst (JobsAscend 1) (sym jobs_made) (ascend_push 1 (jobs before) (new_job made) s.ascend under (omega (arith, its_key)));
+          below = subst (All Below) (sym jobs_made) (All-push Below (jobs before) (new_job made) still (fresh_below p before e made.key is_fresh_key (first_named p made.key (made.cell ∷ []))));
+          apart = subst (AllPairs AreApartJobs) (sym jobs_made) (all_pairs_push AreApartJobs (jobs before) (new_job made) s.apart no_other);
+          awaited = subst (All (IsAwaited b)) (sym jobs_made) (All-push (IsAwaited b) (jobs before) (new_job made) s.awaited awaited_new);
+          free = subst (All (HasNoIncident b)) (sym jobs_made) (All-push (HasNoIncident b) (jobs before) (new_job made) s.free free_new);
+          causes = λ k d within. cause_lasts e after h (get_or b.incidents k d) (λ other told. let same : made.key ≡ other.key = (let both : Some (new_job made) ≡ Some other = told in ap (λ (o : Option Job). option_map_or (λ (x : Job). x.key) o 0) both) in let less = drawn k d within in omega (arith, its_key, same, less)) (s.causes k d within);
         })
 
 -- an event that applies keeps the jobs sound

@@ -7,9 +7,13 @@ use Rattle.zb_instance_records.specs.declared.instance.ElementActivating.{Elemen
 use Rattle.zb_model.specs.declared.record.Event.{Event}
 use Rattle.zb_model.specs.declared.record.Event.TheVariants as events
 use Rattle.zb_views.specs.View.{counter_at, greatest_among, greatest_counter, next_key}
-use Rattle.zb_views.proofs.ViewLaws.{greatest_counter_more, begun_more}
+use Rattle.zb_views.proofs.ViewLaws.{greatest_counter_more, left_more}
 use Rattle.zb_views.proofs.CounterLaws.{counter_at-key_of}
-use Rattle.zb_views.specs.Begin.{begun_told, begun}
+use Rattle.zb_views.specs.Jobs.{job_on}
+use Rattle.zb_views.specs.declared.job.Job.{Job}
+use Rattle.zb_views.specs.Left.{left_told, left, leaves_root}
+use Rattle.zb_views.specs.declared.left.Left.{Left}
+use Rattle.zb_views.specs.declared.left.Left.TheVariants as lefts
 use Rattle.zb_views.specs.declared.begun.Begun.{Begun}
 use Rattle.zb_tokens.specs.declared.board.Move.{Move}
 use Rattle.zb_tokens.specs.declared.board.Move.TheVariants as moves
@@ -46,16 +50,17 @@ first_named p key keys = omega arith
 -- the keys of the cells of a board of a log ascend, and lie below the next key; those before an instance that begins, below its key
 pub record HasOrderedCells (p : ℕ) (es : List Event) (b : Board) : Type 0 where
   pub between : Between 1 (next_key p es) b.cells
-  pub begins : (i : Begun) → begun es ≡ Some i → Between 1 i.key b.cells × (i.key < next_key p es)
+  pub begins : (i : Begun) → left es ≡ lefts.Root i → Between 1 i.key b.cells × (i.key < next_key p es)
 
 between_shown : (low high : ℕ) (b after : Board) (move : Option Move) (top : ℕ) → Between low high b.cells → high ≤ top
     → IfSome (option_and_then key_made move) (λ key. (high ≤ key) × (key < top)) → after_shown b move ≡ Some after → Between low top after.cells
 between_shown low high b after None top is more new made = between_higher low high top after.cells more (let same : b ≡ after = cc in subst (λ (x : Board). Between low high x.cells) same is)
 between_shown low high b after (Some move) top is more new made = between_played low high b is after move top more new made
 
-begun_is : (key definition : ℕ) (found : Option Begun) → IsTrue (option_map_or (λ (i : Begun). (i.key == key) && (i.definition == definition)) found false) → (i : Begun) × (found ≡ Some i) × (i.key ≡ key)
-begun_is key definition None is = absurd (cc)
-begun_is key definition (Some i) is = (i, refl, let first = both_left (i.key == key) (i.definition == definition) is in grind (arith, nat_tests))
+begun_is : (key definition : ℕ) (found : Left) → IsTrue (leaves_root key definition found) → (i : Begun) × (found ≡ lefts.Root i) × (i.key ≡ key)
+begun_is key definition lefts.Nothing is = absurd (cc)
+begun_is key definition (lefts.Cancels job) is = absurd (cc)
+begun_is key definition (lefts.Root i) is = (i, refl, let first = both_left (i.key == key) (i.definition == definition) is in grind (arith, nat_tests))
 
 -- a cell that begins
 module _ (p : ℕ) (before : List Event) (b after : Board) (a : ElementActivating) (s : HasOrderedCells p before b) where
@@ -63,7 +68,7 @@ module _ (p : ℕ) (before : List Event) (b after : Board) (a : ElementActivatin
       → after_shown b (if t then Some (moves.Start (record { key = a.key; definition = a.definition })) else Some (moves.Enter (record { key = a.key; scope = a.scope; node = a.node; via = a.via }))) ≡ Some after
       → Between 1 (next_key p (before ++ events.ElementActivating a ∷ [])) after.cells
   activating_by true begins made =
-      let r = begun_is a.key a.definition (begun before) (both_left (option_map_or (λ (i : Begun). (i.key == a.key) && (i.definition == a.definition)) (begun before) false) _ (both_left _ _ begins)) in
+      let r = begun_is a.key a.definition (left before) (both_left (leaves_root a.key a.definition (left before)) _ (both_left _ _ begins)) in
       let k = s.begins r.0 r.1 in
       let more = next_key_more p before (events.ElementActivating a) in
       between_played 1 r.0.key b k.0 after (moves.Start (record { key = a.key; definition = a.definition })) (next_key p (before ++ events.ElementActivating a ∷ [])) (omega (arith, k.1, more)) (omega (arith, r.2), omega (arith, r.2, k.1, more)) made
@@ -88,21 +93,31 @@ keys_between p before b (events.JobErrorThrown t) after h s =
     between_shown 1 (next_key p before) b after (shown before e) (next_key p (before ++ e ∷ [])) s.between (next_key_more p before e) (job_shows (λ (m : Option Move). IfSome (option_and_then key_made m) (λ key. (next_key p before ≤ key) × (key < next_key p (before ++ e ∷ [])))) (λ j. moves.Throw (record { cell = j.cell; code = t.code })) (job_at t.key before) tt (λ j. tt)) h.leads
 keys_between p before b e after h s = between_shown 1 (next_key p before) b after (shown before e) (next_key p (before ++ e ∷ [])) s.between (next_key_more p before e) tt h.leads
 
-keys_begin : (p : ℕ) (before : List Event) (b : Board) (e : Event) (after : Board) → Advances p before b e after → HasOrderedCells p before b → (i : Begun) → begun_told e ≡ Some i → Between 1 i.key after.cells × (i.key < next_key p (before ++ e ∷ []))
+abbrev root_key : Left → ℕ
+root_key (lefts.Root i) = i.key
+root_key other = 0
+
+-- a cancel is no root
+no_root : (found : Option Job) (i : Begun) → option_map_or (λ (j : Job). lefts.Cancels j.key) found lefts.Nothing ≡ lefts.Root i → ⊥
+no_root None i is = cc
+no_root (Some j) i is = cc
+
+keys_begin : (p : ℕ) (before : List Event) (b : Board) (e : Event) (after : Board) → Advances p before b e after → HasOrderedCells p before b → (i : Begun) → left_told before e ≡ lefts.Root i → Between 1 i.key after.cells × (i.key < next_key p (before ++ e ∷ []))
 keys_begin p before b (events.ProcessInstanceCreationCreated c) after h s i is =
     let fresh = both_left (is_fresh p before c.key) _ h.own in
     let f = fresh_is p before c.key fresh in
     let below = fresh_below p before (events.ProcessInstanceCreationCreated c) c.key fresh (first_named p c.key (c.definition ∷ [])) in
     let same : b ≡ after = (let led : Some b ≡ Some after = h.leads in cc) in
-    let its : c.key ≡ i.key = (let told : Some (record { key = c.key; definition = c.definition }) ≡ Some i = is in ap (λ (o : Option Begun). option_map_or (λ (x : Begun). x.key) o 0) told) in
+    let its : c.key ≡ i.key = ap root_key is in
     (subst (λ (x : Board). Between 1 i.key x.cells) same (subst (λ (k : ℕ). Between 1 k b.cells) (sym f.1 ∙ its) s.between), omega (arith, below, its))
+keys_begin p before b (events.ElementTerminating key) after h s i is = absurd (no_root (job_on key before) i is)
 keys_begin p before b e after h s i is = absurd (cc)
 
 -- an event that applies keeps them in order
 pub stands_on : (p : ℕ) (before : List Event) (b : Board) (e : Event) (after : Board) → Advances p before b e after → HasOrderedCells p before b → HasOrderedCells p (before ++ e ∷ []) after
 stands_on p before b e after h s = record {
   between = keys_between p before b e after h s;
-  begins = λ i is. keys_begin p before b e after h s i (sym (begun_more before e) ∙ is);
+  begins = λ i is. keys_begin p before b e after h s i (sym (left_more before e) ∙ is);
 }
 
 -- they are in order where there are none

@@ -4,6 +4,7 @@ pub mod GrowthLaws
 pub mod GivenJobLaws
 pub mod DueLaws
 pub mod MadeLaws
+pub mod KindsLaws
 pub mod CellsLaws
 pub mod AppliedLaws
 pub mod LegalLaws
@@ -19,7 +20,6 @@ pub mod OpeningsLaws
 pub mod TimedLaws
 pub mod CatchLaws
 pub mod TriggerLaws
-pub mod OrdinaryLaws
 pub mod OnTimeLaws
 pub mod SendingLaws
 pub mod GatewayLaws

@@ -43,6 +43,11 @@ module _ {A B : Type 0} (Q : B → Type 0) where
   mapped_holds f None y each made = absurd (cc)
   mapped_holds f (Some x) y each made = let same : f x ≡ y = cc in subst Q same (each x refl)
 
+-- what is mapped passes a test, if anything is
+pub mapped_passes : {A B : Type 0} (test : B → Bool) (make : A → B) → ((x : A) → IsTrue (test (make x))) → (found : Option A) → option_map_or test (option_map make found) true ≡ true
+mapped_passes test make passes None = refl
+mapped_passes test make passes (Some x) = passes x
+
 module _ {B : Type 0} (Q : B → Type 0) where
   -- and of what is there under a test
   tested_holds : (t : Bool) (x y : B) → (IsTrue t → Q x) → (if t then Some x else None) ≡ Some y → Q y

@@ -14,7 +14,6 @@ use Rattle.zb_views.specs.Jobs.{jobs, job_on}
 use Rattle.zb_views.proofs.JobLaws.{jobs_kept}
 use Rattle.zb_views.specs.View.{keys_in, greatest_among, greatest_counter, next_key}
 use Rattle.zb_tokens.specs.declared.board.Assigned.{Assigned}
-use Rattle.zb_tokens.specs.declared.board.Assignments.{Assignments}
 use Rattle.zb_tokens.specs.declared.board.Cell.{Cell}
 use Rattle.zb_tokens.specs.declared.board.Incident.{Incident}
 use Rattle.zb_tokens.specs.declared.board.Move.{Move}
@@ -36,7 +35,6 @@ use Rattle.zb_tokens.proofs.ForcedLaws.{IsMover, mover_known}
 use Rattle.zb_tokens.specs.Game.{fits, played}
 use Rattle.zb_tokens.proofs.GameLaws.{both_left, both_right, holds_some, found_holds}
 use Rattle.zb_tokens.specs.Incidents.{Hindrance, incident_on, is_stuck}
-use Rattle.zb_tokens.specs.Mappings.{assignments_of}
 use Rattle.zb_tokens.specs.declared.board.Triggered.{Triggered}
 use Rattle.zb_tokens.specs.Errors.{caught}
 use Rattle.zb_tokens.specs.Catches.{opened_with}
@@ -46,50 +44,17 @@ use Rattle.zb_tokens.specs.MoveOpen.{start_tokens}
 use Rattle.zb_tokens.specs.Marks.{error_of}
 use Rattle.zb_tokens.specs.Work.{work_of, work_at, may_have_job}
 use Rattle.zb_rules.specs.Shown.{shown, board_of, event_of}
-use Rattle.zb_rules.specs.Applies.{holds_of_game, applies, all_apply}
-use Rattle.zb_rules.specs.Create.{variable_event}
-use Rattle.zb_rules.specs.Update.{is_named_in, set_in, place_of, set_by, set_each}
-use Rattle.zb_rules.specs.InFront.{set_all, events_in_front}
-use Rattle.zb_rules.specs.Sound.{HasKeys, keys_of_turn, IsAwaited, HasSoundJobs, HasSoundTimers}
+use Rattle.zb_rules.specs.Applies.{applies, all_apply}
+use Rattle.zb_rules.specs.Sound.{HasKeys, keys_of_turn, IsAwaited, HasSoundJobs}
+use Rattle.zb_rules.proofs.KindsLaws.{EachOf, sets_variable}
 use Rattle.zb_rules.proofs.MadeLaws.{is_keyed, made_holds, mapped_holds}
 use Rattle.zb_rules.proofs.AppliedLaws.{Advances, some_of, applied_board, board_behind}
 use Rattle.zb_rules.proofs.ScopesLaws.{at_cell, edited_found}
 use Rattle.zb_rules.proofs.PlacedLaws.{key_found}
 use Rattle.zb_rules.proofs.SoundLaws.{BoardKeeps, keeps_on}
 use Rattle.zb_rules.proofs.NamedLaws.{counted_below, keys_left, found_below}
+use Rattle.zb_rules.proofs.TimerSoundLaws.{HasSoundTimers}
 use Rattle.zb_rules.proofs.BehindLaws.{MayHaveWork, MayInterrupt, MayFollow}
-
--- these events set variables, and do nothing else
-abbrev pub AreVariables : List Event → Type 0
-AreVariables [] = Unit {0}
-AreVariables (events.VariableCreated e ∷ es) = AreVariables es
-AreVariables (events.VariableUpdated e ∷ es) = AreVariables es
-AreVariables (e ∷ es) = ⊥
-
-set_are : (t : Bool) (cell : ℕ) (v : Variable) (rest : List Event) → AreVariables rest
-    → AreVariables ((if t then events.VariableUpdated (record { scope = cell; name = v.name; value = v.value }) ∷ [] else variable_event cell v ∷ []) ++ rest)
-set_are true cell v rest are = are
-set_are false cell v rest are = are
-
-place_are : (place : Option ℕ) (v : Variable) (es rest : List Event) → AreVariables rest → AreVariables (option_map_or (λ cell. set_in cell v es) place [] ++ rest)
-place_are None v es rest are = are
-place_are (Some cell) v es rest are = set_are (holds_of_game (is_named_in cell v.name) es) cell v rest are
-
--- the events by which variables are set one by one set variables
-pub each_are : (local : Bool) (scope : ℕ) (vs : List Variable) (es : List Event) → AreVariables (set_each local scope vs es)
-each_are local scope [] es = tt
-each_are local scope (v ∷ vs) es =
-    let made = set_by local scope v es in
-    place_are (place_of local scope v.name es) v es (set_each local scope vs (es ++ made)) (each_are local scope vs (es ++ made))
-
--- and so do those by which some are set, if any are
-pub all_are : (assignments : Option Assignments) (es : List Event) → AreVariables (option_map_or (λ s. set_all s es) assignments [])
-all_are None es = tt
-all_are (Some s) es = each_are s.local s.scope s.variables es
-
--- the events in front of that of a move set variables
-pub front_are : (b : Board) (move : Move) (es : List Event) → AreVariables (events_in_front b move es)
-front_are b move es = all_are (assignments_of b move) es
 
 -- behind events that set variables and apply as many keys are left, and the incidents are as they were
 pub record IsSetBehind (p : ℕ) (es : List Event) (b : Board) (made : List Event) : Type 0 where
@@ -126,7 +91,7 @@ one_set p es b e made move key is k keys first shows stay named there rest =
     }
 
 -- where variables were set in front, the board is as it was but for them
-pub set_behind : (p : ℕ) (made es : List Event) (b : Board) → AreVariables made → board_of es ≡ Some b → BoardKeeps p es b → HasKeys p es keys_of_turn → IsTrue (all_apply p es made) → IsSetBehind p es b made
+pub set_behind : (p : ℕ) (made es : List Event) (b : Board) → EachOf sets_variable made → board_of es ≡ Some b → BoardKeeps p es b → HasKeys p es keys_of_turn → IsTrue (all_apply p es made) → IsSetBehind p es b made
 set_behind p [] es b are is k keys apply = record {
   after = b;
   is = rw (append-nil es) is;
@@ -137,12 +102,12 @@ set_behind p [] es b are is k keys apply = record {
 set_behind p (events.VariableCreated e ∷ made) es b are is k keys apply =
     let a : Assigned = record { scope = e.scope; name = e.name; value = e.value } in
     one_set p es b (events.VariableCreated e) made (moves.Assign a) e.scope is k keys (both_left _ _ apply) refl (λ after led. incidents_stay b after (moves.Assign a) refl led) refl
-    (λ fit. holds_some _ (cell_at b e.scope) fit) (λ after its keeps left. set_behind p made (es ++ events.VariableCreated e ∷ []) after are its keeps left (both_right (applies p es (events.VariableCreated e)) _ apply))
+    (λ fit. holds_some _ (cell_at b e.scope) fit) (λ after its keeps left. set_behind p made (es ++ events.VariableCreated e ∷ []) after are.1 its keeps left (both_right (applies p es (events.VariableCreated e)) _ apply))
 set_behind p (events.VariableUpdated e ∷ made) es b are is k keys apply =
     let a : Assigned = record { scope = e.scope; name = e.name; value = e.value } in
     one_set p es b (events.VariableUpdated e) made (moves.Update a) e.scope is k keys (both_left _ _ apply) refl (λ after led. incidents_stay b after (moves.Update a) refl led) refl
-    (λ fit. holds_some _ (cell_at b e.scope) fit) (λ after its keeps left. set_behind p made (es ++ events.VariableUpdated e ∷ []) after are its keeps left (both_right (applies p es (events.VariableUpdated e)) _ apply))
-set_behind p (_ ∷ made) es b are is k keys apply = absurd are
+    (λ fit. holds_some _ (cell_at b e.scope) fit) (λ after its keeps left. set_behind p made (es ++ events.VariableUpdated e ∷ []) after are.1 its keeps left (both_right (applies p es (events.VariableUpdated e)) _ apply))
+set_behind p (_ ∷ made) es b are is k keys apply = let sets = are.0 in absurd (cc)
 
 -- a cell is forced to become active only where no incident stands on it
 open_of : (k key : ℕ) (c : Cell) (inputs : Result (List Variable) Hindrance) → Some (open_by k c inputs) ≡ Some (moves.Open key) → c.key ≡ key

@@ -6,7 +6,7 @@ use Rattle.std.proofs.lemmas.Bool.Decides.{nat_tests}
 use Rattle.std.proofs.lemmas.Grind.{flat_map-append}
 use Rattle.std.proofs.lemmas.List.{map-append}
 use Rattle.std.proofs.lemmas.List.Folds.{find-append}
-use Rattle.zb_instance_records.specs.declared.deployment.ProcessCreated.{ProcessCreated}
+use Rattle.zb_instance_records.specs.declared.deployment.ProcessDefinition.{ProcessDefinition}
 use Rattle.zb_model.specs.declared.record.Event.{Event}
 use Rattle.zb_model.specs.declared.record.Event.TheVariants as events
 use Rattle.zb_views.proofs.ToldLaws.{last_told_more}
@@ -31,15 +31,15 @@ found_of_made {A} {B} make passes (x ∷ xs) = by_test (passes (make x)) (found_
     by_test false later = later
 
 -- the definition that a process is, and its model
-abbrev pub as_definition : ProcessCreated → Definition
+abbrev pub as_definition : ProcessDefinition → Definition
 as_definition c = record { key = c.key; version = c.version; process = c.model.process }
 
 -- the deployment that a process is of, with its model
-abbrev pub deployed_by : ProcessCreated → Deployed
+abbrev pub deployed_by : ProcessDefinition → Deployed
 deployed_by c = record { key = c.key; model = c.model }
 
 -- it has this key
-abbrev pub has_key : ℕ → ProcessCreated → Bool
+abbrev pub has_key : ℕ → ProcessDefinition → Bool
 has_key key c = c.key == key
 
 -- the definitions are theirs
@@ -56,7 +56,7 @@ definitions_are (e ∷ es) =
     ∙ sym (map-append as_definition (processes_told e) (processes es)))
 
 processes_more : (es : List Event) (e : Event) → processes (es ++ e ∷ []) ≡ processes es ++ processes_told e
-processes_more es e = flat_map-append processes_told es (e ∷ []) ∙ ap (λ (l : List ProcessCreated). processes es ++ l) (append-nil (processes_told e))
+processes_more es e = flat_map-append processes_told es (e ∷ []) ∙ ap (λ (l : List ProcessDefinition). processes es ++ l) (append-nil (processes_told e))
 
 -- and so are the models; the last process with a key is the only one
 pub record AreRecorded (es : List Event) (b : Board) : Type 0 where
@@ -76,7 +76,7 @@ not_there None is = refl
 not_there (Some x) is = absurd (cc)
 
 -- a process that comes has a key that no other one has
-new_key : (p : ℕ) (before : List Event) (b : Board) (c : ProcessCreated) (after : Board) → Advances p before b (events.ProcessCreated c) after → AreRecorded before b → find (has_key c.key) (processes before) ≡ None
+new_key : (p : ℕ) (before : List Event) (b : Board) (c : ProcessDefinition) (after : Board) → Advances p before b (events.ProcessCreated c) after → AreRecorded before b → find (has_key c.key) (processes before) ≡ None
 new_key p before b c after h r =
     let new : model_under b c.key ≡ None = not_there (model_under b c.key) h.fit in
     let none : find (λ (d : Deployed). d.key == c.key) b.models ≡ None = none_of (λ (d : Deployed). d.model) (find (λ (d : Deployed). d.key == c.key) b.models) new in

@@ -1,17 +1,10 @@
 -- Who is forced has an event that applies; where nobody is, the game is quiet.
-use Rattle.std.proofs.Common.{◌≡◌, ℕ, ◌-◌, ◌==◌, List, [], ◌∷◌, ◌++◌, map, Bool, true, false, if◌then◌else◌, IsTrue, is_some, Option, Some, None, ◌↔◌, refl, sym, ap, ◌∙◌, subst, append-nil, append_assoc, arith}
-use Rattle.std.specs.List.{find, range_with_len}
+use Rattle.std.proofs.Common.{◌≡◌, ℕ, ◌==◌, List, [], ◌∷◌, ◌++◌, true, false, IsTrue, is_some, Option, Some, None, ◌↔◌, refl, sym, ap, ◌∙◌, subst, append-nil, append_assoc, arith}
+use Rattle.std.specs.List.{find}
 use Rattle.std.proofs.lemmas.Bool.Decides.{nat_tests}
 use Rattle.zb_instance_records.specs.declared.instance.Role.TheVariants as roles
-use Rattle.zb_base.specs.declared.vars.Variable.{Variable}
-use Rattle.zb_process.specs.declared.model.Model.{Model}
-use Rattle.zb_instance_records.specs.declared.instance.ProcessInstanceCreationCreate.{ProcessInstanceCreationCreate}
-use Rattle.zb_instance_records.specs.declared.happening.VariableDocumentUpdate.{VariableDocumentUpdate}
-use Rattle.zb_exchange_records.specs.declared.job.JobFail.{JobFail}
-use Rattle.zb_exchange_records.specs.declared.message.MessagePublish.{MessagePublish}
 use Rattle.zb_model.specs.declared.record.Command.{Command}
 use Rattle.zb_model.specs.declared.record.Command.TheVariants as commands
-use Rattle.zb_views.specs.Definitions.{definition_for}
 use Rattle.zb_model.specs.declared.record.Event.{Event}
 use Rattle.zb_model.specs.declared.record.Event.TheVariants as events
 use Rattle.zb_views.specs.View.{next_key}
@@ -29,18 +22,18 @@ use Rattle.zb_tokens.proofs.ForcedLaws.{movers_move, movers_fit, movers_agree}
 use Rattle.zb_rules.specs.Shown.{shown, board_of, event_of}
 use Rattle.zb_rules.specs.Applies.{is_fresh, holds_own, holds_of_game, applies, all_apply, is_definition_of}
 use Rattle.zb_rules.specs.InFront.{events_in_front}
-use Rattle.zb_rules.specs.Behind.{canceled, resolved_on, events_behind, with_events_behind, timers_canceled_on}
+use Rattle.zb_rules.specs.Behind.{job_canceled_on, resolved_on, events_behind, with_events_behind, timers_canceled_on}
 use Rattle.zb_rules.specs.Settling.{turn_of, turn, HasQuietGame}
 use Rattle.zb_rules.specs.Legal.{AllLegal, EachLegal}
 use Rattle.zb_rules.specs.Reason.{reason_for}
 use Rattle.zb_rules.specs.Own.{IsSupported, keys_for, own_events}
-use Rattle.zb_rules.specs.Deploy.{sent_to, deployed}
+use Rattle.zb_rules.specs.Deploy.{deployed}
 use Rattle.zb_rules.specs.Distribute.{distributed}
 use Rattle.zb_rules.specs.Acknowledge.{acknowledged}
-use Rattle.zb_rules.specs.Create.{created, variable_event, instance_under}
+use Rattle.zb_rules.specs.Create.{created}
 use Rattle.zb_rules.specs.Cancel.{reason_to_cancel, cancelled}
-use Rattle.zb_rules.specs.Update.{set_each, updated}
-use Rattle.zb_rules.specs.Publish.{published_under, published}
+use Rattle.zb_rules.specs.Update.{updated}
+use Rattle.zb_rules.specs.Publish.{published}
 use Rattle.zb_rules.specs.Expire.{expired}
 use Rattle.zb_rules.specs.Resolve.{resolved}
 use Rattle.zb_rules.specs.Activate.{activated}
@@ -49,15 +42,15 @@ use Rattle.zb_rules.specs.Fail.{failed}
 use Rattle.zb_rules.specs.Throw.{thrown}
 use Rattle.zb_rules.specs.Retries.{retried}
 use Rattle.zb_rules.specs.TimeOut.{timed_out}
-use Rattle.zb_rules.proofs.ActivateLaws.{activate_applies, activated_never}
-use Rattle.zb_rules.proofs.WorkerLaws.{complete_applies, throw_applies, fail_applies, retry_applies, time_out_applies, completed_never, thrown_never, failed_never}
-use Rattle.zb_rules.proofs.MadeLaws.{made_of_any}
-use Rattle.zb_rules.proofs.LegalLaws.{made_legally, NeverEvaluate, shows_none, shows_some, joined_never, legal_by, each_legal_by}
+use Rattle.zb_rules.proofs.ActivateLaws.{activate_applies}
+use Rattle.zb_rules.proofs.WorkerLaws.{complete_applies, throw_applies, fail_applies, retry_applies, time_out_applies}
+use Rattle.zb_rules.proofs.KindsLaws.{front_are, front_beside, behind_beside, own_kinds}
+use Rattle.zb_rules.proofs.LegalLaws.{made_legally, own_never, beside_never, legal_by, each_legal_by}
 use Rattle.zb_rules.proofs.StepLaws.{all_apply_on, all_legal_on}
-use Rattle.zb_rules.proofs.FrontLaws.{each_never, front_never, begins_end, front_begins_no_end, in_front}
-use Rattle.zb_rules.proofs.BehindLaws.{MayHaveWork, MayFollow, resolve_applies, canceled_apply, behind_apply, resolved_never, behind_never, sound_over}
+use Rattle.zb_rules.proofs.FrontLaws.{begins_end, front_begins_no_end, in_front}
+use Rattle.zb_rules.proofs.BehindLaws.{MayHaveWork, MayFollow, resolve_applies, canceled_apply, behind_apply, sound_over}
 use Rattle.zb_rules.proofs.CellsLaws.{ascend_between}
-use Rattle.zb_rules.proofs.OpenedLaws.{IsSetBehind, set_behind, front_are, opens_free, opened_may_work, follows_by}
+use Rattle.zb_rules.proofs.OpenedLaws.{IsSetBehind, set_behind, opens_free, opened_may_work, follows_by}
 use Rattle.zb_rules.proofs.ModelsLaws.{Knows, board_knows}
 use Rattle.zb_rules.proofs.OwnLaws.{publish_applies, expire_applies}
 use Rattle.zb_rules.proofs.DeployLaws.{deploy_applies, distribute_applies, acknowledge_applies}
@@ -69,10 +62,9 @@ use Rattle.zb_rules.proofs.MoversLaws.{IsMade, mover_made, found_key, from_none,
 use Rattle.zb_rules.proofs.AppliedLaws.{Advances, applied_from, some_of, game_holds_from, applied_board, board_behind}
 use Rattle.zb_rules.proofs.SoundLaws.{BoardKeeps, board_is_there, cells_ascend, keeps_on, board_keeps}
 use Rattle.zb_rules.proofs.IncidentsLaws.{none_behind}
-use Rattle.zb_views.specs.Jobs.{called_off}
-use Rattle.zb_views.specs.Distributions.{is_distributed}
+use Rattle.zb_views.specs.Jobs.{job_on}
 use Rattle.zb_rules.specs.Trigger.{triggered}
-use Rattle.zb_rules.proofs.TriggerLaws.{told_halts, trigger_applies, triggered_never}
+use Rattle.zb_rules.proofs.TriggerLaws.{told_halts, trigger_applies}
 use Rattle.zb_rules.proofs.TimerSoundLaws.{canceled_on_apply}
 
 module _ (p moment : ℕ) (es : List Event) (b : Board) (mover : Mover) (is : board_of es ≡ Some b) (k : BoardKeeps p es b) where
@@ -210,10 +202,10 @@ module _ (p moment : ℕ) (es : List Event) (b : Board) (mover : Mover) (is : bo
       let fit : IsTrue (fits s.after (moves.Trigger t)) = (let h = r.1.fit in rw shows at h) in
       let led : played s.after (moves.Trigger t) ≡ Some r.0 = (let h = r.1.leads in rw shows at h) in
       record { halts = told_halts p (es ++ front) s.after r.0 t s.keeps fit led; apart = keeps.incidents.apart; timed = keeps.timers }) keeps.timers in
-      let second = behind_apply p ((es ++ front) ++ f.event ∷ []) r.0 after_is moment (es ++ front) f.event may in (
+      let second = behind_apply p moment (es ++ front) f.event r.0 after_is may in (
         rw (all_apply_on p es front (f.event ∷ behind), ahead, first) second,
-        all_legal_on moment es es front (f.event ∷ behind) (legal_by p moment es b is es front (front_never b f.move es) ahead)
-            (made_legally p moment es b is (es ++ front) f.event first agrees_there, legal_by p moment es b is ((es ++ front) ++ f.event ∷ []) behind (behind_never p moment (es ++ front) f.event ((es ++ front) ++ f.event ∷ [])) second),
+        all_legal_on moment es es front (f.event ∷ behind) (legal_by p moment es b is es front (beside_never front (front_beside b f.move es)) ahead)
+            (made_legally p moment es b is (es ++ front) f.event first agrees_there, legal_by p moment es b is ((es ++ front) ++ f.event ∷ []) behind (beside_never behind (behind_beside p moment (es ++ front) f.event ((es ++ front) ++ f.event ∷ []))) second),
       )
 
 turn_by : (p moment : ℕ) (es : List Event) (b : Board) (next : Option Mover) (made : List Event) → IsTrue (all_apply p [] es) → HasKeys p es keys_of_turn → board_of es ≡ Some b → next_mover b ≡ next → turn p moment es ≡ Some made
@@ -249,12 +241,13 @@ module _ (p moment : ℕ) (es : List Event) (key : ℕ) (apply : IsTrue (all_app
       let r = applied_board p es b begins is first in
       let k = keeps_on p es b begins r.0 r.1 (board_keeps p es b apply is) in
       let over = es ++ begins ∷ [] in
-      let called = canceled_apply p over r.0 (board_behind p es b begins r.0 r.1) in
-      let next = over ++ canceled over in
+      let gone = canceled_apply p es key r.0 (board_behind p es b begins r.0 r.1) in
+      let off = job_canceled_on es key over in
+      let next = over ++ off in
       let closed = timers_canceled_on key next in
-      let timed = canceled_on_apply p next r.0 key called.1 (sound_over p over (called_off over) k.timers) in
+      let timed = canceled_on_apply p next r.0 key gone.1 (sound_over p over (job_on key es) k.timers) in
       let line : (next ++ closed) ++ resolved_on key (next ++ closed) ≡ es ++ begins ∷ events_behind p moment es begins over =
-      append_assoc next closed (resolved_on key (next ++ closed)) ∙ (append_assoc over (canceled over) (closed ++ resolved_on key (next ++ closed)) ∙ append_assoc es (begins ∷ []) (canceled over ++ (closed ++ resolved_on key (next ++ closed)))) in
+      append_assoc next closed (resolved_on key (next ++ closed)) ∙ (append_assoc over off (closed ++ resolved_on key (next ++ closed)) ∙ append_assoc es (begins ∷ []) (off ++ (closed ++ resolved_on key (next ++ closed)))) in
       none_behind (next ++ closed) r.0 key timed.1 k.incidents.apart after (ap board_of line ∙ led)
 
   -- no event stands in front of it, so it is the one that is forced
@@ -301,91 +294,11 @@ module _ (p moment : ℕ) (es : List Event) (key : ℕ) (apply : IsTrue (all_app
 -- a command that is run has own events
 pub own_there : (p n : ℕ) (es : List Event) (moment : ℕ) (command : Command) → IsSupported command → reason_for es moment command ≡ None → IsTrue (is_some (own_events p n es moment command))
 own_there p n es moment (commands.DeploymentCreate m) supported none = refl
-own_there p n es moment (commands.ProcessInstanceCreationCreate c) supported none = refl
-own_there p n es moment (commands.ProcessInstanceCancel key) supported none = refl
-own_there p n es moment (commands.VariableDocumentUpdate c) supported none = refl
-own_there p n es moment (commands.JobBatchActivate c) supported none = refl
-own_there p n es moment (commands.JobComplete c) supported none = refl
-own_there p n es moment (commands.JobFail c) supported none = refl
-own_there p n es moment (commands.JobThrowError c) supported none = refl
-own_there p n es moment (commands.JobUpdateRetries c) supported none = refl
-own_there p n es moment (commands.JobTimeOut key) supported none = refl
-own_there p n es moment (commands.TimerTrigger key) supported none = refl
-own_there p n es moment (commands.IncidentResolve key) supported none = refl
-own_there p n es moment (commands.MessagePublish c) supported none = refl
-own_there p n es moment (commands.MessageExpire key) supported none = refl
-own_there p n es moment commands.ProcessInstanceBatchContinue supported none = refl
-own_there p n es moment (commands.DeploymentDistribute c) supported none = refl
-own_there p n es moment (commands.CommandDistributionAcknowledge c) supported none = refl
-own_there p n es moment _ supported none = absurd supported
-
-variables_never : (root : ℕ) (vs : List Variable) → NeverEvaluate (map (variable_event root) vs)
-variables_never root [] = tt
-variables_never root (v ∷ vs) = (λ before b moment move is. shows_some b moment (moves.Assign (record { scope = root; name = v.name; value = v.value })) move refl is, variables_never root vs)
-
-instance_never : (key definition : ℕ) (c : ProcessInstanceCreationCreate) → NeverEvaluate (instance_under key definition c)
-instance_never key definition c = (
-  λ before b moment move is. shows_none b moment move is,
-  (λ before b moment move is. shows_some b moment (moves.Start (record { key = key; definition = definition })) move refl is, variables_never key c.variables),
-)
-
-sent_never : (definition : ℕ) (qs : List ℕ) → NeverEvaluate (map (sent_to definition) qs)
-sent_never definition [] = tt
-sent_never definition (q ∷ qs) = (λ before b moment move is. shows_none b moment move is, sent_never definition qs)
-
-deployed_never : (p n : ℕ) (m : Model) (before : List Event) → NeverEvaluate (deployed p n m before)
-deployed_never p n m es = (
-  λ before b moment move is. shows_some b moment (moves.Stand (record { key = next_key p es; model = m })) move refl is,
-  (λ before b moment move is. shows_none b moment move is, sent_never (next_key p es) (range_with_len 2 (n - 1))),
-)
-
-finished_never : (t : Bool) (definition : ℕ) → NeverEvaluate (if t then [] else events.CommandDistributionFinished definition ∷ [])
-finished_never true definition = tt
-finished_never false definition = (λ before b moment move is. shows_none b moment move is, tt)
-
-expiry_never : (t : Bool) (key : ℕ) → NeverEvaluate (if t then events.MessageExpired key ∷ [] else [])
-expiry_never true key = (λ before b moment move is. shows_none b moment move is, tt)
-expiry_never false key = tt
-
-published_never : (key moment : ℕ) (c : MessagePublish) → NeverEvaluate (published_under key moment c)
-published_never key moment c = (λ before b moment move is. shows_none b moment move is, expiry_never (c.time_to_live == 0) key)
-
-updated_never : (c : VariableDocumentUpdate) (es : List Event) → NeverEvaluate (updated c es)
-updated_never c es = joined_never (set_each c.local c.scope c.variables es) (events.VariableDocumentUpdated c.scope ∷ []) (each_never c.local c.scope c.variables es) (λ before b moment move is. shows_none b moment move is, tt)
-
-some_never : (made own : List Event) → NeverEvaluate made → Some made ≡ Some own → NeverEvaluate own
-some_never made own never is = subst NeverEvaluate (let same : made ≡ own = cc in same) never
-
-failure_never : (p : ℕ) (c : JobFail) (es own : List Event) → IsTrue (all_apply p es own) → failed p c es ≡ own → NeverEvaluate own
-failure_never p c es own apply is = subst NeverEvaluate is (failed_never p c es (subst (λ (x : List Event). IsTrue (all_apply p es x)) (sym is) apply))
-
-own_never : (p n : ℕ) (es : List Event) (moment : ℕ) (command : Command) (own : List Event) → IsTrue (all_apply p es own) → own_events p n es moment command ≡ Some own → NeverEvaluate own
-own_never p n es moment (commands.DeploymentCreate m) own apply is = some_never (deployed p n m es) own (deployed_never p n m es) is
-own_never p n es moment (commands.ProcessInstanceCreationCreate c) own apply is =
-    some_never (created p c es) own (made_of_any NeverEvaluate (λ d. instance_under (next_key p es) d.key c) (definition_for c.process c.version es) tt (λ d found. instance_never (next_key p es) d.key c)) is
-own_never p n es moment (commands.ProcessInstanceCancel key) own apply is =
-    some_never (cancelled p moment key es) own (λ before b moment move is. shows_some b moment (moves.Halt key) move refl is, behind_never p moment es (events.ElementTerminating key) (es ++ events.ElementTerminating key ∷ [])) is
-own_never p n es moment (commands.VariableDocumentUpdate c) own apply is = some_never (updated c es) own (updated_never c es) is
-own_never p n es moment (commands.JobBatchActivate c) own apply is = some_never (activated p moment c es) own (activated_never p moment c es) is
-own_never p n es moment (commands.JobComplete c) own apply is = some_never (completed c es) own (completed_never c es) is
-own_never p n es moment (commands.JobFail c) own apply is = failure_never p c es own apply (let same : failed p c es ≡ own = cc in same)
-own_never p n es moment (commands.JobThrowError c) own apply is = some_never (thrown c es) own (thrown_never c es) is
-own_never p n es moment (commands.JobUpdateRetries c) own apply is = some_never (retried c es) own (λ before b moment move is. shows_none b moment move is, tt) is
-own_never p n es moment (commands.JobTimeOut key) own apply is = some_never (timed_out key es) own (λ before b moment move is. shows_none b moment move is, tt) is
-own_never p n es moment (commands.TimerTrigger key) own apply is = some_never (triggered p moment key es) own (triggered_never p moment key es) is
-own_never p n es moment (commands.IncidentResolve key) own apply is = some_never (resolved key es) own (resolved_never key es) is
-own_never p n es moment (commands.MessagePublish c) own apply is = some_never (published p moment c es) own (published_never (next_key p es) moment c) is
-own_never p n es moment (commands.MessageExpire key) own apply is = some_never (expired key es) own (λ before b moment move is. shows_none b moment move is, tt) is
-own_never p n es moment commands.ProcessInstanceBatchContinue own apply is = some_never [] own tt is
-own_never p n es moment (commands.DeploymentDistribute c) own apply is =
-    some_never (distributed c es) own (λ before b moment move is. shows_some b moment (moves.Stand (record { key = c.key; model = c.model })) move refl is, tt) is
-own_never p n es moment (commands.CommandDistributionAcknowledge c) own apply is =
-    some_never (acknowledged c es) own (λ before b moment move is. shows_none b moment move is, finished_never (is_distributed c.key (es ++ events.CommandDistributionAcknowledged (record { key = c.key; partition = c.partition }) ∷ [])) c.key) is
-own_never p n es moment _ own apply is = absurd (cc)
+own_there p n es moment command supported none = search
 
 -- each of the moves that own events show is legal
 pub own_legal : (p n : ℕ) (es : List Event) (moment : ℕ) (command : Command) (own : List Event) → IsTrue (all_apply p es own) → own_events p n es moment command ≡ Some own → EachLegal moment es own
-own_legal p n es moment command own apply is = each_legal_by p moment es own (own_never p n es moment command own apply is) apply
+own_legal p n es moment command own apply is = each_legal_by p moment es own (own_never command own (own_kinds p n moment es command own is)) apply
 
 -- the own events of a command without a reason apply
 own_apply_by : (p n : ℕ) (es : List Event) (b : Board) (moment : ℕ) (command : Command) (own : List Event) → board_of es ≡ Some b → IsTrue (all_apply p [] es) → BoardKeeps p es b → Knows p es b → HasKeys p es (keys_for command) → HasOrderedNames command

@@ -17,8 +17,8 @@ use Rattle.zb_tokens.specs.declared.board.Deployed.{Deployed}
 use Rattle.zb_rules.proofs.ModelsLaws.{HasFormedModels, formed_on}
 use Rattle.zb_rules.specs.Shown.{shown, board_of}
 use Rattle.zb_rules.specs.Applies.{is_fresh, begins_instance, begins_cell, all_apply}
-use Rattle.zb_rules.specs.Sound.{IsSound, HasSoundJobs, HasSoundTimers}
-use Rattle.zb_rules.proofs.TimerSoundLaws.{timers_sound_on, timers_sound_first}
+use Rattle.zb_rules.specs.Sound.{IsSound, HasSoundJobs}
+use Rattle.zb_rules.proofs.TimerSoundLaws.{HasSoundTimers, timers_sound_on, timers_sound_first}
 use Rattle.zb_rules.proofs.CellsLaws.{Between, ascend_between}
 use Rattle.zb_rules.proofs.GrowthLaws.{job_shows}
 use Rattle.zb_rules.proofs.AppliedLaws.{Advances, holds_on, holds_of_all}

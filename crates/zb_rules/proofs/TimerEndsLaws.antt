@@ -9,8 +9,9 @@ use Rattle.zb_model.specs.declared.record.Event.TheVariants as events
 use Rattle.zb_table.specs.Rows.{are_below}
 use Rattle.zb_table.proofs.Growing.{below_higher, below_more}
 use Rattle.zb_views.specs.declared.timer.Timer.{Timer}
-use Rattle.zb_views.specs.Timers.{timer_of, timer_told, ends_timer, timers, timers_made, times_timer_ended, fits_timers, all_fit_timers, timer_made, timers_left}
-use Rattle.zb_views.proofs.TimerLaws.{timers_more}
+use Rattle.zb_views.specs.Timers.{timer_of, timer_told, ends_timer, timers, timers_made, times_timer_ended, fits_timers, all_fit_timers}
+use Rattle.zb_views.specs.Standing.{begun_by}
+use Rattle.zb_views.proofs.TimerLaws.{timers_left, timers_more}
 use Rattle.zb_views.proofs.TimerEndsLaws.{keys_told, made_more, all_fit_more, timer_ends_once}
 use Rattle.zb_views.specs.View.{next_key}
 use Rattle.zb_tokens.specs.Board.{Board}
@@ -57,7 +58,7 @@ module _ (p : ℕ) (before : List Event) (b : Board) (k : KeepsTimers p before b
           below_more (λ k. k) (next_key p (before ++ events.TimerCreated c ∷ [])) (timers_made before) c.key (fresh_below p before (events.TimerCreated c) c.key fresh (first_named p c.key (c.cell ∷ []))) below
       by_event x own below = rw (append-nil (timers_made before)) below
 
-  made_home : (e : Event) → IsTrue (holds_own p before e) → All (λ (t : Timer). IsKeyOf p t.key) (timer_made (timer_told e))
+  made_home : (e : Event) → IsTrue (holds_own p before e) → All (λ (t : Timer). IsKeyOf p t.key) (begun_by (timer_told e))
   made_home (events.TimerCreated c) own = All-cons (λ (t : Timer). IsKeyOf p t.key) (timer_of c) [] (fresh_home p before c.key (both_left (is_fresh p before c.key) _ own)) (All-nil (λ (t : Timer). IsKeyOf p t.key))
   made_home e own = All-nil (λ (t : Timer). IsKeyOf p t.key)
 
@@ -73,7 +74,7 @@ keeps_timers p before b e after h k = record {
   drawn = subst (λ (ks : List ℕ). IsTrue (are_below (λ n. n) (next_key p (before ++ e ∷ [])) ks)) (sym (made_more before e)) (drawn_by p before b k e h.own);
   home =
       let Home : Timer → Type 0 = λ (t : Timer). IsKeyOf p t.key in
-      subst (All Home) (sym (timers_more before e)) (All-append Home (timers_left e (timers before)) (timer_made (timer_told e)) (All-filter (λ (t : Timer). not (ends_timer t.key e)) Home (timers before) k.home) (made_home p before b k e h.own));
+      subst (All Home) (sym (timers_more before e)) (All-append Home (timers_left e (timers before)) (begun_by (timer_told e)) (All-filter (λ (t : Timer). not (ends_timer t.key e)) Home (timers before) k.home) (made_home p before b k e h.own));
   ended = λ timer once. by_test timer (ends_timer timer e) refl once;
 }
   where

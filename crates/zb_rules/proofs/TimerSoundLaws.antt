@@ -8,10 +8,11 @@ use Rattle.zb_model.specs.declared.record.Event.{Event}
 use Rattle.zb_model.specs.declared.record.Event.TheVariants as events
 use Rattle.zb_table.specs.Rows.{Ascend, are_below}
 use Rattle.zb_table.proofs.Ascending.{ascend_more, finds_own, not_below}
-use Rattle.zb_waits.proofs.FoundLemmas.{ascend_kept}
+use Rattle.zb_waits.proofs.FoundLemmas.{ascend_kept, filter_all}
 use Rattle.zb_views.specs.declared.timer.Timer.{Timer}
-use Rattle.zb_views.specs.Timers.{timer_of, timer_told, ends_timer, timers, timers_on, timer_made, timers_left}
-use Rattle.zb_views.proofs.TimerLaws.{timers_more, left_all}
+use Rattle.zb_views.specs.Timers.{timer_of, timer_told, ends_timer, timers, timers_on}
+use Rattle.zb_views.specs.Standing.{begun_by}
+use Rattle.zb_views.proofs.TimerLaws.{timers_left, timers_more}
 use Rattle.zb_views.specs.View.{next_key}
 use Rattle.zb_tokens.specs.Board.{Board}
 use Rattle.zb_tokens.proofs.GameLaws.{both_left}
@@ -19,10 +20,14 @@ use Rattle.zb_rules.specs.Shown.{board_of}
 use Rattle.zb_rules.specs.Applies.{is_fresh, applies, all_apply}
 use Rattle.zb_rules.specs.TimerEvents.{has_timer}
 use Rattle.zb_rules.specs.Behind.{timers_canceled_on}
-use Rattle.zb_rules.specs.Sound.{HasSoundTimers}
 use Rattle.zb_rules.proofs.AppliedLaws.{Advances}
 use Rattle.zb_rules.proofs.KeysLaws.{fresh_is, next_key_more, first_named, fresh_below}
 use Rattle.zb_rules.proofs.OwnLaws.{silent_applies, board_after}
+
+-- the timers of a log of partition p: their keys ascend, and the partition draws none of them again (Zeebe, timers)
+pub record HasSoundTimers (p : ℕ) (es : List Event) : Type 0 where
+  pub ascend : Ascend (λ (t : Timer). t.key) 0 (timers es)
+  pub below : All (λ (t : Timer). t.key < next_key p es) (timers es)
 
 abbrev key_in : Timer → ℕ
 key_in t = t.key
@@ -48,7 +53,7 @@ module _ (p : ℕ) (before : List Event) (b : Board) (e : Event) (after : Board)
   -- an event that makes no timer
   left_sound : timer_told e ≡ None → HasSoundTimers p (before ++ e ∷ [])
   left_sound none =
-      let now : timers (before ++ e ∷ []) ≡ timers_left e (timers before) = timers_more before e ∙ (ap (λ (o : Option Timer). timers_left e (timers before) ++ timer_made o) none ∙ append-nil (timers_left e (timers before))) in
+      let now : timers (before ++ e ∷ []) ≡ timers_left e (timers before) = timers_more before e ∙ (ap (λ (o : Option Timer). timers_left e (timers before) ++ begun_by o) none ∙ append-nil (timers_left e (timers before))) in
       record {
         ascend = subst (Ascend key_in 0) (sym now) (ascend_kept key_in (λ t. not (ends_timer t.key e)) 0 (timers before) s.ascend);
         below = subst (All Below) (sym now) left_below;
@@ -60,7 +65,7 @@ made_sound p before b c after h s =
     let e = events.TimerCreated c in
     let fresh : IsTrue (is_fresh p before c.key) = both_left (is_fresh p before c.key) _ h.own in
     let its : c.key ≡ next_key p before = (fresh_is p before c.key fresh).1 in
-    let now : timers (before ++ e ∷ []) ≡ timers before ++ timer_of c ∷ [] = timers_more before e ∙ ap (λ (l : List Timer). l ++ timer_of c ∷ []) (left_all e (timers before) refl) in
+    let now : timers (before ++ e ∷ []) ≡ timers before ++ timer_of c ∷ [] = timers_more before e ∙ ap (λ (l : List Timer). l ++ timer_of c ∷ []) (filter_all (timers before)) in
     let under : are_below key_in c.key (timers before) ≡ true = all_below c.key (timers before) (subst (λ (k : ℕ). All (λ (t : Timer). t.key < k) (timers before)) (sym its) s.below) in
     record {
       ascend = subst (Ascend key_in 0) (sym now) (ascend_more key_in 0 (timers before) (timer_of c) (omega arith) s.ascend under);

@@ -1,4 +1,4 @@
--- The events by which a timer is triggered apply, and evaluate nothing; where a boundary event interrupts its cell, that may begin to terminate.
+-- The events by which a timer is triggered apply; where a boundary event interrupts its cell, that may begin to terminate.
 use Rattle.std.proofs.Common.{◌≡◌, ℕ, ◌==◌, nat_le, List, [], ◌∷◌, ◌++◌, filter, Bool, true, false, cond, ◌&&◌, ◌||◌, not, if◌then◌else◌, IsTrue, is_some, is_none, Option, Some, None, refl, sym, ap, ◌∙◌, subst, arith}
 use Rattle.std.specs.Option.{option_map_or}
 use Rattle.std.specs.List.{find, list_any}
@@ -34,7 +34,6 @@ use Rattle.zb_tokens.specs.MoveTrigger.{comes_about_by, fits_trigger, is_awaited
 use Rattle.zb_rules.specs.Shown.{board_of, holds_of_game}
 use Rattle.zb_rules.specs.Applies.{applies, all_apply}
 use Rattle.zb_rules.proofs.AppliedLaws.{applied_from, applied_board, board_behind, game_holds}
-use Rattle.zb_rules.proofs.LegalLaws.{NeverEvaluate, shows_none, shows_some}
 use Rattle.zb_rules.proofs.MadeLaws.{made_holds}
 use Rattle.zb_rules.proofs.ScopesLaws.{edited_found}
 use Rattle.zb_rules.proofs.CellsLaws.{ascend_between}
@@ -42,7 +41,7 @@ use Rattle.zb_rules.proofs.CatchLaws.{told_runs}
 use Rattle.zb_views.specs.View.{next_key}
 use Rattle.zb_rules.proofs.TimedLaws.{awaits_active}
 use Rattle.zb_rules.proofs.OwnLaws.{silent_applies}
-use Rattle.zb_rules.proofs.BehindLaws.{MayInterrupt, behind_apply, behind_never}
+use Rattle.zb_rules.proofs.BehindLaws.{MayInterrupt, behind_apply}
 use Rattle.zb_rules.proofs.SoundLaws.{BoardKeeps, keeps_on}
 use Rattle.zb_rules.specs.TimerEvents.{has_timer}
 use Rattle.zb_rules.specs.Trigger.{no_timer, timer_not_due, cell_not_waiting, waits_for, timer_in_wrong_state, reason_to_hold, reason_to_trigger, event_of_timer, trigger_events, triggered}
@@ -142,7 +141,7 @@ module _ (p moment : ℕ) (es : List Event) (b : Board) (is : board_of es ≡ So
       let s = applied_board p over b f over_is second in
       let keeps = keeps_on p over b f s.0 s.1 kept in
       let may : MayInterrupt p (over ++ f ∷ []) s.0 t.cell t.node = record { halts = told_halts p over b s.0 told kept fit s.1.leads; apart = keeps.incidents.apart; timed = keeps.timers } in
-      let rest = behind_apply p (over ++ f ∷ []) s.0 (board_behind p over b f s.0 s.1) moment over f may in
+      let rest = behind_apply p moment over f s.0 (board_behind p over b f s.0 s.1) may in
       rw (first, second) rest
 
   found_apply : (key : ℕ) (found : Option Timer) → timer_at key es ≡ found → option_map_or (reason_to_hold es moment) found (Some (record { kind = kinds.NotFound; reason = no_timer key })) ≡ None
@@ -156,14 +155,3 @@ module _ (p moment : ℕ) (es : List Event) (b : Board) (is : board_of es ≡ So
   -- the own events of a command to trigger apply
   pub trigger_applies : (key : ℕ) → reason_to_trigger es moment key ≡ None → IsTrue (all_apply p es (triggered p moment key es))
   trigger_applies key none = found_apply key (timer_at key es) refl none
-
-told_never : (p moment : ℕ) (es : List Event) (found : Option Timer) → NeverEvaluate (option_map_or (λ t. trigger_events p moment t es) found [])
-told_never p moment es None = tt
-told_never p moment es (Some t) = (
-  λ before b at move is. shows_none b at move is,
-  (λ before b at move is. shows_some b at (moves.Trigger (record { cell = t.cell; node = t.node })) move refl is, behind_never p moment (es ++ events.TimerTriggered t.key ∷ []) (event_of_timer t) ((es ++ events.TimerTriggered t.key ∷ []) ++ event_of_timer t ∷ [])),
-)
-
--- and they evaluate nothing
-pub triggered_never : (p moment key : ℕ) (es : List Event) → NeverEvaluate (triggered p moment key es)
-triggered_never p moment key es = told_never p moment es (timer_at key es)

@@ -13,8 +13,8 @@ use Rattle.zb_process.specs.declared.operator.Operator.TheVariants as operators
 use Rattle.zb_process.specs.Tree.{Tree, Int, Text, Name, Binary}
 use Rattle.zb_process.specs.declared.model.NodeKind.{NodeKind}
 use Rattle.zb_process.specs.declared.model.NodeKind.TheVariants as kinds
-use Rattle.zb_instance_records.specs.declared.deployment.DeploymentDistribute.{DeploymentDistribute}
-use Rattle.zb_instance_records.specs.declared.deployment.CommandDistributionAcknowledge.{CommandDistributionAcknowledge}
+use Rattle.zb_instance_records.specs.declared.deployment.ProcessDefinition.{ProcessDefinition}
+use Rattle.zb_instance_records.specs.declared.deployment.CommandDistribution.{CommandDistribution}
 use Rattle.zb_instance_records.specs.declared.instance.Role.TheVariants as roles
 use Rattle.zb_instance_records.specs.declared.happening.IncidentKind.{IncidentKind}
 use Rattle.zb_instance_records.specs.declared.happening.IncidentKind.TheVariants as incidents
@@ -130,7 +130,7 @@ deploy_of_three : deployed 1 3 process [] ≡
 deploy_of_three = refl
 
 -- it arrives there under its key, once
-abbrev sent : DeploymentDistribute
+abbrev sent : ProcessDefinition
 sent = record { key = 2251799813685249; version = 1; model = process }
 
 arrives : own_events 2 3 [] 0 (commands.DeploymentDistribute sent) ≡ Some (events.ProcessCreated (record { key = 2251799813685249; version = 1; model = process }) ∷ [])
@@ -150,7 +150,7 @@ there_already = refl
 abbrev three_deployed : List Event
 three_deployed = deployed 1 3 process []
 
-abbrev of_partition : ℕ → CommandDistributionAcknowledge
+abbrev of_partition : ℕ → CommandDistribution
 of_partition p = record { key = 2251799813685249; partition = p }
 
 first_acknowledged : own_events 1 3 three_deployed 0 (commands.CommandDistributionAcknowledge (of_partition 3)) ≡ Some (arrived_at 3 ∷ [])

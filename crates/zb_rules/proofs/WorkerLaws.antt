@@ -4,9 +4,9 @@ use Rattle.std.proofs.Common.{◌≡◌, ℕ, ◌==◌, nat_le, List, [], ◌∷
 use Rattle.std.specs.Option.{option_map_or}
 use Rattle.std.proofs.lemmas.Bool.Decides.{nat_tests}
 use Rattle.zb_exchange_records.specs.declared.job.JobComplete.{JobComplete}
-use Rattle.zb_exchange_records.specs.declared.job.JobFail.{JobFail}
-use Rattle.zb_exchange_records.specs.declared.job.JobThrowError.{JobThrowError}
-use Rattle.zb_exchange_records.specs.declared.job.JobUpdateRetries.{JobUpdateRetries}
+use Rattle.zb_exchange_records.specs.declared.job.JobFailure.{JobFailure}
+use Rattle.zb_exchange_records.specs.declared.job.JobError.{JobError}
+use Rattle.zb_exchange_records.specs.declared.job.JobRetries.{JobRetries}
 use Rattle.zb_instance_records.specs.declared.happening.IncidentKind.TheVariants as kinds
 use Rattle.zb_model.specs.declared.record.Event.{Event}
 use Rattle.zb_model.specs.declared.record.Event.TheVariants as events
@@ -19,16 +19,15 @@ use Rattle.zb_views.specs.View.{next_key}
 use Rattle.zb_tokens.specs.declared.board.Cell.{Cell}
 use Rattle.zb_tokens.specs.declared.board.Incident.{Incident}
 use Rattle.zb_tokens.specs.declared.board.Mark.TheVariants as marks
-use Rattle.zb_tokens.specs.declared.board.Move.{Move}
 use Rattle.zb_tokens.specs.declared.board.Move.TheVariants as moves
 use Rattle.zb_tokens.specs.Board.{Board, cell_at}
-use Rattle.zb_tokens.specs.Game.{played, agrees}
-use Rattle.zb_tokens.proofs.GameLaws.{both_left, both_right, holds_some}
+use Rattle.zb_tokens.specs.Game.{played}
+use Rattle.zb_tokens.proofs.GameLaws.{holds_some}
 use Rattle.zb_tokens.specs.Incidents.{incident_on, is_stuck}
 use Rattle.zb_tokens.specs.Mappings.{gives_outputs}
 use Rattle.zb_tokens.specs.Marks.{awaits_work, with_mark}
 use Rattle.zb_rules.specs.Shown.{board_of}
-use Rattle.zb_rules.specs.Applies.{is_fresh, has_cell, holds_own, applies, all_apply}
+use Rattle.zb_rules.specs.Applies.{is_fresh, has_cell, applies, all_apply}
 use Rattle.zb_rules.specs.JobEvents.{has_job, has_cause}
 use Rattle.zb_rules.specs.JobReasons.{reason_in, reason_to_end}
 use Rattle.zb_rules.specs.InFront.{assigning}
@@ -39,23 +38,21 @@ use Rattle.zb_rules.specs.Retries.{reason_to_retry, retried}
 use Rattle.zb_rules.specs.TimeOut.{reason_to_keep, reason_to_time_out, timed_out}
 use Rattle.zb_rules.specs.Sound.{HasKeys}
 use Rattle.zb_rules.proofs.AppliedLaws.{some_of, applied_from, applied_board, board_behind}
-use Rattle.zb_rules.proofs.MadeLaws.{made_holds, mapped_holds}
+use Rattle.zb_rules.proofs.MadeLaws.{made_holds}
 use Rattle.zb_rules.proofs.ScopesLaws.{at_cell, edited_found}
 use Rattle.zb_rules.proofs.PlacedLaws.{key_found}
 use Rattle.zb_rules.proofs.SoundLaws.{BoardKeeps, keeps_on}
 use Rattle.zb_rules.proofs.OwnLaws.{fresh_from, silent_applies, board_after}
 use Rattle.zb_rules.proofs.NamedLaws.{keys_left}
 use Rattle.zb_rules.proofs.UpdateLaws.{each_set}
-use Rattle.zb_rules.proofs.FrontLaws.{all_never}
-use Rattle.zb_rules.proofs.LegalLaws.{NeverEvaluate, shows_none, shows_some}
 use Rattle.zb_rules.proofs.FoundJobLaws.{job_key, job_above, job_counted, job_awaited, job_free, job_at_more}
 
 -- the incident on the cell of a job that has failed and has no try left
-abbrev stop_in : (p : ℕ) → JobFail → List Event → (cell : ℕ) → Incident
+abbrev stop_in : (p : ℕ) → JobFailure → List Event → (cell : ℕ) → Incident
 stop_in p c es cell = record { key = next_key p es; kind = kinds.JobNoRetries; cell = cell; job = c.key; text = c.text }
 
 -- and its event
-abbrev stop_of : (p : ℕ) → JobFail → List Event → (cell : ℕ) → Event
+abbrev stop_of : (p : ℕ) → JobFailure → List Event → (cell : ℕ) → Event
 stop_of p c es cell = events.IncidentCreated (record { key = next_key p es; kind = kinds.JobNoRetries; cell = cell; job = c.key; text = c.text })
 
 -- a job that a worker may end was given out
@@ -108,17 +105,17 @@ module _ (p : ℕ) (es : List Event) (b : Board) (is : board_of es ≡ Some b) (
       completed_by c r.0 cell.0 r.1 r.2 cell.1
 
   -- and so does that of an error
-  pub throw_applies : (c : JobThrowError) → reason_to_end es c.key ≡ None → IsTrue (all_apply p es (thrown c es))
+  pub throw_applies : (c : JobError) → reason_to_end es c.key ≡ None → IsTrue (all_apply p es (thrown c es))
   throw_applies c none =
       let r = ends_given es c.key none in
-      let e = events.JobErrorThrown (record { key = c.key; code = c.code }) in
+      let e = events.JobErrorThrown c in
       let found = r.1 in
       let given = r.2 in
       let first : IsTrue (applies p es e) = applied_from p es b e (moves.Throw (record { cell = r.0.cell; code = c.code })) is (rw (found, given) refl) (rw found refl) (job_awaited p es b k.jobs c.key r.0 r.1) in
       rw first refl
 
   -- a job that has failed, and has no try left
-  module _ (c : JobFail) (j : Job) (found : job_at c.key es ≡ Some j) (given : IsTrue (is_given_out j.phase)) (keys : HasKeys p es 1) where
+  module _ (c : JobFailure) (j : Job) (found : job_at c.key es ≡ Some j) (given : IsTrue (is_given_out j.phase)) (keys : HasKeys p es 1) where
     abbrev over : List Event
     over = es ++ failure_told c ∷ []
 
@@ -160,7 +157,7 @@ module _ (p : ℕ) (es : List Event) (b : Board) (is : board_of es ≡ Some b) (
         rw first (stopped_by (c.retries == 0) refl)
 
   -- the own events of a failure apply
-  pub fail_applies : (c : JobFail) → HasKeys p es 1 → reason_to_end es c.key ≡ None → IsTrue (all_apply p es (failed p c es))
+  pub fail_applies : (c : JobFailure) → HasKeys p es 1 → reason_to_end es c.key ≡ None → IsTrue (all_apply p es (failed p c es))
   fail_applies c keys none = let r = ends_given es c.key none in failed_applies c r.0 r.1 r.2 keys
 
   retried_by : (zero_given there : Bool) (a z : Rejection) → (if zero_given then Some a else if not there then Some z else None) ≡ None → IsTrue there
@@ -169,9 +166,9 @@ module _ (p : ℕ) (es : List Event) (b : Board) (is : board_of es ≡ Some b) (
   retried_by false false a z none = absurd (cc)
 
   -- that of new tries
-  pub retry_applies : (c : JobUpdateRetries) → reason_to_retry es c ≡ None → IsTrue (all_apply p es (retried c es))
+  pub retry_applies : (c : JobRetries) → reason_to_retry es c ≡ None → IsTrue (all_apply p es (retried c es))
   retry_applies c none =
-      let e = events.JobRetriesUpdated (record { key = c.key; retries = c.retries }) in
+      let e = events.JobRetriesUpdated c in
       let there = retried_by (c.retries == 0) (has_job c.key es) _ _ none in
       let first : IsTrue (applies p es e) = silent_applies p es b e is there refl in
       rw first refl
@@ -190,39 +187,3 @@ module _ (p : ℕ) (es : List Event) (b : Board) (is : board_of es ≡ Some b) (
       let own = timed_out_by moment (job_at key es) _ none in
       let first : IsTrue (applies p es (events.JobTimedOut key)) = silent_applies p es b (events.JobTimedOut key) is own refl in
       rw first refl
-
--- the moves of those events evaluate nothing
-pub completed_never : (c : JobComplete) (es : List Event) → NeverEvaluate (completed c es)
-completed_never c es = (
-  λ before b moment move shows. mapped_holds (λ (m : Move). IsTrue (agrees b moment m)) (λ (j : Job). moves.Done j.cell) (job_at c.key before) move (λ j found. refl) shows,
-  all_never (results c es) (es ++ events.JobCompleted c.key ∷ []),
-)
-
--- an error that is thrown evaluates nothing
-pub thrown_never : (c : JobThrowError) (es : List Event) → NeverEvaluate (thrown c es)
-thrown_never c es = (λ before b moment move shows. mapped_holds (λ (m : Move). IsTrue (agrees b moment m)) (λ (j : Job). moves.Throw (record { cell = j.cell; code = c.code })) (job_at c.key before) move (λ j found. refl) shows, tt)
-
--- an incident with a job as its cause evaluates nothing
-stop_never : (p : ℕ) (c : JobFail) (es : List Event) (found : Option Job)
-    → IsTrue (all_apply p es (option_map_or (λ (x : Job). stop_of p c es x.cell ∷ []) found []))
-    → NeverEvaluate (option_map_or (λ (x : Job). stop_of p c es x.cell ∷ []) found [])
-stop_never p c es None apply = tt
-stop_never p c es (Some x) apply =
-    let e = stop_of p c es x.cell in
-    let own = both_left (holds_own p es e) _ (both_left (applies p es e) _ apply) in
-    let cause = both_right (is_fresh p es (next_key p es)) _ own in
-    let itself : IsTrue (not (c.key == 0)) = both_left (not (c.key == 0)) _ cause in
-    (λ before b moment move shows. shows_some b moment (moves.Incident (stop_in p c es x.cell)) move (rw itself refl) shows, tt)
-
-stopped_never : (p : ℕ) (c : JobFail) (es : List Event) (t : Bool)
-    → IsTrue (all_apply p es (if t then option_map_or (λ (x : Job). stop_of p c es x.cell ∷ []) (job_at c.key es) [] else []))
-    → NeverEvaluate (if t then option_map_or (λ (x : Job). stop_of p c es x.cell ∷ []) (job_at c.key es) [] else [])
-stopped_never p c es true apply = stop_never p c es (job_at c.key es) apply
-stopped_never p c es false apply = tt
-
--- a failure evaluates nothing
-pub failed_never : (p : ℕ) (c : JobFail) (es : List Event) → IsTrue (all_apply p es (failed p c es)) → NeverEvaluate (failed p c es)
-failed_never p c es apply = (
-  λ before b moment move shows. shows_none b moment move shows,
-  stopped_never p c (es ++ failure_told c ∷ []) (c.retries == 0) (both_right (applies p es (failure_told c)) _ apply),
-)

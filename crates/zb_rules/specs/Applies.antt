@@ -18,10 +18,10 @@ use Rattle.zb_tokens.specs.Game.{fits}
 pub use Rattle.zb_rules.specs.Shown.{holds_of_game}
 use Rattle.zb_rules.specs.Shown.{shown}
 use Rattle.zb_views.specs.Jobs.{is_activated, is_given_out}
-use Rattle.zb_rules.specs.JobEvents.{has_job, is_job_in, begins_job, hands_out, is_called_off_next, are_jobs, has_cause}
+use Rattle.zb_rules.specs.JobEvents.{has_job, is_job_in, begins_job, hands_out, are_jobs, has_cause}
 use Rattle.zb_rules.specs.TimerEvents.{may_open, has_timer}
 use Rattle.zb_tokens.specs.Work.{is_cause_of}
-use Rattle.zb_views.specs.Begin.{begun}
+use Rattle.zb_views.specs.Left.{left, leaves_root, leaves_cancel}
 use Rattle.zb_views.specs.Definitions.{definitions}
 use Rattle.zb_views.specs.Distributions.{is_distributed_to, is_distributed}
 use Rattle.zb_faults.specs.Faults.{is_well_formed}
@@ -51,9 +51,9 @@ is_definition_of cell definition b = option_map_or (λ c. c.definition == defini
 abbrev pub has_cell : ℕ → Board → Bool
 has_cell key b = is_some (cell_at b key)
 
--- a root comes right behind its instance, with the process id as its node, and by no flow
+-- a root comes where it is left to be said, with the process id as its node, and by no flow
 abbrev pub begins_instance : List Event → ElementActivating → Bool
-begins_instance before e = option_map_or (λ i. (i.key == e.key) && (i.definition == e.definition)) (begun before) false
+begins_instance before e = leaves_root e.key e.definition (left before)
     && holds_of_game (is_process_of e.definition e.node) before && bytes_eq e.via []
 
 -- another cell has a fresh key, and the definition of its scope
@@ -88,7 +88,7 @@ holds_own p before (events.JobCreated e) = is_fresh p before e.key && begins_job
 holds_own p before (events.JobActivated e) = hands_out e before
 holds_own p before (events.JobTimedOut key) = is_job_in is_activated key before
 holds_own p before (events.JobCompleted key) = is_job_in is_given_out key before
-holds_own p before (events.JobCanceled key) = is_called_off_next key before
+holds_own p before (events.JobCanceled key) = leaves_cancel key (left before)
 holds_own p before (events.JobFailed e) = is_job_in is_given_out e.key before
 holds_own p before (events.JobErrorThrown e) = is_job_in is_given_out e.key before
 holds_own p before (events.JobRetriesUpdated e) = has_job e.key before

@@ -5,7 +5,7 @@ use Rattle.zb_process.specs.declared.model.Node.{Node}
 use Rattle.zb_model.specs.declared.record.Event.{Event}
 use Rattle.zb_model.specs.declared.record.Event.TheVariants as events
 use Rattle.zb_views.specs.View.{next_key}
-use Rattle.zb_views.specs.Jobs.{called_off}
+use Rattle.zb_views.specs.Jobs.{job_on}
 use Rattle.zb_views.specs.Timers.{timers_on}
 use Rattle.zb_tokens.specs.declared.board.Incident.{Incident}
 use Rattle.zb_tokens.specs.declared.board.Opening.{Opening}
@@ -32,9 +32,9 @@ job_of p cell n before = events.JobCreated (record { key = next_key p before; ce
 abbrev pub job_made_on : (p cell : ℕ) → Making
 job_made_on p cell before = option_map_or (λ n. job_of p cell n before) (option_and_then (λ b. work_at b cell) (board_of before)) []
 
--- the job that the last event calls off is canceled, if it calls one off (Zeebe, jobs)
-abbrev pub canceled : Making
-canceled before = option_map_or (λ job. events.JobCanceled job ∷ []) (called_off before) []
+-- the job is canceled that the cell with a key had before it began to terminate, if it had one (Zeebe, jobs)
+abbrev pub job_canceled_on : List Event → ℕ → Making
+job_canceled_on seen cell before = option_map_or (λ j. events.JobCanceled j.key ∷ []) (job_on cell seen) []
 
 -- a timer of the cell with a key is made (Zeebe, timers)
 abbrev pub timer_opened : (p cell : ℕ) → Opening → Making
@@ -48,13 +48,13 @@ timers_made_on p moment cell before = each_made (timer_opened p cell) (option_ma
 abbrev pub timers_canceled_on : ℕ → Making
 timers_canceled_on cell before = map (λ t. events.TimerCanceled t.key) (timers_on cell before)
 
--- what waits for a cell that begins to terminate ends: its job is canceled, then its timers are, and then the incident on it is resolved (Zeebe, the records)
-abbrev pub ended_on : ℕ → Making
-ended_on cell = and_then canceled (and_then (timers_canceled_on cell) (resolved_on cell))
+-- what waits for a cell that begins to terminate behind these events ends: its job is canceled, then its timers are, and then the incident on it is resolved (Zeebe, the records)
+abbrev pub ended_on : List Event → ℕ → Making
+ended_on seen cell = and_then (job_canceled_on seen cell) (and_then (timers_canceled_on cell) (resolved_on cell))
 
 -- a cell begins to terminate, and what waits for it ends (BPMN 2.0.2, 13.3.2; Zeebe, the records)
 abbrev pub halted_on : ℕ → Making
-halted_on cell = and_then (just (events.ElementTerminating cell)) (ended_on cell)
+halted_on cell before = and_then (just (events.ElementTerminating cell)) (ended_on before cell) before
 
 -- a cell begins to terminate where a boundary event that interrupts it has come about at this node (BPMN 2.0.2, 10.5.4 and 13.5.3)
 abbrev pub interrupted_on : (cell : ℕ) → List ℕ → Making
@@ -65,7 +65,7 @@ interrupted_on cell node before = if holds_of_game (is_interrupting cell node) b
 abbrev pub events_behind : (p moment : ℕ) → List Event → Event → Making
 events_behind p moment seen (events.ElementActivated e) before = and_then (job_made_on p e.key) (timers_made_on p moment e.key) before
 events_behind p moment seen (events.ElementCompleting key) before = timers_canceled_on key before
-events_behind p moment seen (events.ElementTerminating key) before = ended_on key before
+events_behind p moment seen (events.ElementTerminating key) before = ended_on seen key before
 events_behind p moment seen (events.ProcessEventTriggered e) before = interrupted_on e.cell e.node before
 events_behind p moment seen e before = []
 

@@ -2,7 +2,7 @@
 use Rattle.std.specs.Prelude.{ℕ, List, ◌++◌, codes, if◌then◌else◌, Option, Some, None}
 use Rattle.std.specs.Option.{option_or}
 use Rattle.std.specs.Fmt.{decimal}
-use Rattle.zb_instance_records.specs.declared.deployment.DeploymentDistribute.{DeploymentDistribute}
+use Rattle.zb_instance_records.specs.declared.deployment.ProcessDefinition.{ProcessDefinition}
 use Rattle.zb_model.specs.declared.record.Event.{Event}
 use Rattle.zb_model.specs.declared.record.Event.TheVariants as events
 use Rattle.zb_model.specs.declared.record.Rejection.{Rejection}
@@ -20,9 +20,9 @@ abbrev pub reason_to_turn_back : List Event → ℕ → Option Rejection
 reason_to_turn_back before key = if has_definition key before then Some (record { kind = kinds.AlreadyExists; reason = definition_is_there key }) else None
 
 -- why a definition isn't taken: its model has a fault, or it is there
-abbrev pub reason_to_distribute : List Event → DeploymentDistribute → Option Rejection
+abbrev pub reason_to_distribute : List Event → ProcessDefinition → Option Rejection
 reason_to_distribute before c = option_or (reason_to_deploy c.model) (reason_to_turn_back before c.key)
 
 -- the definition stands under the key, and is the version, that its first partition gave it
-abbrev pub distributed : DeploymentDistribute → Making
-distributed c = just (events.ProcessCreated (record { key = c.key; version = c.version; model = c.model }))
+abbrev pub distributed : ProcessDefinition → Making
+distributed c = just (events.ProcessCreated c)

@@ -8,7 +8,7 @@ use Rattle.zb_instance_records.specs.declared.happening.IncidentKind.TheVariants
 use Rattle.zb_exchange_records.specs.declared.job.JobActivated.{JobActivated}
 use Rattle.zb_model.specs.declared.record.Event.{Event}
 use Rattle.zb_views.specs.declared.job.JobPhase.{JobPhase}
-use Rattle.zb_views.specs.Jobs.{job_at, job_on, is_activatable, is_failed, called_off}
+use Rattle.zb_views.specs.Jobs.{job_at, job_on, is_activatable, is_failed}
 use Rattle.zb_tokens.specs.Work.{may_have_job, is_work_in}
 use Rattle.zb_rules.specs.Shown.{holds_of_game}
 
@@ -27,10 +27,6 @@ begins_job cell before = holds_of_game (may_have_job cell) before && is_none (jo
 -- a worker is given a job that it may have, with its node and its instance (Zeebe, jobs)
 abbrev pub hands_out : JobActivated → List Event → Bool
 hands_out e before = option_map_or (λ j. is_activatable j.phase && holds_of_game (is_work_in j.cell e.instance e.node) before) (job_at e.key before) false
-
--- the job is the one that the last event calls off
-abbrev pub is_called_off_next : ℕ → List Event → Bool
-is_called_off_next key before = option_map_or (λ job. job == key) (called_off before) false
 
 -- each of these jobs is there
 abbrev pub are_jobs : List ℕ → List Event → Bool

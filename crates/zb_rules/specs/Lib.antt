@@ -26,6 +26,7 @@ pub mod Distribute
 pub mod Acknowledge
 pub mod Reason
 pub mod Own
+pub mod Kinds
 pub mod Applies
 pub mod Legal
 pub mod Settling

@@ -9,8 +9,6 @@ use Rattle.zb_model.specs.declared.record.Command.TheVariants as commands
 use Rattle.zb_faults.specs.Faults.{most_nodes}
 use Rattle.zb_table.specs.Rows.{Ascend}
 use Rattle.zb_views.specs.declared.job.Job.{Job}
-use Rattle.zb_views.specs.declared.timer.Timer.{Timer}
-use Rattle.zb_views.specs.Timers.{timers}
 use Rattle.zb_views.specs.Jobs.{jobs, job_at, is_failed}
 use Rattle.zb_views.specs.View.{greatest_counter, next_key}
 use Rattle.zb_tokens.specs.declared.board.Cell.{Cell}
@@ -92,11 +90,6 @@ pub record HasSoundJobs (p : ℕ) (es : List Event) (b : Board) : Type 0 where
   pub free : All (HasNoIncident b) (jobs es)
   -- an incident that a job is the cause of stands on the job's cell
   pub causes : All (HasJobOfCell es) b.incidents
-
--- the timers of a log of partition p: their keys ascend, and the partition draws none of them again (Zeebe, timers)
-pub record HasSoundTimers (p : ℕ) (es : List Event) : Type 0 where
-  pub ascend : Ascend (λ (t : Timer). t.key) 0 (timers es)
-  pub below : All (λ (t : Timer). t.key < next_key p es) (timers es)
 
 -- a cell is found that has the name, or else a root: in it a value is set that is handed up (BPMN 2.0.2, 10.4.1)
 pub record IsHolder (b : Board) (name : List ℕ) (found : Option ℕ) : Type 0 where

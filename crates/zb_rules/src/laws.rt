@@ -1,4 +1,4 @@
-ghost use Rattle.std.specs.Prelude.{◌≡◌, ◌≤◌, ◌<◌, ◌+◌, ◌/◌, ◌^◌, ◌++◌, ℕ, length, List, [], ◌∷◌, Some, None, All, IsTrue, IsFalse, is_some};
+ghost use Rattle.std.specs.Prelude.{◌≡◌, ◌≤◌, ◌<◌, ◌+◌, ◌/◌, ◌^◌, ◌++◌, ◌||◌, ℕ, length, List, [], ◌∷◌, Some, None, All, IsTrue, IsFalse, is_some};
 ghost use Rattle.std.specs.List.{list_any};
 ghost use Rattle.std.specs.Option.{IfSome};
 ghost use Rattle.zb_instance_records.specs.declared.happening.VariableDocumentUpdate.{VariableDocumentUpdate};
@@ -32,6 +32,7 @@ ghost use Rattle.zb_rules.specs.Cancel.{reason_to_cancel, cancelled};
 ghost use Rattle.zb_rules.specs.Update.{reason_to_update, updated};
 ghost use Rattle.zb_rules.specs.Reason.{reason_for};
 ghost use Rattle.zb_rules.specs.Own.{IsSupported};
+ghost use Rattle.zb_rules.specs.Kinds.{may_follow, may_lead_to};
 ghost use Rattle.zb_rules.specs.Step.{IsOutcomeOf};
 ghost use Rattle.zb_rules.specs.TimerEvents.{triggers, IsDueBy};
 ghost use Rattle.zb_rules.specs.declared.alarm.Alarm.{Alarm};
@@ -88,6 +89,13 @@ pub fn timers_end_once()
 pub fn timers_fire_on_time()
     ensures { (p n moment : ℕ) (es : List Event) (command : Command) (outcome : Outcome) → IsOutcomeOf p n moment es command outcome
         → (timer : ℕ) → IsTrue (list_any (triggers timer) (events_in outcome)) → IsDueBy es timer moment }
+{}
+
+/// Each event of a step is of a kind that its command makes itself, or of one that may follow: it comes of what is
+/// forced, or stands beside an event that does.
+pub fn steps_have_listed_kinds()
+    ensures { (p n moment : ℕ) (es : List Event) (command : Command) (outcome : Outcome) → IsOutcomeOf p n moment es command outcome
+        → All (λ event. IsTrue (may_follow event || may_lead_to command event)) (events_in outcome) }
 {}
 
 /// A cell at an event gateway takes one way: behind a log whose events apply it completes with one flow at most, the one

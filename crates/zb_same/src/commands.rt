@@ -1,6 +1,11 @@
-// Commands, and the packets that carry them.
+// Commands with what they ask for, and the packets that carry them.
 use crate::Same;
-use zb_model::{Command, Packet};
+use zb_model::{
+    Command, CommandDistribution, JobBatchActivate, JobComplete, JobError, JobFailure, JobRetries,
+    MessageCorrelation, MessagePublish, MessageSubscription, MessageSubscriptionDelete, Packet,
+    ProcessDefinition, ProcessInstanceCreationCreate, ProcessInstanceMigration, SubscribedMessage,
+    VariableDocumentUpdate,
+};
 
 impl Same for Packet {
     fn is_same(&self, other: &Packet) -> bool {
@@ -47,5 +52,95 @@ impl Same for Command {
             }
             _ => false,
         }
+    }
+}
+
+impl Same for ProcessInstanceCreationCreate {
+    fn is_same(&self, other: &ProcessInstanceCreationCreate) -> bool {
+        same!(self, other; process, version, variables)
+    }
+}
+
+impl Same for ProcessInstanceMigration {
+    fn is_same(&self, other: &ProcessInstanceMigration) -> bool {
+        same!(self, other; key, definition, pairs)
+    }
+}
+
+impl Same for VariableDocumentUpdate {
+    fn is_same(&self, other: &VariableDocumentUpdate) -> bool {
+        same!(self, other; scope, local, variables)
+    }
+}
+
+impl Same for JobBatchActivate {
+    fn is_same(&self, other: &JobBatchActivate) -> bool {
+        same!(self, other; kind, worker, timeout, most)
+    }
+}
+
+impl Same for JobComplete {
+    fn is_same(&self, other: &JobComplete) -> bool {
+        same!(self, other; key, variables)
+    }
+}
+
+impl Same for JobFailure {
+    fn is_same(&self, other: &JobFailure) -> bool {
+        same!(self, other; key, retries, text)
+    }
+}
+
+impl Same for JobError {
+    fn is_same(&self, other: &JobError) -> bool {
+        same!(self, other; key, code)
+    }
+}
+
+impl Same for JobRetries {
+    fn is_same(&self, other: &JobRetries) -> bool {
+        same!(self, other; key, retries)
+    }
+}
+
+impl Same for MessagePublish {
+    fn is_same(&self, other: &MessagePublish) -> bool {
+        same!(self, other; name, correlation_key, time_to_live, id, variables)
+    }
+}
+
+impl Same for ProcessDefinition {
+    fn is_same(&self, other: &ProcessDefinition) -> bool {
+        same!(self, other; key, version, model)
+    }
+}
+
+impl Same for CommandDistribution {
+    fn is_same(&self, other: &CommandDistribution) -> bool {
+        same!(self, other; key, partition)
+    }
+}
+
+impl Same for MessageSubscription {
+    fn is_same(&self, other: &MessageSubscription) -> bool {
+        same!(self, other; subscription, name, correlation_key, process, cancel)
+    }
+}
+
+impl Same for MessageCorrelation {
+    fn is_same(&self, other: &MessageCorrelation) -> bool {
+        same!(self, other; subscription, message, variables)
+    }
+}
+
+impl Same for SubscribedMessage {
+    fn is_same(&self, other: &SubscribedMessage) -> bool {
+        same!(self, other; subscription, message)
+    }
+}
+
+impl Same for MessageSubscriptionDelete {
+    fn is_same(&self, other: &MessageSubscriptionDelete) -> bool {
+        same!(self, other; subscription, keys)
     }
 }

@@ -14,7 +14,6 @@ mod expressions;
 mod lists;
 mod models;
 mod plain;
-mod records;
 mod same;
 
 pub use lists::is_among;

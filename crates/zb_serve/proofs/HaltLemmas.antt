@@ -40,11 +40,11 @@ use Rattle.zb_serve.specs.Served.{IsWhyUndone, IsUntroubled, Serves, batches_of,
 use Rattle.zb_serve.specs.Cause.{rank_of, comes_before, cuts_off}
 use Rattle.zb_serve.specs.Opening.{volumes_in, IsBegunOver}
 use Rattle.zb_serve.specs.WorkOff.{facts_in, Behind, behind_of, AreWorkedOff, AreWorkCut, IsWorkedOff}
-use Rattle.zb_serve.specs.Running.{told_by, ends_alone, files_of, first_writing, stop_cause_of, cause_of}
+use Rattle.zb_serve.specs.Running.{ends_alone, files_of, first_writing, stop_cause_of, cause_of}
 use Rattle.zb_serve.specs.declared.run.Cause.{Cause}
 use Rattle.zb_serve.specs.declared.run.Cause.TheVariants as causes
 use Rattle.zb_serve.proofs.ListLemmas.{append_none, some_same, member_at, place_within, mapped_at, unmapped_at, map_map, all_at, or_none, each_length, first_at, first_by, number_behind}
-use Rattle.zb_serve.proofs.LogLemmas.{AreTold, crashes_told, none_left, opened_by, ends_by, account_log, stopped_log, stopped_steady, stopped_room, why}
+use Rattle.zb_serve.proofs.LogLemmas.{told_by, AreTold, crashes_told, none_left, opened_by, ends_by, account_log, stopped_log, stopped_steady, stopped_room, why}
 use Rattle.zb_serve.proofs.EndLemmas.{IsNamed, AreNamed, undone_of, undone_work, closing_of}
 use Rattle.zb_serve.proofs.OverLemmas.{HasCome, over}
 

@@ -23,10 +23,24 @@ use Rattle.zb_serve.specs.Setting.{RunSetting}
 use Rattle.zb_serve.specs.Ends.{Told, LogEnds, Crashes, crashes_of}
 use Rattle.zb_serve.specs.Log.{Course, course_of, OpenedLog, batch_if, batch_of, IsDiskHurt, IsKept, IsLeftOf, IsLog}
 use Rattle.zb_serve.specs.Cause.{rank_of}
-use Rattle.zb_serve.specs.Running.{told_by, stop_cause_of}
+use Rattle.zb_serve.specs.Running.{stop_cause_of}
 use Rattle.zb_serve.specs.declared.run.Cause.{Cause}
 use Rattle.zb_serve.specs.declared.run.Cause.TheVariants as causes
 use Rattle.zb_serve.proofs.ListLemmas.{of_number, has_number}
+
+-- what streams and a disk tell
+abbrev pub told_by : {D : Type 0} → Streams → Ghosts D → Told
+told_by streams disks = record {
+  source = streams.source_tells;
+  sink = streams.sink_tells;
+  disk = disks.tells;
+  images = disks.tells_images;
+  sink_memory = streams.sink_memory;
+  disk_memory = disks.takes_memory;
+  source_counts = streams.source_counts;
+  sink_counts = streams.sink_counts;
+  disk_counts = disks.counts_failures;
+}
 
 -- what crashes leave of the log of the partition with this number is what they leave of these disks
 pub record AreTold {D : Type 0} (disks : Ghosts D) (crashes : Crashes) (number : ℕ) (old new : D) : Type 0 where

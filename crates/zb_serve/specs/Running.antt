@@ -10,26 +10,12 @@ use Rattle.zb_partition.specs.Partition.{disk_of, slots_of, in_writing}
 use Rattle.zb_partition.specs.declared.partition.Partition.{Partition}
 use Rattle.zb_words.specs.declared.plan.ClockKind.{ClockKind}
 use Rattle.zb_words.specs.declared.plan.ClockKind.TheVariants as kinds
-use Rattle.zb_session.specs.Session.{SessionEnds, Streams}
+use Rattle.zb_session.specs.Session.{SessionEnds}
 use Rattle.zb_session.specs.declared.session.End.{End}
 use Rattle.zb_session.specs.declared.session.End.TheVariants as ends
-use Rattle.zb_serve.specs.Ends.{Told, LogEnds, RunEnds}
+use Rattle.zb_serve.specs.Ends.{LogEnds, RunEnds}
 use Rattle.zb_serve.specs.declared.run.Cause.{Cause}
 use Rattle.zb_serve.specs.declared.run.Cause.TheVariants as causes
-
--- what streams and a disk tell
-abbrev pub told_by : {D : Type 0} → Streams → Ghosts D → Told
-told_by streams disks = record {
-  source = streams.source_tells;
-  sink = streams.sink_tells;
-  disk = disks.tells;
-  images = disks.tells_images;
-  sink_memory = streams.sink_memory;
-  disk_memory = disks.takes_memory;
-  source_counts = streams.source_counts;
-  sink_counts = streams.sink_counts;
-  disk_counts = disks.counts_failures;
-}
 
 -- the ends of the one session, and those of the logs
 abbrev pub ends_alone : SessionEnds → List LogEnds → RunEnds

@@ -13,10 +13,14 @@ use Rattle.zb_desk.specs.Numbered.{EachFrom}
 use Rattle.zb_session.specs.Hours.{given_of}
 use Rattle.zb_session.specs.Answer.{IsAnswer, entries_made, IsServed, AreSerial}
 use Rattle.zb_session.specs.Session.{Streams, Before, Facts, replies_of, most_taken}
-use Rattle.zb_session.specs.Serving.{Began, Clocks, AreAt, Service, service_of, Stand, stand_of, first_stand, AreSteady, IsServing, before_of, IsAnswered, IsReplied}
+use Rattle.zb_session.specs.Serving.{Began, Clocks, AreAt, Service, service_of, Stand, stand_of, AreSteady, IsServing, before_of, IsAnswered, IsReplied}
 use Rattle.zb_session.proofs.AnswerLemmas.{entries_more}
 use Rattle.zb_session.proofs.ListLemmas.{append_none, EachFrom_more}
 use Rattle.zb_session.proofs.StreamLemmas.{IsBehind, AllByRecursion-append, length-lines, replies_of_more}
+
+-- where a session stands before it reads
+abbrev first_stand : SourceView → Service → Stand
+first_stand source service = stand_of source service [] most_taken 1
 
 -- nothing was read yet
 pub serving_first : (streams : Streams) (began : Began) (clocks : Clocks) (known : Facts) → known.has [] → AreAt began.hours [] clocks

@@ -82,10 +82,6 @@ pub record Stand : Type 1 where
 abbrev pub stand_of : SourceView → Service → (held : List ℕ) → (budget number : ℕ) → Stand
 stand_of source service held budget number = record { source = source; service = service; held = held; budget = budget; number = number }
 
--- where it stands before it reads
-abbrev pub first_stand : SourceView → Service → Stand
-first_stand source service = stand_of source service [] most_taken 1
-
 -- a session's streams, as it began and as they are
 abbrev pub sides_of : Began → SourceView → SinkView → SessionEnds
 sides_of began source sink = session_ends began.source source began.sink sink

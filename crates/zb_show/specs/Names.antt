@@ -1,11 +1,12 @@
 -- What a record is called: its value type and its intent, the key that stands first in it, and the element that it is of (own; modelled on Zeebe's records).
-use Rattle.std.specs.Prelude.{ℕ, List, codes}
+use Rattle.std.specs.Prelude.{ℕ, List, get_or, codes}
 use Rattle.zb_model.specs.declared.record.Command.{Command}
 use Rattle.zb_model.specs.declared.record.Command.TheVariants as commands
 use Rattle.zb_model.specs.declared.record.Event.{Event}
 use Rattle.zb_model.specs.declared.record.Event.TheVariants as events
 use Rattle.zb_model.specs.declared.record.RejectionKind.{RejectionKind}
 use Rattle.zb_model.specs.declared.record.RejectionKind.TheVariants as rejections
+use Rattle.zb_views.specs.View.{keys_in}
 
 -- a value type and an intent (own)
 abbrev pub Names : Type 0
@@ -116,54 +117,9 @@ command_key (commands.MessageSubscriptionReject c) = c.subscription
 command_key (commands.MessageSubscriptionDelete c) = c.subscription
 command_key (commands.ProcessMessageSubscriptionDelete key) = key
 
--- the first key field of an event (own)
+-- the first key that an event names (own)
 abbrev pub event_key : Event → ℕ
-event_key (events.ProcessCreated e) = e.key
-event_key (events.DeploymentCreated e) = e.key
-event_key (events.CommandDistributionDistributing e) = e.key
-event_key (events.CommandDistributionAcknowledged e) = e.key
-event_key (events.CommandDistributionFinished key) = key
-event_key (events.ProcessInstanceCreationCreated e) = e.key
-event_key (events.ElementActivating e) = e.key
-event_key (events.ElementActivated e) = e.key
-event_key (events.ElementCompleting key) = key
-event_key (events.ElementCompleted e) = e.key
-event_key (events.ElementTerminating key) = key
-event_key (events.ElementTerminated key) = key
-event_key (events.SequenceFlowTaken e) = e.key
-event_key (events.ElementMigrated e) = e.key
-event_key (events.ProcessInstanceMigrationMigrated e) = e.key
-event_key (events.JobCreated e) = e.key
-event_key (events.JobActivated e) = e.key
-event_key (events.JobTimedOut key) = key
-event_key (events.JobCompleted key) = key
-event_key (events.JobCanceled key) = key
-event_key (events.JobFailed e) = e.key
-event_key (events.JobErrorThrown e) = e.key
-event_key (events.JobRetriesUpdated e) = e.key
-event_key (events.JobBatchActivated e) = e.key
-event_key (events.TimerCreated e) = e.key
-event_key (events.TimerTriggered key) = key
-event_key (events.TimerCanceled key) = key
-event_key (events.ProcessEventTriggered e) = e.cell
-event_key (events.MessagePublished e) = e.key
-event_key (events.MessageExpired key) = key
-event_key (events.MessageStartEventSubscriptionCorrelated e) = e.message
-event_key (events.MessageSubscriptionCreated e) = e.subscription
-event_key (events.MessageSubscriptionCorrelating e) = e.subscription
-event_key (events.MessageSubscriptionCorrelated e) = e.subscription
-event_key (events.MessageSubscriptionRejected e) = e.subscription
-event_key (events.MessageSubscriptionDeleted key) = key
-event_key (events.ProcessMessageSubscriptionCreating e) = e.subscription
-event_key (events.ProcessMessageSubscriptionCreated key) = key
-event_key (events.ProcessMessageSubscriptionCorrelated e) = e.subscription
-event_key (events.ProcessMessageSubscriptionDeleted key) = key
-event_key (events.ProcessMessageSubscriptionDeleting e) = e.subscription
-event_key (events.VariableCreated e) = e.scope
-event_key (events.VariableUpdated e) = e.scope
-event_key (events.VariableDocumentUpdated key) = key
-event_key (events.IncidentCreated e) = e.key
-event_key (events.IncidentResolved e) = e.key
+event_key e = get_or (keys_in e) 0 0
 
 -- the element of an event: a node, or the flow that was taken; "-" where it names none (own)
 abbrev pub element_of : Event → List ℕ

@@ -139,7 +139,7 @@ pub fn command_key(command: &Command) -> Key
     }
 }
 
-/// The first key field of an event.
+/// The first key that an event names.
 pub fn event_key(event: &Event) -> Key
     ensures { result ≡ names.event_key event.now }
 {

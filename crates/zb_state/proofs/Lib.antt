@@ -1,6 +1,7 @@
-pub mod StateLemmas
 pub mod DueLemmas
 pub mod JobLemmas
-pub mod TimerLemmas
-pub mod SmallLemmas
+pub mod KeyLemmas
+pub mod MessageLemmas
 pub mod PacketLemmas
+pub mod SmallLemmas
+pub mod StateLemmas

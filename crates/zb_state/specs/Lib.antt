@@ -1,5 +1,7 @@
 pub mod Alarms
-pub mod Change
-pub mod State
+pub mod Messages
 pub mod Refusal
+pub mod Shows
 pub mod Small
+pub mod State
+pub mod Tables

@@ -1,6 +1,7 @@
--- How large models are.
-use Rattle.std.specs.Prelude.{◌<◌, ◌^◌, length}
+-- What is known of the model that an event deploys.
+use Rattle.std.specs.Prelude.{◌<◌, ◌^◌, length, IsTrue}
 use Rattle.zb_process.specs.declared.model.Model.{Model}
+use Rattle.zb_faults.specs.Faults.{is_well_formed}
 use Rattle.zb_model.specs.declared.record.Event.{Event}
 use Rattle.zb_model.specs.declared.record.Event.TheVariants as events
 
@@ -13,3 +14,8 @@ pub record IsSmall (m : Model) : Type 0 where
 abbrev pub HasSmallModel : Event → Type 0
 HasSmallModel (events.ProcessCreated e) = IsSmall e.model
 HasSmallModel _ = Unit {0}
+
+-- the model that an event deploys, if it deploys one, has no fault (own)
+abbrev pub HasSoundModel : Event → Type 0
+HasSoundModel (events.ProcessCreated e) = IsTrue (is_well_formed e.model)
+HasSoundModel _ = Unit {0}

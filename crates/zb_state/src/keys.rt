@@ -11,13 +11,10 @@ pub fn greatest_counter_of(place: PartitionId, event: &Event) -> u64
 {
     match event {
         Event::ProcessCreated(record) => counter_of(place, record.key),
-        Event::DeploymentCreated(record) => {
-            greatest_among(place, &[record.key, record.definition])
-        }
-        Event::CommandDistributionDistributing(record) => counter_of(place, record.key),
-        Event::CommandDistributionAcknowledged(record) => counter_of(place, record.key),
+        Event::CommandDistributionDistributing(record)
+        | Event::CommandDistributionAcknowledged(record) => counter_of(place, record.key),
         Event::CommandDistributionFinished(key) => counter_of(place, *key),
-        Event::ProcessInstanceCreationCreated(record) => {
+        Event::DeploymentCreated(record) | Event::ProcessInstanceCreationCreated(record) => {
             greatest_among(place, &[record.key, record.definition])
         }
         Event::ElementActivating(record) => {
@@ -57,10 +54,9 @@ pub fn greatest_counter_of(place: PartitionId, event: &Event) -> u64
         Event::MessageSubscriptionCorrelating(record) => {
             greatest_among(place, &[record.subscription, record.message])
         }
-        Event::MessageSubscriptionCorrelated(record) => {
-            greatest_among(place, &[record.subscription, record.message])
-        }
-        Event::MessageSubscriptionRejected(record) => {
+        Event::MessageSubscriptionCorrelated(record)
+        | Event::MessageSubscriptionRejected(record)
+        | Event::ProcessMessageSubscriptionCorrelated(record) => {
             greatest_among(place, &[record.subscription, record.message])
         }
         Event::MessageSubscriptionDeleted(key) => counter_of(place, *key),
@@ -68,9 +64,6 @@ pub fn greatest_counter_of(place: PartitionId, event: &Event) -> u64
             greatest_among(place, &[record.subscription, record.cell])
         }
         Event::ProcessMessageSubscriptionCreated(key) => counter_of(place, *key),
-        Event::ProcessMessageSubscriptionCorrelated(record) => {
-            greatest_among(place, &[record.subscription, record.message])
-        }
         Event::ProcessMessageSubscriptionDeleted(key) => counter_of(place, *key),
         Event::ProcessMessageSubscriptionDeleting(record) => {
             counter_of(place, record.subscription).max(greatest_among(
@@ -78,8 +71,9 @@ pub fn greatest_counter_of(place: PartitionId, event: &Event) -> u64
                 record.keys.as_slice(),
             ))
         }
-        Event::VariableCreated(record) => counter_of(place, record.scope),
-        Event::VariableUpdated(record) => counter_of(place, record.scope),
+        Event::VariableCreated(record) | Event::VariableUpdated(record) => {
+            counter_of(place, record.scope)
+        }
         Event::VariableDocumentUpdated(key) => counter_of(place, *key),
         Event::IncidentCreated(record) => {
             greatest_among(place, &[record.key, record.cell, record.job])

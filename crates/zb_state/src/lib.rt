@@ -1,16 +1,16 @@
 //! The state of a partition: what its log's events come to.
 #![tactic(auto)]
 
-mod buffered;
-mod change;
-mod distributions;
 mod keys;
+mod messages;
 mod moves;
 mod out;
 mod refusal;
 mod state;
+mod tables;
 mod turn;
 
+pub use messages::Messages;
 pub use out::Out;
 pub use refusal::Refusal;
 pub use state::State;

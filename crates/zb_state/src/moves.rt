@@ -8,7 +8,7 @@ ghost use Rattle.zb_rules.specs.Applies.{may_fit};
 ghost use Rattle.zb_tokens.specs.Game.{fits, played};
 ghost use Rattle.zb_rules.specs.Shown.{shown, after_shown, event_of};
 ghost use Rattle.zb_tokens.specs.declared.board.Move.TheVariants as moves;
-ghost use Rattle.zb_state.specs.Change.{may_show};
+ghost use Rattle.zb_state.specs.Shows.{may_show};
 ghost use Rattle.zb_state.specs.Small.{IsSmall, HasSmallModel};
 
 use std::alloc::{AllocError, Global};
@@ -16,9 +16,9 @@ use zb_game::{Game, GameFault};
 use zb_graph::{BoxedGraph, compile};
 use zb_jobs::Jobs;
 use zb_model::{
-    ElementActivated, ElementActivating, ElementCompleted, Event, IncidentCreated, JobErrorThrown,
-    Key, List, ProcessCreated, ProcessEventTriggered, Role, SequenceFlowTaken, TableFault, Text,
-    TryCopy, VariableCreated, VariableUpdated,
+    ElementActivated, ElementActivating, ElementCompleted, Event, IncidentCreated, JobError, Key,
+    List, ProcessDefinition, ProcessEventTriggered, Role, ScopeVariable, SequenceFlowTaken,
+    TableFault, Text, TryCopy,
 };
 use zb_tokens::{Assigned, Deployed, Enter, Incident, Leave, Move, Start, Take, Thrown, Triggered};
 
@@ -93,8 +93,8 @@ fn shown(alloc: Global, event: &Event, jobs: &Jobs) -> Result<Option<Move>, Allo
         Event::ElementTerminating(key) => Ok(Some(Move::Halt(*key))),
         Event::ElementTerminated(key) => Ok(Some(Move::Gone(*key))),
         Event::SequenceFlowTaken(flow) => Ok(Some(take_of(alloc, flow)?)),
-        Event::VariableCreated(variable) => Ok(Some(assign_of(alloc, variable)?)),
-        Event::VariableUpdated(variable) => Ok(Some(update_of(alloc, variable)?)),
+        Event::VariableCreated(variable) => Ok(Some(Move::Assign(assigned(alloc, variable)?))),
+        Event::VariableUpdated(variable) => Ok(Some(Move::Update(assigned(alloc, variable)?))),
         Event::JobCompleted(key) => Ok(done_of(*key, jobs)),
         Event::JobErrorThrown(thrown) => throw_of(alloc, thrown, jobs),
         Event::ProcessEventTriggered(told) => Ok(Some(trigger_of(alloc, told)?)),
@@ -105,7 +105,7 @@ fn shown(alloc: Global, event: &Event, jobs: &Jobs) -> Result<Option<Move>, Allo
 }
 
 // The model of a process stands, as a graph.
-fn stand_of(alloc: Global, process: &ProcessCreated) -> Result<Move, AllocError>
+fn stand_of(alloc: Global, process: &ProcessDefinition) -> Result<Move, AllocError>
     requires { IsSmall process.now.model }
     ensures { IfOk result (λ move. Some move ≡ shown [] (events.ProcessCreated process.now)) }
 {
@@ -161,24 +161,15 @@ fn take_of(alloc: Global, taken: &SequenceFlowTaken) -> Result<Move, AllocError>
     }))
 }
 
-fn assign_of(alloc: Global, variable: &VariableCreated) -> Result<Move, AllocError>
-    ensures { IfOk result (λ move. Some move ≡ shown [] (events.VariableCreated variable.now)) }
+// What a variable gets in a scope.
+fn assigned(alloc: Global, variable: &ScopeVariable) -> Result<Assigned, AllocError>
+    ensures { IfOk result (λ assigned. assigned ≡ record { scope = variable.now.scope; name = variable.now.name; value = variable.now.value }) }
 {
-    Ok(Move::Assign(Assigned {
+    Ok(Assigned {
         scope: variable.scope,
         name: variable.name.copy(alloc)?,
         value: variable.value.copy(alloc)?,
-    }))
-}
-
-fn update_of(alloc: Global, variable: &VariableUpdated) -> Result<Move, AllocError>
-    ensures { IfOk result (λ move. Some move ≡ shown [] (events.VariableUpdated variable.now)) }
-{
-    Ok(Move::Update(Assigned {
-        scope: variable.scope,
-        name: variable.name.copy(alloc)?,
-        value: variable.value.copy(alloc)?,
-    }))
+    })
 }
 
 // The work of a job's cell is done.
@@ -192,7 +183,7 @@ fn done_of(key: Key, jobs: &Jobs) -> Option<Move>
 }
 
 // An error is thrown in it.
-fn throw_of(alloc: Global, thrown: &JobErrorThrown, jobs: &Jobs) -> Result<Option<Move>, AllocError>
+fn throw_of(alloc: Global, thrown: &JobError, jobs: &Jobs) -> Result<Option<Move>, AllocError>
     ensures { IfOk result (λ move. move
         ≡ option_map (λ j. moves.Throw (record { cell = j.cell; code = thrown.now.code })) (find (λ j. j.key == thrown.now.key) jobs.now)) }
 {

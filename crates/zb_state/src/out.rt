@@ -1,5 +1,6 @@
-ghost use Rattle.std.specs.Prelude.{◌≡◌, ◌++◌, [], ◌∷◌, length, IfOk, OnOk, IsErrOf};
+ghost use Rattle.std.specs.Prelude.{◌≡◌, ◌++◌, [], ◌∷◌, length, IsTrue, IfOk, OnOk, IsErrOf};
 ghost use Rattle.zb_rules.specs.Making.{just};
+ghost use Rattle.zb_state.specs.Small.{HasSoundModel};
 ghost use Rattle.zb_state.specs.State.{partition_of, CantMake, HasPut};
 ghost use Rattle.zb_state.specs.declared.refusal.Refusal.TheVariants.{Misfit};
 
@@ -55,7 +56,40 @@ impl Out {
         ensures one { OnOk result (self.new ≡ self.old ++ event ∷ []) }
         ensures misfit { IsErrOf result Misfit → CantMake state.old (just event) }
     {
-        match state.apply(alloc, &event) {
+        self.put_as(alloc, state, event, false)
+    }
+
+    /// Does what `put` does with an event whose model, if it deploys one, has no fault: so that isn't looked at.
+    pub fn put_sound(
+        &mut self,
+        alloc: Global,
+        state: &mut State,
+        event: Event,
+    ) -> Result<(), Refusal>
+        requires { HasSoundModel event }
+        ensures ok { OnOk result (HasPut (just event) state.old state.new self.old self.new) }
+        ensures place { partition_of state.new ≡ partition_of state.old }
+        ensures one { OnOk result (self.new ≡ self.old ++ event ∷ []) }
+        ensures misfit { IsErrOf result Misfit → CantMake state.old (just event) }
+    {
+        self.put_as(alloc, state, event, true)
+    }
+
+    // Takes an event into the state, and adds it. A model that is known to have no fault isn't looked at.
+    fn put_as(
+        &mut self,
+        alloc: Global,
+        state: &mut State,
+        event: Event,
+        known: bool,
+    ) -> Result<(), Refusal>
+        requires { IsTrue known → HasSoundModel event }
+        ensures ok { OnOk result (HasPut (just event) state.old state.new self.old self.new) }
+        ensures place { partition_of state.new ≡ partition_of state.old }
+        ensures one { OnOk result (self.new ≡ self.old ++ event ∷ []) }
+        ensures misfit { IsErrOf result Misfit → CantMake state.old (just event) }
+    {
+        match state.apply_as(alloc, &event, known) {
             Ok(()) => {}
             Err(fault) => {
                 drop(event);

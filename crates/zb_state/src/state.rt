@@ -1,64 +1,52 @@
-ghost use Rattle.std.specs.Prelude.{◌≡◌, ◌↔◌, ◌==◌, nat_le, ◌&&◌, ◌<◌, ◌+◌, ◌^◌, max, not, false, ℕ, List, [], ◌∷◌, ◌++◌, IsTrue, IsFalse, IsErrOf, IfOk, IfErr, OnOk, Some, is_none, is_some, option_map, option_and_then};
-ghost use Rattle.std.specs.List.{list_any};
-ghost use Rattle.std.specs.Option.{option_copied, option_map_or};
+ghost use Rattle.std.specs.Prelude.{◌≡◌, ◌↔◌, ◌==◌, ◌&&◌, ◌<◌, ◌+◌, ◌^◌, not, ℕ, List, [], ◌∷◌, ◌++◌, IsTrue, IsFalse, IsErrOf, IfOk, OnOk, Some, is_none, option_map};
+ghost use Rattle.std.specs.Option.{option_map_or};
 ghost use Rattle.zb_base.specs.Key.{key_of};
 ghost use Rattle.zb_model.specs.declared.record.Event.{Event};
-ghost use Rattle.zb_model.specs.declared.record.Event.TheVariants as events;
 ghost use Rattle.zb_views.specs.View.{next_key};
-ghost use Rattle.zb_views.specs.Messages.{buffered, is_buffered, message_at};
-ghost use Rattle.zb_rules.specs.Publish.{is_same};
-ghost use Rattle.zb_rules.specs.Expire.{is_due_at};
-ghost use Rattle.zb_rules.specs.Applies.{applies, holds_own, holds_of_game, has_cell, is_fresh, has_definition, begins_well, begins_instance, begins_cell, is_definition_of};
-ghost use Rattle.zb_rules.specs.Cancel.{has_root, is_terminating};
-ghost use Rattle.zb_rules.specs.Update.{is_named_in};
-ghost use Rattle.zb_rules.specs.Resolve.{incident_in};
-ghost use Rattle.zb_rules.specs.JobEvents.{has_cause};
-ghost use Rattle.zb_jobs.specs.Table.{has_place_for};
-ghost use Rattle.zb_timers.specs.Table.{has_place_for_timer};
-ghost use Rattle.zb_views.specs.Jobs.{jobs_by};
-ghost use Rattle.zb_views.specs.Timers.{timers_by};
-ghost use Rattle.zb_tokens.specs.Incidents.{incident_on};
-ghost use Rattle.zb_base.specs.Vars.{is_ascending, value_named};
-ghost use Rattle.zb_tokens.specs.Names.{holder_of, value_seen};
+ghost use Rattle.zb_views.specs.Messages.{buffered};
+ghost use Rattle.zb_views.specs.Jobs as views;
+ghost use Rattle.zb_views.specs.Timers as timer_views;
+ghost use Rattle.zb_views.specs.Left.{left_told};
+ghost use Rattle.zb_views.specs.declared.left.Left.TheVariants as lefts;
 ghost use Rattle.zb_views.specs.Distributions.{is_distributed};
-ghost use Rattle.zb_views.specs.Definitions.{definitions, definition_for, greatest_version};
+ghost use Rattle.zb_views.specs.Definitions.{definitions};
+ghost use Rattle.zb_definitions.specs.Kept.{KeepsDefinitions};
+ghost use Rattle.zb_rules.specs.Applies.{applies, holds_own, holds_of_game, has_cell, is_fresh, has_definition, begins_well, begins_instance, begins_cell, is_definition_of};
+ghost use Rattle.zb_rules.specs.JobEvents.{has_cause};
+ghost use Rattle.zb_base.specs.Vars.{is_ascending};
 ghost use Rattle.zb_faults.specs.Faults.{is_well_formed};
 ghost use Rattle.zb_rules.specs.Settling.{turn_of, turn_with, HasQuietGame};
 ghost use Rattle.zb_rules.specs.Continue.{is_quiet};
 ghost use Rattle.zb_rules.specs.Sound.{HasKeys};
-ghost use Rattle.zb_tokens.specs.Board.{Board, model_under};
+ghost use Rattle.zb_tokens.specs.Board.{Board};
 ghost use Rattle.zb_tokens.specs.Forced.{next_mover};
 ghost use Rattle.zb_rules.specs.Shown.{shown, after_shown, board_of};
-ghost use Rattle.zb_table.specs.Rows.{are_below};
-ghost use Rattle.zb_state.specs.Small.{HasSmallModel};
-ghost use Rattle.zb_state.specs.Change.{change_told, jobs_with, timers_with, called_off_by, IsNext, HasNextKey, IsFirstOfCell, Draws, BeginsWait};
+ghost use Rattle.zb_state.specs.Small.{HasSmallModel, HasSoundModel};
+ghost use Rattle.zb_state.specs.Tables.{IsNext, Draws, are_all_below};
 
 mod due;
 mod jobs;
 mod outbox;
 mod timers;
 
-use crate::buffered::{self, Buffered};
-use crate::change::{Change, copied_change};
-use crate::distributions;
 use crate::keys::greatest_counter_of;
+use crate::messages::Messages;
 use crate::moves::{may_show, play};
+use crate::tables::Tables;
 use crate::turn::{Turn, turn_by};
 use std::alloc::{AllocError, Global};
 use std::mem;
 use zb_check::{ModelFault, check};
 use zb_definitions::Definitions;
 use zb_game::Game;
-use zb_graph::Graph;
 use zb_jobs::Jobs;
 use zb_model::{
-    ElementActivating, Event, IncidentCreated, Key, MessagePublish, MessagePublished,
-    Model as ProcessModel, Moment, PartitionId, ProcessCreated, Role, TableFault, TryCopy, Vars,
+    ElementActivating, Event, IncidentCreated, Key, MessagePublished, Model as ProcessModel,
+    Moment, PartitionId, Role, TableFault,
 };
 use zb_timers::Timers;
-use zb_tokens::{Incident, Mover, Phase};
-use zb_views::{Begun, Distribution};
-use zb_waits::Waits;
+use zb_tokens::Mover;
+use zb_views::{Begun, Left};
 
 /// What the events of a partition's log come to. Its clauses hold for all lists of events of which it is
 /// the state.
@@ -67,32 +55,20 @@ pub struct State {
     place: PartitionId,
     // The greatest counter of the keys that the events name.
     counter: u64,
-    // The buffered messages. They wait for their deadlines.
-    messages: Waits<Buffered>,
-    // The definitions that were made.
-    definitions: Definitions,
-    // The distributions that are under way, in the order in which they began.
-    distributions: Vec<Distribution>,
-    // The instance that the last event began, if it began one.
-    begun: Option<Begun>,
-    // The jobs that are there.
-    jobs: Jobs,
-    // The timers that are there.
-    timers: Timers,
-    // The job that the last event called off, if it called one off.
-    called_off: Option<Key>,
+    messages: Messages,
+    tables: Tables,
+    // What the last event left to be said.
+    left: Left,
     game: Game,
     // Whether it is known that nobody is forced to move.
     rests: bool,
     ghost drawn: { counter < 2 ^ 51 },
-    ghost in_order: { IsTrue (are_below (λ m. m.key) (key_of place (counter + 1)) messages) },
-    ghost jobs_in_order: { IsTrue (are_below (λ j. j.key) (key_of place (counter + 1)) jobs) },
-    ghost timers_in_order: { IsTrue (are_below (λ t. t.key) (key_of place (counter + 1)) timers) },
+    ghost in_order: { IsTrue (are_all_below (key_of place (counter + 1)) messages tables.jobs tables.timers) },
     ghost resting: { IsTrue rests → IsTrue (is_none (next_mover game)) },
 }
 
 impl State {
-    ghost use Rattle.zb_state.specs.State.{partition_of, IsStateOf, IsSameBeside, IsNoted, HasTaken};
+    ghost use Rattle.zb_state.specs.State.{partition_of, IsStateOf, IsSameBeside, HasTaken};
 
     /// The state of a log without events.
     pub fn empty(alloc: Global, place: PartitionId) -> State
@@ -102,13 +78,9 @@ impl State {
         State {
             place,
             counter: 0,
-            messages: Waits::empty(alloc),
-            definitions: Definitions::empty(alloc),
-            distributions: Vec::new(alloc),
-            begun: None,
-            jobs: Jobs::empty(alloc),
-            timers: Timers::empty(alloc),
-            called_off: None,
+            messages: Messages::empty(alloc),
+            tables: Tables::empty(alloc),
+            left: Left::Nothing,
             game: Game::empty(alloc),
             rests: false,
         }
@@ -126,9 +98,27 @@ impl State {
             → IsErrOf result TableFault.NotApplicable → IsFalse (applies (partition_of self.old) es event.now) }
         ensures kept { IsErrOf result TableFault.NotApplicable → self.new ≡ self.old }
     {
-        self.admit(alloc, event)?;
-        let counter = greatest_counter_of(self.place, event);
-        self.follow(alloc, counter, event)?;
+        self.apply_as(alloc, event, false)
+    }
+
+    /// Takes in an event as `apply` does. A model that is known to have no fault isn't looked at again.
+    pub(crate) fn apply_as(
+        &mut self,
+        alloc: Global,
+        event: &Event,
+        known: bool,
+    ) -> Result<(), TableFault>
+        requires { IsTrue known → HasSoundModel event.now }
+        ensures place { partition_of self.new ≡ partition_of self.old }
+        ensures applied { (es : List Event) → IsStateOf es self.old → OnOk result (IsTrue (applies (partition_of self.old) es event.now)) }
+        ensures state { (es : List Event) → IsStateOf es self.old → OnOk result (IsStateOf (es ++ event.now ∷ []) self.new) }
+        ensures refused { (es : List Event) → IsStateOf es self.old
+            → IsErrOf result TableFault.NotApplicable → IsFalse (applies (partition_of self.old) es event.now) }
+        ensures kept { IsErrOf result TableFault.NotApplicable → self.new ≡ self.old }
+    {
+        self.admit(alloc, event, known)?;
+        self.follow(alloc, event)?;
+        self.messages.apply(alloc, event)?;
         Ok(())
     }
 
@@ -141,15 +131,21 @@ impl State {
             → IsErrOf result TableFault.NotApplicable → IsFalse (applies (partition_of self.old) es event) }
         ensures kept { IsErrOf result TableFault.NotApplicable → self.new ≡ self.old }
     {
-        match self.admit(alloc, &event) {
+        match self.admit(alloc, &event, false) {
             Ok(()) => {}
             Err(fault) => {
                 drop(event);
                 return Err(fault);
             }
         }
-        let counter = greatest_counter_of(self.place, &event);
-        self.take(alloc, counter, event)?;
+        match self.follow(alloc, &event) {
+            Ok(()) => {}
+            Err(AllocError) => {
+                drop(event);
+                return Err(TableFault::Memory);
+            }
+        }
+        self.messages.take(event)?;
         Ok(())
     }
 
@@ -167,100 +163,39 @@ impl State {
         count < Key::COUNTERS - self.counter
     }
 
-    /// Whether a message with this name, correlation key and id is buffered. It goes through all that are.
-    pub fn buffers(&self, command: &MessagePublish) -> bool
-        ensures { (es : List Event) → IsStateOf es self.now → result ≡ list_any (is_same command.now) (buffered es) }
+    /// The game of the events.
+    pub fn game(&self) -> &Game
+        ensures { (es : List Event) → IsStateOf es self.now → board_of es ≡ Some result.now }
     {
-        self.messages.any(command)
+        &self.game
     }
 
-    /// The deadline of the buffered message with this key, if there is one. It takes the logarithm of how many
-    /// are buffered.
-    pub fn deadline_of(&self, key: Key) -> Option<Moment>
-        ensures deadline { (es : List Event) → IsStateOf es self.now → result ≡ option_map (λ m. m.deadline) (message_at key es) }
-        ensures buffered { (es : List Event) → IsStateOf es self.now → is_some result ≡ is_buffered key es }
-        ensures due { (es : List Event) (moment : ℕ) → IsStateOf es self.now → option_map_or (λ deadline. nat_le deadline moment) result false ≡ is_due_at moment key es }
+    /// The buffered messages.
+    pub fn messages(&self) -> &Messages
+        ensures { (es : List Event) → IsStateOf es self.now → buffered es ≡ result.now }
     {
-        buffered::deadline_of(key, &self.messages)
+        &self.messages
     }
 
-    /// The key of the definition that is asked for: version 0 is the latest one. It takes the logarithm of how many
-    /// versions the process has, on average.
-    pub fn definition_for(&self, process: &str, version: u32) -> Option<Key>
-        ensures { (es : List Event) → IsStateOf es self.now → result ≡ option_map (λ d. d.key) (definition_for process.now version es) }
+    /// The definitions that were made.
+    pub fn definitions(&self) -> &Definitions
+        ensures { (es : List Event) → IsStateOf es self.now → KeepsDefinitions (definitions es) result.now }
     {
-        self.definitions.definition_for(process, version)
+        &self.tables.definitions
     }
 
-    /// Whether a definition has this key. It takes the logarithm of how many there are.
-    pub fn has_definition(&self, key: Key) -> bool
-        ensures { (es : List Event) → IsStateOf es self.now → result ≡ has_definition key es }
+    /// The jobs that are there.
+    pub fn jobs(&self) -> &Jobs
+        ensures { (es : List Event) → IsStateOf es self.now → views.jobs es ≡ result.now }
     {
-        self.definitions.contains(key)
+        &self.tables.jobs
     }
 
-    /// The greatest version of a process, or 0. It takes constant time on average.
-    pub fn greatest_version(&self, process: &str) -> u32
-        ensures { (es : List Event) → IsStateOf es self.now → result ≡ greatest_version process.now (definitions es) }
+    /// The timers that are there.
+    pub fn timers(&self) -> &Timers
+        ensures { (es : List Event) → IsStateOf es self.now → timer_views.timers es ≡ result.now }
     {
-        self.definitions.greatest_version(process)
-    }
-
-    /// The game of the events: a copy of it, which costs as much as it has parts.
-    pub fn game(&self, alloc: Global) -> Result<Game, AllocError>
-        ensures { (es : List Event) → IsStateOf es self.now → IfOk result (λ game. board_of es ≡ Some game) }
-    {
-        self.game.copy(alloc)
-    }
-
-    /// Whether a cell has this key. It takes the logarithm of how many cells there are, where their keys ascend, as do
-    /// the other questions on one cell.
-    pub fn has_cell(&self, key: Key) -> bool
-        ensures { (es : List Event) → IsStateOf es self.now → result ≡ holds_of_game (has_cell key) es }
-    {
-        self.game.phase_of(key).is_some()
-    }
-
-    /// Whether an instance has this key.
-    pub fn has_root(&self, key: Key) -> bool
-        ensures { (es : List Event) → IsStateOf es self.now → result ≡ holds_of_game (has_root key) es }
-    {
-        self.game.is_instance(key)
-    }
-
-    /// Whether the cell with this key is terminating.
-    pub fn is_terminating(&self, key: Key) -> bool
-        ensures { (es : List Event) → IsStateOf es self.now → result ≡ holds_of_game (is_terminating key) es }
-    {
-        match self.game.phase_of(key) {
-            Some(phase) => phase == Phase::Terminating,
-            None => false,
-        }
-    }
-
-    /// Whether a cell has a variable with this name. It goes through the variables of the cell.
-    pub fn is_named_in(&self, cell: Key, name: &str) -> bool
-        ensures { (es : List Event) → IsStateOf es self.now → result ≡ holds_of_game (is_named_in cell name.now) es }
-    {
-        self.game.has_name(cell, name)
-    }
-
-    /// The cell in which a name is set that is handed up from a scope: the nearest one that has it, or else the root.
-    /// It goes up the scopes, and through the variables of each.
-    pub fn holder_of(&self, scope: Key, name: &str) -> Option<Key>
-        ensures { (es : List Event) → IsStateOf es self.now
-            → result ≡ option_and_then (λ b. holder_of b scope name.now) (board_of es) }
-    {
-        self.game.holder_of(scope, name)
-    }
-
-    /// The model of a definition, as a graph; `None` where the definition isn't there. It takes the logarithm of how
-    /// many definitions there are, where their keys ascend.
-    pub fn graph(&self, definition: Key) -> Option<&Graph>
-        ensures model { (es : List Event) (b : Board) → IsStateOf es self.now → board_of es ≡ Some b → option_copied result ≡ model_under b definition }
-        ensures there { (es : List Event) → IsStateOf es self.now → is_some result ≡ has_definition definition es }
-    {
-        self.game.model(definition)
+        &self.tables.timers
     }
 
     /// Who moves next; `None` where the game is quiet. It costs what `Game::next_mover` does, and nothing where nobody
@@ -284,21 +219,6 @@ impl State {
         ensures told { (es : List Event) → IsStateOf es self.now → result ≡ is_quiet es }
     {
         self.rests || self.game.is_quiet()
-    }
-
-    /// The incident with this key. It takes the logarithm of how many there are.
-    pub fn incident(&self, key: Key) -> Option<&Incident>
-        ensures { (es : List Event) → IsStateOf es self.now → option_copied result ≡ incident_in key es }
-    {
-        self.game.incident(key)
-    }
-
-    /// The incident on a cell. It takes the logarithm of how many there are.
-    pub fn incident_on(&self, cell: Key) -> Option<&Incident>
-        ensures { (es : List Event) → IsStateOf es self.now
-            → option_copied result ≡ option_and_then (λ b. incident_on b cell) (board_of es) }
-    {
-        self.game.incident_on(cell)
     }
 
     /// What a mover does at a moment, if it does anything: the event of its move, and the variables that are set in front of that;
@@ -335,6 +255,20 @@ impl State {
         self.counter + 1 < Key::COUNTERS && key == self.fresh()
     }
 
+    // Whether a cell has this key.
+    fn has_cell(&self, key: Key) -> bool
+        ensures { (es : List Event) → IsStateOf es self.now → result ≡ holds_of_game (has_cell key) es }
+    {
+        self.game.phase_of(key).is_some()
+    }
+
+    // Whether a definition has this key.
+    fn has_definition(&self, key: Key) -> bool
+        ensures { (es : List Event) → IsStateOf es self.now → result ≡ has_definition key es }
+    {
+        self.tables.definitions.contains(key)
+    }
+
     // Whether a message comes under the next key. The names of its variables ascend, as those of all `Vars` do.
     fn publishes(&self, message: &MessagePublished) -> bool
         ensures own { (es : List Event) → IsStateOf es self.now
@@ -347,16 +281,15 @@ impl State {
 
     // Whether the event meets its own condition, beside the move that it shows. The events of the last arm are
     // made by no command so far.
-    fn meets_own(&self, alloc: Global, event: &Event) -> Result<bool, AllocError>
+    fn meets_own(&self, alloc: Global, event: &Event, known: bool) -> Result<bool, AllocError>
+        requires { IsTrue known → HasSoundModel event.now }
         ensures own { (es : List Event) → IsStateOf es self.now → IfOk result (λ meets. meets ≡ holds_own (partition_of self.now) es event.now) }
-        ensures next { IfOk result (λ meets. IsTrue meets → HasNextKey (partition_of self.now) self.now.counter event.now) }
-        ensures first { IfOk result (λ meets. IsTrue meets → IsFirstOfCell self.now.jobs event.now) }
+        ensures draws { IfOk result (λ meets. IsTrue meets → Draws (partition_of self.now) self.now.counter self.now.tables.jobs event.now) }
         ensures small { IfOk result (λ meets. IsTrue meets → HasSmallModel event.now) }
     {
         match event {
-            Event::ProcessCreated(process) => is_well_formed(alloc, &process.model),
-            Event::DeploymentCreated(made) => Ok(self.names_definition(made.key, made.definition)),
-            Event::ProcessInstanceCreationCreated(made) => {
+            Event::ProcessCreated(process) => is_sound(alloc, &process.model, known),
+            Event::DeploymentCreated(made) | Event::ProcessInstanceCreationCreated(made) => {
                 Ok(self.names_definition(made.key, made.definition))
             }
             Event::ElementActivating(element) => Ok(self.begins_well(element)),
@@ -372,21 +305,21 @@ impl State {
             Event::VariableDocumentUpdated(scope) => Ok(self.has_cell(*scope)),
             Event::IncidentCreated(incident) => Ok(self.begins_incident(incident)),
             Event::IncidentResolved(incident) => Ok(self.is_cause_of(incident.job, incident.key)),
-            Event::JobCreated(job) => Ok(self.is_fresh(job.key) && self.begins_job(job.cell)),
+            Event::JobCreated(job) => Ok(self.makes_job(job)),
             Event::JobActivated(given) => Ok(self.hands_out(given)),
             Event::JobTimedOut(key) => Ok(self.has_activated(*key)),
             Event::JobCompleted(key) => Ok(self.has_given_out(*key)),
-            Event::JobCanceled(key) => Ok(self.called_off == Some(*key)),
+            Event::JobCanceled(key) => Ok(self.left.leaves_cancel(*key)),
             Event::TimerCreated(timer) => Ok(self.opens_timer(timer)),
             Event::TimerTriggered(key) | Event::TimerCanceled(key) => Ok(self.has_timer(*key)),
             Event::JobFailed(failed) => Ok(self.has_given_out(failed.key)),
             Event::JobErrorThrown(thrown) => Ok(self.has_given_out(thrown.key)),
-            Event::JobRetriesUpdated(updated) => Ok(self.job(updated.key).is_some()),
+            Event::JobRetriesUpdated(updated) => Ok(self.has_job(updated.key)),
             Event::JobBatchActivated(batch) => {
                 Ok(self.is_fresh(batch.key) && self.are_jobs(batch.jobs.as_slice()))
             }
             Event::MessagePublished(message) => Ok(self.publishes(message)),
-            Event::MessageExpired(key) => Ok(self.deadline_of(*key).is_some()),
+            Event::MessageExpired(key) => Ok(self.messages.deadline_of(*key).is_some()),
             Event::CommandDistributionDistributing(sent) => Ok(self.has_definition(sent.key)),
             Event::CommandDistributionAcknowledged(told) => {
                 Ok(self.is_distributed_to(told.key, told.partition))
@@ -450,21 +383,11 @@ impl State {
     fn begins_instance(&self, element: &ElementActivating) -> bool
         ensures { (es : List Event) → IsStateOf es self.now → result ≡ begins_instance es element.now }
     {
-        self.has_begun(element.key, element.definition)
+        self.left.leaves_root(element.key, element.definition)
             && self
                 .game
                 .is_process_of(element.definition, element.node.as_str())
             && element.via.as_str().is_empty()
-    }
-
-    // Whether the last event made this instance of the definition.
-    fn has_begun(&self, key: Key, definition: Key) -> bool
-        ensures { result ≡ option_map_or (λ i. (i.key == key) && (i.definition == definition)) self.now.begun false }
-    {
-        match self.begun {
-            Some(instance) => instance.key == key && instance.definition == definition,
-            None => false,
-        }
     }
 
     // Whether the cell has a fresh key, and the definition of its scope.
@@ -486,22 +409,22 @@ impl State {
 
     // Makes the move of an event that applies. At `NotApplicable`, exactly where it doesn't, nothing has
     // changed; after `Memory` the state is only dropped.
-    fn admit(&mut self, alloc: Global, event: &Event) -> Result<(), TableFault>
+    fn admit(&mut self, alloc: Global, event: &Event, known: bool) -> Result<(), TableFault>
+        requires { IsTrue known → HasSoundModel event.now }
         ensures beside { IsSameBeside self.old self.new }
         ensures applied { (es : List Event) → IsStateOf es self.old → OnOk result (IsTrue (applies (partition_of self.old) es event.now)) }
         ensures played { (es : List Event) → IsStateOf es self.old → OnOk result (after_shown self.old.game (shown es event.now) ≡ Some self.new.game) }
-        ensures next { OnOk result (HasNextKey (partition_of self.old) self.old.counter event.now) }
-        ensures first { OnOk result (IsFirstOfCell self.old.jobs event.now) }
+        ensures draws { OnOk result (Draws (partition_of self.new) self.new.counter self.new.tables.jobs event.now) }
         ensures refused { (es : List Event) → IsStateOf es self.old
             → IsErrOf result TableFault.NotApplicable → IsFalse (applies (partition_of self.old) es event.now) }
         ensures kept { IsErrOf result TableFault.NotApplicable → self.new ≡ self.old }
     {
-        if !self.meets_own(alloc, event)? {
+        if !self.meets_own(alloc, event, known)? {
             return Err(TableFault::NotApplicable);
         }
         let rests = self.rests;
         self.rests = false;
-        match play(alloc, event, &self.jobs, &mut self.game) {
+        match play(alloc, event, &self.tables.jobs, &mut self.game) {
             Ok(()) => {
                 self.rests = rests && !may_show(event);
                 Ok(())
@@ -514,167 +437,52 @@ impl State {
         }
     }
 
-    // Takes in the greatest counter of an event, and what it says, but for the move that it shows; a message is moved.
-    // After a refusal the state is only dropped.
-    fn take(&mut self, alloc: Global, counter: u64, event: Event) -> Result<(), AllocError>
-        requires small { counter < 2 ^ 51 }
-        requires draws { Draws (partition_of self.old) self.old.counter counter (change_told event) }
-        requires opens { BeginsWait (partition_of self.old) self.old.counter counter self.old.jobs (Some event) }
+    // Takes in what an event says, but for its move and of messages. After a refusal the state is only dropped.
+    fn follow(&mut self, alloc: Global, event: &Event) -> Result<(), AllocError>
+        requires { Draws (partition_of self.old) self.old.counter self.old.tables.jobs event.now }
         ensures place { partition_of self.new ≡ partition_of self.old }
-        ensures noted { OnOk result (HasTaken counter event self.old self.new) }
+        ensures taken { OnOk result (HasTaken event.now self.old.messages self.old self.new) }
     {
-        match message_in(event) {
-            Ok(message) => self.note(alloc, counter, Change::Published(message), None),
-            Err(event) => {
-                let followed = self.follow(alloc, counter, &event);
-                drop(event);
-                followed
-            }
-        }
-    }
-
-    // The same without a move.
-    fn follow(&mut self, alloc: Global, counter: u64, event: &Event) -> Result<(), AllocError>
-        requires small { counter < 2 ^ 51 }
-        requires draws { Draws (partition_of self.old) self.old.counter counter (change_told event.now) }
-        requires opens { BeginsWait (partition_of self.old) self.old.counter counter self.old.jobs (Some event.now) }
-        ensures place { partition_of self.new ≡ partition_of self.old }
-        ensures noted { OnOk result (IsNoted counter (change_told event.now) (Some event.now) self.old self.new) }
-    {
-        let change = copied_change(alloc, event)?;
-        self.note(alloc, counter, change, Some(event))
-    }
-
-    // Takes in the greatest counter of an event, and what it makes of the jobs and the timers. After a refusal the state
-    // is only dropped.
-    fn note_waits(
-        &mut self,
-        alloc: Global,
-        counter: u64,
-        event: Option<&Event>,
-    ) -> Result<(), AllocError>
-        requires small { counter < 2 ^ 51 }
-        requires opens { BeginsWait (partition_of self.old) self.old.counter counter self.old.jobs (option_copied event) }
-        ensures place { partition_of self.new ≡ partition_of self.old }
-        ensures counter { OnOk result (self.new.counter ≡ max self.old.counter counter) }
-        ensures messages { self.new.messages ≡ self.old.messages }
-        ensures definitions { self.new.definitions ≡ self.old.definitions }
-        ensures distributions { self.new.distributions ≡ self.old.distributions }
-        ensures jobs { OnOk result (self.new.jobs ≡ jobs_with (option_copied event.entry) self.old.jobs) }
-        ensures timers { OnOk result (self.new.timers ≡ timers_with (option_copied event.entry) self.old.timers) }
-        ensures called_off { OnOk result (self.new.called_off ≡ called_off_by (option_copied event.entry) self.old.jobs) }
-        ensures game { self.new.game ≡ self.old.game }
-    {
-        self.counter = self.counter.max(counter);
-        self.called_off = called_off_by(&self.jobs, event);
-        let Some(event) = event else {
-            return Ok(());
-        };
-        let jobs = mem::replace(&mut self.jobs, Jobs::empty(alloc));
-        self.jobs = followed(alloc, jobs, event)?;
-        let timers = mem::replace(&mut self.timers, Timers::empty(alloc));
-        self.timers = timed(alloc, timers, event)?;
+        self.left = left_behind(&self.tables.jobs, event);
+        self.counter = self.counter.max(greatest_counter_of(self.place, event));
+        let tables = mem::replace(&mut self.tables, Tables::empty(alloc));
+        self.tables = tables.with(alloc, event)?;
         Ok(())
     }
-
-    // Takes in the greatest counter of an event, and what it changes beside the game. After a refusal the
-    // state is only dropped.
-    #[inline(always)]
-    #[tactic(auto, using(zb_definitions::proofs::KeepLemmas::kept))]
-    fn note(
-        &mut self,
-        alloc: Global,
-        counter: u64,
-        change: Change,
-        event: Option<&Event>,
-    ) -> Result<(), AllocError>
-        requires small { counter < 2 ^ 51 }
-        requires draws { Draws (partition_of self.old) self.old.counter counter change }
-        requires opens { BeginsWait (partition_of self.old) self.old.counter counter self.old.jobs (option_copied event) }
-        ensures place { partition_of self.new ≡ partition_of self.old }
-        ensures noted { OnOk result (IsNoted counter change (option_copied event.entry) self.old self.new) }
-    {
-        match self.note_waits(alloc, counter, event) {
-            Ok(()) => {}
-            Err(AllocError) => {
-                drop(change);
-                return Err(AllocError);
-            }
-        }
-        self.begun = None;
-        match change {
-            Change::Defined(definition) => {
-                self.definitions.push(alloc, definition)?;
-                Ok(())
-            }
-            Change::Begun(instance) => {
-                self.begun = Some(instance);
-                Ok(())
-            }
-            Change::Published(message) => {
-                self.messages.add(Buffered::new(message))?;
-                Ok(())
-            }
-            Change::Expired(key) => {
-                self.messages.remove(key);
-                Ok(())
-            }
-            Change::SentOut(distribution) => {
-                self.distributions.push(distribution)?;
-                Ok(())
-            }
-            Change::Arrived(distribution) => {
-                distributions::end(&mut self.distributions, distribution);
-                Ok(())
-            }
-            Change::Nothing => Ok(()),
-        }
-    }
 }
 
-// The message that an event publishes, or else the event.
-fn message_in(event: Event) -> Result<MessagePublished, Event>
-    ensures message { IfOk result (λ message. event ≡ events.MessagePublished message) }
-    ensures other { IfErr result (λ other. other ≡ event) }
+// What an event leaves to be said behind those by which these jobs are there.
+fn left_behind(jobs: &Jobs, event: &Event) -> Left
+    ensures { (before : List Event) → views.jobs before ≡ jobs.now → result ≡ left_told before event.now }
 {
     match event {
-        Event::MessagePublished(message) => Ok(message),
-        other => Err(other),
+        Event::ProcessInstanceCreationCreated(instance) => Left::Root(Begun {
+            key: instance.key,
+            definition: instance.definition,
+        }),
+        Event::ElementTerminating(cell) => cancels(jobs.on(*cell)),
+        _ => Left::Nothing,
     }
 }
 
-// Which of these jobs an event calls off.
-fn called_off_by(jobs: &Jobs, event: Option<&Event>) -> Option<Key>
-    ensures { result ≡ called_off_by (option_copied event.entry) jobs.now }
+// That a job is canceled is left to be said, if there is one.
+fn cancels(job: Option<Key>) -> Left
+    ensures { result ≡ option_map_or (λ key. lefts.Cancels key) job lefts.Nothing }
 {
-    match event? {
-        Event::ElementTerminating(cell) => jobs.on(*cell),
-        _ => None,
+    match job {
+        Some(job) => Left::Cancels(job),
+        None => Left::Nothing,
     }
 }
 
-// These jobs as an event leaves them.
-fn followed(alloc: Global, mut jobs: Jobs, event: &Event) -> Result<Jobs, AllocError>
-    requires { IsTrue (has_place_for jobs event.now) }
-    ensures { IfOk result (λ after. after ≡ jobs_by event.now jobs) }
+// Whether the model has no fault. Where that is known it isn't looked at.
+fn is_sound(alloc: Global, model: &ProcessModel, known: bool) -> Result<bool, AllocError>
+    requires { IsTrue known → IsTrue (is_well_formed model.now) }
+    ensures { IfOk result (λ sound. sound ≡ is_well_formed model.now) }
 {
-    jobs.apply(alloc, event)?;
-    Ok(jobs)
-}
-
-// These timers as an event leaves them.
-fn timed(alloc: Global, mut timers: Timers, event: &Event) -> Result<Timers, AllocError>
-    requires { IsTrue (has_place_for_timer timers event.now) }
-    ensures { IfOk result (λ after. after ≡ timers_by event.now timers) }
-{
-    timers.apply(alloc, event)?;
-    Ok(timers)
-}
-
-// Whether the model has no fault.
-fn is_well_formed(alloc: Global, model: &ProcessModel) -> Result<bool, AllocError>
-    ensures { IfOk result (λ good. good ≡ is_well_formed model.now) }
-{
+    if known {
+        return Ok(true);
+    }
     match check(alloc, model) {
         Ok(()) => Ok(true),
         Err(ModelFault::Bad { .. }) => Ok(false),

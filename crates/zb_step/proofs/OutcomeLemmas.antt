@@ -10,7 +10,7 @@ use Rattle.zb_rules.specs.Applies.{all_apply}
 use Rattle.zb_rules.specs.Legal.{EachLegal}
 use Rattle.zb_rules.proofs.StepLaws.{all_apply_on}
 use Rattle.zb_rules.specs.Step.{IsAcceptance}
-use Rattle.zb_step.specs.Settled.{SettlesTo}
+use Rattle.zb_follow.specs.Settled.{SettlesTo}
 
 -- events that apply behind others apply to them
 pub behind_apply : (p : ℕ) (es more : List Event) → IsTrue (all_apply p [] (es ++ more)) → IsTrue (all_apply p es more)

@@ -1,10 +1,10 @@
 -- A command's own events.
-use Rattle.std.proofs.Common.{◌≡◌, ◌+◌, ◌-◌, ℕ, zero, suc, List, [], ◌∷◌, ◌++◌, map, IsTrue, Option, Some, None, is_some, option_map, refl, ap, sym, ◌∙◌, arith}
+use Rattle.std.proofs.Common.{◌≡◌, ◌+◌, ◌-◌, ℕ, zero, suc, List, [], ◌∷◌, ◌++◌, map, filter, take, IsTrue, Option, Some, None, is_some, option_map, refl, ap, sym, ◌∙◌, arith}
 use Rattle.std.specs.List.{range_with_len}
 use Rattle.std.specs.Option.{option_map_or}
 use Rattle.zb_base.specs.declared.vars.Variable.{Variable}
 use Rattle.zb_process.specs.declared.model.Model.{Model}
-use Rattle.zb_instance_records.specs.declared.deployment.ProcessCreated.{ProcessCreated}
+use Rattle.zb_instance_records.specs.declared.deployment.ProcessDefinition.{ProcessDefinition}
 use Rattle.zb_instance_records.specs.declared.instance.ElementActivating.{ElementActivating}
 use Rattle.zb_instance_records.specs.declared.instance.Role.TheVariants as roles
 use Rattle.zb_instance_records.specs.declared.instance.ProcessInstanceCreationCreate.{ProcessInstanceCreationCreate}
@@ -13,12 +13,14 @@ use Rattle.zb_model.specs.declared.record.Event.{Event}
 use Rattle.zb_model.specs.declared.record.Event.TheVariants as events
 use Rattle.zb_views.specs.View.{next_key}
 use Rattle.zb_views.specs.Definitions.{definition_for}
-use Rattle.zb_views.specs.Jobs.{offered}
+use Rattle.zb_views.specs.declared.job.Job.{Job}
+use Rattle.zb_views.specs.Jobs.{jobs, is_offered}
 use Rattle.zb_views.specs.declared.definition.Definition.{Definition}
 use Rattle.zb_rules.specs.Making.{Making, just, and_then, each_made}
 use Rattle.zb_rules.specs.Activate.{each_given_out, batch_told, activated}
 use Rattle.zb_rules.specs.Create.{variable_event, instance_under, created}
 use Rattle.zb_rules.specs.Deploy.{definition_of, deployment_of, sent_to, sent_to_all, deployed}
+use Rattle.zb_follow.proofs.MakerLemmas.{each_of}
 
 -- what there is a making for is made
 pub made_of : (make : Option Making) (es : List Event) → IsTrue (is_some (option_map (λ m. m es) make)) → option_map (λ m. m es) make ≡ Some (option_map_or (λ m. m es) make [])
@@ -29,16 +31,6 @@ made_of (Some make) es there = refl
 pub range_more : (a n j : ℕ) → a + n ≡ j → range_with_len a (suc n) ≡ range_with_len a n ++ j ∷ []
 range_more a zero j e = let same : a ≡ j = omega arith in ap (λ (k : ℕ). k ∷ []) same
 range_more a (suc n) j e = ap (λ (l : List ℕ). a ∷ l) (range_more (a + 1) n j (omega arith))
-
--- one event of each of some things, whatever was before
-pub each_of : {A : Type 0} (event : A → Event) (xs : List A) (es : List Event) → each_made (λ x. just (event x)) xs es ≡ map event xs
-each_of event [] es = refl
-each_of event (x ∷ xs) es = ap (λ (l : List Event). event x ∷ l) (each_of event xs (es ++ event x ∷ []))
-
--- and one of a part of each
-pub each_of_part : {A B : Type 0} (event : B → Event) (part : A → B) (xs : List A) (es : List Event) → each_made (λ x. just (event x)) (map part xs) es ≡ map (λ x. event (part x)) xs
-each_of_part event part [] es = refl
-each_of_part event part (x ∷ xs) es = ap (λ (l : List Event). event (part x) ∷ l) (each_of_part event part xs (es ++ event (part x) ∷ []))
 
 -- the events of an instance, of the definition that was found
 instance_by : (key definition : ℕ) (c : ProcessInstanceCreationCreate) (found : Option Definition) → Some definition ≡ option_map (λ d. d.key) found → instance_under key definition c ≡ option_map_or (λ d. instance_under key d.key c) found []
@@ -60,7 +52,7 @@ created_as p es c key definition root vs found next is are =
     ∙ ap (λ (k : ℕ). option_map_or (λ d. instance_under k d.key c) (definition_for c.process c.version es) []) next
 
 -- a definition, its deployment, and that it sets out for the other partitions
-pub deployed_as : (p n : ℕ) (es : List Event) (m : Model) (made : ProcessCreated) (others : List ℕ) → definition_of p m es ≡ events.ProcessCreated made ∷ [] → others ≡ range_with_len 2 (n - 1)
+pub deployed_as : (p n : ℕ) (es : List Event) (m : Model) (made : ProcessDefinition) (others : List ℕ) → definition_of p m es ≡ events.ProcessCreated made ∷ [] → others ≡ range_with_len 2 (n - 1)
     → and_then (just (events.ProcessCreated made)) (and_then (deployment_of p made.key) (each_made (λ k. just (sent_to made.key k)) others)) es ≡ deployed p n m es
 deployed_as p n es m made others is are =
     let key : made.key ≡ next_key p es = cc in
@@ -71,8 +63,10 @@ deployed_as p n es m made others is are =
     ∙ ap (λ (l : List Event). and_then (λ before. l) (and_then (deployment_of p (next_key p es)) (λ so_far. sent_to_all (next_key p es) n)) es) (sym is)
 
 -- the jobs that are offered are given, and told
-pub activated_as : (p moment : ℕ) (es : List Event) (c : JobBatchActivate) (keys things kind : List ℕ) → kind ≡ c.kind → keys ≡ map (λ j. j.key) (offered kind c.most es) → things ≡ keys
+pub activated_as : (p moment : ℕ) (es : List Event) (c : JobBatchActivate) (keys things kind : List ℕ) (js : List Job)
+    → kind ≡ c.kind → jobs es ≡ js → keys ≡ map (λ j. j.key) (take c.most (filter (is_offered kind) js)) → things ≡ keys
     → and_then (each_given_out moment c things) (batch_told p keys) es ≡ activated p moment c es
-activated_as p moment es c keys things kind is are same =
-    let told = are ∙ ap (λ (k : List ℕ). map (λ j. j.key) (offered k c.most es)) is in
+activated_as p moment es c keys things kind js is at are same =
+    let first : List ℕ → List Job → List ℕ = λ k all. map (λ j. j.key) (take c.most (filter (is_offered k) all)) in
+    let told = are ∙ ap (first kind) (sym at) ∙ ap (λ (k : List ℕ). first k (jobs es)) is in
     ap (λ (ks : List ℕ). and_then (each_given_out moment c ks) (batch_told p keys) es) same ∙ ap (λ (ks : List ℕ). and_then (each_given_out moment c ks) (batch_told p ks) es) told

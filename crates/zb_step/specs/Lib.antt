@@ -1,3 +1,1 @@
-pub mod Behind
-pub mod Making
-pub mod Settled
+pub mod Sound

@@ -1,32 +1,44 @@
 // A partition says that it has a definition.
 ghost use Rattle.std.specs.Prelude.{◌≡◌, List, IfOk, string_bytes};
 ghost use Rattle.zb_model.specs.declared.record.Event.{Event};
+ghost use Rattle.zb_views.specs.Distributions.{is_distributed_to, is_distributed};
 ghost use Rattle.zb_rules.specs.Acknowledge.{no_distribution, reason_to_acknowledge, finished_if_last, acknowledged};
 ghost use Rattle.zb_state.specs.State.{IsStateOf};
 
-use crate::making::{Find, Found, Maker};
 use crate::rejection::rejection;
 use std::alloc::{AllocError, Global};
-use zb_model::{
-    CommandDistributionAcknowledge, CommandDistributionAcknowledged, Event, Key, Moment, Rejection,
-    RejectionKind,
-};
+use zb_follow::{Find, Found, Maker};
+use zb_model::{CommandDistribution, Event, Key, Moment, Rejection, RejectionKind};
 use zb_state::{Out, Refusal, State};
 
-/// Why it isn't taken down that a partition has a definition: it isn't on its way there. It goes through the
-/// distributions that are under way.
+/// Why it isn't taken down that a partition has a definition: it isn't on its way there. It costs what
+/// `Outbox::is_sent_to` does.
 pub fn reason(
     alloc: Global,
     state: &State,
-    told: &CommandDistributionAcknowledge,
+    told: &CommandDistribution,
 ) -> Result<Option<Rejection>, AllocError>
     ensures { (es : List Event) → IsStateOf es state.now → IfOk result (λ rejection. rejection ≡ reason_to_acknowledge es told.now) }
 {
-    if state.is_distributed_to(told.key, told.partition) {
+    if is_distributed_to(state, told) {
         return Ok(None);
     }
     let text = text_of_none(alloc, told.key, told.partition)?;
     Ok(Some(rejection(alloc, RejectionKind::NotFound, text.as_str())?))
+}
+
+// Whether the definition is on its way to the partition.
+fn is_distributed_to(state: &State, told: &CommandDistribution) -> bool
+    ensures { (es : List Event) → IsStateOf es state.now → result ≡ is_distributed_to told.now.key told.now.partition es }
+{
+    state.sendings().is_sent_to(told.key, told.partition)
+}
+
+// Whether the definition is on its way to some partition.
+fn is_distributed(state: &State, definition: Key) -> bool
+    ensures { (es : List Event) → IsStateOf es state.now → result ≡ is_distributed definition es }
+{
+    state.sendings().is_sent(definition)
 }
 
 // What is told where the definition isn't on its way to the partition.
@@ -41,8 +53,11 @@ fn text_of_none(alloc: Global, definition: Key, partition: u32) -> Result<String
 }
 
 /// It is taken down that the partition has the definition, and the distribution ends where that was the last one.
-impl Maker for &CommandDistributionAcknowledge {
-    ghost making = { λ told p moment. acknowledged told.now };
+#[derive(Drop)]
+pub struct Acknowledged<'a>(pub &'a CommandDistribution);
+
+impl Maker for Acknowledged<'_> {
+    ghost making = { λ it p moment. acknowledged it.0.now };
 
     fn put(
         self,
@@ -51,11 +66,9 @@ impl Maker for &CommandDistributionAcknowledge {
         moment: Moment,
         out: &mut Out,
     ) -> Result<(), Refusal> {
-        let key = self.key;
-        let partition = self.partition;
-        let taken = CommandDistributionAcknowledged { key, partition };
-        let taken = Event::CommandDistributionAcknowledged(taken);
-        (taken, Found(FinishedIfLast(key))).put(alloc, state, moment, out)
+        let told = self.0;
+        let taken = Event::CommandDistributionAcknowledged(*told);
+        (taken, Found(FinishedIfLast(told.key))).put(alloc, state, moment, out)
     }
 }
 
@@ -67,7 +80,7 @@ impl Find for FinishedIfLast {
     ghost finds = { λ it p. finished_if_last it.0 };
 
     fn find(self, _alloc: Global, state: &State) -> Result<Option<Event>, AllocError> {
-        if state.is_distributed(self.0) {
+        if is_distributed(state, self.0) {
             return Ok(None);
         }
         Ok(Some(Event::CommandDistributionFinished(self.0)))

@@ -8,9 +8,9 @@ ghost use Rattle.zb_rules.specs.Shown.{board_of};
 ghost use Rattle.zb_rules.specs.Activate.{reason_to_activate, job_given, given_out, batch_told, activated};
 ghost use Rattle.zb_state.specs.State.{IsStateOf};
 
-use crate::making::{Each, Find, FindEach, Found, Maker};
 use crate::rejection::rejection;
 use std::alloc::{AllocError, Global};
+use zb_follow::{Each, Find, FindEach, Found, Maker};
 use zb_model::{
     Event, JobActivated, JobBatchActivate, JobBatchActivated, Key, List, Moment, Rejection,
     RejectionKind, Text, TryCopy,
@@ -29,9 +29,12 @@ pub fn reason(alloc: Global, command: &JobBatchActivate) -> Result<Option<Reject
 }
 
 /// The worker is given the first jobs of the type, one after the other, and then it is told which they are. Each costs
-/// what `State::visible` and `Out::put` do.
-impl Maker for &JobBatchActivate {
-    ghost making = { λ command p moment. activated p moment command.now };
+/// what `Game::visible` and `Out::put` do.
+#[derive(Drop)]
+pub struct Activated<'a>(pub &'a JobBatchActivate);
+
+impl Maker for Activated<'_> {
+    ghost making = { λ it p moment. activated p moment it.0.now };
 
     fn put(
         self,
@@ -40,17 +43,23 @@ impl Maker for &JobBatchActivate {
         moment: Moment,
         out: &mut Out,
     ) -> Result<(), Refusal> {
-        let keys = state.offered(alloc, self.kind.as_str(), self.most)?;
-        let finder = self;
+        let command = self.0;
+        let keys = state
+            .jobs()
+            .first_offered(alloc, command.kind.as_str(), command.most)?;
+        let finder = &GivenOut(command);
         let things = keys.as_slice();
         Each { finder, things }.put(alloc, state, moment, out)?;
         Found(BatchTold(keys)).put(alloc, state, moment, out)
     }
 }
 
-/// A job is given to the worker, if it is there.
-impl FindEach<Key> for JobBatchActivate {
-    ghost finds = { λ command key p moment. given_out moment command key };
+// A job is given to the worker, if it is there.
+#[derive(Clone, Copy)]
+struct GivenOut<'a>(&'a JobBatchActivate);
+
+impl FindEach<Key> for GivenOut<'_> {
+    ghost finds = { λ it key p moment. given_out moment it.0.now key };
 
     fn find(
         &self,
@@ -59,8 +68,8 @@ impl FindEach<Key> for JobBatchActivate {
         moment: Moment,
         key: &Key,
     ) -> Result<Option<Event>, AllocError> {
-        match state.job(*key) {
-            Some(job) => Ok(Some(Event::JobActivated(given(alloc, state, moment, self, job)?))),
+        match state.jobs().get(*key) {
+            Some(job) => Ok(Some(Event::JobActivated(given(alloc, state, moment, self.0, job)?))),
             None => Ok(None),
         }
     }
@@ -99,7 +108,7 @@ fn given(
         node: node_of(alloc, state, job.cell)?,
         kind: job.kind.copy(alloc)?,
         retries: job.retries,
-        variables: state.visible(alloc, job.cell)?,
+        variables: state.game().visible(alloc, job.cell)?,
     })
 }
 
@@ -107,7 +116,7 @@ fn given(
 fn instance_of(state: &State, cell: Key) -> Key
     ensures { (es : List Event) (b : Board) → IsStateOf es state.now → board_of es ≡ Some b → result ≡ option_map_or (λ root. root) (root_of b cell) 0 }
 {
-    match state.root_of(cell) {
+    match state.game().root_of(cell) {
         Some(root) => root,
         None => Key::new(0),
     }
@@ -118,7 +127,7 @@ fn node_of(alloc: Global, state: &State, cell: Key) -> Result<Text, AllocError>
     ensures { (es : List Event) (b : Board) → IsStateOf es state.now → board_of es ≡ Some b
         → IfOk result (λ node. node ≡ option_map_or (λ c. c.node) (cell_at b cell) []) }
 {
-    match state.node_id(cell) {
+    match state.game().node_id(cell) {
         Some(node) => node.copy(alloc),
         None => Ok(Text::empty(alloc)),
     }

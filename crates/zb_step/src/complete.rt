@@ -4,16 +4,18 @@ ghost use Rattle.zb_model.specs.declared.record.Event.{Event};
 ghost use Rattle.zb_rules.specs.Complete.{results, completed};
 ghost use Rattle.zb_state.specs.State.{IsStateOf};
 
-use crate::assigning::Place;
-use crate::making::{Each, Maker};
 use std::alloc::Global;
+use zb_follow::{Each, Maker, Place};
 use zb_model::{Event, JobComplete, Moment};
 use zb_state::{Out, Refusal, State};
 
-/// The job is completed, and its results are set one after the other. Each costs what `State::holder_of` and `Out::put`
+/// The job is completed, and its results are set one after the other. Each costs what `Game::holder_of` and `Out::put`
 /// do.
-impl Maker for &JobComplete {
-    ghost making = { λ command p moment. completed command.now };
+#[derive(Drop)]
+pub struct Completed<'a>(pub &'a JobComplete);
+
+impl Maker for Completed<'_> {
+    ghost making = { λ it p moment. completed it.0.now };
 
     fn put(
         self,
@@ -22,11 +24,12 @@ impl Maker for &JobComplete {
         moment: Moment,
         out: &mut Out,
     ) -> Result<(), Refusal> {
-        let done = Event::JobCompleted(self.key);
-        match place_of(state, self) {
+        let command = self.0;
+        let done = Event::JobCompleted(command.key);
+        match place_of(state, command) {
             Some(place) => {
                 let finder = &place;
-                let things = self.variables.as_slice();
+                let things = command.variables.as_slice();
                 (done, Each { finder, things }).put(alloc, state, moment, out)
             }
             None => done.put(alloc, state, moment, out),
@@ -39,7 +42,7 @@ fn place_of(state: &State, command: &JobComplete) -> Option<Place>
     ensures { (es : List Event) → IsStateOf es state.now
         → results command.now es ≡ option_map (λ place. record { scope = place.scope; local = place.local; variables = command.now.variables }) result }
 {
-    let scope = state.job(command.key)?.cell;
-    let local = state.gives_outputs(scope)?;
+    let scope = state.jobs().get(command.key)?.cell;
+    let local = state.game().gives_outputs(scope)?;
     Some(Place { local, scope })
 }

@@ -5,18 +5,17 @@ ghost use Rattle.zb_rules.specs.Create.{reason_to_create, no_process, no_version
 ghost use Rattle.zb_rules.specs.Making.{just};
 ghost use Rattle.zb_state.specs.State.{IsStateOf};
 
-use crate::making::{Each, FindEach, Maker};
 use crate::rejection::rejection;
 use std::alloc::{AllocError, Global};
+use zb_follow::{Each, FindEach, Maker};
 use zb_model::{
-    ElementActivating, Event, Key, Moment, ProcessInstanceCreationCreate,
-    ProcessInstanceCreationCreated, Rejection, RejectionKind, Role, Text, TryCopy, Variable,
-    VariableCreated,
+    DefinitionLink, ElementActivating, Event, Key, Moment, ProcessInstanceCreationCreate,
+    Rejection, RejectionKind, Role, ScopeVariable, Text, TryCopy, Variable,
 };
 use zb_state::{Out, Refusal, State};
 
-/// Why an instance isn't made: there is no such process, or no such version of it. It goes through all
-/// definitions.
+/// Why an instance isn't made: there is no such process, or no such version of it. It costs what
+/// `Definitions::definition_for` does.
 pub fn reason(
     alloc: Global,
     state: &State,
@@ -25,10 +24,14 @@ pub fn reason(
     ensures { (es : List Event) → IsStateOf es state.now → IfOk result (λ rejection. rejection ≡ reason_to_create es command.now) }
 {
     let process = command.process.as_str();
-    if state.definition_for(process, 0).is_none() {
+    let definitions = state.definitions();
+    if definitions.definition_for(process, 0).is_none() {
         return Ok(Some(unknown_process(alloc, process)?));
     }
-    if state.definition_for(process, command.version).is_none() {
+    if definitions
+        .definition_for(process, command.version)
+        .is_none()
+    {
         return Ok(Some(unknown_version(alloc, process, command.version)?));
     }
     Ok(None)
@@ -62,8 +65,11 @@ fn text_of_version(alloc: Global, process: &str, version: u32) -> Result<String,
 }
 
 /// An instance is made, where its definition is there: its root is activated, and it has its variables.
-impl Maker for &ProcessInstanceCreationCreate {
-    ghost making = { λ command p moment. created p command.now };
+#[derive(Drop)]
+pub struct Created<'a>(pub &'a ProcessInstanceCreationCreate);
+
+impl Maker for Created<'_> {
+    ghost making = { λ it p moment. created p it.0.now };
 
     fn put(
         self,
@@ -72,15 +78,17 @@ impl Maker for &ProcessInstanceCreationCreate {
         moment: Moment,
         out: &mut Out,
     ) -> Result<(), Refusal> {
-        let Some(definition) = state.definition_for(self.process.as_str(), self.version) else {
+        let command = self.0;
+        let process = command.process.as_str();
+        let Some(definition) = state.definitions().definition_for(process, command.version) else {
             return Ok(());
         };
         let key = state.next_key();
-        let root = root(alloc, key, definition, self.process.as_str())?;
-        let made = ProcessInstanceCreationCreated { key, definition };
+        let root = root(alloc, key, definition, process)?;
+        let made = DefinitionLink { key, definition };
         let made = Event::ProcessInstanceCreationCreated(made);
         let finder = &FirstIn(key);
-        let things = self.variables.as_slice();
+        let things = command.variables.as_slice();
         (
             made,
             (Event::ElementActivating(root), Each { finder, things }),
@@ -123,7 +131,7 @@ impl FindEach<Variable> for FirstIn {
         _moment: Moment,
         variable: &Variable,
     ) -> Result<Option<Event>, AllocError> {
-        Ok(Some(Event::VariableCreated(VariableCreated {
+        Ok(Some(Event::VariableCreated(ScopeVariable {
             scope: self.0,
             name: variable.name.copy(alloc)?,
             value: variable.value.copy(alloc)?,

@@ -1,27 +1,28 @@
 // Deploying a model.
 ghost use Rattle.std.specs.List.{range_with_len};
-ghost use Rattle.std.specs.Prelude.{◌≡◌, ◌-◌, List, [], ◌∷◌, IfOk, string_bytes};
+ghost use Rattle.std.specs.Prelude.{◌≡◌, ◌-◌, List, [], ◌∷◌, None, IfOk, IsTrue, string_bytes};
 ghost use Rattle.zb_model.specs.declared.record.Event.{Event};
 ghost use Rattle.zb_model.specs.declared.record.Event.TheVariants as events;
 ghost use Rattle.zb_rules.specs.Deploy.{reason_to_deploy, version_behind, definition_of, deployment_of, sent_to, deployed};
-ghost use Rattle.zb_faults.specs.Faults.{fault_text};
+ghost use Rattle.zb_faults.specs.Faults.{fault_text, is_well_formed};
 ghost use Rattle.zb_state.specs.State.{partition_of, IsStateOf};
 ghost use Rattle.zb_rules.specs.Making.{just};
 
-use crate::making::{Each, Find, FindEach, Found, Maker};
 use crate::rejection::rejection;
 use std::alloc::{AllocError, Global};
 use zb_check::{ModelFault, check};
 use zb_faults::Fault;
+use zb_follow::{Each, Find, FindEach, Found, Maker};
 use zb_model::{
-    CommandDistributionDistributing, DeploymentCreated, Event, Key, Model, Moment, ProcessCreated,
-    Rejection, RejectionKind, TryCopy,
+    CommandDistribution, DefinitionLink, Event, Key, Model, Moment, ProcessDefinition, Rejection,
+    RejectionKind, TryCopy,
 };
 use zb_state::{Out, Refusal, State};
 
 /// Why a model isn't deployed: its first fault.
 pub fn reason(alloc: Global, model: &Model) -> Result<Option<Rejection>, AllocError>
-    ensures { IfOk result (λ rejection. rejection ≡ reason_to_deploy model.now) }
+    ensures reason { IfOk result (λ rejection. rejection ≡ reason_to_deploy model.now) }
+    ensures sound { IfOk result (λ rejection. rejection ≡ None → IsTrue (is_well_formed model.now)) }
 {
     match check(alloc, model) {
         Ok(()) => Ok(None),
@@ -48,11 +49,12 @@ fn text_of_fault(alloc: Global, fault: Fault, id: &str) -> Result<String, AllocE
 }
 
 /// A model is deployed at one of so many partitions: its definition, the deployment, and that the definition sets out for
-/// each partition but the first.
+/// each partition but the first. The model has no fault.
 #[derive(Drop)]
 pub struct Deployed<'a> {
     pub partitions: u32,
     pub model: &'a Model,
+    ghost sound: { IsTrue (is_well_formed model.now) },
 }
 
 impl Maker for Deployed<'_> {
@@ -67,11 +69,34 @@ impl Maker for Deployed<'_> {
     ) -> Result<(), Refusal> {
         let made = definition(alloc, state, self.model)?;
         let key = made.key;
-        let made = Event::ProcessCreated(made);
+        let made = SoundProcess { made };
         let others = others(alloc, self.partitions)?;
         let finder = &SetsOut(key);
         let things = others.as_slice();
         (made, (Found(DeploymentOf(key)), Each { finder, things })).put(alloc, state, moment, out)
+    }
+}
+
+/// A definition is made, whose model has no fault: so that isn't looked at again.
+#[derive(Drop)]
+pub struct SoundProcess {
+    pub made: ProcessDefinition,
+    ghost sound: { IsTrue (is_well_formed made.model) },
+}
+
+impl Maker for SoundProcess {
+    ghost making = { λ it p moment. just (events.ProcessCreated it.made) };
+
+    ghost least = { 1 };
+
+    fn put(
+        self,
+        alloc: Global,
+        state: &mut State,
+        _moment: Moment,
+        out: &mut Out,
+    ) -> Result<(), Refusal> {
+        out.put_sound(alloc, state, Event::ProcessCreated(self.made))
     }
 }
 
@@ -83,7 +108,7 @@ impl Find for DeploymentOf {
     ghost finds = { λ it p. deployment_of p it.0 };
 
     fn find(self, _alloc: Global, state: &State) -> Result<Option<Event>, AllocError> {
-        Ok(Some(Event::DeploymentCreated(DeploymentCreated {
+        Ok(Some(Event::DeploymentCreated(DefinitionLink {
             key: state.next_key(),
             definition: self.0,
         })))
@@ -104,7 +129,7 @@ impl FindEach<u32> for SetsOut {
         _moment: Moment,
         partition: &u32,
     ) -> Result<Option<Event>, AllocError> {
-        Ok(Some(Event::CommandDistributionDistributing(CommandDistributionDistributing {
+        Ok(Some(Event::CommandDistributionDistributing(CommandDistribution {
             key: self.0,
             partition: *partition,
         })))
@@ -123,13 +148,14 @@ fn others(alloc: Global, partitions: u32) -> Result<Vec<u32>, AllocError>
 }
 
 // The definition of a model that is deployed.
-fn definition(alloc: Global, state: &State, model: &Model) -> Result<ProcessCreated, AllocError>
-    ensures { (es : List Event) → IsStateOf es state.now
+fn definition(alloc: Global, state: &State, model: &Model) -> Result<ProcessDefinition, AllocError>
+    ensures made { (es : List Event) → IsStateOf es state.now
         → IfOk result (λ definition. definition_of (partition_of state.now) model.now es ≡ events.ProcessCreated definition ∷ []) }
+    ensures model { IfOk result (λ definition. definition.model ≡ model.now) }
 {
-    Ok(ProcessCreated {
+    Ok(ProcessDefinition {
         key: state.next_key(),
-        version: version_behind(state.greatest_version(model.process.as_str())),
+        version: version_behind(state.definitions().greatest_version(model.process.as_str())),
         model: model.copy(alloc)?,
     })
 }

@@ -1,23 +1,26 @@
 // A definition that another partition sends.
-ghost use Rattle.std.specs.Prelude.{◌≡◌, List, IfOk};
+ghost use Rattle.std.specs.Prelude.{◌≡◌, List, None, IsTrue, IfOk};
+ghost use Rattle.zb_faults.specs.Faults.{is_well_formed};
 ghost use Rattle.zb_model.specs.declared.record.Event.{Event};
 ghost use Rattle.zb_rules.specs.Distribute.{reason_to_turn_back, reason_to_distribute, distributed};
 ghost use Rattle.zb_state.specs.State.{IsStateOf};
 
 use crate::deploy;
-use crate::making::Maker;
+use crate::deploy::SoundProcess;
 use crate::rejection::in_the_way;
 use std::alloc::{AllocError, Global};
-use zb_model::{DeploymentDistribute, Event, Key, Moment, ProcessCreated, Rejection, TryCopy};
+use zb_follow::Maker;
+use zb_model::{Key, Moment, ProcessDefinition, Rejection, TryCopy};
 use zb_state::{Out, Refusal, State};
 
 /// Why a definition isn't taken: its model has a fault, or a definition with its key is there.
 pub fn reason(
     alloc: Global,
     state: &State,
-    sent: &DeploymentDistribute,
+    sent: &ProcessDefinition,
 ) -> Result<Option<Rejection>, AllocError>
-    ensures { (es : List Event) → IsStateOf es state.now → IfOk result (λ rejection. rejection ≡ reason_to_distribute es sent.now) }
+    ensures reason { (es : List Event) → IsStateOf es state.now → IfOk result (λ rejection. rejection ≡ reason_to_distribute es sent.now) }
+    ensures sound { IfOk result (λ rejection. rejection ≡ None → IsTrue (is_well_formed sent.now.model)) }
 {
     match deploy::reason(alloc, &sent.model)? {
         Some(rejection) => Ok(Some(rejection)),
@@ -33,15 +36,21 @@ fn reason_to_turn_back(
 ) -> Result<Option<Rejection>, AllocError>
     ensures { (es : List Event) → IsStateOf es state.now → IfOk result (λ rejection. rejection ≡ reason_to_turn_back es key) }
 {
-    if state.has_definition(key) {
+    if state.definitions().contains(key) {
         return Ok(Some(in_the_way(alloc, "definition ", key, " is there")?));
     }
     Ok(None)
 }
 
-/// The definition is taken. It costs a copy of its model.
-impl Maker for &DeploymentDistribute {
-    ghost making = { λ sent p moment. distributed sent.now };
+/// The definition is taken, whose model has no fault. It costs a copy of its model.
+#[derive(Drop)]
+pub struct Distributed<'a> {
+    pub sent: &'a ProcessDefinition,
+    ghost sound: { IsTrue (is_well_formed sent.now.model) },
+}
+
+impl Maker for Distributed<'_> {
+    ghost making = { λ it p moment. distributed it.sent.now };
 
     fn put(
         self,
@@ -50,11 +59,7 @@ impl Maker for &DeploymentDistribute {
         moment: Moment,
         out: &mut Out,
     ) -> Result<(), Refusal> {
-        let taken = Event::ProcessCreated(ProcessCreated {
-            key: self.key,
-            version: self.version,
-            model: self.model.copy(alloc)?,
-        });
-        taken.put(alloc, state, moment, out)
+        let made = self.sent.copy(alloc)?;
+        SoundProcess { made }.put(alloc, state, moment, out)
     }
 }

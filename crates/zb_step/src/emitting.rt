@@ -1,60 +1,41 @@
 ghost use Rattle.std.specs.Prelude.{◌≡◌, ◌++◌, List, [], Some, None, OnOk, IsErrOf};
 ghost use Rattle.zb_model.specs.declared.record.Event.{Event};
 ghost use Rattle.zb_rules.specs.Reason.{reason_for};
-ghost use Rattle.zb_rules.specs.Own.{IsSupported, keys_for, own_events};
+ghost use Rattle.zb_rules.specs.Own.{IsSupported, own_events};
 ghost use Rattle.zb_rules.specs.Sound.{HasOrderedNames};
 ghost use Rattle.zb_state.specs.State.{partition_of, IsStateOf, IsUnreached};
 ghost use Rattle.zb_state.specs.declared.refusal.Refusal.TheVariants.{Misfit};
 
-use crate::making::Maker;
-use crate::own::Own;
+use crate::commands::{Own, keys_for};
 use std::alloc::Global;
+use zb_follow::Maker;
 use zb_model::{Command, Moment};
 use zb_state::{Out, Refusal, State};
 
-/// Makes a command's own events at one of so many partitions, where there is no reason against it. Each event
+/// Makes a command's own events, where there is no reason against it. Each event
 /// costs what `Out::put` does. Where the command's keys aren't left it is answered as want of memory. A misfit comes only
 /// where no events come to the state. After a refusal the state and the events are only dropped.
 pub fn emit(
     alloc: Global,
     state: &mut State,
-    partitions: u32,
     moment: Moment,
-    command: &Command,
+    own: Own<'_>,
     out: &mut Out,
 ) -> Result<(), Refusal>
-    requires run { IsSupported command.now }
+    requires run { IsSupported own.command.now }
     requires none { out.old ≡ [] }
-    requires unrefused { (es : List Event) → IsStateOf es state.old → reason_for es moment command.now ≡ None }
+    requires unrefused { (es : List Event) → IsStateOf es state.old → reason_for es moment own.command.now ≡ None }
     ensures own { (es : List Event) → IsStateOf es state.old
-        → OnOk result (own_events (partition_of state.old) partitions es moment command.now ≡ Some out.new) }
+        → OnOk result (own_events (partition_of state.old) own.entry.partitions es moment own.entry.command.now ≡ Some out.new) }
     ensures state { (es : List Event) → IsStateOf es state.old → OnOk result (IsStateOf (es ++ out.new) state.new) }
     ensures place { partition_of state.new ≡ partition_of state.old }
     ensures misfit { IsErrOf result Misfit → IsUnreached state.old }
 {
-    if !state.has_keys(keys_for(command)) {
+    if !state.has_keys(keys_for(own.command)) {
         return Err(Refusal::Memory);
     }
-    see_names(command);
-    Own {
-        partitions,
-        command,
-    }
-    .put(alloc, state, moment, out)
-}
-
-// How many keys a command draws at most for its own events.
-fn keys_for(command: &Command) -> u64
-    ensures { result ≡ keys_for command.now }
-{
-    match command {
-        Command::DeploymentCreate(_) => 2,
-        Command::ProcessInstanceCreationCreate(_)
-        | Command::JobBatchActivate(_)
-        | Command::JobFail(_)
-        | Command::MessagePublish(_) => 1,
-        _ => 0,
-    }
+    see_names(own.command);
+    own.put(alloc, state, moment, out)
 }
 
 // A command has its variables by ascending names.

@@ -14,7 +14,7 @@ use zb_views::JobPhase;
 pub fn reason(alloc: Global, state: &State, key: Key) -> Result<Option<Rejection>, AllocError>
     ensures { (es : List Event) → IsStateOf es state.now → IfOk result (λ rejection. rejection ≡ reason_to_end es key) }
 {
-    match state.job(key) {
+    match state.jobs().get(key) {
         None => Ok(Some(no_such(alloc, "no job ", key)?)),
         Some(job) if job.phase.is_given_out() => Ok(None),
         Some(job) if matches!(job.phase, JobPhase::Failed) => {

@@ -1,14 +1,17 @@
 // Failing a job.
 ghost use Rattle.zb_rules.specs.Fail.{stopped, failed};
 
-use crate::making::{Find, Found, Maker};
 use std::alloc::{AllocError, Global};
-use zb_model::{Event, IncidentCreated, IncidentKind, JobFail, JobFailed, Moment, TryCopy};
+use zb_follow::{Find, Found, Maker};
+use zb_model::{Event, IncidentCreated, IncidentKind, JobFailure, Moment, TryCopy};
 use zb_state::{Out, Refusal, State};
 
 /// The job has failed, and its cell is stopped where no try is left.
-impl Maker for &JobFail {
-    ghost making = { λ command p moment. failed p command.now };
+#[derive(Drop)]
+pub struct Failed<'a>(pub &'a JobFailure);
+
+impl Maker for Failed<'_> {
+    ghost making = { λ it p moment. failed p it.0.now };
 
     fn put(
         self,
@@ -17,18 +20,15 @@ impl Maker for &JobFail {
         moment: Moment,
         out: &mut Out,
     ) -> Result<(), Refusal> {
-        let failure = Event::JobFailed(JobFailed {
-            key: self.key,
-            retries: self.retries,
-            text: self.text.copy(alloc)?,
-        });
-        (failure, Found(Stopped(self))).put(alloc, state, moment, out)
+        let command = self.0;
+        let failure = Event::JobFailed(command.copy(alloc)?);
+        (failure, Found(Stopped(command))).put(alloc, state, moment, out)
     }
 }
 
 // An incident stands on the job's cell, where no try is left.
 #[derive(Drop)]
-struct Stopped<'a>(&'a JobFail);
+struct Stopped<'a>(&'a JobFailure);
 
 impl Find for Stopped<'_> {
     ghost finds = { λ it p. stopped p it.0.now };
@@ -38,7 +38,7 @@ impl Find for Stopped<'_> {
         if command.retries != 0 {
             return Ok(None);
         }
-        let Some(job) = state.job(command.key) else {
+        let Some(job) = state.jobs().get(command.key) else {
             return Ok(None);
         };
         Ok(Some(Event::IncidentCreated(IncidentCreated {

@@ -3,9 +3,8 @@
 
 mod acknowledge;
 mod activate;
-mod assigning;
-mod behind;
 mod cancel;
+mod commands;
 mod complete;
 mod create;
 mod deploy;
@@ -15,23 +14,16 @@ mod ending;
 mod expire;
 mod fail;
 mod go_on;
-mod making;
 mod outcome;
-mod own;
 mod publish;
-mod reasons;
 mod rejection;
 mod resolve;
 mod retries;
-mod settling;
 mod throw;
 mod time_out;
-mod timers;
 mod trigger;
-mod turning;
 mod update;
 
+pub use commands::{Own, reason};
 pub use emitting::emit;
 pub use outcome::outcome_of;
-pub use reasons::reason;
-pub use settling::settle;

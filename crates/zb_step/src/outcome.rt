@@ -7,10 +7,10 @@ ghost use Rattle.zb_rules.specs.Step.{IsAcceptance, IsOutcomeOf};
 ghost use Rattle.zb_state.specs.State.{partition_of, IsStateOf, IsUnreached};
 ghost use Rattle.zb_state.specs.declared.refusal.Refusal.TheVariants.{Misfit};
 
+use crate::commands::{Own, reason};
 use crate::emitting::emit;
-use crate::reasons::reason;
-use crate::settling::settle;
 use std::alloc::Global;
+use zb_follow::settle;
 use zb_model::{Command, Moment, Outcome};
 use zb_state::{Out, Refusal, State};
 
@@ -33,28 +33,30 @@ pub fn outcome_of(
 {
     match reason(alloc, state, moment, command)? {
         Some(rejection) => Ok(Outcome::Rejected(rejection)),
-        None => run(alloc, state, partitions, moment, command),
+        None => run(
+            alloc,
+            state,
+            moment,
+            Own {
+                partitions,
+                command,
+            },
+        ),
     }
 }
 
 // Runs a command: its outcome are its own events, and what they force.
-fn run(
-    alloc: Global,
-    state: &mut State,
-    partitions: u32,
-    moment: Moment,
-    command: &Command,
-) -> Result<Outcome, Refusal>
-    requires run { IsSupported command.now }
-    requires unrefused { (es : List Event) → IsStateOf es state.old → reason_for es moment command.now ≡ None }
+fn run(alloc: Global, state: &mut State, moment: Moment, own: Own<'_>) -> Result<Outcome, Refusal>
+    requires run { IsSupported own.command.now }
+    requires unrefused { (es : List Event) → IsStateOf es state.old → reason_for es moment own.command.now ≡ None }
     ensures acceptance { (es : List Event) → IsStateOf es state.old
-        → IfOk result (IsAcceptance (partition_of state.old) partitions moment es command.now) }
+        → IfOk result (IsAcceptance (partition_of state.old) own.entry.partitions moment es own.entry.command.now) }
     ensures state { (es : List Event) → IsStateOf es state.old → IfOk result (λ outcome. IsStateOf (es ++ events_in outcome) state.new) }
     ensures place { partition_of state.new ≡ partition_of state.old }
     ensures misfit { IsErrOf result Misfit → IsUnreached state.old }
 {
     let mut out = Out::new(alloc)?;
-    emit(alloc, state, partitions, moment, command, &mut out)?;
+    emit(alloc, state, moment, own, &mut out)?;
     settle(alloc, state, moment, &mut out)?;
     Ok(Outcome::Accepted(out.events()))
 }

@@ -4,9 +4,9 @@ ghost use Rattle.zb_model.specs.declared.record.Event.{Event};
 ghost use Rattle.zb_rules.specs.Publish.{reason_to_publish, is_repeated, buffered_text, message_under, published};
 ghost use Rattle.zb_state.specs.State.{IsStateOf};
 
-use crate::making::Maker;
 use crate::rejection::rejection;
 use std::alloc::{AllocError, Global};
+use zb_follow::Maker;
 use zb_model::{
     Event, Key, MessagePublish, MessagePublished, Moment, Rejection, RejectionKind, TryCopy,
 };
@@ -31,7 +31,7 @@ pub fn reason(
 fn is_repeated(state: &State, command: &MessagePublish) -> bool
     ensures { (es : List Event) → IsStateOf es state.now → result ≡ is_repeated es command.now }
 {
-    !command.id.as_str().is_empty() && state.buffers(command)
+    !command.id.as_str().is_empty() && state.messages().holds_same(command)
 }
 
 // The rejection of a message that is buffered.
@@ -57,8 +57,11 @@ fn text_of_repeated(alloc: Global, command: &MessagePublish) -> Result<String, A
 }
 
 /// The message is published under a fresh key, and expires at once where it has no time to live.
-impl Maker for &MessagePublish {
-    ghost making = { λ command p moment. published p moment command.now };
+#[derive(Drop)]
+pub struct Published<'a>(pub &'a MessagePublish);
+
+impl Maker for Published<'_> {
+    ghost making = { λ it p moment. published p moment it.0.now };
 
     fn put(
         self,
@@ -67,9 +70,10 @@ impl Maker for &MessagePublish {
         moment: Moment,
         out: &mut Out,
     ) -> Result<(), Refusal> {
+        let command = self.0;
         let key = state.next_key();
-        let message = Event::MessagePublished(message(alloc, key, moment, self)?);
-        let expiry = match self.time_to_live {
+        let message = Event::MessagePublished(message(alloc, key, moment, command)?);
+        let expiry = match command.time_to_live {
             0 => Some(Event::MessageExpired(key)),
             _ => None,
         };

@@ -4,17 +4,17 @@ ghost use Rattle.zb_model.specs.declared.record.Event.{Event};
 ghost use Rattle.zb_rules.specs.Resolve.{is_without_retries, reason_to_resolve, resolved};
 ghost use Rattle.zb_state.specs.State.{IsStateOf};
 
-use crate::making::Find;
 use crate::rejection::{no_such, wrong_state};
 use std::alloc::{AllocError, Global};
-use zb_model::{Event, IncidentResolved, Key, Rejection};
+use zb_follow::{Find, repair_event};
+use zb_model::{Event, Key, Rejection};
 use zb_state::State;
 
 /// Why an incident isn't resolved: none has this key, or the job that is its cause has no try left.
 pub fn reason(alloc: Global, state: &State, key: Key) -> Result<Option<Rejection>, AllocError>
     ensures { (es : List Event) → IsStateOf es state.now → IfOk result (λ rejection. rejection ≡ reason_to_resolve es key) }
 {
-    let Some(incident) = state.incident(key) else {
+    let Some(incident) = state.game().incident(key) else {
         return Ok(Some(no_such(alloc, "no incident ", key)?));
     };
     let job = incident.job;
@@ -28,13 +28,13 @@ pub fn reason(alloc: Global, state: &State, key: Key) -> Result<Option<Rejection
 fn is_without_retries(state: &State, job: Key) -> bool
     ensures { (es : List Event) → IsStateOf es state.now → result ≡ is_without_retries job es }
 {
-    match state.job(job) {
+    match state.jobs().get(job) {
         Some(job) => job.retries == 0,
         None => false,
     }
 }
 
-/// The incident is resolved, if it stands. It costs what `State::incident` does.
+/// The incident is resolved, if it stands. It costs what `Game::incident` does.
 #[derive(Drop)]
 pub struct Resolved(pub Key);
 
@@ -42,11 +42,8 @@ impl Find for Resolved {
     ghost finds = { λ it p. resolved it.0 };
 
     fn find(self, _alloc: Global, state: &State) -> Result<Option<Event>, AllocError> {
-        match state.incident(self.0) {
-            Some(incident) => Ok(Some(Event::IncidentResolved(IncidentResolved {
-                key: incident.key,
-                job: incident.job,
-            }))),
+        match state.game().incident(self.0) {
+            Some(incident) => Ok(Some(repair_event(incident))),
             None => Ok(None),
         }
     }

@@ -1,14 +1,17 @@
 // Throwing an error in a job.
 ghost use Rattle.zb_rules.specs.Throw.{thrown};
 
-use crate::making::Maker;
 use std::alloc::Global;
-use zb_model::{Event, JobErrorThrown, JobThrowError, Moment, TryCopy};
+use zb_follow::Maker;
+use zb_model::{Event, JobError, Moment, TryCopy};
 use zb_state::{Out, Refusal, State};
 
 /// The error is thrown in the job, which is over.
-impl Maker for &JobThrowError {
-    ghost making = { λ command p moment. thrown command.now };
+#[derive(Drop)]
+pub struct Thrown<'a>(pub &'a JobError);
+
+impl Maker for Thrown<'_> {
+    ghost making = { λ it p moment. thrown it.0.now };
 
     fn put(
         self,
@@ -17,10 +20,6 @@ impl Maker for &JobThrowError {
         moment: Moment,
         out: &mut Out,
     ) -> Result<(), Refusal> {
-        let thrown = Event::JobErrorThrown(JobErrorThrown {
-            key: self.key,
-            code: self.code.copy(alloc)?,
-        });
-        thrown.put(alloc, state, moment, out)
+        Event::JobErrorThrown(self.0.copy(alloc)?).put(alloc, state, moment, out)
     }
 }

@@ -5,16 +5,15 @@ ghost use Rattle.zb_model.specs.declared.record.Event.TheVariants as events;
 ghost use Rattle.zb_rules.specs.Trigger.{event_of_timer, reason_to_hold, reason_to_trigger, triggered};
 ghost use Rattle.zb_state.specs.State.{IsStateOf};
 
-use crate::behind::WithBehind;
-use crate::making::Maker;
 use crate::rejection::{no_such, wrong_state};
 use std::alloc::{AllocError, Global};
+use zb_follow::{Maker, WithBehind};
 use zb_model::{Event, Key, Moment, ProcessEventTriggered, Rejection, TryCopy};
 use zb_state::{Out, Refusal, State};
 use zb_views::Timer;
 
 /// Why a timer isn't triggered: it isn't there, its moment lies ahead, or its cell doesn't wait for it. It costs what
-/// `State::timer` and `State::waits_for` do.
+/// `Timers::get` and `Game::waits_at` do.
 pub fn reason(
     alloc: Global,
     state: &State,
@@ -23,7 +22,7 @@ pub fn reason(
 ) -> Result<Option<Rejection>, AllocError>
     ensures { (es : List Event) → IsStateOf es state.now → IfOk result (λ rejection. rejection ≡ reason_to_trigger es moment key) }
 {
-    match state.timer(key) {
+    match state.timers().get(key) {
         Some(timer) => reason_to_hold(alloc, state, moment, timer),
         None => Ok(Some(no_such(alloc, "no timer ", key)?)),
     }
@@ -41,13 +40,13 @@ fn reason_to_hold(
     if moment < timer.due {
         return Ok(Some(wrong_state(alloc, "timer ", timer.key, " isn't due")?));
     }
-    if !state.waits_for(timer) {
+    if !state.game().waits_at(timer.cell, timer.node.as_str()) {
         return Ok(Some(wrong_state(alloc, "element ", timer.cell, " doesn't wait")?));
     }
     Ok(None)
 }
 
-/// The timer ends, if it is there, and its event comes about, with those behind that. It costs what `State::timer` and
+/// The timer ends, if it is there, and its event comes about, with those behind that. It costs what `Timers::get` and
 /// `WithBehind` do.
 #[derive(Drop)]
 pub struct TriggeredTimer(pub Key);
@@ -62,11 +61,13 @@ impl Maker for TriggeredTimer {
         moment: Moment,
         out: &mut Out,
     ) -> Result<(), Refusal> {
-        let told = match state.timer(self.0) {
-            Some(timer) => Some(told_by(alloc, timer)?),
-            None => None,
-        };
-        told.put(alloc, state, moment, out)
+        match state.timers().get(self.0) {
+            Some(timer) => {
+                let told = told_by(alloc, timer)?;
+                told.put(alloc, state, moment, out)
+            }
+            None => Ok(()),
+        }
     }
 }
 

@@ -4,10 +4,9 @@ ghost use Rattle.zb_model.specs.declared.record.Event.{Event};
 ghost use Rattle.zb_rules.specs.Update.{reason_to_update, updated};
 ghost use Rattle.zb_state.specs.State.{IsStateOf};
 
-use crate::assigning::Place;
-use crate::making::{Each, Maker};
 use crate::rejection::no_such;
 use std::alloc::{AllocError, Global};
+use zb_follow::{Each, Maker, Place};
 use zb_model::{Event, Key, Moment, Rejection, VariableDocumentUpdate};
 use zb_state::{Out, Refusal, State};
 
@@ -15,16 +14,19 @@ use zb_state::{Out, Refusal, State};
 pub fn reason(alloc: Global, state: &State, scope: Key) -> Result<Option<Rejection>, AllocError>
     ensures { (es : List Event) → IsStateOf es state.now → IfOk result (λ rejection. rejection ≡ reason_to_update es scope) }
 {
-    if state.has_cell(scope) {
+    if state.game().phase_of(scope).is_some() {
         return Ok(None);
     }
     Ok(Some(no_such(alloc, "no scope ", scope)?))
 }
 
-/// The variables are set one after the other, and then the document is updated. Each costs what `State::holder_of` and
+/// The variables are set one after the other, and then the document is updated. Each costs what `Game::holder_of` and
 /// `Out::put` do.
-impl Maker for &VariableDocumentUpdate {
-    ghost making = { λ command p moment. updated command.now };
+#[derive(Drop)]
+pub struct Updated<'a>(pub &'a VariableDocumentUpdate);
+
+impl Maker for Updated<'_> {
+    ghost making = { λ it p moment. updated it.0.now };
 
     fn put(
         self,
@@ -33,10 +35,11 @@ impl Maker for &VariableDocumentUpdate {
         moment: Moment,
         out: &mut Out,
     ) -> Result<(), Refusal> {
-        let scope = self.scope;
-        let local = self.local;
+        let command = self.0;
+        let scope = command.scope;
+        let local = command.local;
         let finder = &Place { local, scope };
-        let things = self.variables.as_slice();
+        let things = command.variables.as_slice();
         let updated = Event::VariableDocumentUpdated(scope);
         (Each { finder, things }, updated).put(alloc, state, moment, out)
     }

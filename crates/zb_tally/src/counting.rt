@@ -3,6 +3,8 @@ ghost use Rattle.std.specs.Prelude.{◌≡◌, ◌≤◌, ◌<◌, ◌+◌, ◌^
 ghost use Rattle.zb_model.specs.declared.record.Batch.{Batch as Record};
 ghost use Rattle.zb_model.specs.declared.record.Event.{Event as Happening};
 ghost use Rattle.zb_views.specs.View.{events_in};
+ghost use Rattle.zb_views.specs.Messages.{is_buffered};
+ghost use Rattle.zb_rules.specs.Applies.{holds_of_game, has_cell};
 ghost use Rattle.zb_store.specs.GateLog.{disk_of_log, count_of, HasClosedFrames, IsSameLog};
 ghost use Rattle.zb_store.specs.Stands.{Stands};
 ghost use Rattle.zb_partition.specs.Log.{bodies_of, AreBatches};
@@ -155,14 +157,28 @@ fn count_keys(place: PartitionId, state: &State, tally: Tally) -> Tally
     let mut messages: u64 = 0;
     for number in Key::make(place, 1).number()..state.next_key().number() {
         let key = Key::new(number);
-        cells = one_more_if(state.has_cell(key), cells);
-        messages = one_more_if(state.deadline_of(key).is_some(), messages);
+        cells = one_more_if(has_cell(key, state), cells);
+        messages = one_more_if(has_message(key, state), messages);
     }
     Tally {
         cells,
         messages,
         ..tally
     }
+}
+
+// Whether a cell has this key.
+fn has_cell(key: Key, state: &State) -> bool
+    ensures { (es : List Happening) → IsStateOf es state.now → result ≡ holds_of_game (has_cell key) es }
+{
+    state.game().phase_of(key).is_some()
+}
+
+// Whether a message with this key is buffered.
+fn has_message(key: Key, state: &State) -> bool
+    ensures { (es : List Happening) → IsStateOf es state.now → result ≡ is_buffered key es }
+{
+    state.messages().deadline_of(key).is_some()
 }
 
 // One more, if so.

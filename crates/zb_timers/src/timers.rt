@@ -1,8 +1,10 @@
-ghost use Rattle.std.specs.Prelude.{◌≡◌, ◌==◌, ◌++◌, ◌∷◌, [], IsTrue, OnOk, IfOk, filter, option_map};
+ghost use Rattle.std.specs.Prelude.{◌≡◌, ◌==◌, ◌++◌, ◌∷◌, [], List, IsTrue, OnOk, IfOk, filter, option_map};
 ghost use Rattle.std.specs.List.{find};
 ghost use Rattle.std.specs.Option.{option_copied};
 ghost use Rattle.zb_table.specs.Rows.{Ascend, are_below, without};
-ghost use Rattle.zb_views.specs.Timers.{timer_of, timers_by};
+ghost use Rattle.zb_model.specs.declared.record.Event.{Event};
+ghost use Rattle.zb_views.specs.Standing.{standing_by};
+ghost use Rattle.zb_views.specs.Timers.{timer_of, timer_sort};
 ghost use Rattle.zb_timers.specs.Table.{has_place_for_timer, keys_on, place_of_timer, due_timer};
 
 use crate::cells::keys_under;
@@ -84,7 +86,7 @@ impl Timers {
     /// how many timers there are, on average.
     pub fn apply(&mut self, alloc: Global, event: &Event) -> Result<(), AllocError>
         requires { IsTrue (has_place_for_timer self.old event.now) }
-        ensures { OnOk result (self.new ≡ timers_by event.now self.old) }
+        ensures { (before : List Event) → OnOk result (self.new ≡ standing_by timer_sort before event.now self.old) }
     {
         if says_nothing_of_timers(event) {
             return Ok(());

@@ -1,5 +1,5 @@
 -- In a log whose events fit its timers the keys of the timers ascend, and each timer is made at most once, and ends at most once.
-use Rattle.std.proofs.Common.{◌≡◌, ℕ, ◌+◌, ◌<◌, ◌≤◌, ◌==◌, nat_lt, List, [], ◌∷◌, ◌++◌, filter, count_by, not, Bool, true, false, ◌&&◌, cond, IsTrue, is_some, Option, Some, None, refl, sym, ap, subst, ◌∙◌, append_assoc, append-nil, arith}
+use Rattle.std.proofs.Common.{◌≡◌, ℕ, ◌+◌, ◌<◌, ◌≤◌, ◌==◌, nat_lt, List, [], ◌∷◌, ◌++◌, count_by, not, Bool, true, false, ◌&&◌, cond, IsTrue, is_some, Option, Some, None, refl, sym, ap, subst, ◌∙◌, append_assoc, append-nil, arith}
 use Rattle.std.specs.Option.{option_map_or}
 use Rattle.std.specs.List.{find}
 use Rattle.std.proofs.lemmas.Bool.Decides.{nat_tests}
@@ -10,8 +10,10 @@ use Rattle.zb_table.proofs.Ascending.{ascend_more}
 use Rattle.zb_table.proofs.Growing.{below_more}
 use Rattle.zb_waits.proofs.FoundLemmas.{ascend_kept}
 use Rattle.zb_views.specs.declared.timer.Timer.{Timer}
-use Rattle.zb_views.specs.Timers.{timer_told, timer_ended, ends_timer, timers, timer_at, timers_made, makes_timer, times_timer_made, times_timer_ended, makes_later_timer, ends_timer_there, fits_timers, all_fit_timers, timer_made, timers_left}
-use Rattle.zb_views.proofs.TimerLaws.{timers_more}
+use Rattle.zb_views.specs.Timers.{timer_told, timer_ended, ends_timer, timers, timer_at, timers_made, makes_timer, times_timer_made, times_timer_ended, makes_later_timer, ends_timer_there, fits_timers, all_fit_timers}
+use Rattle.zb_views.specs.Standing.{begun_by}
+use Rattle.zb_views.proofs.StandingLaws.{below_some}
+use Rattle.zb_views.proofs.TimerLaws.{timers_left, timers_more}
 
 -- both hold
 both : (a b : Bool) → (a && b) ≡ true → (a ≡ true) × (b ≡ true)
@@ -87,17 +89,6 @@ record IsSettled (es : List Event) : Type 0 where
   counts : (key : ℕ) → times_timer_made key es ≡ times_timer_ended key es + count_of key (timers es)
   once : (key : ℕ) → times_timer_made key es ≤ 1
 
--- some of those that are below a key
-below_left : (high : ℕ) (keeps : Timer → Bool) (ts : List Timer) → are_below (λ t. t.key) high ts ≡ true → are_below (λ t. t.key) high (filter keeps ts) ≡ true
-below_left high keeps [] below = refl
-below_left high keeps (t ∷ ts) below =
-    let its = both (nat_lt t.key high) (are_below (λ x. x.key) high ts) below in
-    by_test (keeps t) its.0 (below_left high keeps ts its.1)
-  where
-    by_test : (s : Bool) → nat_lt t.key high ≡ true → are_below (λ x. x.key) high (filter keeps ts) ≡ true → are_below (λ x. x.key) high (cond s (t ∷ filter keeps ts) (filter keeps ts)) ≡ true
-    by_test true here later = rw here later
-    by_test false here later = later
-
 -- what is below a key with one more, is so without it
 below_both : (high k : ℕ) (ks : List ℕ) → are_below (λ x. x) high (ks ++ k ∷ []) ≡ true → (are_below (λ x. x) high ks ≡ true) × (k < high)
 below_both high k [] below = (refl, grind (arith, nat_tests, both (nat_lt k high) true below))
@@ -108,19 +99,19 @@ below_both high k (x ∷ ks) below =
 
 module _ (before : List Event) (e : Event) (s : IsSettled before) where
   -- those that the event leaves, and the one that it makes, if it does
-  ascend_by : (told : Option Timer) → makes_later_timer before told ≡ true → Ascend (λ (t : Timer). t.key) 0 (timers_left e (timers before) ++ timer_made told)
+  ascend_by : (told : Option Timer) → makes_later_timer before told ≡ true → Ascend (λ (t : Timer). t.key) 0 (timers_left e (timers before) ++ begun_by told)
   ascend_by None later = subst (λ (ts : List Timer). Ascend (λ (t : Timer). t.key) 0 ts) (sym (append-nil (timers_left e (timers before)))) (ascend_kept (λ (t : Timer). t.key) (λ (t : Timer). not (ends_timer t.key e)) 0 (timers before) s.ascend)
   ascend_by (Some t) later =
       let keeps : Timer → Bool = λ x. not (ends_timer x.key e) in
-      ascend_more (λ (x : Timer). x.key) 0 (timers_left e (timers before)) t (omega arith) (ascend_kept (λ (t : Timer). t.key) keeps 0 (timers before) s.ascend) (below_left t.key keeps (timers before) (s.below t.key later))
+      ascend_more (λ (x : Timer). x.key) 0 (timers_left e (timers before)) t (omega arith) (ascend_kept (λ (t : Timer). t.key) keeps 0 (timers before) s.ascend) (below_some (λ (x : Timer). x.key) t.key keeps (timers before) (s.below t.key later))
 
-  below_by : (told : Option Timer) (high : ℕ) → are_below (λ k. k) high (timers_made before ++ keys_told told) ≡ true → are_below (λ (t : Timer). t.key) high (timers_left e (timers before) ++ timer_made told) ≡ true
+  below_by : (told : Option Timer) (high : ℕ) → are_below (λ k. k) high (timers_made before ++ keys_told told) ≡ true → are_below (λ (t : Timer). t.key) high (timers_left e (timers before) ++ begun_by told) ≡ true
   below_by None high below =
       let all : are_below (λ k. k) high (timers_made before) ≡ true = ap (are_below (λ (k : ℕ). k) high) (sym (append-nil (timers_made before))) ∙ below in
-      ap (are_below (λ (t : Timer). t.key) high) (append-nil (timers_left e (timers before))) ∙ below_left high (λ (t : Timer). not (ends_timer t.key e)) (timers before) (s.below high all)
+      ap (are_below (λ (t : Timer). t.key) high) (append-nil (timers_left e (timers before))) ∙ below_some (λ (t : Timer). t.key) high (λ (t : Timer). not (ends_timer t.key e)) (timers before) (s.below high all)
   below_by (Some t) high below =
       let its = below_both high t.key (timers_made before) below in
-      below_more (λ (x : Timer). x.key) high (timers_left e (timers before)) t its.1 (below_left high (λ (x : Timer). not (ends_timer x.key e)) (timers before) (s.below high its.0))
+      below_more (λ (x : Timer). x.key) high (timers_left e (timers before)) t its.1 (below_some (λ (x : Timer). x.key) high (λ (x : Timer). not (ends_timer x.key e)) (timers before) (s.below high its.0))
 
   -- how many of a key are made: none where one was before
   new_by : (key : ℕ) (told : Option Timer) → makes_later_timer before told ≡ true → times_timer_made key before + cond (option_map_or (λ t. t.key == key) told false) 1 0 ≤ 1
@@ -135,7 +126,7 @@ module _ (before : List Event) (e : Event) (s : IsSettled before) where
       by_test false other = omega (arith, s.once key)
 
   -- how many of a key are there
-  count_by_told : (key : ℕ) (told : Option Timer) → count_of key (timers_left e (timers before) ++ timer_made told) ≡ cond (ends_timer key e) 0 (count_of key (timers before)) + cond (option_map_or (λ t. t.key == key) told false) 1 0
+  count_by_told : (key : ℕ) (told : Option Timer) → count_of key (timers_left e (timers before) ++ begun_by told) ≡ cond (ends_timer key e) 0 (count_of key (timers before)) + cond (option_map_or (λ t. t.key == key) told false) 1 0
   count_by_told key None = sum_by-append (λ (t : Timer). cond (t.key == key) 1 0) (timers_left e (timers before)) [] ∙ rw (left_counted key e (timers before)) refl
   count_by_told key (Some t) = sum_by-append (λ (x : Timer). cond (x.key == key) 1 0) (timers_left e (timers before)) (t ∷ []) ∙ rw (left_counted key e (timers before)) (omega arith)
 

@@ -1,14 +1,16 @@
 -- Laws of the views of a log as it grows.
-use Rattle.std.proofs.Common.{◌≡◌, ℕ, max, List, [], ◌∷◌, ◌++◌, None, refl, sym, ap, ◌∙◌, arith, append_assoc, append-nil}
+use Rattle.std.proofs.Common.{◌≡◌, ℕ, max, List, [], ◌∷◌, ◌++◌, get_or, refl, ap, ◌∙◌, arith, append-nil}
 use Rattle.std.proofs.lemmas.Grind.{flat_map-append}
 use Rattle.zb_model.specs.declared.record.Event.{Event}
 use Rattle.zb_model.specs.declared.record.Batch.{Batch}
 use Rattle.zb_views.specs.declared.definition.Definition.{Definition}
 use Rattle.zb_views.specs.View.{events_in, events_of, keys_in, greatest_among, greatest_counter, moment_of_last}
 use Rattle.zb_views.specs.Definitions.{definition_told, definitions}
-use Rattle.zb_views.specs.Begin.{begun_told, begun}
-use Rattle.zb_views.specs.Messages.{message_told, expiry_told, buffered}
-use Rattle.zb_views.proofs.MessageLaws.{unexpired_kept}
+use Rattle.zb_views.specs.Left.{left_told, left_sort, left}
+use Rattle.zb_views.specs.declared.left.Left.{Left}
+use Rattle.zb_views.specs.declared.left.Left.TheVariants as lefts
+use Rattle.zb_views.specs.Standing.{standing, left_by}
+use Rattle.zb_views.proofs.StandingLaws.{standing_more}
 
 -- the events of a log that grew are those before, and then the batch's
 pub events_of_more : (log : List Batch) (batch : Batch) → events_of (log ++ batch ∷ []) ≡ events_of log ++ events_in batch.outcome
@@ -33,16 +35,12 @@ moment_of_last_more (first ∷ next ∷ log) batch = moment_of_last_more (next �
 
 -- the definitions
 pub definitions_more : (es : List Event) (e : Event) → definitions (es ++ e ∷ []) ≡ definitions es ++ definition_told e
-definitions_more [] e = append-nil (definition_told e)
-definitions_more (x ∷ es) e = ap (λ (ds : List Definition). definition_told x ++ ds) (definitions_more es e) ∙ sym (append_assoc (definition_told x) (definitions es) (definition_told e))
+definitions_more es e = flat_map-append definition_told es (e ∷ []) ∙ ap (λ (ds : List Definition). definitions es ++ ds) (append-nil (definition_told e))
 
--- the instance that the last event makes
-pub begun_more : (es : List Event) (e : Event) → begun (es ++ e ∷ []) ≡ begun_told e
-begun_more [] e = refl
-begun_more (x ∷ []) e = refl
-begun_more (x ∷ next ∷ es) e = begun_more (next ∷ es) e
-
--- an event that tells of no message leaves the buffered ones as they were
-pub buffered_kept : (es : List Event) (e : Event) → message_told e ≡ None → expiry_told e ≡ None → buffered (es ++ e ∷ []) ≡ buffered es
-buffered_kept [] e silent lasting = rw silent refl
-buffered_kept (x ∷ es) e silent lasting = rw (unexpired_kept (message_told x) es e lasting, buffered_kept es e silent lasting) refl
+-- what the last event leaves to be said
+pub left_more : (es : List Event) (e : Event) → left (es ++ e ∷ []) ≡ left_told es e
+left_more es e = ap (λ (l : List Left). get_or l 0 lefts.Nothing) (standing_more left_sort es e) ∙ rw (none_left (standing left_sort es)) refl
+  where
+    none_left : (xs : List Left) → left_by left_sort es e xs ≡ []
+    none_left [] = refl
+    none_left (x ∷ xs) = none_left xs

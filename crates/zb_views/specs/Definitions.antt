@@ -1,5 +1,6 @@
 -- Process definitions: queries over the events of a log.
-use Rattle.std.specs.Prelude.{ℕ, ◌==◌, max, List, [], ◌∷◌, ◌++◌, ◌&&◌, if◌then◌else◌, Option, Some, None}
+use Rattle.std.specs.Prelude.{ℕ, ◌==◌, max, List, [], ◌∷◌, ◌&&◌, if◌then◌else◌, Option, Some, None}
+use Rattle.std.specs.List.{flat_map}
 use Rattle.std.specs.Str.{bytes_eq}
 use Rattle.zb_model.specs.declared.record.Event.{Event}
 use Rattle.zb_model.specs.declared.record.Event.TheVariants as events
@@ -12,8 +13,7 @@ definition_told _ = []
 
 -- the definitions, in the order in which they were made
 abbrev pub definitions : List Event → List Definition
-definitions [] = []
-definitions (e ∷ es) = definition_told e ++ definitions es
+definitions es = flat_map definition_told es
 
 -- the greatest version of a process, or 0 (Zeebe)
 abbrev pub greatest_version : List ℕ → List Definition → ℕ

@@ -3,7 +3,7 @@ use Rattle.std.specs.Prelude.{ℕ, ◌==◌, List, Bool, false, ◌&&◌, Option
 use Rattle.std.specs.List.{list_any}
 use Rattle.zb_model.specs.declared.record.Event.{Event}
 use Rattle.zb_model.specs.declared.record.Event.TheVariants as events
-use Rattle.zb_views.specs.Standing.{standing}
+use Rattle.zb_views.specs.Standing.{Sort, standing}
 use Rattle.zb_views.specs.declared.distribution.Distribution.{Distribution}
 
 -- the distribution of this definition to this partition
@@ -24,9 +24,17 @@ abbrev pub ends_distribution : Distribution → Event → Bool
 ends_distribution d (events.CommandDistributionAcknowledged e) = is_that e.key e.partition d
 ends_distribution d _ = false
 
+-- distributions are begun and ended, and stay as they were (Zeebe, the records)
+abbrev pub distribution_sort : Sort Distribution
+distribution_sort = record {
+  told = λ before e. distribution_told e;
+  ends = λ before e d. ends_distribution d e;
+  says = λ before e d. d;
+}
+
 -- the distributions that are under way: those that no event after has ended, in the order in which they began (Zeebe)
 abbrev pub distributions : List Event → List Distribution
-distributions es = standing distribution_told ends_distribution es
+distributions es = standing distribution_sort es
 
 -- this definition is on its way to this partition
 abbrev pub is_distributed_to : (definition partition : ℕ) → List Event → Bool

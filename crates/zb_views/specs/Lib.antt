@@ -3,8 +3,8 @@ pub mod Messages
 pub mod Definitions
 pub mod Standing
 pub mod Distributions
-pub mod Begin
 pub mod Told
 pub mod Processes
 pub mod Jobs
+pub mod Left
 pub mod Timers

@@ -1,10 +1,11 @@
 -- The messages of a log: queries over all its events.
-use Rattle.std.specs.Prelude.{ℕ, List, [], ◌∷◌, ◌++◌, Bool, false, ◌==◌, nat_le, if◌then◌else◌, Option, Some, None, not, filter}
+use Rattle.std.specs.Prelude.{ℕ, List, Bool, false, ◌==◌, nat_le, Option, Some, None, not, filter}
 use Rattle.std.specs.Option.{option_map_or}
 use Rattle.std.specs.List.{find, list_any}
 use Rattle.zb_exchange_records.specs.declared.message.MessagePublished.{MessagePublished}
 use Rattle.zb_model.specs.declared.record.Event.{Event}
 use Rattle.zb_model.specs.declared.record.Event.TheVariants as events
+use Rattle.zb_views.specs.Standing.{Sort, standing}
 
 -- the message that an event publishes
 abbrev pub message_told : Event → Option MessagePublished
@@ -16,19 +17,17 @@ abbrev pub expiry_told : Event → Option ℕ
 expiry_told (events.MessageExpired key) = Some key
 expiry_told _ = None
 
--- one of the events says that the message with this key has expired
-abbrev pub has_expired : ℕ → List Event → Bool
-has_expired key events = list_any (λ e. option_map_or (λ k. key == k) (expiry_told e) false) events
-
--- a message that was published, unless it has expired after
-abbrev pub unexpired : Option MessagePublished → List Event → List MessagePublished
-unexpired None after = []
-unexpired (Some m) after = if has_expired m.key after then [] else m ∷ []
+-- messages are published and expire, and stay as they were (Zeebe)
+abbrev pub message_sort : Sort MessagePublished
+message_sort = record {
+  told = λ before e. message_told e;
+  ends = λ before e m. option_map_or (λ key. m.key == key) (expiry_told e) false;
+  says = λ before e m. m;
+}
 
 -- the buffered messages: those that were published and haven't expired after, in the order of their publishing (Zeebe)
 abbrev pub buffered : List Event → List MessagePublished
-buffered [] = []
-buffered (e ∷ after) = unexpired (message_told e) after ++ buffered after
+buffered es = standing message_sort es
 
 -- the message with this key is buffered
 abbrev pub is_buffered : ℕ → List Event → Bool

@@ -1,11 +1,12 @@
 -- The timers of a log: queries over all its events.
-use Rattle.std.specs.Prelude.{ℕ, ◌==◌, List, [], ◌∷◌, ◌++◌, filter, count_by, Bool, true, false, ◌&&◌, is_some, if◌then◌else◌, Option, Some, None, not, is_none}
+use Rattle.std.specs.Prelude.{ℕ, ◌==◌, List, [], ◌∷◌, ◌++◌, filter, count_by, Bool, true, false, ◌&&◌, is_some, Option, Some, None, is_none}
 use Rattle.std.specs.Option.{option_map_or}
-use Rattle.std.specs.List.{find, list_any}
+use Rattle.std.specs.List.{find, flat_map}
 use Rattle.zb_instance_records.specs.declared.happening.TimerCreated.{TimerCreated}
 use Rattle.zb_model.specs.declared.record.Event.{Event}
 use Rattle.zb_model.specs.declared.record.Event.TheVariants as events
 use Rattle.zb_table.specs.Rows.{are_below}
+use Rattle.zb_views.specs.Standing.{Sort, standing}
 use Rattle.zb_views.specs.declared.timer.Timer.{Timer}
 
 -- a timer as it is made (Zeebe, timers)
@@ -27,15 +28,17 @@ timer_ended _ = None
 abbrev pub ends_timer : ℕ → Event → Bool
 ends_timer timer e = option_map_or (λ key. timer == key) (timer_ended e) false
 
--- a timer that was made, unless one of the events after ends it
-abbrev pub unended_timer : Option Timer → List Event → List Timer
-unended_timer None after = []
-unended_timer (Some t) after = if list_any (ends_timer t.key) after then [] else t ∷ []
+-- timers are made and end, and stay as they were (Zeebe, timers)
+abbrev pub timer_sort : Sort Timer
+timer_sort = record {
+  told = λ before e. timer_told e;
+  ends = λ before e t. ends_timer t.key e;
+  says = λ before e t. t;
+}
 
 -- the timers that are there: those that were made and neither triggered nor canceled after, in the order in which they were made (Zeebe, timers)
 abbrev pub timers : List Event → List Timer
-timers [] = []
-timers (e ∷ after) = unended_timer (timer_told e) after ++ timers after
+timers es = standing timer_sort es
 
 -- the timer with a key
 abbrev pub timer_at : ℕ → List Event → Option Timer
@@ -47,8 +50,7 @@ timers_on cell es = filter (λ t. t.cell == cell) (timers es)
 
 -- the keys of all timers that were made, also of those that have ended
 abbrev pub timers_made : List Event → List ℕ
-timers_made [] = []
-timers_made (e ∷ es) = option_map_or (λ t. t.key ∷ []) (timer_told e) [] ++ timers_made es
+timers_made es = flat_map (λ e. option_map_or (λ t. t.key ∷ []) (timer_told e) []) es
 
 -- an event makes the timer with a key (own)
 abbrev pub makes_timer : ℕ → Event → Bool
@@ -80,19 +82,6 @@ fits_timers before e = makes_later_timer before (timer_told e) && ends_timer_the
 abbrev pub all_fit_timers : List Event → List Event → Bool
 all_fit_timers before [] = true
 all_fit_timers before (e ∷ es) = fits_timers before e && all_fit_timers (before ++ e ∷ []) es
-
--- the timer that an event makes, if it does (own)
-abbrev pub timer_made : Option Timer → List Timer
-timer_made None = []
-timer_made (Some t) = t ∷ []
-
--- the timers that an event doesn't end (own)
-abbrev pub timers_left : Event → List Timer → List Timer
-timers_left e ts = filter (λ t. not (ends_timer t.key e)) ts
-
--- what an event makes of the timers: the one that it ends is gone, and the one that it makes is behind the others (own)
-abbrev pub timers_by : Event → List Timer → List Timer
-timers_by e ts = timers_left e ts ++ timer_made (timer_told e)
 
 -- an event makes no timer and ends none (own)
 abbrev pub says_nothing_of_timers : Event → Bool

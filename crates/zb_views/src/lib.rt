@@ -7,6 +7,7 @@ mod definition;
 mod distribution;
 mod job;
 mod laws;
+mod left;
 mod timer;
 
 pub use begun::Begun;
@@ -14,4 +15,5 @@ pub use definition::Definition;
 pub use distribution::Distribution;
 pub use job::{Job, JobPhase};
 pub use laws::timers_end_once;
+pub use left::Left;
 pub use timer::Timer;

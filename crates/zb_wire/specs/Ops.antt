@@ -6,9 +6,9 @@ use Rattle.serde_json.specs.Data.{Data}
 use Rattle.serde_json.specs.Find.{get}
 use Rattle.zb_exchange_records.specs.declared.job.JobBatchActivate.{JobBatchActivate}
 use Rattle.zb_exchange_records.specs.declared.job.JobComplete.{JobComplete}
-use Rattle.zb_exchange_records.specs.declared.job.JobFail.{JobFail}
-use Rattle.zb_exchange_records.specs.declared.job.JobThrowError.{JobThrowError}
-use Rattle.zb_exchange_records.specs.declared.job.JobUpdateRetries.{JobUpdateRetries}
+use Rattle.zb_exchange_records.specs.declared.job.JobFailure.{JobFailure}
+use Rattle.zb_exchange_records.specs.declared.job.JobError.{JobError}
+use Rattle.zb_exchange_records.specs.declared.job.JobRetries.{JobRetries}
 use Rattle.zb_exchange_records.specs.declared.message.MessagePublish.{MessagePublish}
 use Rattle.zb_instance_records.specs.declared.happening.VariableDocumentUpdate.{VariableDocumentUpdate}
 use Rattle.zb_instance_records.specs.declared.instance.ProcessInstanceCreationCreate.{ProcessInstanceCreationCreate}
@@ -139,7 +139,7 @@ complete_job = record {
 }
 
 -- the job that the fields of a fail say has failed
-abbrev pub failure_of : Data → JobFail
+abbrev pub failure_of : Data → JobFailure
 failure_of d = record { key = count_at (codes "key") d; retries = short_count_at (codes "retries") d; text = text_in (codes "message") d }
 
 -- a failure of a job
@@ -156,7 +156,7 @@ fail_job = record {
 }
 
 -- the job that the fields of a throw end, by an error of this code
-abbrev pub thrown_of : Data → JobThrowError
+abbrev pub thrown_of : Data → JobError
 thrown_of d = record { key = count_at (codes "key") d; code = text_in (codes "code") d }
 
 -- an error that a worker throws
@@ -169,7 +169,7 @@ throw_error = record {
 }
 
 -- the tries that the fields of a retries line leave a job
-abbrev pub retries_of : Data → JobUpdateRetries
+abbrev pub retries_of : Data → JobRetries
 retries_of d = record { key = count_at (codes "key") d; retries = short_count_at (codes "retries") d }
 
 -- a setting of the tries that a job has left

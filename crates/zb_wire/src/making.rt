@@ -7,7 +7,7 @@ use crate::values::{count_at, key_at, short_count_at, variables_at};
 use serde_json::Value as Json;
 use std::alloc::{AllocError, Global};
 use zb_model::{
-    JobBatchActivate, JobComplete, JobFail, JobThrowError, JobUpdateRetries, MessagePublish,
+    JobBatchActivate, JobComplete, JobError, JobFailure, JobRetries, MessagePublish,
     ProcessInstanceCreationCreate, Text, VariableDocumentUpdate,
 };
 use zb_reader::{flag_in, text_in};
@@ -76,10 +76,10 @@ pub fn completion_in(alloc: Global, value: &Json) -> Result<JobComplete, AllocEr
 }
 
 /// The job that the fields of a fail say has failed.
-pub fn failure_in(alloc: Global, value: &Json) -> Result<JobFail, AllocError>
+pub fn failure_in(alloc: Global, value: &Json) -> Result<JobFailure, AllocError>
     ensures { IfOk result (λ failure. failure ≡ failure_of (view value.now)) }
 {
-    Ok(JobFail {
+    Ok(JobFailure {
         key: key_at(value, "key"),
         retries: short_count_at(value, "retries"),
         text: Text::of(alloc, text_in(value, "message"))?,
@@ -87,20 +87,20 @@ pub fn failure_in(alloc: Global, value: &Json) -> Result<JobFail, AllocError>
 }
 
 /// The job that the fields of a throw end, by an error of this code.
-pub fn thrown_in(alloc: Global, value: &Json) -> Result<JobThrowError, AllocError>
+pub fn thrown_in(alloc: Global, value: &Json) -> Result<JobError, AllocError>
     ensures { IfOk result (λ thrown. thrown ≡ thrown_of (view value.now)) }
 {
-    Ok(JobThrowError {
+    Ok(JobError {
         key: key_at(value, "key"),
         code: Text::of(alloc, text_in(value, "code"))?,
     })
 }
 
 /// The tries that the fields of a retries line leave a job.
-pub fn retries_in(value: &Json) -> JobUpdateRetries
+pub fn retries_in(value: &Json) -> JobRetries
     ensures { result ≡ retries_of (view value.now) }
 {
-    JobUpdateRetries {
+    JobRetries {
         key: key_at(value, "key"),
         retries: short_count_at(value, "retries"),
     }

@@ -2,9 +2,8 @@ ghost use Rattle.std.specs.Prelude.{◌≡◌, ◌≤◌};
 
 use thiserror::Error;
 use zb_model::{
-    Command, JobBatchActivate, JobComplete, JobFail, JobThrowError, JobUpdateRetries, Key,
-    MessagePublish, Model, PartitionId, ProcessInstanceCreationCreate, Text,
-    VariableDocumentUpdate, home_of,
+    Command, JobBatchActivate, JobComplete, JobError, JobFailure, JobRetries, Key, MessagePublish,
+    Model, PartitionId, ProcessInstanceCreationCreate, Text, VariableDocumentUpdate, home_of,
 };
 use zb_record::{partition_known, partition_of_key};
 
@@ -29,11 +28,11 @@ pub enum Request {
     /// A worker has done a job.
     Complete(JobComplete),
     /// A worker has failed at a job.
-    Fail(JobFail),
+    Fail(JobFailure),
     /// A job ends by an error of the process.
-    Throw(JobThrowError),
+    Throw(JobError),
     /// To set how many tries a job has left.
-    Retries(JobUpdateRetries),
+    Retries(JobRetries),
     Publish(MessagePublish),
     /// To let the cell of the incident of this key go on.
     Resolve(Key),

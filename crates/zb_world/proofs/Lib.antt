@@ -4,3 +4,4 @@ pub mod EntryLaws
 pub mod HistoryLaws
 pub mod OnceLaws
 pub mod PacketLaws
+pub mod SendingLaws

@@ -1,6 +1,6 @@
 -- What is to happen at most once in a history does: so far no event of a step correlates a message; a job is over, and
 -- a timer ends, at most once at its partition, and at no other one.
-use Rattle.std.proofs.Common.{◌≡◌, ℕ, ◌+◌, ◌/◌, ◌^◌, ◌≤◌, List, [], ◌∷◌, ◌++◌, count_by, Bool, true, false, cond, IsTrue, Option, Some, None, refl, inl, inr, sym, ap, ◌∙◌, subst, append-nil, arith}
+use Rattle.std.proofs.Common.{◌≡◌, ℕ, ◌+◌, ◌/◌, ◌^◌, ◌≤◌, List, [], ◌∷◌, ◌++◌, count_by, Bool, true, false, cond, IsTrue, Option, Some, None, refl, inl, inr, sym, ap, ◌∙◌, subst, append-nil, append_assoc, arith}
 use Rattle.std.specs.List.{list_any}
 use Rattle.std.proofs.lemmas.Bool.{and_parts, or_from, cases_eq, cases_lt}
 use Rattle.std.proofs.lemmas.Grind.{flat_map-append}
@@ -73,14 +73,19 @@ outcome_applies : (p n moment : ℕ) (before : List Event) (command : Command) (
 outcome_applies p n moment before command outcome (Some rejection) is = rw is refl
 outcome_applies p n moment before command outcome None is = rw is.accepted is.applied
 
--- and so do those of a log of steps
+-- and so do those of steps on a log whose events apply
+pub steps_apply_on : (p n : ℕ) (log more : List Batch) → IsTrue (all_apply p [] (events_of log)) → AreStepsOn p n log more → IsTrue (all_apply p [] (events_of (log ++ more)))
+steps_apply_on p n log more apply steps =
+    each_on_all (IsStep p n) log (λ (more : List Batch). IsTrue (all_apply p [] (events_of (log ++ more))))
+    (λ (front : List Batch) (batch : Batch) before applied step.
+    let es = events_of (log ++ front) in
+    let its = outcome_applies p n batch.moment es batch.command batch.outcome (reason_for es batch.moment batch.command) step.outcome in
+    subst (λ (l : List Batch). IsTrue (all_apply p [] (events_of l))) (append_assoc log front (batch ∷ []))
+    (rw (events_of_more (log ++ front) batch, all_apply_on p [] es (events_in batch.outcome), applied) its))
+    (subst (λ (l : List Batch). IsTrue (all_apply p [] (events_of l))) (sym (append-nil log)) apply) more steps
+
 pub steps_apply : (p n : ℕ) (log : List Batch) → AreStepsOn p n [] log → IsTrue (all_apply p [] (events_of log))
-steps_apply p n log steps =
-    each_on_all (IsStep p n) [] (λ (log : List Batch). IsTrue (all_apply p [] (events_of log)))
-    (λ (front : List Batch) (batch : Batch) before apply step.
-    let its = outcome_applies p n batch.moment (events_of front) batch.command batch.outcome (reason_for (events_of front) batch.moment batch.command) step.outcome in
-    rw (events_of_more front batch, all_apply_on p [] (events_of front) (events_in batch.outcome), apply) its)
-    refl log steps
+steps_apply p n log steps = steps_apply_on p n [] log refl steps
 
 -- things that end, by their keys, each at the partition of its key
 module _ (ends : ℕ → Event → Bool) (home_of : (p : ℕ) (es : List Event) (key : ℕ) → IsTrue (all_apply p [] es) → 1 ≤ count_by (ends key) es → key / 2 ^ 51 ≡ p) where

@@ -23,8 +23,8 @@ impl State {
     {
         let awaited = Awaited { game: &self.game };
         let expiry = expiry_of(self.messages.first_due(now));
-        let time_out = time_out_of(self.jobs.first_due(now));
-        let trigger = trigger_of(self.timers.first_due_that(now, &awaited));
+        let time_out = time_out_of(self.tables.jobs.first_due(now));
+        let trigger = trigger_of(self.tables.timers.first_due_that(now, &awaited));
         command_of(earlier(expiry, earlier(time_out, trigger)))
     }
 }

@@ -1,66 +1,94 @@
-// The distributions that are under way, and the packets by which they are.
-ghost use Rattle.std.specs.Prelude.{◌≡◌, ◌==◌, ◌≤◌, [], List, IfOk, option_map};
-ghost use Rattle.std.specs.List.{find};
+// What the partition has sent, and the packets by which it has.
+ghost use Rattle.std.specs.Prelude.{◌≡◌, ◌≤◌, List, IfOk};
 ghost use Rattle.zb_model.specs.declared.record.Event.{Event};
-ghost use Rattle.zb_views.specs.Standing.{begun_by};
 ghost use Rattle.zb_views.specs.Distributions.{is_distributed_to, is_distributed};
-ghost use Rattle.zb_record.specs.Packets.{packets_for, outbox_of, first_packet};
+ghost use Rattle.zb_record.specs.Sendings as views;
+ghost use Rattle.zb_record.specs.Packets.{packet_for, packet_of_definition, outbox_of, first_packet};
 ghost use Rattle.zb_state.specs.State.{partition_of, IsStateOf};
 
-use crate::{State, distributions};
+use crate::State;
 use std::alloc::{AllocError, Global};
-use zb_model::{Key, Packet};
-use zb_record::distribute;
+use zb_model::{Key, Packet, TryCopy};
+use zb_outbox::Outbox;
+use zb_record::{Sending, distribute};
 use zb_views::Distribution;
 
 impl State {
-    /// Whether this definition is on its way to this partition. It goes through the distributions that are under way.
-    pub fn is_distributed_to(&self, definition: Key, partition: u32) -> bool
-        ensures { (es : List Event) → IsStateOf es self.now → result ≡ is_distributed_to definition partition es }
+    /// What is sent and no event has ended.
+    pub fn sendings(&self) -> &Outbox
+        ensures { (es : List Event) → IsStateOf es self.now → views.sendings es ≡ result.now }
     {
-        distributions::is_under_way(definition, partition, &self.distributions)
-    }
-
-    /// Whether this definition is on its way to some partition. It goes through the distributions that are under way.
-    pub fn is_distributed(&self, definition: Key) -> bool
-        ensures { (es : List Event) → IsStateOf es self.now → result ≡ is_distributed definition es }
-    {
-        distributions::is_any_under_way(definition, &self.distributions)
+        &self.tables.sendings
     }
 
     /// The packets that the partition, of so many, has sent and that no event has ended, in the order in which they were
-    /// sent. Each costs the logarithm of how many definitions there are, and a copy of its model.
+    /// sent. Each costs a copy of what is sent; one of a definition the logarithm of how many there are, and a copy of
+    /// its model.
     pub fn outbox(&self, alloc: Global, partitions: u32) -> Result<Vec<Packet>, AllocError>
         requires { partitions ≤ 16 }
         ensures { (es : List Event) → IsStateOf es self.now
             → IfOk result (λ packets. packets.items ≡ outbox_of (partition_of self.now) partitions es) }
     {
         let mut packets = Vec::new(alloc);
-        for distribution in &self.distributions {
-            if let Some(packet) = self.packet_for(alloc, partitions, *distribution)? {
+        for sending in self.tables.sendings.sent() {
+            if let Some(packet) = self.packet_for(alloc, partitions, sending)? {
                 packets.push(packet)?;
             }
         }
         Ok(packets)
     }
 
-    /// The first one of these packets. It costs the logarithm of how many definitions
-    /// there are, and a copy of its model.
+    /// The first one of these packets. It costs what that one does.
     pub fn first_packet(&self, alloc: Global, partitions: u32) -> Result<Option<Packet>, AllocError>
         requires { partitions ≤ 16 }
         ensures { (es : List Event) → IsStateOf es self.now
             → IfOk result (λ packet. packet ≡ first_packet (partition_of self.now) partitions es) }
     {
-        for distribution in &self.distributions {
-            if let Some(packet) = self.packet_for(alloc, partitions, *distribution)? {
+        for sending in self.tables.sendings.sent() {
+            if let Some(packet) = self.packet_for(alloc, partitions, sending)? {
                 return Ok(Some(packet));
             }
         }
         Ok(None)
     }
 
-    // The packet of a distribution, if its definition is there.
+    // Whether this definition is on its way to this partition.
+    pub(super) fn is_distributed_to(&self, definition: Key, partition: u32) -> bool
+        ensures { (es : List Event) → IsStateOf es self.now → result ≡ is_distributed_to definition partition es }
+    {
+        self.tables.sendings.is_sent_to(definition, partition)
+    }
+
+    // Whether this definition is on its way to some partition.
+    pub(super) fn is_distributed(&self, definition: Key) -> bool
+        ensures { (es : List Event) → IsStateOf es self.now → result ≡ is_distributed definition es }
+    {
+        self.tables.sendings.is_sent(definition)
+    }
+
+    // The packet of what is sent; `None` of a definition that isn't there.
     fn packet_for(
+        &self,
+        alloc: Global,
+        partitions: u32,
+        sending: &Sending,
+    ) -> Result<Option<Packet>, AllocError>
+        requires { partitions ≤ 16 }
+        ensures { (es : List Event) → IsStateOf es self.now
+            → IfOk result (λ packet. packet ≡ packet_for (partition_of self.now) partitions es sending.now) }
+    {
+        match sending {
+            Sending::Definition(distribution) => {
+                self.packet_of_definition(alloc, partitions, *distribution)
+            }
+            Sending::Opening(_) | Sending::Correlating(_) | Sending::Closing(_) => {
+                Ok(sending.copy(alloc)?.into_packet(self.place, partitions))
+            }
+        }
+    }
+
+    // The packet of a distribution, if its definition is there.
+    fn packet_of_definition(
         &self,
         alloc: Global,
         partitions: u32,
@@ -68,10 +96,10 @@ impl State {
     ) -> Result<Option<Packet>, AllocError>
         requires { partitions ≤ 16 }
         ensures { (es : List Event) → IsStateOf es self.now
-            → IfOk result (λ packet. packets_for (partition_of self.now) partitions es distribution ≡ begun_by packet) }
+            → IfOk result (λ packet. packet ≡ packet_of_definition (partition_of self.now) partitions es distribution) }
     {
         let key = distribution.definition;
-        let Some(version) = self.definitions.version_under(key) else {
+        let Some(version) = self.tables.definitions.version_under(key) else {
             return Ok(None);
         };
         let Some(graph) = self.game.model(key) else {

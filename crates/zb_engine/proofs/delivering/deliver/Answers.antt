@@ -3,11 +3,11 @@ use Rattle.std.proofs.lemmas.List.{length-map}
 use Rattle.zb_model.specs.declared.record.Packet.{Packet}
 use Rattle.zb_model.specs.declared.stop.Stop.TheVariants as stops
 use Rattle.zb_views.specs.Standing.{begun_by}
-use Rattle.zb_record.specs.Packets.{answer_packet}
+use Rattle.zb_record.specs.Answers.{answer_packet}
 use Rattle.zb_engine.specs.Ledger.{Opening}
 use Rattle.zb_desk.specs.Asking.{IsDelivered}
 use Rattle.zb_engine.specs.Solo.{basis_in, many_in, logs_in, partitions_in, HasPart, HasMade}
-use Rattle.zb_engine.proofs.DeliveryLemmas.{working_none, working_more, delivered_all, delivered_full, delivery_cut, delivery_cut_resting, unit_is_run, unit_is_within}
+use Rattle.zb_engine.proofs.DeliveryLemmas.{working_none, working_more, delivered_all, delivered_full, delivery_cut, delivery_cut_resting, working_runs, unit_is_within}
 use Rattle.zb_engine.proofs.MadeLemmas.{ended_resting}
 use Rattle.zb_engine.proofs.NumberLemmas.{each_from_length}
 use Rattle.zb_engine.proofs.delivering.deliver.Goals as goal
@@ -54,8 +54,7 @@ do_unit-requires-clause-run g c =
     let k = c.requires in
     let w = c.loop-done.invariant k.0 k.1 k.2 in
     let next = c.in-Ok.ensures.next k.0 (k.1 ++ w.are.more) w.are.more w.are.holds w.in_hand in
-    let run = unit_is_run (logs_in k.0) w.are.more (k.1 ++ w.are.more) (c.in-Some.next.0, c.in-Some.next.1) (sym next ∙ c.in-Some.is) in
-    run
+    working_runs k.0 k.1 c.args.reading c.loop-done.done c.loop-done.hand.items c.loop-done.solo w c.in-Some.next.0 c.in-Some.next.1 (sym next ∙ c.in-Some.is)
 
 -- the unit stopped the engine
 pub returns-in-Err-do_unit-clause-cut : goal.returns-in-Err-do_unit-clause-cut
@@ -74,7 +73,7 @@ loop-done-preserved g c = λ start made has.
     let s = (c.in-Ok-do_unit.ensures.placed start (made ++ w.are.more) w.are.holds) in
     working_more start made c.args.reading c.loop-done.done c.loop-done.hand.items _ c.loop-done.solo _ w c.in-Some.next.0 c.in-Some.next.1 s.0
     (omega (arith, c.loop-done-test.true, has.bound)) (sym next ∙ c.in-Some.is) s.1
-    (s.2 ∙ ap (λ (hand : List Packet). hand ++ begun_by (answer_packet c.in-Some.next.0 (many_in start) c.in-Some.next.1)) taken)
+    (s.2 ∙ ap (λ (hand : List Packet). hand ++ begun_by (answer_packet c.in-Some.next.0 (many_in start) s.0)) taken)
 
 -- as many as may be
 pub returns-clause-delivered : goal.returns-clause-delivered

@@ -1,9 +1,8 @@
-use Rattle.std.proofs.Common.{rules, ℕ, ◌≡◌, ◌<◌, length, Some, None, refl, sym, ap, ◌∙◌, arith}
+use Rattle.std.proofs.Common.{rules, ℕ, ◌≡◌, ◌<◌, length, Some, None, refl, ap, ◌∙◌, arith}
 use Rattle.zb_model.specs.declared.stop.Stop.TheVariants as stops
-use Rattle.zb_record.specs.Packets.{answer_packet}
-use Rattle.zb_engine.specs.Solo.{many_in, logs_in, partitions_in}
+use Rattle.zb_record.specs.Answers.{answer_packet}
+use Rattle.zb_engine.specs.Solo.{many_in, partitions_in}
 use Rattle.zb_engine.proofs.MadeLemmas.{ended_resting}
-use Rattle.zb_engine.proofs.NextLemmas.{command_is}
 use Rattle.zb_engine.proofs.delivering.do_unit.Goals as goal
 use Rattle.zb_engine.proofs.delivering.do_unit.Goals.{in-Some, in_default}
 
@@ -19,9 +18,9 @@ returns-in-Err-clause-stopped g c = λ start made has.
 
 pub returns-clause-placed : goal.returns-clause-placed
 returns-clause-placed g c = λ start made has.
+    let batch = c.in-Ok-commit.batch in
     let placed = c.in-Ok-commit.ensures.placed start made has in
-    let same = command_is (logs_in start) c.args.partition c.args.command c.args.reading made c.in-Ok-commit.batch placed.by in
     let many = c.count.ensures.count start _ placed.holds in
-    let answer : c.answer_packet.result ≡ answer_packet c.args.partition (many_in start) c.args.command =
-    c.answer_packet.ensures ∙ (ap (λ n. answer_packet c.args.partition n c.in-Ok-commit.batch.command) many ∙ ap (answer_packet c.args.partition (many_in start)) (sym same)) in
-    (c.in-Ok-commit.batch, placed, elim c.match-answer_packet.branch [ in-Some w ↦ search rules | in_default w ↦ search rules ])
+    let answer : c.answer_packet.result ≡ answer_packet c.args.partition (many_in start) batch =
+    c.answer_packet.ensures ∙ ap (λ n. answer_packet c.args.partition n batch) many in
+    (batch, placed, elim c.match-answer_packet.branch [ in-Some w ↦ search rules | in_default w ↦ search rules ])

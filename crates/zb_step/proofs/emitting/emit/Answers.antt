@@ -13,16 +13,16 @@ use Rattle.zb_step.proofs.emitting.emit.Goals as goal
 pub returns-clause-own : goal.returns-clause-own
 returns-clause-own c = λ es is.
     let p = partition_of c.args.state.now in
-    let command = c.args.command.now in
-    let make = own p c.args.partitions c.args.moment command in
+    let command = c.args.own.command.now in
+    let make = own p c.args.own.partitions c.args.moment command in
     let made = option_map_or (λ m. m es) make [] in
     on_ok_weaker c.put.result
-    (λ has. made_of make es (own_there p c.args.partitions es c.args.moment command c.requires.run (c.requires.unrefused es is)) ∙ ap (λ (l : List Event). Some l) (sym (has.put es is ∙ ap (λ (l : List Event). l ++ made) c.requires.none)))
+    (λ has. made_of make es (own_there p c.args.own.partitions es c.args.moment command c.requires.run (c.requires.unrefused es is)) ∙ ap (λ (l : List Event). Some l) (sym (has.put es is ∙ ap (λ (l : List Event). l ++ made) c.requires.none)))
     c.put.ensures.ok
 
 pub returns-clause-state : goal.returns-clause-state
 returns-clause-state c = λ es is.
-    let make = own (partition_of c.args.state.now) c.args.partitions c.args.moment c.args.command.now in
+    let make = own (partition_of c.args.state.now) c.args.own.partitions c.args.moment c.args.own.command.now in
     let made = option_map_or (λ m. m es) make [] in
     on_ok_weaker c.put.result
     (λ has. subst (λ (l : List Event). IsStateOf (es ++ l) c.put.new.state) (sym (has.put es is ∙ ap (λ (l : List Event). l ++ made) c.requires.none)) (has.taken es is))
@@ -31,8 +31,8 @@ returns-clause-state c = λ es is.
 pub returns-clause-misfit : goal.returns-clause-misfit
 returns-clause-misfit c = λ misfit es is.
     let p = partition_of c.args.state.now in
-    let n = c.args.partitions in
-    let command = c.args.command.now in
+    let n = c.args.own.partitions in
+    let command = c.args.own.command.now in
     let make = own p n c.args.moment command in
     let left : IsTrue c.has_keys.result = grind arith in
     let keys : HasKeys p es (keys_for command) = subst (λ k. HasKeys p es k) c.keys_for.ensures ((c.has_keys.ensures es is).0 left) in

@@ -11,5 +11,5 @@ returns-in-None-clause-outcome c = λ es is.
     let p = partition_of c.args.state.now in
     let n = c.args.partitions in
     let Leads : Option Rejection → Type 0 = λ r. IfOk c.run.result (λ outcome. IsOutcomeBy r outcome (IsAcceptance p n c.args.moment es c.args.command.now outcome)) in
-    let none : reason_for es c.args.moment c.args.command.now ≡ None = sym (c.in_ok-rejection.ensures es is) ∙ c.in-None.is in
+    let none : reason_for es c.args.moment c.args.command.now ≡ None = sym (c.in_ok-rejection.ensures.reason es is) ∙ c.in-None.is in
     subst Leads (sym none) (c.run.ensures.acceptance es is)

@@ -31,13 +31,13 @@ loop-number-preserved c =
     let from : first ≤ c.loop-number.number = omega (arith, before.few_cells) in
     record {
       few_cells = omega (arith, before.few_cells, more_at_most c.has_cell.result c.loop-number.cells c.one_more_if-cells.result c.one_more_if-cells.ensures);
-      few_messages = omega (arith, before.few_messages, more_at_most c.is_some.result c.loop-number.messages c.one_more_if-messages.result c.one_more_if-messages.ensures);
+      few_messages = omega (arith, before.few_messages, more_at_most c.has_message.result c.loop-number.messages c.one_more_if-messages.result c.one_more_if-messages.ensures);
       cells = λ es state.
           count_more (λ key. holds_of_game (has_cell key) es) first c.loop-number.number c.loop-number.cells c.one_more_if-cells.result c.has_cell.result from (before.cells es state)
           (c.has_cell.ensures es state ∙ ap (λ key. holds_of_game (has_cell key) es) c.new-key.ensures) c.one_more_if-cells.ensures;
       messages = λ es state.
-          count_more (λ key. is_buffered key es) first c.loop-number.number c.loop-number.messages c.one_more_if-messages.result c.is_some.result from (before.messages es state)
-          (c.is_some.ensures ∙ (c.deadline_of.ensures.buffered es state ∙ ap (λ key. is_buffered key es) c.new-key.ensures)) c.one_more_if-messages.ensures;
+          count_more (λ key. is_buffered key es) first c.loop-number.number c.loop-number.messages c.one_more_if-messages.result c.has_message.result from (before.messages es state)
+          (c.has_message.ensures es state ∙ ap (λ key. is_buffered key es) c.new-key.ensures) c.one_more_if-messages.ensures;
     }
 
 pub returns-clause-cells : goal.returns-clause-cells

@@ -4,6 +4,7 @@ use Rattle.std.specs.Str.{bytes_eq}
 use Rattle.indexmap.specs.IndexMap.{get_by_text}
 use Rattle.zb_table.specs.Rows.{row_at}
 use Rattle.zb_views.specs.Definitions.{greatest_version, version_of}
+use Rattle.zb_views.specs.declared.definition.Definition.{Definition}
 use Rattle.zb_definitions.specs.Versions.{counting_key, greater_key}
 use Rattle.zb_definitions.specs.Kept.{latest_in, key_in}
 use Rattle.zb_definitions.specs.declared.version.Defined.{Defined}
@@ -14,7 +15,8 @@ pub returns : goal.returns
 returns c = λ ds keeps.
     let old = c.args.self.now in
     let mid = c.keep_key.new.self in
-    let d = c.args.definition in
+    let made = c.args.process.now in
+    let d : Definition = record { key = made.key; version = made.version; process = made.model.process } in
     let processes : mid.processes ≡ old.processes = c.keep_key.ensures.processes in
     let named : c.as_str.result.now ≡ d.process = search rules in
     record {

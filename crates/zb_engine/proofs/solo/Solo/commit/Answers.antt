@@ -8,11 +8,11 @@ use Rattle.zb_partition.specs.Log.{bodies_of}
 use Rattle.zb_partition.specs.Partition.{HasLog, partition_number_of, partitions_of, last_moment_of, disk_of, is_live, in_writing}
 use Rattle.zb_partition.specs.declared.partition.Partition.{Partition}
 use Rattle.zb_partition.specs.Stopping.{IsStopped}
-use Rattle.zb_engine.specs.Ledger.{Account, log_of, HasAccount, IsCommitted, HasRefused}
+use Rattle.zb_engine.specs.Ledger.{Account, log_of, HasAccount}
 use Rattle.zb_engine.specs.Solo.{partitions_in}
 use Rattle.zb_engine.proofs.ResultLemmas.{unless_told}
 use Rattle.std.proofs.lemmas.Result.{IfErr-at_err}
-use Rattle.zb_engine.proofs.LogLemmas.{made_more, holds_more, stopped_by}
+use Rattle.zb_engine.proofs.LogLemmas.{IsCommitted, HasRefused, made_more, holds_more, stopped_by}
 use Rattle.zb_engine.proofs.MadeLemmas.{known_within, placed, turned_away, away_resting, its_part}
 use Rattle.zb_engine.proofs.NumberLemmas.{get_within, get_put, put_made_same, put_made_more}
 use Rattle.zb_engine.proofs.solo.Solo.commit.Goals as goal

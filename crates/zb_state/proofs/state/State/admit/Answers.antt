@@ -13,8 +13,6 @@ invariant_of-self c =
     record {
       drawn = s.drawn;
       in_order = s.in_order;
-      jobs_in_order = s.jobs_in_order;
-      timers_in_order = s.timers_in_order;
       resting = elim c.if-rests.branch [
         | then-rests w ↦ λ rests. still_rests s.game c.play.new.game w.may_show.result (s.resting w.if-rests.true) (λ quiet. c.in-Ok.ensures.silent (sym w.may_show.ensures ∙ quiet)) (rw w.self-is at rests)
         | else-rests w ↦ λ rests. absurd (false≢true (sym w.if-rests.false ∙ rw w.self-is at rests))

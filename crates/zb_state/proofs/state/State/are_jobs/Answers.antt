@@ -3,4 +3,4 @@ use Rattle.zb_state.proofs.JobLemmas.{all_there}
 use Rattle.zb_state.proofs.state.State.are_jobs.Goals as goal
 
 pub returns : goal.returns
-returns c = λ es is. ap not c.lacks_one.ensures ∙ all_there es c.args.self.now.jobs c.args.keys.now is.jobs
+returns c = λ es is. ap not c.lacks_one.ensures ∙ all_there es c.args.self.now.tables.jobs c.args.keys.now is.jobs

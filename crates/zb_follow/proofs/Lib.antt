@@ -1,0 +1,3 @@
+pub mod ForcedLemmas
+pub mod MakerLemmas
+pub mod TurnLemmas

@@ -1,0 +1,24 @@
+-- What is made behind an event.
+use Rattle.std.specs.Prelude.{ℕ, [], ◌∷◌, Option}
+use Rattle.std.specs.Option.{option_map_or}
+use Rattle.zb_model.specs.declared.record.Event.TheVariants as events
+use Rattle.zb_rules.specs.Making.{Making, and_then}
+use Rattle.zb_rules.specs.Behind.{resolved_on, job_made_on, timers_made_on, timers_canceled_on, interrupted_on}
+use Rattle.zb_follow.specs.declared.behind.Behind.{Behind}
+use Rattle.zb_follow.specs.declared.behind.Behind.TheVariants as behinds
+
+-- a job is canceled, if there is one (own)
+abbrev pub job_canceled : Option ℕ → Making
+job_canceled job before = option_map_or (λ key. events.JobCanceled key ∷ []) job []
+
+-- what waits for a cell ends, where this is the job that it had (own)
+abbrev pub ended_with : (cell : ℕ) → Option ℕ → Making
+ended_with cell job = and_then (job_canceled job) (and_then (timers_canceled_on cell) (resolved_on cell))
+
+-- the events that come behind, at a moment of partition p (own)
+abbrev pub made_behind : (p moment : ℕ) → Behind → Making
+made_behind p moment behinds.Nothing before = []
+made_behind p moment (behinds.Work cell) before = and_then (job_made_on p cell) (timers_made_on p moment cell) before
+made_behind p moment (behinds.Close cell) before = timers_canceled_on cell before
+made_behind p moment (behinds.End waiting) before = ended_with waiting.cell waiting.job before
+made_behind p moment (behinds.Interrupt told) before = interrupted_on told.cell told.node before

@@ -1,0 +1,3 @@
+pub mod Behind
+pub mod Making
+pub mod Settled

@@ -1,0 +1,236 @@
+// An event, and those behind it.
+ghost use Rattle.std.specs.Prelude.{◌≡◌, ℕ, List, IfOk};
+ghost use Rattle.zb_model.specs.declared.record.Event.{Event};
+ghost use Rattle.zb_rules.specs.Behind.{repair_event, job_made_on, resolved_on, ended_on, halted_on, interrupted_on, events_behind, with_events_behind};
+ghost use Rattle.zb_state.specs.State.{partition_of, IsStateOf};
+ghost use Rattle.zb_follow.specs.Behind.{made_behind, job_canceled, ended_with};
+
+use crate::making::{Find, Found, Maker};
+use crate::timers::{ClosedTimers, OpenedTimers};
+use std::alloc::{AllocError, Global};
+use zb_model::{Event, IncidentResolved, JobCreated, Key, Moment, TryCopy};
+use zb_state::{Out, Refusal, State};
+use zb_tokens::{Incident, Triggered};
+
+/// An event, and those behind it. It costs what `Out::put` does for each; where a cell becomes active what
+/// `Game::work_at` and `Game::openings_at` do, where it begins to complete what `Timers::on` does, and where it begins to
+/// terminate what that, `Jobs::on` and `Game::incident_on` do; where a node's event has come about what
+/// `Game::is_interrupting` does too.
+#[derive(Drop)]
+pub struct WithBehind(pub Event);
+
+impl Maker for WithBehind {
+    ghost making = { λ it p moment. with_events_behind p moment it.0 };
+
+    ghost least = { 1 };
+
+    fn put(
+        self,
+        alloc: Global,
+        state: &mut State,
+        moment: Moment,
+        out: &mut Out,
+    ) -> Result<(), Refusal> {
+        let WithBehind(event) = self;
+        match behind_of(alloc, state, &event) {
+            Ok(behind) => (event, behind).put(alloc, state, moment, out),
+            Err(AllocError) => {
+                drop(event);
+                Err(Refusal::Memory)
+            }
+        }
+    }
+}
+
+/// What comes behind an event.
+#[derive(Drop)]
+pub enum Behind {
+    Nothing,
+    /// The cell that becomes active may have a job or timers.
+    Work(Key),
+    /// The cell begins to complete, and its timers end.
+    Close(Key),
+    /// The cell begins to terminate, and what waits for it ends.
+    End(Ended),
+    /// The event of a node has come about for a cell, which it may interrupt.
+    Interrupt(Triggered),
+}
+
+// What comes behind this event, which is to be put.
+fn behind_of(alloc: Global, state: &State, event: &Event) -> Result<Behind, AllocError>
+    ensures { IfOk result (λ behind. (p moment : ℕ) (seen es : List Event) → IsStateOf seen state.now
+        → events_behind p moment seen event.now es ≡ made_behind p moment behind es) }
+{
+    match event {
+        Event::ElementActivated(element) => Ok(Behind::Work(element.key)),
+        Event::ElementCompleting(cell) => Ok(Behind::Close(*cell)),
+        Event::ElementTerminating(cell) => Ok(Behind::End(waiting_for(state, *cell))),
+        Event::ProcessEventTriggered(told) => Ok(Behind::Interrupt(Triggered {
+            cell: told.cell,
+            node: told.node.copy(alloc)?,
+        })),
+        _ => Ok(Behind::Nothing),
+    }
+}
+
+impl Maker for Behind {
+    ghost making = { λ behind p moment. made_behind p moment behind };
+
+    fn put(
+        self,
+        alloc: Global,
+        state: &mut State,
+        moment: Moment,
+        out: &mut Out,
+    ) -> Result<(), Refusal> {
+        match self {
+            Behind::Nothing => Ok(()),
+            Behind::Work(cell) => {
+                (Found(JobOf(cell)), OpenedTimers(cell)).put(alloc, state, moment, out)
+            }
+            Behind::Close(cell) => ClosedTimers(cell).put(alloc, state, moment, out),
+            Behind::End(waiting) => waiting.put(alloc, state, moment, out),
+            Behind::Interrupt(told) => Interrupted(told).put(alloc, state, moment, out),
+        }
+    }
+}
+
+// A cell begins to terminate, if the event of a node that has come about for it interrupts it.
+#[derive(Drop)]
+struct Interrupted(Triggered);
+
+impl Maker for Interrupted {
+    ghost making = { λ it p moment. interrupted_on it.0.cell it.0.node };
+
+    fn put(
+        self,
+        alloc: Global,
+        state: &mut State,
+        moment: Moment,
+        out: &mut Out,
+    ) -> Result<(), Refusal> {
+        let Interrupted(told) = self;
+        let cell = told.cell;
+        let interrupts = state.game().is_interrupting(cell, told.node.as_str());
+        if interrupts {
+            return Halted(cell).put(alloc, state, moment, out);
+        }
+        Ok(())
+    }
+}
+
+// A cell begins to terminate, and what waits for it ends.
+#[derive(Drop)]
+struct Halted(Key);
+
+impl Maker for Halted {
+    ghost making = { λ it p moment. halted_on it.0 };
+
+    fn put(
+        self,
+        alloc: Global,
+        state: &mut State,
+        moment: Moment,
+        out: &mut Out,
+    ) -> Result<(), Refusal> {
+        let waiting = waiting_for(state, self.0);
+        (Event::ElementTerminating(self.0), waiting).put(alloc, state, moment, out)
+    }
+}
+
+/// What waits for a cell ends: the job that it had is canceled, then its timers are, and then the incident on it is
+/// resolved.
+#[derive(Drop)]
+pub struct Ended {
+    pub cell: Key,
+    pub job: Option<Key>,
+}
+
+// What waits for a cell that is to begin to terminate.
+fn waiting_for(state: &State, cell: Key) -> Ended
+    ensures { (seen es : List Event) → IsStateOf seen state.now → ended_on seen cell es ≡ ended_with result.cell result.job es }
+{
+    Ended {
+        cell,
+        job: state.jobs().on(cell),
+    }
+}
+
+impl Maker for Ended {
+    ghost making = { λ it p moment. ended_with it.cell it.job };
+
+    fn put(
+        self,
+        alloc: Global,
+        state: &mut State,
+        moment: Moment,
+        out: &mut Out,
+    ) -> Result<(), Refusal> {
+        let Ended { cell, job } = self;
+        (
+            Found(CanceledJob(job)),
+            (ClosedTimers(cell), Found(ResolvedOn(cell))),
+        )
+            .put(alloc, state, moment, out)
+    }
+}
+
+// The job of a cell is made, if the cell is to have one: by the type and the tries of its node.
+#[derive(Drop)]
+struct JobOf(Key);
+
+impl Find for JobOf {
+    ghost finds = { λ it p. job_made_on p it.0 };
+
+    fn find(self, alloc: Global, state: &State) -> Result<Option<Event>, AllocError> {
+        let Some(node) = state.game().work_at(self.0) else {
+            return Ok(None);
+        };
+        Ok(Some(Event::JobCreated(JobCreated {
+            key: state.next_key(),
+            cell: self.0,
+            kind: node.name.copy(alloc)?,
+            retries: node.retries,
+        })))
+    }
+}
+
+// A job is canceled, if there is one.
+#[derive(Drop)]
+struct CanceledJob(Option<Key>);
+
+impl Find for CanceledJob {
+    ghost finds = { λ it p. job_canceled it.0 };
+
+    fn find(self, _alloc: Global, _state: &State) -> Result<Option<Event>, AllocError> {
+        match self.0 {
+            Some(job) => Ok(Some(Event::JobCanceled(job))),
+            None => Ok(None),
+        }
+    }
+}
+
+// The incident on a cell is resolved, if one stands there.
+#[derive(Drop)]
+struct ResolvedOn(Key);
+
+impl Find for ResolvedOn {
+    ghost finds = { λ it p. resolved_on it.0 };
+
+    fn find(self, _alloc: Global, state: &State) -> Result<Option<Event>, AllocError> {
+        match state.game().incident_on(self.0) {
+            Some(incident) => Ok(Some(repair_event(incident))),
+            None => Ok(None),
+        }
+    }
+}
+
+/// The event by which an incident is resolved.
+pub fn repair_event(incident: &Incident) -> Event
+    ensures { result ≡ repair_event incident.now }
+{
+    Event::IncidentResolved(IncidentResolved {
+        key: incident.key,
+        job: incident.job,
+    })
+}

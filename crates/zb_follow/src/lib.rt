@@ -1,0 +1,14 @@
+//! What follows by itself: what comes behind an event, and what is forced, turn by turn.
+#![tactic(auto)]
+
+mod assigning;
+mod behind;
+mod making;
+mod settling;
+mod timers;
+mod turning;
+
+pub use assigning::Place;
+pub use behind::{WithBehind, repair_event};
+pub use making::{Each, Find, FindEach, Found, Maker};
+pub use settling::settle;

@@ -1,0 +1,39 @@
+-- What an event makes of the tables of a state.
+use Rattle.std.specs.Prelude.{◌≡◌, ◌+◌, ◌<◌, ◌^◌, ℕ, ◌==◌, List, [], Bool, ◌&&◌, IsTrue, is_none}
+use Rattle.std.specs.List.{find}
+use Rattle.zb_base.specs.Key.{key_of}
+use Rattle.zb_exchange_records.specs.declared.message.MessagePublished.{MessagePublished}
+use Rattle.zb_model.specs.declared.record.Event.{Event}
+use Rattle.zb_model.specs.declared.record.Event.TheVariants as events
+use Rattle.zb_table.specs.Rows.{are_below}
+use Rattle.zb_views.specs.declared.job.Job.{Job}
+use Rattle.zb_views.specs.declared.timer.Timer.{Timer}
+use Rattle.zb_views.specs.Standing.{standing_by}
+use Rattle.zb_views.specs.Definitions.{definition_told}
+use Rattle.zb_views.specs.Jobs.{job_sort}
+use Rattle.zb_views.specs.Timers.{timer_sort}
+use Rattle.zb_record.specs.Sendings.{sending_sort}
+use Rattle.zb_definitions.specs.Kept.{KeepsMoreDefinitions}
+use Rattle.zb_state.specs.declared.tables.Tables.{Tables}
+
+-- each table has taken an event in (own)
+pub record HaveTaken (e : Event) (old new : Tables) : Type 0 where
+  pub definitions : KeepsMoreDefinitions (definition_told e) old.definitions new.definitions
+  pub sendings : new.sendings ≡ standing_by sending_sort [] e old.sendings
+  pub jobs : new.jobs ≡ standing_by job_sort [] e old.jobs
+  pub timers : new.timers ≡ standing_by timer_sort [] e old.timers
+
+-- the key is the next one behind a counter of partition p, and there is one (own)
+abbrev pub IsNext : (p counter : ℕ) → ℕ → Type 0
+IsNext p counter key = (counter + 1 < 2 ^ 51) × (key ≡ key_of p (counter + 1))
+
+-- what an event begins has the next key behind a counter, and a job is the first of its cell (own)
+abbrev pub Draws : (p counter : ℕ) → List Job → Event → Type 0
+Draws p counter js (events.MessagePublished m) = IsNext p counter m.key
+Draws p counter js (events.JobCreated e) = IsNext p counter e.key × IsTrue (is_none (find (λ j. j.cell == e.cell) js))
+Draws p counter js (events.TimerCreated e) = IsNext p counter e.key
+Draws p counter js _ = Unit {0}
+
+-- the keys of the messages, the jobs and the timers are below this one (own)
+abbrev pub are_all_below : ℕ → List MessagePublished → List Job → List Timer → Bool
+are_all_below high ms js ts = are_below (λ m. m.key) high ms && (are_below (λ j. j.key) high js && are_below (λ t. t.key) high ts)

@@ -1,0 +1,209 @@
+ghost use Rattle.std.specs.Prelude.{◌≡◌, ◌==◌, ◌&&◌, ◌++◌, ◌∷◌, [], ℕ, List, nat_le, not, filter, false, is_some, Some, None, IsTrue, IfOk, IfErr, OnOk, OnErr, option_map};
+ghost use Rattle.std.specs.List.{find, list_any};
+ghost use Rattle.std.specs.Option.{option_copied, option_map_or};
+ghost use Rattle.zb_model.specs.declared.record.Event.{Event};
+ghost use Rattle.zb_table.specs.Earliest.{first_due, place_in_time};
+ghost use Rattle.zb_table.specs.Rows.{Ascend, are_below};
+ghost use Rattle.zb_views.specs.Standing.{standing_by};
+ghost use Rattle.zb_views.specs.Messages.{message_told, expiry_told, message_sort, is_past_deadline};
+ghost use Rattle.zb_rules.specs.Publish.{is_same};
+ghost use Rattle.zb_state.specs.Messages.{has_place_for_message};
+
+use std::alloc::{AllocError, Global};
+use std::marker::Model;
+use zb_model::{Event, Key, MessagePublish, MessagePublished, Moment, TryCopy};
+use zb_table::{Query, Row, Timed};
+use zb_waits::Waits;
+
+/// The buffered messages, in the order of their keys. They wait for their deadlines. Contracts see the list of them.
+#[derive(Drop)]
+pub struct Messages {
+    rows: Waits<Buffered>,
+}
+
+impl Model for Messages {
+    ghost use Rattle.std.specs.Prelude.{List};
+    ghost use Rattle.std.specs.Coded.{coded_list};
+    ghost use Rattle.zb_exchange_records.specs.declared.message.MessagePublished.{MessagePublished};
+    ghost use Rattle.zb_exchange_records.specs.contracts.message.MessagePublished as published;
+
+    ghost Value = { List MessagePublished };
+
+    ghost coded = { coded_list published.the_row.coded };
+
+    ghost view = { λ m. m.rows };
+}
+
+impl Messages {
+    /// No messages. It takes no memory.
+    pub fn empty(alloc: Global) -> Messages
+        ensures { result ≡ [] }
+    {
+        Messages {
+            rows: Waits::empty(alloc),
+        }
+    }
+
+    /// The deadline of the message with this key, if there is one. It takes the logarithm of how many there are.
+    pub fn deadline_of(&self, key: Key) -> Option<Moment>
+        ensures deadline { result ≡ option_map (λ m. m.deadline) (find (λ m. m.key == key) self.now) }
+        ensures buffered { is_some result ≡ list_any (λ m. m.key == key) self.now }
+        ensures due { (moment : ℕ) → option_map_or (λ deadline. nat_le deadline moment) result false
+            ≡ list_any (λ m. (m.key == key) && is_past_deadline moment m) self.now }
+    {
+        deadline_among(key, &self.rows)
+    }
+
+    /// Whether a message has the name, the correlation key and the id that are to be published. It goes through all.
+    pub fn holds_same(&self, command: &MessagePublish) -> bool
+        ensures { result ≡ list_any (is_same command.now) self.now }
+    {
+        self.rows.any(command)
+    }
+
+    /// The deadline and the key of the message that is due first, if one is due now. It takes the logarithm of how many
+    /// there are.
+    pub fn first_due(&self, now: Moment) -> Option<(Moment, Key)>
+        ensures { result ≡ option_map (place_in_time (λ m. m.key) (λ m. Some m.deadline)) (first_due (λ m. m.key) (λ m. Some m.deadline) now self.now) }
+    {
+        self.rows.first_due(now)
+    }
+
+    /// Takes in what an event says of messages. After a refusal nothing has changed. It costs a copy of the message that
+    /// is published; one that expires costs the logarithm of how many there are, on average.
+    pub fn apply(&mut self, alloc: Global, event: &Event) -> Result<(), AllocError>
+        requires { IsTrue (has_place_for_message self.old event.now) }
+        ensures ok { (before : List Event) → OnOk result (self.new ≡ standing_by message_sort before event.now self.old) }
+        ensures err { OnErr result (self.new ≡ self.old) }
+    {
+        match message_in(event) {
+            Some(message) => self.add(message.copy(alloc)?),
+            None => {
+                self.end(expiry_in(event));
+                Ok(())
+            }
+        }
+    }
+
+    /// The same of an event by value: the message isn't copied.
+    pub fn take(&mut self, event: Event) -> Result<(), AllocError>
+        requires { IsTrue (has_place_for_message self.old event) }
+        ensures ok { (before : List Event) → OnOk result (self.new ≡ standing_by message_sort before event self.old) }
+        ensures err { OnErr result (self.new ≡ self.old) }
+    {
+        match message_of(event) {
+            Ok(message) => self.add(message),
+            Err(other) => {
+                self.end(expiry_in(&other));
+                drop(other);
+                Ok(())
+            }
+        }
+    }
+
+    // Adds a message.
+    fn add(&mut self, message: MessagePublished) -> Result<(), AllocError>
+        requires { IsTrue (are_below (λ m. m.key) message.key self.old) }
+        ensures ok { OnOk result (self.new ≡ self.old ++ message ∷ []) }
+        ensures err { OnErr result (self.new ≡ self.old) }
+    {
+        self.rows.add(Buffered { message })
+    }
+
+    // Takes away the message with a key, if there is one.
+    fn end(&mut self, key: Option<Key>)
+        ensures { self.new ≡ filter (λ m. not (option_map_or (λ k. m.key == k) key false)) self.old }
+    {
+        if let Some(key) = key {
+            self.rows.remove(key);
+        }
+    }
+}
+
+/// A buffered message. Contracts see the message.
+#[derive(Drop)]
+struct Buffered {
+    message: MessagePublished,
+}
+
+impl Model for Buffered {
+    ghost use Rattle.zb_exchange_records.specs.declared.message.MessagePublished.{MessagePublished};
+    ghost use Rattle.zb_exchange_records.specs.contracts.message.MessagePublished as published;
+
+    ghost Value = { MessagePublished };
+
+    ghost coded = { published.the_row.coded };
+
+    ghost view = { λ b. b.message };
+}
+
+impl Row for Buffered {
+    ghost key_in = { λ m. m.key };
+
+    fn key(&self) -> Key {
+        self.message.key
+    }
+}
+
+impl Timed for Buffered {
+    ghost moment_in = { λ m. Some m.deadline };
+
+    fn moment(&self) -> Option<Moment> {
+        Some(self.message.deadline)
+    }
+}
+
+// Whether a message has the name, the correlation key and the id that are to be published.
+impl Query<Buffered> for MessagePublish {
+    ghost passes = { is_same };
+
+    fn passes(&self, buffered: &Buffered) -> bool {
+        let message = &buffered.message;
+        message.name.as_str() == self.name.as_str()
+            && message.correlation_key.as_str() == self.correlation_key.as_str()
+            && message.id.as_str() == self.id.as_str()
+    }
+}
+
+// The deadline of the message with this key, if there is one.
+fn deadline_among(key: Key, messages: &Waits<Buffered>) -> Option<Moment>
+    ensures deadline { result ≡ option_map (λ m. m.deadline) (find (λ m. m.key == key) messages.now) }
+    ensures order { Ascend (λ m. m.key) 0 messages.now }
+{
+    match messages.get(key) {
+        Some(buffered) => buffered.moment(),
+        None => None,
+    }
+}
+
+// The message that an event publishes.
+fn message_in(event: &Event) -> Option<&MessagePublished>
+    ensures { option_copied result ≡ message_told event.now }
+{
+    match event {
+        Event::MessagePublished(message) => Some(message),
+        _ => None,
+    }
+}
+
+// The same, and else the event.
+fn message_of(event: Event) -> Result<MessagePublished, Event>
+    ensures message { IfOk result (λ message. message_told event ≡ Some message) }
+    ensures none { IfErr result (λ other. message_told event ≡ None) }
+    ensures other { IfErr result (λ other. other ≡ event) }
+{
+    match event {
+        Event::MessagePublished(message) => Ok(message),
+        other => Err(other),
+    }
+}
+
+// The key of the message that, as an event says, has expired.
+fn expiry_in(event: &Event) -> Option<Key>
+    ensures { result ≡ expiry_told event.now }
+{
+    match event {
+        Event::MessageExpired(key) => Some(*key),
+        _ => None,
+    }
+}

@@ -1,0 +1,57 @@
+ghost use Rattle.std.specs.Prelude.{◌≡◌, [], IsTrue, IfOk};
+ghost use Rattle.zb_model.specs.declared.record.Event.{Event};
+ghost use Rattle.zb_jobs.specs.Table.{has_place_for};
+ghost use Rattle.zb_timers.specs.Table.{has_place_for_timer};
+
+use std::alloc::{AllocError, Global};
+use zb_definitions::Definitions;
+use zb_jobs::Jobs;
+use zb_model::Event;
+use zb_outbox::Outbox;
+use zb_timers::Timers;
+
+/// What a state keeps beside the messages and the game.
+#[derive(Drop)]
+pub struct Tables {
+    /// The definitions that were made.
+    pub definitions: Definitions,
+    /// What is sent and no event has ended.
+    pub sendings: Outbox,
+    /// The jobs that are there.
+    pub jobs: Jobs,
+    /// The timers that are there.
+    pub timers: Timers,
+}
+
+impl Tables {
+    ghost use Rattle.zb_state.specs.Tables.{HaveTaken};
+    ghost use Rattle.zb_definitions.specs.Kept.{KeepsDefinitions};
+
+    /// The tables of no events. They take no memory.
+    pub fn empty(alloc: Global) -> Tables
+        ensures definitions { KeepsDefinitions [] result.definitions }
+        ensures sendings { result.sendings ≡ [] }
+        ensures jobs { result.jobs ≡ [] }
+        ensures timers { result.timers ≡ [] }
+    {
+        Tables {
+            definitions: Definitions::empty(alloc),
+            sendings: Outbox::empty(alloc),
+            jobs: Jobs::empty(alloc),
+            timers: Timers::empty(alloc),
+        }
+    }
+
+    /// These tables as an event leaves them. It costs what `apply` of each does.
+    pub fn with(mut self, alloc: Global, event: &Event) -> Result<Tables, AllocError>
+        requires jobs { IsTrue (has_place_for self.jobs event.now) }
+        requires timers { IsTrue (has_place_for_timer self.timers event.now) }
+        ensures { IfOk result (λ after. HaveTaken event.now self after) }
+    {
+        self.definitions.apply(alloc, event)?;
+        self.sendings.apply(alloc, event)?;
+        self.jobs.apply(alloc, event)?;
+        self.timers.apply(alloc, event)?;
+        Ok(self)
+    }
+}
