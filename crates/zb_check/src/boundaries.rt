@@ -2,8 +2,8 @@
 ghost use Rattle.std.specs.Prelude.{◌≡◌, ℕ, List, [], ◌||◌, ◌&&◌, not, is_some, false, option_map, IfOk, OnOk};
 ghost use Rattle.std.specs.Option.{option_copied, option_map_or};
 ghost use Rattle.std.specs.Str.{bytes_eq};
-ghost use Rattle.zb_faults.specs.Elements.{node_with, is_compensation_boundary, is_error_boundary};
-ghost use Rattle.zb_faults.specs.Faults.{find_behind, is_attached, bad_attachment, bad_compensation, bad_error};
+ghost use Rattle.zb_faults.specs.Elements.{node_with, is_boundary, is_compensation_boundary, is_error_boundary};
+ghost use Rattle.zb_faults.specs.Faults.{find_behind, is_attached, bad_compensation, bad_error};
 ghost use Rattle.zb_faults.specs.Faults.{catches_badly, has_flows, is_forgotten, is_handler_in};
 ghost use Rattle.zb_check.specs.Compensation.{is_bad_by};
 ghost use Rattle.zb_check.specs.Notes.{noted};
@@ -19,15 +19,11 @@ use zb_faults::{
 };
 use zb_process::Node;
 
-/// The first boundary event that isn't attached to an activity of its scope.
-pub fn bad_attachment<'a>(parts: &Parts<'a>) -> Option<&'a Text>
-    ensures { option_copied result ≡ bad_attachment parts.now }
+/// Whether this is a boundary event that isn't attached to an activity of its scope.
+pub fn is_detached(parts: &Parts<'_>, node: &Node) -> bool
+    ensures { result ≡ (is_boundary node.now.kind && not (is_attached parts.now node.now)) }
 {
-    let nodes = parts.nodes();
-    nodes
-        .iter()
-        .find(|node| is_boundary(node.kind) && !is_attached(parts, node))
-        .map(|node| &node.id)
+    is_boundary(node.kind) && !is_attached(parts, node)
 }
 
 // Whether a node is attached to an activity of its scope.

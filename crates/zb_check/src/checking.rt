@@ -4,8 +4,9 @@ ghost use Rattle.zb_faults.specs.Faults.{first_fault, offender};
 ghost use Rattle.zb_check.specs.Checking.{Checks};
 ghost use Rattle.zb_check.specs.declared.checking.ModelFault.TheVariants as faults;
 
-use crate::boundaries::{bad_attachment, bad_compensation, bad_error};
-use crate::flows::{bad_condition, bad_event_gateway, crossing, dangling, flow_end, no_incoming};
+use crate::boundaries::{bad_compensation, bad_error};
+use crate::finding::{FlowTest, NodeTest, first_flow, first_node};
+use crate::flows::{bad_condition, bad_event_gateway};
 use crate::naming::{double_id, empty_id};
 use crate::parts::Parts;
 use crate::scopes::{bad_parent, bad_start, too_large};
@@ -56,8 +57,14 @@ const FAULTS: [Fault; 14] = [
 pub fn check(alloc: Global, model: &Model) -> Result<(), ModelFault>
     ensures { Checks result (first_fault model.now) }
 {
-    let parts = Parts::of(alloc, model)?;
-    check_parts(alloc, &parts)
+    match Parts::of(alloc, model) {
+        Ok(parts) => {
+            let checked = check_parts(alloc, &parts);
+            drop(parts);
+            checked
+        }
+        Err(AllocError) => Err(ModelFault::Memory),
+    }
 }
 
 // Finds the first fault of the model that has these parts.
@@ -87,12 +94,12 @@ fn offender<'a>(
         Fault::EmptyId => Ok(empty_id(parts)),
         Fault::DoubleId => double_id(alloc, parts),
         Fault::BadParent => bad_parent(alloc, parts.nodes()),
-        Fault::Dangling => Ok(dangling(parts)),
-        Fault::Crossing => Ok(crossing(parts)),
+        Fault::Dangling => Ok(first_flow(parts, FlowTest::Dangles)),
+        Fault::Crossing => Ok(first_flow(parts, FlowTest::Crosses)),
         Fault::Start => Ok(bad_start(alloc, parts)),
-        Fault::FlowEnd => Ok(flow_end(parts)),
-        Fault::NoIncoming => Ok(no_incoming(parts)),
-        Fault::Attach => Ok(bad_attachment(parts)),
+        Fault::FlowEnd => Ok(first_flow(parts, FlowTest::LeadsAstray)),
+        Fault::NoIncoming => Ok(first_node(parts, NodeTest::LacksIncoming)),
+        Fault::Attach => Ok(first_node(parts, NodeTest::IsDetached)),
         Fault::Condition => Ok(bad_condition(parts)),
         Fault::EventGate => bad_event_gateway(alloc, parts),
         Fault::Compensation => bad_compensation(alloc, parts),

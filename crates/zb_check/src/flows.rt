@@ -1,15 +1,14 @@
-// Faults of flows and gateways: each finds the id of its first offender.
-ghost use Rattle.std.specs.Prelude.{◌≡◌, ℕ, List, nat_lt, ◌&&◌, ◌||◌, not, false, option_map, IfOk};
+// Faults of flows and gateways: tests, and what finds the id of the first offender.
+ghost use Rattle.std.specs.Prelude.{◌≡◌, ◌==◌, ℕ, List, nat_lt, ◌&&◌, ◌||◌, not, false, is_none, IfOk};
 ghost use Rattle.std.specs.Option.{option_copied, option_eq, option_map_or};
-ghost use Rattle.std.specs.List.{find};
 ghost use Rattle.std.specs.Str.{bytes_eq};
 ghost use Rattle.zb_check.specs.Notes.{count_in};
-ghost use Rattle.zb_faults.specs.Elements.{node_with, is_at, is_catch, is_end_kind};
-ghost use Rattle.zb_faults.specs.Faults.{parent_at, takes_no_flow, is_alternative};
-ghost use Rattle.zb_faults.specs.Faults.{dangling, crossing, flow_end, no_incoming, bad_event_gateway};
+ghost use Rattle.zb_faults.specs.Elements.{node_with, flow_with, incoming, is_at, is_catch, is_end_kind};
+ghost use Rattle.zb_faults.specs.Faults.{parent_at, takes_no_flow, is_alternative, bad_event_gateway};
 ghost use Rattle.zb_faults.specs.Faults.{has_bad_default, has_bad_condition, bad_condition, strays, lacks_alternatives};
 
 use crate::counting::{Naming, count_named};
+use crate::finding::{FlowTest, NodeTest, first_flow, first_node};
 use crate::naming::is_empty;
 use crate::notes::Notes;
 use crate::parts::Parts;
@@ -20,30 +19,15 @@ use zb_faults::{
 };
 use zb_process::{Flow, Node, NodeKind};
 
-/// The first flow an end of which is no node.
-pub fn dangling<'a>(parts: &Parts<'a>) -> Option<&'a Text>
-    ensures { option_copied result ≡ dangling parts.now }
+/// Whether an end of a flow is no node.
+pub fn dangles(parts: &Parts<'_>, flow: &Flow) -> bool
+    ensures { result ≡ (is_none (node_with parts.now flow.now.from) || is_none (node_with parts.now flow.now.to)) }
 {
-    let flows = parts.flows();
-    flows
-        .iter()
-        .find(|flow| parts.node(&flow.from).is_none() || parts.node(&flow.to).is_none())
-        .map(|flow| &flow.id)
+    parts.node(&flow.from).is_none() || parts.node(&flow.to).is_none()
 }
 
-/// The first flow whose ends have different parents.
-pub fn crossing<'a>(parts: &Parts<'a>) -> Option<&'a Text>
-    ensures { option_copied result ≡ crossing parts.now }
-{
-    let flows = parts.flows();
-    flows
-        .iter()
-        .find(|flow| crosses(parts, flow))
-        .map(|flow| &flow.id)
-}
-
-// Whether the ends of a flow have different parents.
-fn crosses(parts: &Parts<'_>, flow: &Flow) -> bool
+/// Whether the ends of a flow have different parents.
+pub fn crosses(parts: &Parts<'_>, flow: &Flow) -> bool
     ensures { result ≡ not (option_eq bytes_eq (parent_at parts.now flow.now.from) (parent_at parts.now flow.now.to)) }
 {
     match (parts.node(&flow.from), parts.node(&flow.to)) {
@@ -53,27 +37,31 @@ fn crosses(parts: &Parts<'_>, flow: &Flow) -> bool
     }
 }
 
-/// The first flow into a start or boundary event, or out of an end event.
-pub fn flow_end<'a>(parts: &Parts<'a>) -> Option<&'a Text>
-    ensures { option_copied result ≡ flow_end parts.now }
-{
-    let flows = parts.flows();
-    flows
-        .iter()
-        .find(|flow| leads_astray(parts, flow))
-        .map(|flow| &flow.id)
-}
-
-// Whether a flow leads into a start or boundary event, or out of an end event.
-fn leads_astray(parts: &Parts<'_>, flow: &Flow) -> bool
+/// Whether a flow leads into a start or boundary event, or out of an end event.
+pub fn leads_astray(parts: &Parts<'_>, flow: &Flow) -> bool
     ensures { result ≡ (is_at parts.now flow.now.to takes_no_flow || is_at parts.now flow.now.from is_end_kind) }
 {
-    parts
-        .node(&flow.to)
-        .is_some_and(|node| takes_no_flow(node.kind))
-        || parts
-            .node(&flow.from)
-            .is_some_and(|node| is_end_kind(node.kind))
+    takes_no_flow_at(parts, &flow.to) || is_end_at(parts, &flow.from)
+}
+
+// Whether no flow may lead to the node with this id.
+fn takes_no_flow_at(parts: &Parts<'_>, id: &Text) -> bool
+    ensures { result ≡ is_at parts.now id.now takes_no_flow }
+{
+    match parts.node(id) {
+        Some(node) => takes_no_flow(node.kind),
+        None => false,
+    }
+}
+
+// Whether the node with this id is an end event.
+fn is_end_at(parts: &Parts<'_>, id: &Text) -> bool
+    ensures { result ≡ is_at parts.now id.now is_end_kind }
+{
+    match parts.node(id) {
+        Some(node) => is_end_kind(node.kind),
+        None => false,
+    }
 }
 
 // Whether no flow may lead to such a node.
@@ -83,62 +71,44 @@ fn takes_no_flow(kind: NodeKind) -> bool
     is_start(kind) || is_boundary(kind)
 }
 
-/// The first node to which a flow has to lead, and none does.
-pub fn no_incoming<'a>(parts: &Parts<'a>) -> Option<&'a Text>
-    ensures { option_copied result ≡ no_incoming parts.now }
+/// Whether a flow has to lead to a node, and none does.
+pub fn lacks_incoming(parts: &Parts<'_>, node: &Node) -> bool
+    ensures { result ≡ (not (takes_no_flow node.now.kind || node.now.handler)
+        && (incoming parts.now node.now.id == 0)) }
 {
-    let nodes = parts.nodes();
-    nodes
-        .iter()
-        .find(|node| !(takes_no_flow(node.kind) || node.handler) && parts.incoming(&node.id) == 0)
-        .map(|node| &node.id)
+    !(takes_no_flow(node.kind) || node.handler) && parts.incoming(&node.id) == 0
 }
 
 /// The first exclusive gateway with a bad default, or else the first flow with a bad condition.
 pub fn bad_condition<'a>(parts: &Parts<'a>) -> Option<&'a Text>
     ensures { option_copied result ≡ bad_condition parts.now }
 {
-    if let Some(id) = bad_default(parts) {
+    if let Some(id) = first_node(parts, NodeTest::HasBadDefault) {
         return Some(id);
     }
-    misplaced_condition(parts)
+    first_flow(parts, FlowTest::IsMisplaced)
 }
 
-// The first exclusive gateway whose default is no flow out of it, or has a condition.
-fn bad_default<'a>(parts: &Parts<'a>) -> Option<&'a Text>
-    ensures { option_copied result ≡ option_map (λ n. n.id) (find (has_bad_default parts.now) parts.now.nodes) }
-{
-    let nodes = parts.nodes();
-    nodes
-        .iter()
-        .find(|node| has_bad_default(parts, node))
-        .map(|node| &node.id)
-}
-
-// Whether this is an exclusive gateway whose default is no flow out of it, or has a condition.
-fn has_bad_default(parts: &Parts<'_>, node: &Node) -> bool
+/// Whether this is an exclusive gateway whose default is no flow out of it, or has a condition.
+pub fn has_bad_default(parts: &Parts<'_>, node: &Node) -> bool
     ensures { result ≡ has_bad_default parts.now node.now }
 {
-    is_exclusive_gateway(node.kind)
-        && !is_empty(&node.otherwise)
-        && !parts.flow(&node.otherwise).is_some_and(|flow| flow.from.as_str() == node.id.as_str()
-            && flow.condition.is_none())
+    is_exclusive_gateway(node.kind) && !is_empty(&node.otherwise) && !leaves_by_default(parts, node)
 }
 
-// The first flow that has no condition where it needs one, or one where there may be none.
-fn misplaced_condition<'a>(parts: &Parts<'a>) -> Option<&'a Text>
-    ensures { option_copied result ≡ option_map (λ f. f.id)
-        (find (λ f. option_map_or (has_bad_condition parts.now f) (node_with parts.now f.from) false) parts.now.flows) }
+// Whether the default of a gateway is a flow out of it, and has no condition.
+fn leaves_by_default(parts: &Parts<'_>, node: &Node) -> bool
+    ensures { result ≡ option_map_or (λ f. bytes_eq f.from node.now.id && is_none f.condition)
+        (flow_with parts.now node.now.otherwise) false }
 {
-    let flows = parts.flows();
-    flows
-        .iter()
-        .find(|flow| is_misplaced(parts, flow))
-        .map(|flow| &flow.id)
+    match parts.flow(&node.otherwise) {
+        Some(flow) => flow.from.as_str() == node.id.as_str() && flow.condition.is_none(),
+        None => false,
+    }
 }
 
-// Whether a flow has no condition where it needs one, or one where there may be none.
-fn is_misplaced(parts: &Parts<'_>, flow: &Flow) -> bool
+/// Whether a flow has no condition where it needs one, or one where there may be none.
+pub fn is_misplaced(parts: &Parts<'_>, flow: &Flow) -> bool
     ensures { result ≡ option_map_or (has_bad_condition parts.now flow.now) (node_with parts.now flow.now.from) false }
 {
     match parts.node(&flow.from) {
@@ -187,7 +157,17 @@ impl<'p, 'a> Naming<Flow> for StrayOrigin<'p, 'a> {
 fn is_alternative(parts: &Parts<'_>, flow: &Flow) -> bool
     ensures { result ≡ is_alternative parts.now flow.now }
 {
-    parts.node(&flow.to).is_some_and(|node| is_catch(node.kind)) && parts.incoming(&flow.to) == 1
+    is_catch_at(parts, &flow.to) && parts.incoming(&flow.to) == 1
+}
+
+// Whether the node with this id is a catch event.
+fn is_catch_at(parts: &Parts<'_>, id: &Text) -> bool
+    ensures { result ≡ is_at parts.now id.now is_catch }
+{
+    match parts.node(id) {
+        Some(node) => is_catch(node.kind),
+        None => false,
+    }
 }
 
 /// The first event gateway with fewer than two flows out of it, or with one that leads to no catch event of its

@@ -5,6 +5,7 @@ mod boundaries;
 mod checking;
 mod counting;
 mod counts;
+mod finding;
 mod flows;
 mod ids;
 mod naming;

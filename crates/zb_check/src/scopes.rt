@@ -1,11 +1,11 @@
 // Faults of scopes: each finds the id of its first offender.
 ghost use Rattle.std.specs.Prelude.{◌≡◌, [], ◌||◌, not, is_some, option_map, IfOk};
-ghost use Rattle.std.specs.List.{find};
 ghost use Rattle.std.specs.Option.{option_copied};
 ghost use Rattle.std.specs.Str.{bytes_eq};
 ghost use Rattle.zb_faults.specs.Faults.{find_behind, starts_badly, bad_start, lacks_parent, is_too_deep, too_large};
 ghost use Rattle.zb_check.specs.Notes.{noted};
 
+use crate::finding::{NodeTest, first_node};
 use crate::naming::is_empty;
 use crate::notes::{Notes, note_where};
 use crate::parts::Parts;
@@ -53,24 +53,11 @@ pub fn bad_start<'a>(alloc: Global, parts: &Parts<'a>) -> Option<&'a Text>
     if parts.starts(&Text::empty(alloc)) != 1 {
         return Some(parts.process());
     }
-    bad_subprocess(parts)
+    first_node(parts, NodeTest::StartsBadly)
 }
 
-// The first subprocess that starts badly.
-fn bad_subprocess<'a>(parts: &Parts<'a>) -> Option<&'a Text>
-    ensures { option_copied result ≡ option_map (λ n. n.id) (find (starts_badly parts.now) parts.now.nodes) }
-{
-    let nodes = parts.nodes();
-    for node in nodes {
-        if starts_badly(parts, node) {
-            return Some(&node.id);
-        }
-    }
-    None
-}
-
-// Whether this is a subprocess without exactly one start event, or with one that a message triggers.
-fn starts_badly(parts: &Parts<'_>, node: &Node) -> bool
+/// Whether this is a subprocess without exactly one start event, or with one that a message triggers.
+pub fn starts_badly(parts: &Parts<'_>, node: &Node) -> bool
     ensures { result ≡ starts_badly parts.now node.now }
 {
     is_subprocess(node.kind) && (parts.starts(&node.id) != 1 || parts.message_starts(&node.id) > 0)

@@ -24,6 +24,7 @@ use Rattle.zb_record.specs.Sendings.{sendings}
 use Rattle.zb_record.specs.Answers.{was_correlated, is_turned_away, verdict, answering_packet, answer_by, answer_packet, is_answer}
 use Rattle.zb_record.specs.Packets.{packet_with, packet_alone, packet_for, outbox_of, first_packet, delivery_of}
 use Rattle.zb_rules.specs.Continue.{is_quiet}
+use Rattle.zb_rules.proofs.KindsLaws.{all_joined}
 use Rattle.zb_world.specs.declared.entry.Entry.{Entry}
 use Rattle.zb_desk.specs.Serial.{log_behind, going_on, answers_sent, answers_in_hand, first_sent, packet_next, unit_in_logs}
 
@@ -57,10 +58,6 @@ module _ (Q : ℕ × Command → Type 0) where
       by_quiet true later = later
       by_quiet false later = some_has (p, commands.ProcessInstanceBatchContinue) (each p (omega arith) (omega arith))
 
-  joined_have : (a b : List Packet) → AllHave a → AllHave b → AllHave (a ++ b)
-  joined_have [] b first second = second
-  joined_have (packet ∷ a) b first second = (first.0, joined_have a b first.1 second)
-
   -- the first of some packets, behind any of them
   pub first_has : (k : ℕ) (packets : List Packet) → AllHave packets → AnyHas (option_map delivery_of (slice_get (drop k packets) 0))
   first_has zero [] all = none_has
@@ -92,13 +89,13 @@ module _ (Q : ℕ × Command → Type 0) where
   -- the answers that units of work have sent, where those of each have it
   pub answers_have : (n : ℕ) (Is : Entry → Type 0) → ((unit : Entry) → Is unit → AllHave (begun_by (answer_packet unit.partition n unit.batch))) → (units : List Entry) → AllByRecursion Is units → AllHave (answers_sent n units)
   answers_have n Is each [] are = tt
-  answers_have n Is each (unit ∷ units) are = joined_have (begun_by (answer_packet unit.partition n unit.batch)) (answers_sent n units) (each unit are.0) (answers_have n Is each units are.1)
+  answers_have n Is each (unit ∷ units) are = all_joined (λ packet. Q (delivery_of packet)) (begun_by (answer_packet unit.partition n unit.batch)) (answers_sent n units) (each unit are.0) (answers_have n Is each units are.1)
 
   -- and where each answer has it
   pub all_answers_have : (n : ℕ) → ((key : ℕ) (command : Command) → is_answer command ≡ true → Q (partition_of_key n key, command)) → (units : List Entry) → AllHave (answers_sent n units)
   all_answers_have n each [] = tt
   all_answers_have n each (unit ∷ units) =
-      joined_have (begun_by (answer_packet unit.partition n unit.batch)) (answers_sent n units) (answer_has n each unit.partition unit.batch.command unit.batch.outcome) (all_answers_have n each units)
+      all_joined (λ packet. Q (delivery_of packet)) (begun_by (answer_packet unit.partition n unit.batch)) (answers_sent n units) (answer_has n each unit.partition unit.batch.command unit.batch.outcome) (all_answers_have n each units)
 
   -- the first packet of some outboxes, where each packet in each of them has it
   pub first_sent_in : (n p : ℕ) (logs : List (List Batch)) (entries : List Entry)

@@ -3,8 +3,6 @@
 
 mod fault;
 mod form;
-#[cfg(test)]
-mod tests;
 mod timer;
 
 pub use fault::DueFault;

@@ -8,6 +8,7 @@ use Rattle.zb_model.specs.declared.stop.Stop.{Stop}
 use Rattle.zb_model.specs.declared.stop.Stop.TheVariants as stops
 use Rattle.zb_rules.specs.Step.{IsStep}
 use Rattle.zb_rules.proofs.StepLaws.{each_on_more}
+use Rattle.zb_rules.proofs.KindsLaws.{all_joined}
 use Rattle.zb_world.specs.Entries.{IsPartitionOf, part_of, places_of, stamps_of, as_entry}
 use Rattle.zb_world.specs.declared.entry.Entry.{Entry}
 use Rattle.zb_world.proofs.EntryLaws.{part_of_joined, part_of_its, part_of_other, places_of_joined, places_of_its, places_of_other}
@@ -22,8 +23,7 @@ use Rattle.zb_engine.proofs.NumberLemmas.{each_from_length, each_from_at, each_f
 
 -- all of some, and one more
 pub all_more : {A : Type 0} (P : A → Type 0) (xs : List A) (x : A) → AllByRecursion P xs → P x → AllByRecursion P (xs ++ x ∷ [])
-all_more P [] x all one = (one, tt)
-all_more P (y ∷ ys) x all one = (all.0, all_more P ys x all.1 one)
+all_more P xs x all one = all_joined P xs (x ∷ []) all (one, tt)
 
 -- the part of a partition behind one entry more
 part_its : (p : ℕ) (made : List Entry) (batch : Batch) → part_of p (made ++ as_entry p batch ∷ []) ≡ part_of p made ++ batch ∷ []

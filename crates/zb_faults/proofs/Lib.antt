@@ -1,1 +1,2 @@
 pub mod FaultLaws
+mod Worked

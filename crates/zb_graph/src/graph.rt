@@ -8,8 +8,8 @@ ghost use Rattle.zb_graph.specs.Links.{bounds_of, id_at, ins_of, outs_of};
 ghost use Rattle.zb_graph.specs.Codes.{codes_of, codes_of_node, inputs_at, outputs_at};
 
 use crate::codes::{Codes, HasCodes, NodeCodes};
-use crate::label::{FlowId, Host, NodeId, Origin, Started, Target};
-use crate::places::{Places, places_by};
+use crate::index::index_of;
+use crate::places::Places;
 use std::alloc::{AllocError, Global};
 use std::marker::Model;
 use zb_base::TryCopy;
@@ -58,8 +58,13 @@ pub fn compile(alloc: Global, model: ProcessModel) -> Result<Graph, AllocError>
     requires flows { length model.flows < 2 ^ 32 }
     ensures { IfOk result (λ graph. graph ≡ model) }
 {
-    let codes = model.compiled(alloc)?;
-    with_codes(alloc, model, codes)
+    match model.compiled(alloc) {
+        Ok(codes) => with_codes(alloc, model, codes),
+        Err(no_memory) => {
+            drop(model);
+            Err(no_memory)
+        }
+    }
 }
 
 // The graph of a model, whose expressions have these codes.
@@ -69,29 +74,35 @@ fn with_codes(alloc: Global, model: ProcessModel, codes: Codes) -> Result<Graph,
     requires codes { codes ≡ codes_of model }
     ensures { IfOk result (λ graph. graph ≡ model) }
 {
-    let nodes = model.nodes.as_slice();
-    let flows = model.flows.as_slice();
-    let node_ids = places_by::<Node, NodeId>(alloc, nodes)?;
-    let flow_ids = places_by::<Flow, FlowId>(alloc, flows)?;
-    let outs = places_by::<Flow, Origin>(alloc, flows)?;
-    let ins = places_by::<Flow, Target>(alloc, flows)?;
-    let bounds = places_by::<Node, Host>(alloc, nodes)?;
-    let starts = places_by::<Node, Started>(alloc, nodes)?;
-    Ok(Graph {
-        model,
-        nodes: node_ids,
-        flows: flow_ids,
-        outs,
-        ins,
-        bounds,
-        starts,
-        codes,
-    })
+    match index_of(alloc, &model) {
+        Ok(index) => Ok(Graph {
+            model,
+            nodes: index.nodes,
+            flows: index.flows,
+            outs: index.outs,
+            ins: index.ins,
+            bounds: index.bounds,
+            starts: index.starts,
+            codes,
+        }),
+        Err(no_memory) => {
+            drop(model);
+            drop(codes);
+            Err(no_memory)
+        }
+    }
 }
 
 impl TryCopy for Graph {
     fn copy(&self, alloc: Global) -> Result<Graph, AllocError> {
-        with_codes(alloc, self.model.copy(alloc)?, self.codes.copy(alloc)?)
+        let model = self.model.copy(alloc)?;
+        match self.codes.copy(alloc) {
+            Ok(codes) => with_codes(alloc, model, codes),
+            Err(no_memory) => {
+                drop(model);
+                Err(no_memory)
+            }
+        }
     }
 }
 

@@ -4,6 +4,7 @@
 mod boxed;
 mod codes;
 mod graph;
+mod index;
 mod label;
 mod places;
 

@@ -7,6 +7,7 @@ use Rattle.std.specs.List.{flat_map, AllByRecursion}
 use Rattle.zb_outside.specs.Stream.{SourceView}
 use Rattle.zb_lines.specs.Taken.{TakesBytes}
 use Rattle.zb_lines.specs.Line.{newline, IsOneLine, ended, AreLines}
+use Rattle.zb_rules.proofs.KindsLaws.{all_joined}
 use Rattle.zb_session.specs.Answer.{Answer}
 use Rattle.zb_session.specs.Session.{replies_of, last_line, most_taken}
 
@@ -48,11 +49,6 @@ pub splits : (bytes : List ℕ) → Splits bytes
 unfolding IsOneLine
 splits [] = record { lines = []; rest = []; are = record { whole = refl; each = tt; partial = tt } }
 splits (byte ∷ bytes) = splits_by byte bytes (eqb byte newline) refl (splits bytes)
-
--- facts of each of two lists
-pub AllByRecursion-append : {A : Type 0} (P : A → Type 0) (xs ys : List A) → AllByRecursion P xs → AllByRecursion P ys → AllByRecursion P (xs ++ ys)
-AllByRecursion-append P [] ys all more = more
-AllByRecursion-append P (x ∷ xs) ys all more = (all.0, AllByRecursion-append P xs ys all.1 more)
 
 -- the replies of one answer more
 pub replies_of_more : (answers : List Answer) (answer : Answer) → replies_of (answers ++ answer ∷ []) ≡ replies_of answers ++ answer.reply
@@ -98,7 +94,7 @@ stream_cut tells start now lines bytes behind still s = record {
   within = behind.within;
   are = record {
     whole = behind.whole ∙ rw (s.are.whole, flat_map-append ended lines s.lines) (sym (append_assoc (flat_map ended lines) (flat_map ended s.lines) s.rest));
-    each = AllByRecursion-append IsOneLine lines s.lines behind.each s.are.each;
+    each = all_joined IsOneLine lines s.lines behind.each s.are.each;
     partial = s.are.partial;
   };
   to_end = λ none. absurd (false≢true none);

@@ -16,7 +16,8 @@ use Rattle.zb_session.specs.Session.{Streams, Before, Facts, replies_of, most_ta
 use Rattle.zb_session.specs.Serving.{Began, Clocks, AreAt, Service, service_of, Stand, stand_of, AreSteady, IsServing, before_of, IsAnswered, IsReplied}
 use Rattle.zb_session.proofs.AnswerLemmas.{entries_more}
 use Rattle.zb_session.proofs.ListLemmas.{append_none, EachFrom_more}
-use Rattle.zb_session.proofs.StreamLemmas.{IsBehind, AllByRecursion-append, length-lines, replies_of_more}
+use Rattle.zb_rules.proofs.KindsLaws.{all_joined}
+use Rattle.zb_session.proofs.StreamLemmas.{IsBehind, length-lines, replies_of_more}
 
 -- where a session stands before it reads
 abbrev first_stand : SourceView → Service → Stand
@@ -113,7 +114,7 @@ module _ (streams : Streams) (began : Began) (old : Stand) (s : IsServing stream
         takes = b.takes;
         spent = omega (arith, s.spent, spends, length-append s.taken more);
         whole = b.whole ∙ ap (λ bs. flat_map ended s.lines ++ bs) bytes ∙ rw (flat_map-append ended s.lines (line ∷ []), append-nil (ended line)) (sym (append_assoc (flat_map ended s.lines) (ended line) left));
-        each = AllByRecursion-append IsOneLine s.lines (line ∷ []) s.each (one, tt);
+        each = all_joined IsOneLine s.lines (line ∷ []) s.each (one, tt);
         count = omega (arith, s.count, length-append s.lines (line ∷ []));
         unended = still ∙ s.unended;
         clock = a.clock;

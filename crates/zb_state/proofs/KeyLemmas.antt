@@ -20,7 +20,8 @@ use Rattle.zb_views.specs.Timers.{timer_of, timer_told, timer_sort}
 use Rattle.zb_jobs.specs.Table.{has_place_for}
 use Rattle.zb_timers.specs.Table.{has_place_for_timer}
 use Rattle.zb_state.specs.Messages.{has_place_for_message}
-use Rattle.zb_state.specs.Tables.{IsNext, Draws, are_all_below}
+use Rattle.zb_state.specs.Tables.{HaveTaken, IsNext, Draws, are_all_below}
+use Rattle.zb_state.specs.declared.tables.Tables.{Tables}
 
 abbrev message_key : MessagePublished → ℕ
 message_key m = m.key
@@ -86,28 +87,30 @@ module _ (p n n' : ℕ) (js : List Job) where
       subst (λ (y : Timer). y.key < key_of p (n' + 1)) same (drawn_below p n n' x.key (max (counter_at p x.cell) 0) raised draws)
   timer_below e raised draws t is = absurd (cc)
 
--- the keys stay below the next one once an event is taken in
-module _ (p n n' : ℕ) (ms : List MessagePublished) (js : List Job) (ts : List Timer) (e : Event) (raised : n' ≡ max n (greatest_among p (keys_in e))) (below : IsTrue (are_all_below (key_of p (n + 1)) ms js ts)) where
-  each_kept : Below (key_of p (n' + 1)) ms js ts
-  each_kept =
-      let up : key_of p (n + 1) ≤ key_of p (n' + 1) = omega (arith, raised) in
-      let was = each_below (key_of p (n + 1)) ms js ts below in
-      record {
-        messages = below_higher message_key (key_of p (n + 1)) (key_of p (n' + 1)) ms up was.messages;
-        jobs = below_higher job_key (key_of p (n + 1)) (key_of p (n' + 1)) js up was.jobs;
-        timers = below_higher timer_key (key_of p (n + 1)) (key_of p (n' + 1)) ts up was.timers;
-      }
+-- the keys stay below the next one once an event raises the counter
+each_kept : (p n n' : ℕ) (ms : List MessagePublished) (js : List Job) (ts : List Timer) (e : Event) → n' ≡ max n (greatest_among p (keys_in e)) → IsTrue (are_all_below (key_of p (n + 1)) ms js ts)
+    → Below (key_of p (n' + 1)) ms js ts
+each_kept p n n' ms js ts e raised below =
+    let up : key_of p (n + 1) ≤ key_of p (n' + 1) = omega (arith, raised) in
+    let was = each_below (key_of p (n + 1)) ms js ts below in
+    record {
+      messages = below_higher message_key (key_of p (n + 1)) (key_of p (n' + 1)) ms up was.messages;
+      jobs = below_higher job_key (key_of p (n + 1)) (key_of p (n' + 1)) js up was.jobs;
+      timers = below_higher timer_key (key_of p (n + 1)) (key_of p (n' + 1)) ts up was.timers;
+    }
 
-  -- also where the tables are gone
-  pub emptied_below : (js' : List Job) (ts' : List Timer) → js' ≡ [] → ts' ≡ [] → IsTrue (are_all_below (key_of p (n' + 1)) ms js' ts')
-  emptied_below js' ts' no_jobs no_timers = rw (no_jobs, no_timers, each_kept.messages) refl
-
-  pub taken_below : (js' : List Job) (ts' : List Timer) → Draws p n js e → js' ≡ standing_by job_sort [] e js → ts' ≡ standing_by timer_sort [] e ts → IsTrue (are_all_below (key_of p (n' + 1)) ms js' ts')
-  taken_below js' ts' draws is_js is_ts =
-      let high = key_of p (n' + 1) in
-      let jobs_are = below_by job_sort job_key high [] e js (λ j. refl) (job_below p n n' js e raised draws) each_kept.jobs in
-      let timers_are = below_by timer_sort timer_key high [] e ts (λ t. refl) (timer_below p n n' js e raised draws) each_kept.timers in
-      rw (is_js, is_ts, each_kept.messages, jobs_are, timers_are) refl
+-- once the tables take it in, which are empty where there was no memory
+pub tables_below : (p n n' : ℕ) (ms : List MessagePublished) (old new : Tables) (e : Event) (result : Result ⊤ AllocError)
+    → n' ≡ max n (greatest_among p (keys_in e)) → Draws p n old.jobs e → IsTrue (are_all_below (key_of p (n + 1)) ms old.jobs old.timers)
+    → OnOk result (HaveTaken e old new) → OnErr result (new.jobs ≡ []) → OnErr result (new.timers ≡ [])
+    → IsTrue (are_all_below (key_of p (n' + 1)) ms new.jobs new.timers)
+tables_below p n n' ms old new e (Ok done) raised draws below took no_jobs no_timers =
+    let high = key_of p (n' + 1) in
+    let kept = each_kept p n n' ms old.jobs old.timers e raised below in
+    let jobs_are = below_by job_sort job_key high [] e old.jobs (λ j. refl) (job_below p n n' old.jobs e raised draws) kept.jobs in
+    let timers_are = below_by timer_sort timer_key high [] e old.timers (λ t. refl) (timer_below p n n' old.jobs e raised draws) kept.timers in
+    rw (took.jobs, took.timers, kept.messages, jobs_are, timers_are) refl
+tables_below p n n' ms old new e (Err fault) raised draws below took no_jobs no_timers = rw (no_jobs, no_timers, (each_kept p n n' ms old.jobs old.timers e raised below).messages) refl
 
 -- and with its message, whether or not there was memory for that
 pub messages_below : (p n n' : ℕ) (ms ms' : List MessagePublished) (js' js : List Job) (ts : List Timer) (e : Event) (result : Result ⊤ AllocError)

@@ -17,7 +17,7 @@ use zb_graph::{BoxedGraph, compile};
 use zb_jobs::Jobs;
 use zb_model::{
     ElementActivated, ElementActivating, ElementCompleted, Event, IncidentCreated, JobError, Key,
-    List, ProcessDefinition, ProcessEventTriggered, Role, ScopeVariable, SequenceFlowTaken,
+    List, Model, ProcessDefinition, ProcessEventTriggered, Role, ScopeVariable, SequenceFlowTaken,
     TableFault, Text, TryCopy,
 };
 use zb_tokens::{Assigned, Deployed, Enter, Incident, Leave, Move, Start, Take, Thrown, Triggered};
@@ -85,80 +85,100 @@ fn shown(alloc: Global, event: &Event, jobs: &Jobs) -> Result<Option<Move>, Allo
     ensures silent { may_show event.now ≡ false → IfOk result (λ move. move ≡ None) }
 {
     match event {
-        Event::ProcessCreated(process) => Ok(Some(stand_of(alloc, process)?)),
-        Event::ElementActivating(element) => Ok(Some(entry_of(alloc, element)?)),
+        Event::ProcessCreated(process) => stand_of(alloc, process),
+        Event::ElementActivating(element) => entry_of(alloc, element),
         Event::ElementActivated(element) => Ok(Some(Move::Open(element.key))),
         Event::ElementCompleting(key) => Ok(Some(Move::Finish(*key))),
-        Event::ElementCompleted(element) => Ok(Some(leave_of(alloc, element)?)),
+        Event::ElementCompleted(element) => leave_of(alloc, element),
         Event::ElementTerminating(key) => Ok(Some(Move::Halt(*key))),
         Event::ElementTerminated(key) => Ok(Some(Move::Gone(*key))),
-        Event::SequenceFlowTaken(flow) => Ok(Some(take_of(alloc, flow)?)),
+        Event::SequenceFlowTaken(flow) => take_of(alloc, flow),
         Event::VariableCreated(variable) => Ok(Some(Move::Assign(assigned(alloc, variable)?))),
         Event::VariableUpdated(variable) => Ok(Some(Move::Update(assigned(alloc, variable)?))),
         Event::JobCompleted(key) => Ok(done_of(*key, jobs)),
         Event::JobErrorThrown(thrown) => throw_of(alloc, thrown, jobs),
-        Event::ProcessEventTriggered(told) => Ok(Some(trigger_of(alloc, told)?)),
-        Event::IncidentCreated(incident) => Ok(Some(incident_of(alloc, incident)?)),
+        Event::ProcessEventTriggered(told) => trigger_of(alloc, told),
+        Event::IncidentCreated(incident) => incident_of(alloc, incident),
         Event::IncidentResolved(incident) => Ok(Some(Move::Repair(incident.key))),
         _ => Ok(None),
     }
 }
 
 // The model of a process stands, as a graph.
-fn stand_of(alloc: Global, process: &ProcessDefinition) -> Result<Move, AllocError>
+fn stand_of(alloc: Global, process: &ProcessDefinition) -> Result<Option<Move>, AllocError>
     requires { IsSmall process.now.model }
-    ensures { IfOk result (λ move. Some move ≡ shown [] (events.ProcessCreated process.now)) }
+    ensures { IfOk result (λ move. move ≡ shown [] (events.ProcessCreated process.now)) }
 {
-    let graph = compile(alloc, process.model.copy(alloc)?)?;
-    Ok(Move::Stand(Deployed {
-        key: process.key,
-        model: BoxedGraph::new(alloc, graph)?,
-    }))
+    let model = graph_of(alloc, &process.model)?;
+    let key = process.key;
+    Ok(Some(Move::Stand(Deployed { key, model })))
+}
+
+// The graph of a copy of a model.
+fn graph_of(alloc: Global, model: &Model) -> Result<BoxedGraph, AllocError>
+    requires { IsSmall model.now }
+    ensures { IfOk result (λ graph. graph ≡ model.now) }
+{
+    match model.copy(alloc) {
+        Ok(copied) => boxed_graph(alloc, copied),
+        Err(AllocError) => Err(AllocError),
+    }
+}
+
+// The graph of a model.
+fn boxed_graph(alloc: Global, model: Model) -> Result<BoxedGraph, AllocError>
+    requires { IsSmall model }
+    ensures { IfOk result (λ graph. graph ≡ model) }
+{
+    match compile(alloc, model) {
+        Ok(graph) => BoxedGraph::new(alloc, graph),
+        Err(AllocError) => Err(AllocError),
+    }
 }
 
 // A root starts, and another cell is entered.
-fn entry_of(alloc: Global, element: &ElementActivating) -> Result<Move, AllocError>
-    ensures { IfOk result (λ move. Some move ≡ shown [] (events.ElementActivating element.now)) }
+fn entry_of(alloc: Global, element: &ElementActivating) -> Result<Option<Move>, AllocError>
+    ensures { IfOk result (λ move. move ≡ shown [] (events.ElementActivating element.now)) }
 {
     if element.scope == Key::new(0) {
-        return Ok(Move::Start(Start {
+        return Ok(Some(Move::Start(Start {
             key: element.key,
             definition: element.definition,
-        }));
+        })));
     }
-    Ok(Move::Enter(Enter {
+    Ok(Some(Move::Enter(Enter {
         key: element.key,
         scope: element.scope,
         node: element.node.copy(alloc)?,
         via: element.via.copy(alloc)?,
-    }))
+    })))
 }
 
-fn leave_of(alloc: Global, element: &ElementCompleted) -> Result<Move, AllocError>
-    ensures { IfOk result (λ move. Some move ≡ shown [] (events.ElementCompleted element.now)) }
+fn leave_of(alloc: Global, element: &ElementCompleted) -> Result<Option<Move>, AllocError>
+    ensures { IfOk result (λ move. move ≡ shown [] (events.ElementCompleted element.now)) }
 {
-    Ok(Move::Leave(Leave {
+    Ok(Some(Move::Leave(Leave {
         key: element.key,
         owed: element.owed.copy(alloc)?,
-    }))
+    })))
 }
 
-fn trigger_of(alloc: Global, told: &ProcessEventTriggered) -> Result<Move, AllocError>
-    ensures { IfOk result (λ move. Some move ≡ shown [] (events.ProcessEventTriggered told.now)) }
+fn trigger_of(alloc: Global, told: &ProcessEventTriggered) -> Result<Option<Move>, AllocError>
+    ensures { IfOk result (λ move. move ≡ shown [] (events.ProcessEventTriggered told.now)) }
 {
-    Ok(Move::Trigger(Triggered {
+    Ok(Some(Move::Trigger(Triggered {
         cell: told.cell,
         node: told.node.copy(alloc)?,
-    }))
+    })))
 }
 
-fn take_of(alloc: Global, taken: &SequenceFlowTaken) -> Result<Move, AllocError>
-    ensures { IfOk result (λ move. Some move ≡ shown [] (events.SequenceFlowTaken taken.now)) }
+fn take_of(alloc: Global, taken: &SequenceFlowTaken) -> Result<Option<Move>, AllocError>
+    ensures { IfOk result (λ move. move ≡ shown [] (events.SequenceFlowTaken taken.now)) }
 {
-    Ok(Move::Take(Take {
+    Ok(Some(Move::Take(Take {
         key: taken.key,
         flow: taken.flow.copy(alloc)?,
-    }))
+    })))
 }
 
 // What a variable gets in a scope.
@@ -196,16 +216,16 @@ fn throw_of(alloc: Global, thrown: &JobError, jobs: &Jobs) -> Result<Option<Move
     }
 }
 
-fn incident_of(alloc: Global, made: &IncidentCreated) -> Result<Move, AllocError>
-    ensures { IfOk result (λ move. Some move ≡ shown [] (events.IncidentCreated made.now)) }
+fn incident_of(alloc: Global, made: &IncidentCreated) -> Result<Option<Move>, AllocError>
+    ensures { IfOk result (λ move. move ≡ shown [] (events.IncidentCreated made.now)) }
 {
-    Ok(Move::Incident(Incident {
+    Ok(Some(Move::Incident(Incident {
         key: made.key,
         kind: made.kind,
         cell: made.cell,
         job: made.job,
         text: made.text.copy(alloc)?,
-    }))
+    })))
 }
 
 /// The event that shows a forced move; `None` of a move that is never forced. It costs what

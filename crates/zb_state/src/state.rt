@@ -35,7 +35,6 @@ use crate::moves::{may_show, play};
 use crate::tables::Tables;
 use crate::turn::{Turn, turn_by};
 use std::alloc::{AllocError, Global};
-use std::mem;
 use zb_check::{ModelFault, check};
 use zb_definitions::Definitions;
 use zb_game::Game;
@@ -445,9 +444,7 @@ impl State {
     {
         self.left = left_behind(&self.tables.jobs, event);
         self.counter = self.counter.max(greatest_counter_of(self.place, event));
-        let tables = mem::replace(&mut self.tables, Tables::empty(alloc));
-        self.tables = tables.with(alloc, event)?;
-        Ok(())
+        self.tables.apply(alloc, event)
     }
 }
 
@@ -483,9 +480,12 @@ fn is_sound(alloc: Global, model: &ProcessModel, known: bool) -> Result<bool, Al
     if known {
         return Ok(true);
     }
-    match check(alloc, model) {
+    let checked = check(alloc, model);
+    let sound = match &checked {
         Ok(()) => Ok(true),
         Err(ModelFault::Bad { .. }) => Ok(false),
         Err(ModelFault::Memory) => Err(AllocError),
-    }
+    };
+    drop(checked);
+    sound
 }

@@ -1,4 +1,4 @@
-ghost use Rattle.std.specs.Prelude.{◌≡◌, [], IsTrue, IfOk};
+ghost use Rattle.std.specs.Prelude.{◌≡◌, [], IsTrue, OnOk, OnErr};
 ghost use Rattle.zb_model.specs.declared.record.Event.{Event};
 ghost use Rattle.zb_jobs.specs.Table.{has_place_for};
 ghost use Rattle.zb_timers.specs.Table.{has_place_for_timer};
@@ -42,16 +42,39 @@ impl Tables {
         }
     }
 
-    /// These tables as an event leaves them. It costs what `apply` of each does.
-    pub fn with(mut self, alloc: Global, event: &Event) -> Result<Tables, AllocError>
-        requires jobs { IsTrue (has_place_for self.jobs event.now) }
-        requires timers { IsTrue (has_place_for_timer self.timers event.now) }
-        ensures { IfOk result (λ after. HaveTaken event.now self after) }
+    /// Takes an event in. It costs what `apply` of each table does. After a refusal the tables are those of no events.
+    pub fn apply(&mut self, alloc: Global, event: &Event) -> Result<(), AllocError>
+        requires jobs { IsTrue (has_place_for self.old.jobs event.now) }
+        requires timers { IsTrue (has_place_for_timer self.old.timers event.now) }
+        ensures taken { OnOk result (HaveTaken event.now self.old self.new) }
+        ensures no_jobs { OnErr result (self.new.jobs ≡ []) }
+        ensures no_timers { OnErr result (self.new.timers ≡ []) }
+    {
+        let taken = self.take_in(alloc, event);
+        if taken.is_err() {
+            self.clear(alloc);
+        }
+        taken
+    }
+
+    // Has each table take an event in. After a refusal the tables are only dropped.
+    fn take_in(&mut self, alloc: Global, event: &Event) -> Result<(), AllocError>
+        requires jobs { IsTrue (has_place_for self.old.jobs event.now) }
+        requires timers { IsTrue (has_place_for_timer self.old.timers event.now) }
+        ensures { OnOk result (HaveTaken event.now self.old self.new) }
     {
         self.definitions.apply(alloc, event)?;
         self.sendings.apply(alloc, event)?;
         self.jobs.apply(alloc, event)?;
         self.timers.apply(alloc, event)?;
-        Ok(self)
+        Ok(())
+    }
+
+    // Leaves the tables of no events.
+    fn clear(&mut self, alloc: Global)
+        ensures jobs { self.new.jobs ≡ [] }
+        ensures timers { self.new.timers ≡ [] }
+    {
+        *self = Tables::empty(alloc);
     }
 }

@@ -1,7 +1,6 @@
 // A partition says that it has a definition.
 ghost use Rattle.std.specs.Prelude.{◌≡◌, List, IfOk, string_bytes};
 ghost use Rattle.zb_model.specs.declared.record.Event.{Event};
-ghost use Rattle.zb_views.specs.Distributions.{is_distributed_to, is_distributed};
 ghost use Rattle.zb_rules.specs.Acknowledge.{no_distribution, reason_to_acknowledge, finished_if_last, acknowledged};
 ghost use Rattle.zb_state.specs.State.{IsStateOf};
 
@@ -12,7 +11,7 @@ use zb_model::{CommandDistribution, Event, Key, Moment, Rejection, RejectionKind
 use zb_state::{Out, Refusal, State};
 
 /// Why it isn't taken down that a partition has a definition: it isn't on its way there. It costs what
-/// `Outbox::is_sent_to` does.
+/// `State::is_distributed_to` does.
 pub fn reason(
     alloc: Global,
     state: &State,
@@ -20,25 +19,11 @@ pub fn reason(
 ) -> Result<Option<Rejection>, AllocError>
     ensures { (es : List Event) → IsStateOf es state.now → IfOk result (λ rejection. rejection ≡ reason_to_acknowledge es told.now) }
 {
-    if is_distributed_to(state, told) {
+    if state.is_distributed_to(told.key, told.partition) {
         return Ok(None);
     }
     let text = text_of_none(alloc, told.key, told.partition)?;
-    Ok(Some(rejection(alloc, RejectionKind::NotFound, text.as_str())?))
-}
-
-// Whether the definition is on its way to the partition.
-fn is_distributed_to(state: &State, told: &CommandDistribution) -> bool
-    ensures { (es : List Event) → IsStateOf es state.now → result ≡ is_distributed_to told.now.key told.now.partition es }
-{
-    state.sendings().is_sent_to(told.key, told.partition)
-}
-
-// Whether the definition is on its way to some partition.
-fn is_distributed(state: &State, definition: Key) -> bool
-    ensures { (es : List Event) → IsStateOf es state.now → result ≡ is_distributed definition es }
-{
-    state.sendings().is_sent(definition)
+    rejection(alloc, RejectionKind::NotFound, text.as_str())
 }
 
 // What is told where the definition isn't on its way to the partition.
@@ -80,7 +65,7 @@ impl Find for FinishedIfLast {
     ghost finds = { λ it p. finished_if_last it.0 };
 
     fn find(self, _alloc: Global, state: &State) -> Result<Option<Event>, AllocError> {
-        if is_distributed(state, self.0) {
+        if state.is_distributed(self.0) {
             return Ok(None);
         }
         Ok(Some(Event::CommandDistributionFinished(self.0)))

@@ -25,7 +25,7 @@ pub fn reason(alloc: Global, command: &JobBatchActivate) -> Result<Option<Reject
     if !command.kind.as_str().is_empty() {
         return Ok(None);
     }
-    Ok(Some(rejection(alloc, RejectionKind::InvalidArgument, "empty job type")?))
+    rejection(alloc, RejectionKind::InvalidArgument, "empty job type")
 }
 
 /// The worker is given the first jobs of the type, one after the other, and then it is told which they are. Each costs

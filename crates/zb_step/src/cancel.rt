@@ -17,10 +17,10 @@ pub fn reason(alloc: Global, state: &State, key: Key) -> Result<Option<Rejection
     ensures { (es : List Event) → IsStateOf es state.now → IfOk result (λ rejection. rejection ≡ reason_to_cancel es key) }
 {
     if !state.game().is_instance(key) {
-        return Ok(Some(no_such(alloc, "no instance ", key)?));
+        return no_such(alloc, "no instance ", key);
     }
     if is_terminating(state, key) {
-        return Ok(Some(wrong_state(alloc, "instance ", key, " is being terminated")?));
+        return wrong_state(alloc, "instance ", key, " is being terminated");
     }
     Ok(None)
 }

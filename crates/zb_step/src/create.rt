@@ -1,5 +1,5 @@
 // Making an instance of a process.
-ghost use Rattle.std.specs.Prelude.{◌≡◌, List, [], IfOk, string_bytes};
+ghost use Rattle.std.specs.Prelude.{◌≡◌, List, [], IfOk, string_bytes, Some};
 ghost use Rattle.zb_model.specs.declared.record.Event.{Event};
 ghost use Rattle.zb_rules.specs.Create.{reason_to_create, no_process, no_version, variable_event, created};
 ghost use Rattle.zb_rules.specs.Making.{just};
@@ -26,20 +26,20 @@ pub fn reason(
     let process = command.process.as_str();
     let definitions = state.definitions();
     if definitions.definition_for(process, 0).is_none() {
-        return Ok(Some(unknown_process(alloc, process)?));
+        return unknown_process(alloc, process);
     }
     if definitions
         .definition_for(process, command.version)
         .is_none()
     {
-        return Ok(Some(unknown_version(alloc, process, command.version)?));
+        return unknown_version(alloc, process, command.version);
     }
     Ok(None)
 }
 
 // The rejection where there is no such process.
-fn unknown_process(alloc: Global, process: &str) -> Result<Rejection, AllocError>
-    ensures { IfOk result (λ rejection. rejection ≡ record { kind = RejectionKind.NotFound; reason = no_process process.now }) }
+fn unknown_process(alloc: Global, process: &str) -> Result<Option<Rejection>, AllocError>
+    ensures { IfOk result (λ rejection. rejection ≡ Some (record { kind = RejectionKind.NotFound; reason = no_process process.now })) }
 {
     let mut text = String::from_str(alloc, "no process ")?;
     text.push_str(process)?;
@@ -47,8 +47,12 @@ fn unknown_process(alloc: Global, process: &str) -> Result<Rejection, AllocError
 }
 
 // The rejection where there is no such version of a process.
-fn unknown_version(alloc: Global, process: &str, version: u32) -> Result<Rejection, AllocError>
-    ensures { IfOk result (λ rejection. rejection ≡ record { kind = RejectionKind.NotFound; reason = no_version process.now version }) }
+fn unknown_version(
+    alloc: Global,
+    process: &str,
+    version: u32,
+) -> Result<Option<Rejection>, AllocError>
+    ensures { IfOk result (λ rejection. rejection ≡ Some (record { kind = RejectionKind.NotFound; reason = no_version process.now version })) }
 {
     let text = text_of_version(alloc, process, version)?;
     rejection(alloc, RejectionKind::NotFound, text.as_str())

@@ -1,6 +1,6 @@
 // Deploying a model.
 ghost use Rattle.std.specs.List.{range_with_len};
-ghost use Rattle.std.specs.Prelude.{◌≡◌, ◌-◌, List, [], ◌∷◌, None, IfOk, IsTrue, string_bytes};
+ghost use Rattle.std.specs.Prelude.{◌≡◌, ◌-◌, List, [], ◌∷◌, None, IfOk, IsTrue, string_bytes, Some};
 ghost use Rattle.zb_model.specs.declared.record.Event.{Event};
 ghost use Rattle.zb_model.specs.declared.record.Event.TheVariants as events;
 ghost use Rattle.zb_rules.specs.Deploy.{reason_to_deploy, version_behind, definition_of, deployment_of, sent_to, deployed};
@@ -26,14 +26,18 @@ pub fn reason(alloc: Global, model: &Model) -> Result<Option<Rejection>, AllocEr
 {
     match check(alloc, model) {
         Ok(()) => Ok(None),
-        Err(ModelFault::Bad { fault, id }) => Ok(Some(faulty(alloc, fault, id.as_str())?)),
+        Err(ModelFault::Bad { fault, id }) => {
+            let rejected = faulty(alloc, fault, id.as_str());
+            drop(id);
+            rejected
+        }
         Err(ModelFault::Memory) => Err(AllocError),
     }
 }
 
 // The rejection of a model with this fault, whose first offender has this id.
-fn faulty(alloc: Global, fault: Fault, id: &str) -> Result<Rejection, AllocError>
-    ensures { IfOk result (λ rejection. rejection ≡ record { kind = RejectionKind.InvalidArgument; reason = fault_text fault id.now }) }
+fn faulty(alloc: Global, fault: Fault, id: &str) -> Result<Option<Rejection>, AllocError>
+    ensures { IfOk result (λ rejection. rejection ≡ Some (record { kind = RejectionKind.InvalidArgument; reason = fault_text fault id.now })) }
 {
     let text = text_of_fault(alloc, fault, id)?;
     rejection(alloc, RejectionKind::InvalidArgument, text.as_str())

@@ -37,7 +37,7 @@ fn reason_to_turn_back(
     ensures { (es : List Event) → IsStateOf es state.now → IfOk result (λ rejection. rejection ≡ reason_to_turn_back es key) }
 {
     if state.definitions().contains(key) {
-        return Ok(Some(in_the_way(alloc, "definition ", key, " is there")?));
+        return in_the_way(alloc, "definition ", key, " is there");
     }
     Ok(None)
 }

@@ -15,11 +15,11 @@ pub fn reason(alloc: Global, state: &State, key: Key) -> Result<Option<Rejection
     ensures { (es : List Event) → IsStateOf es state.now → IfOk result (λ rejection. rejection ≡ reason_to_end es key) }
 {
     match state.jobs().get(key) {
-        None => Ok(Some(no_such(alloc, "no job ", key)?)),
+        None => no_such(alloc, "no job ", key),
         Some(job) if job.phase.is_given_out() => Ok(None),
         Some(job) if matches!(job.phase, JobPhase::Failed) => {
-            Ok(Some(wrong_state(alloc, "job ", key, " has no retries")?))
+            wrong_state(alloc, "job ", key, " has no retries")
         }
-        Some(_) => Ok(Some(wrong_state(alloc, "job ", key, " isn't activated")?)),
+        Some(_) => wrong_state(alloc, "job ", key, " isn't activated"),
     }
 }

@@ -22,7 +22,7 @@ pub fn reason(
 {
     match state.messages().deadline_of(key) {
         Some(deadline) => reason_to_wait(alloc, moment, key, deadline),
-        None => Ok(Some(no_such(alloc, "no message ", key)?)),
+        None => no_such(alloc, "no message ", key),
     }
 }
 
@@ -37,7 +37,7 @@ fn reason_to_wait(
         ≡ (if not (nat_le deadline moment) then Some (record { kind = RejectionKind.InvalidState; reason = not_due key }) else None)) }
 {
     if moment < deadline {
-        return Ok(Some(wrong_state(alloc, "message ", key, " isn't due")?));
+        return wrong_state(alloc, "message ", key, " isn't due");
     }
     Ok(None)
 }

@@ -16,5 +16,5 @@ pub fn reason(alloc: Global, state: &State) -> Result<Option<Rejection>, AllocEr
     if !state.quiet() {
         return Ok(None);
     }
-    Ok(Some(rejection(alloc, RejectionKind::InvalidState, "nothing to continue")?))
+    rejection(alloc, RejectionKind::InvalidState, "nothing to continue")
 }

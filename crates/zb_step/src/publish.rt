@@ -1,5 +1,5 @@
 // Publishing a message.
-ghost use Rattle.std.specs.Prelude.{◌≡◌, List, IfOk, string_bytes};
+ghost use Rattle.std.specs.Prelude.{◌≡◌, List, IfOk, string_bytes, Some};
 ghost use Rattle.zb_model.specs.declared.record.Event.{Event};
 ghost use Rattle.zb_rules.specs.Publish.{reason_to_publish, is_repeated, buffered_text, message_under, published};
 ghost use Rattle.zb_state.specs.State.{IsStateOf};
@@ -22,7 +22,7 @@ pub fn reason(
     ensures { (es : List Event) → IsStateOf es state.now → IfOk result (λ rejection. rejection ≡ reason_to_publish es command.now) }
 {
     if is_repeated(state, command) {
-        return Ok(Some(repeated(alloc, command)?));
+        return repeated(alloc, command);
     }
     Ok(None)
 }
@@ -35,8 +35,8 @@ fn is_repeated(state: &State, command: &MessagePublish) -> bool
 }
 
 // The rejection of a message that is buffered.
-fn repeated(alloc: Global, command: &MessagePublish) -> Result<Rejection, AllocError>
-    ensures { IfOk result (λ rejection. rejection ≡ record { kind = RejectionKind.AlreadyExists; reason = buffered_text command.now }) }
+fn repeated(alloc: Global, command: &MessagePublish) -> Result<Option<Rejection>, AllocError>
+    ensures { IfOk result (λ rejection. rejection ≡ Some (record { kind = RejectionKind.AlreadyExists; reason = buffered_text command.now })) }
 {
     let text = text_of_repeated(alloc, command)?;
     rejection(alloc, RejectionKind::AlreadyExists, text.as_str())

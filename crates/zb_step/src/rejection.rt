@@ -1,23 +1,27 @@
 // Rejections.
-ghost use Rattle.std.specs.Prelude.{◌≡◌, ◌++◌, IfOk};
+ghost use Rattle.std.specs.Prelude.{◌≡◌, ◌++◌, Some, IfOk};
 ghost use Rattle.std.specs.Fmt.{decimal};
 
 use std::alloc::{AllocError, Global};
 use zb_model::{Key, Rejection, RejectionKind, Text};
 
 /// The rejection of this kind that says this.
-pub fn rejection(alloc: Global, kind: RejectionKind, reason: &str) -> Result<Rejection, AllocError>
-    ensures { IfOk result (λ rejection. rejection ≡ record { kind = kind; reason = reason.now }) }
+pub fn rejection(
+    alloc: Global,
+    kind: RejectionKind,
+    reason: &str,
+) -> Result<Option<Rejection>, AllocError>
+    ensures { IfOk result (λ rejection. rejection ≡ Some (record { kind = kind; reason = reason.now })) }
 {
-    Ok(Rejection {
+    Ok(Some(Rejection {
         kind,
         reason: Text::of(alloc, reason)?,
-    })
+    }))
 }
 
 /// The rejection where nothing has this key. What it would be stands in front of the key.
-pub fn no_such(alloc: Global, front: &str, key: Key) -> Result<Rejection, AllocError>
-    ensures { IfOk result (λ rejection. rejection ≡ record { kind = RejectionKind.NotFound; reason = front.now ++ decimal key }) }
+pub fn no_such(alloc: Global, front: &str, key: Key) -> Result<Option<Rejection>, AllocError>
+    ensures { IfOk result (λ rejection. rejection ≡ Some (record { kind = RejectionKind.NotFound; reason = front.now ++ decimal key })) }
 {
     let mut text = String::from_str(alloc, front)?;
     text.write(key.number())?;
@@ -31,8 +35,8 @@ pub fn wrong_state(
     front: &str,
     key: Key,
     behind: &str,
-) -> Result<Rejection, AllocError>
-    ensures { IfOk result (λ rejection. rejection ≡ record { kind = RejectionKind.InvalidState; reason = front.now ++ (decimal key ++ behind.now) }) }
+) -> Result<Option<Rejection>, AllocError>
+    ensures { IfOk result (λ rejection. rejection ≡ Some (record { kind = RejectionKind.InvalidState; reason = front.now ++ (decimal key ++ behind.now) })) }
 {
     rejection_of(alloc, RejectionKind::InvalidState, front, key, behind)
 }
@@ -43,8 +47,8 @@ pub fn in_the_way(
     front: &str,
     key: Key,
     behind: &str,
-) -> Result<Rejection, AllocError>
-    ensures { IfOk result (λ rejection. rejection ≡ record { kind = RejectionKind.AlreadyExists; reason = front.now ++ (decimal key ++ behind.now) }) }
+) -> Result<Option<Rejection>, AllocError>
+    ensures { IfOk result (λ rejection. rejection ≡ Some (record { kind = RejectionKind.AlreadyExists; reason = front.now ++ (decimal key ++ behind.now) })) }
 {
     rejection_of(alloc, RejectionKind::AlreadyExists, front, key, behind)
 }
@@ -56,8 +60,8 @@ fn rejection_of(
     front: &str,
     key: Key,
     behind: &str,
-) -> Result<Rejection, AllocError>
-    ensures { IfOk result (λ rejection. rejection ≡ record { kind = kind; reason = front.now ++ (decimal key ++ behind.now) }) }
+) -> Result<Option<Rejection>, AllocError>
+    ensures { IfOk result (λ rejection. rejection ≡ Some (record { kind = kind; reason = front.now ++ (decimal key ++ behind.now) })) }
 {
     let mut text = String::from_str(alloc, front)?;
     text.write(key.number())?;

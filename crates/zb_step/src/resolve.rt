@@ -15,11 +15,11 @@ pub fn reason(alloc: Global, state: &State, key: Key) -> Result<Option<Rejection
     ensures { (es : List Event) → IsStateOf es state.now → IfOk result (λ rejection. rejection ≡ reason_to_resolve es key) }
 {
     let Some(incident) = state.game().incident(key) else {
-        return Ok(Some(no_such(alloc, "no incident ", key)?));
+        return no_such(alloc, "no incident ", key);
     };
     let job = incident.job;
     if is_without_retries(state, job) {
-        return Ok(Some(wrong_state(alloc, "job ", job, " has no retries")?));
+        return wrong_state(alloc, "job ", job, " has no retries");
     }
     Ok(None)
 }

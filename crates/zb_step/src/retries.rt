@@ -19,11 +19,11 @@ pub fn reason(
     ensures { (es : List Event) → IsStateOf es state.now → IfOk result (λ rejection. rejection ≡ reason_to_retry es command.now) }
 {
     if command.retries == 0 {
-        return Ok(Some(rejection(alloc, RejectionKind::InvalidArgument, "retries are 0")?));
+        return rejection(alloc, RejectionKind::InvalidArgument, "retries are 0");
     }
     match state.jobs().get(command.key) {
         Some(_) => Ok(None),
-        None => Ok(Some(no_such(alloc, "no job ", command.key)?)),
+        None => no_such(alloc, "no job ", command.key),
     }
 }
 

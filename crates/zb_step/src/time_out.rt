@@ -22,7 +22,7 @@ pub fn reason(
 {
     match state.jobs().get(key) {
         Some(job) => reason_to_keep(alloc, moment, job),
-        None => Ok(Some(no_such(alloc, "no job ", key)?)),
+        None => no_such(alloc, "no job ", key),
     }
 }
 
@@ -31,10 +31,10 @@ fn reason_to_keep(alloc: Global, moment: Moment, job: &Job) -> Result<Option<Rej
     ensures { IfOk result (λ rejection. rejection ≡ reason_to_keep moment job.now) }
 {
     if !matches!(job.phase, JobPhase::Activated) {
-        return Ok(Some(wrong_state(alloc, "job ", job.key, " isn't activated")?));
+        return wrong_state(alloc, "job ", job.key, " isn't activated");
     }
     if moment < job.deadline {
-        return Ok(Some(wrong_state(alloc, "job ", job.key, " isn't due")?));
+        return wrong_state(alloc, "job ", job.key, " isn't due");
     }
     Ok(None)
 }

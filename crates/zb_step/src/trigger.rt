@@ -24,7 +24,7 @@ pub fn reason(
 {
     match state.timers().get(key) {
         Some(timer) => reason_to_hold(alloc, state, moment, timer),
-        None => Ok(Some(no_such(alloc, "no timer ", key)?)),
+        None => no_such(alloc, "no timer ", key),
     }
 }
 
@@ -38,10 +38,10 @@ fn reason_to_hold(
     ensures { (es : List Event) → IsStateOf es state.now → IfOk result (λ rejection. rejection ≡ reason_to_hold es moment timer.now) }
 {
     if moment < timer.due {
-        return Ok(Some(wrong_state(alloc, "timer ", timer.key, " isn't due")?));
+        return wrong_state(alloc, "timer ", timer.key, " isn't due");
     }
     if !state.game().waits_at(timer.cell, timer.node.as_str()) {
-        return Ok(Some(wrong_state(alloc, "element ", timer.cell, " doesn't wait")?));
+        return wrong_state(alloc, "element ", timer.cell, " doesn't wait");
     }
     Ok(None)
 }

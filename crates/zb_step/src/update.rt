@@ -17,7 +17,7 @@ pub fn reason(alloc: Global, state: &State, scope: Key) -> Result<Option<Rejecti
     if state.game().phase_of(scope).is_some() {
         return Ok(None);
     }
-    Ok(Some(no_such(alloc, "no scope ", scope)?))
+    no_such(alloc, "no scope ", scope)
 }
 
 /// The variables are set one after the other, and then the document is updated. Each costs what `Game::holder_of` and

@@ -1,3 +1,4 @@
+mod AppLemmas
 mod RowLemmas
 mod LeafLemmas
 mod StepLemmas

@@ -1,5 +1,5 @@
 -- Clap takes the words of a plan, and words that it takes begin with a verb.
-use Rattle.std.proofs.Common.{◌≡◌, ◌≢◌, ◌∙◌, List, [], ◌∷◌, Some, codes, refl, ap, sym, subst, false, true, inl, inr, length, arith, map}
+use Rattle.std.proofs.Common.{◌≡◌, ◌≢◌, ◌∙◌, List, [], ◌∷◌, Some, refl, ap, sym, subst, false, true, inl, inr, length, arith, map}
 use Rattle.std.specs.Prelude.{option_map, unwrap_or}
 use Rattle.clap.specs.Walk.{Row, Text, nothing_held, rows_after}
 use Rattle.clap.specs.Words.{App, HasMatchesOf, is_simple, kind_of, subcommand_of, subcommand_rows_of}
@@ -13,7 +13,7 @@ use Rattle.zb_words.specs.declared.verb.Verb.TheVariants as verbs
 use Rattle.zb_words.specs.declared.plan.Plan.{Plan}
 use Rattle.zb_words.specs.declared.plan.Plan.TheVariants as plans
 use Rattle.zb_words.specs.Plan.{IsPlan}
-use Rattle.zb_words.specs.App.{IsMatched, leaf, word_of, zbd_app}
+use Rattle.zb_words.specs.App.{IsMatched, TakesVerb, leaf, word_of, zbd_app}
 use Rattle.zb_words.proofs.StepLemmas.{neither}
 use Rattle.zb_words.proofs.VerbLemmas.{fault_at, matches_at, simple, verb_first}
 use Rattle.zb_words.proofs.TakenLemmas.{gen_passes, log_passes, serve_passes}
@@ -39,14 +39,7 @@ refused app words e same kinds other plan is = go (subst (λ (k : Kinds). HasKin
 
 -- ---- words that clap takes
 
--- they begin with a verb, and these are the matches of the words behind it
-pub record TakesVerb (words : List Text) (matches : ArgMatches) : Type 0 where
-  pub verb : Verb
-  pub rest : List Text
-  pub is : words ≡ word_of verb ∷ rest
-  pub faultless : level_fault (leaf verb) [] nothing_held rest false [] ≡ []
-  pub rows : subcommand_rows_of matches ≡ Some (word_of verb, rows_after (leaf verb).rules [] rest)
-
+-- they begin with a verb
 pub takes_verb : (app : App) (words : List Text) (matches : ArgMatches) → app ≡ zbd_app → (is_simple_and_free app ≡ true → fault_of app words ≡ []) → HasMatchesOf app words matches → TakesVerb words matches
 takes_verb app words matches same kinds has =
     let none : fault_of zbd_app words ≡ [] = ap (λ (a : App). fault_of a words) (sym same) ∙ kinds (ap is_simple_and_free same ∙ simple) in
@@ -60,7 +53,7 @@ takes_verb app words matches same kinds has =
       rows = (has (ap is_simple same)).1 ∙ ap (λ (a : App). subcommand_of a words) same ∙ ap (subcommand_of zbd_app) first.is ∙ matches_at first.verb first.rest;
     }
 
-one_verb : (verb other : Verb) → word_of verb ≡ word_of other → verb ≡ other
+pub one_verb : (verb other : Verb) → word_of verb ≡ word_of other → verb ≡ other
 one_verb verbs.Serve verbs.Serve e = refl
 one_verb verbs.Log verbs.Log e = refl
 one_verb verbs.Gen verbs.Gen e = refl
@@ -79,14 +72,11 @@ taken_behind verb words rest matches rows takes is read =
     let its : rows ≡ rows_after (leaf takes.verb).rules [] takes.rest = ap (λ o. unwrap_or o rows) (read ∙ ap (option_map (λ p. p.1)) takes.rows) in
     subst (λ (v : Verb). IsMatched v rest rows) same (subst (λ (ws : List Text). IsMatched takes.verb ws rows) both.1 (record { faultless = takes.faultless; rows_are = its }))
 
--- a first word that is neither `serve` nor `log` is `gen`
-pub gen_left : (words rest : List Text) (word : Text) (matches : ArgMatches) → TakesVerb words matches → words ≡ word ∷ rest → word ≢ codes "serve" → word ≢ codes "log" → words ≡ codes "gen" ∷ rest
-gen_left words rest word matches takes is no_serve no_log = is ∙ ap (λ (w : Text). w ∷ rest) (go takes.verb (its_options words rest takes.rest word (word_of takes.verb) is takes.is).0)
-  where
-    go : (verb : Verb) → word ≡ word_of verb → word ≡ codes "gen"
-    go verbs.Serve e = absurd (no_serve e)
-    go verbs.Log e = absurd (no_log e)
-    go verbs.Gen e = e
+-- what each verb is told by, where it is the first word, is told by the first word
+pub verb_is : (words rest : List Text) (word : Text) (verb : Verb) (matches : ArgMatches) → TakesVerb words matches → words ≡ word ∷ rest → ((v : Verb) → word ≡ word_of v → verb ≡ v) → words ≡ word_of verb ∷ rest
+verb_is words rest word verb matches takes is told =
+    let first : word ≡ word_of takes.verb = (its_options words rest takes.rest word (word_of takes.verb) is takes.is).0 in
+    is ∙ ap (λ (w : Text). w ∷ rest) (first ∙ ap word_of (sym (told takes.verb first)))
 
 -- there is a first word
 pub no_words : {X : Type 0} (f : X → Text) (words : List X) (matches : ArgMatches) → TakesVerb (map f words) matches → length words ≡ 0 → ⊥

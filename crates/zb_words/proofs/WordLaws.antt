@@ -15,6 +15,7 @@ use Rattle.zb_words.specs.declared.plan.Plan.{Plan}
 use Rattle.zb_words.specs.declared.plan.Plan.TheVariants as plans
 use Rattle.zb_words.specs.Part.{Part, GiveAll, text_for, IsMeant, AskFor, ArePaths, before_dashes, behind_dashes}
 use Rattle.zb_words.specs.Plan.{IsClockName, IsDecimal, IsPath, IsServePlan, IsLogPlan, IsGenPlan, IsPlan}
+use Rattle.zb_words.specs.App.{IsPlanOf, word_of}
 use Rattle.zb_words.proofs.PartLemmas.{asked_by, one_files}
 
 -- no clock has both names
@@ -101,21 +102,44 @@ one_plan words (plans.Log plan) (plans.Gen other) (options, e, is) (others, e', 
 one_plan words (plans.Gen plan) (plans.Serve other) (options, e, is) (others, e', is') = absurd (serve_or_gen (its_options words others options _ _ e' e).0)
 one_plan words (plans.Gen plan) (plans.Log other) (options, e, is) (others, e', is') = absurd (log_or_gen (its_options words others options _ _ e' e).0)
 
--- behind each verb stand the words of its plan
-pub its_serve : (words options : List (List ℕ)) (plan : Plan) → words ≡ codes "serve" ∷ options → IsPlan words plan → (p : ServePlan) × IsServePlan (before_dashes options) (behind_dashes options) p
-its_serve words options (plans.Serve plan) e (others, e', is) = (plan, subst (λ ws. IsServePlan (before_dashes ws) (behind_dashes ws) plan) (sym (its_options words options others _ _ e e').1) is)
-its_serve words options (plans.Log plan) e (others, e', is) = absurd (serve_or_log (its_options words options others _ _ e e').0)
-its_serve words options (plans.Gen plan) e (others, e', is) = absurd (serve_or_gen (its_options words options others _ _ e e').0)
+-- behind a verb stand the words of its plan
+pub its_plan : (verb : Verb) (words options : List (List ℕ)) (plan : Plan) → words ≡ word_of verb ∷ options → IsPlan words plan → IsPlanOf verb options plan
+its_plan verbs.Serve words options (plans.Serve plan) e (others, e', is) = subst (λ ws. IsServePlan (before_dashes ws) (behind_dashes ws) plan) (sym (its_options words options others _ _ e e').1) is
+its_plan verbs.Log words options (plans.Log plan) e (others, e', is) = subst (λ ws. IsLogPlan ws plan) (sym (its_options words options others _ _ e e').1) is
+its_plan verbs.Gen words options (plans.Gen plan) e (others, e', is) = subst (λ ws. IsGenPlan ws plan) (sym (its_options words options others _ _ e e').1) is
+its_plan verbs.Serve words options (plans.Log plan) e (others, e', is) = absurd (serve_or_log (its_options words options others _ _ e e').0)
+its_plan verbs.Serve words options (plans.Gen plan) e (others, e', is) = absurd (serve_or_gen (its_options words options others _ _ e e').0)
+its_plan verbs.Log words options (plans.Serve plan) e (others, e', is) = absurd (serve_or_log (its_options words others options _ _ e' e).0)
+its_plan verbs.Log words options (plans.Gen plan) e (others, e', is) = absurd (log_or_gen (its_options words options others _ _ e e').0)
+its_plan verbs.Gen words options (plans.Serve plan) e (others, e', is) = absurd (serve_or_gen (its_options words others options _ _ e' e).0)
+its_plan verbs.Gen words options (plans.Log plan) e (others, e', is) = absurd (log_or_gen (its_options words others options _ _ e' e).0)
 
-pub its_log : (words options : List (List ℕ)) (plan : Plan) → words ≡ codes "log" ∷ options → IsPlan words plan → (p : LogPlan) × IsLogPlan options p
-its_log words options (plans.Log plan) e (others, e', is) = (plan, subst (λ ws. IsLogPlan ws plan) (sym (its_options words options others _ _ e e').1) is)
-its_log words options (plans.Serve plan) e (others, e', is) = absurd (serve_or_log (its_options words others options _ _ e' e).0)
-its_log words options (plans.Gen plan) e (others, e', is) = absurd (log_or_gen (its_options words options others _ _ e e').0)
+pub is_plan : (verb : Verb) (words options : List (List ℕ)) (plan : Plan) → words ≡ word_of verb ∷ options → IsPlanOf verb options plan → IsPlan words plan
+is_plan verbs.Serve words options (plans.Serve plan) e is = (options, e, is)
+is_plan verbs.Log words options (plans.Log plan) e is = (options, e, is)
+is_plan verbs.Gen words options (plans.Gen plan) e is = (options, e, is)
+is_plan verbs.Serve words options (plans.Log plan) e is = absurd is
+is_plan verbs.Serve words options (plans.Gen plan) e is = absurd is
+is_plan verbs.Log words options (plans.Serve plan) e is = absurd is
+is_plan verbs.Log words options (plans.Gen plan) e is = absurd is
+is_plan verbs.Gen words options (plans.Serve plan) e is = absurd is
+is_plan verbs.Gen words options (plans.Log plan) e is = absurd is
 
-pub its_gen : (words options : List (List ℕ)) (plan : Plan) → words ≡ codes "gen" ∷ options → IsPlan words plan → (p : GenPlan) × IsGenPlan options p
-its_gen words options (plans.Gen plan) e (others, e', is) = (plan, subst (λ ws. IsGenPlan ws plan) (sym (its_options words options others _ _ e e').1) is)
-its_gen words options (plans.Serve plan) e (others, e', is) = absurd (serve_or_gen (its_options words others options _ _ e' e).0)
-its_gen words options (plans.Log plan) e (others, e', is) = absurd (log_or_gen (its_options words others options _ _ e' e).0)
+-- the plan that a verb has is of its kind
+pub of_serve : (options : List (List ℕ)) (plan : Plan) → IsPlanOf verbs.Serve options plan → (p : ServePlan) × IsServePlan (before_dashes options) (behind_dashes options) p
+of_serve options (plans.Serve plan) is = (plan, is)
+of_serve options (plans.Log plan) is = absurd is
+of_serve options (plans.Gen plan) is = absurd is
+
+pub of_log : (options : List (List ℕ)) (plan : Plan) → IsPlanOf verbs.Log options plan → (p : LogPlan) × IsLogPlan options p
+of_log options (plans.Log plan) is = (plan, is)
+of_log options (plans.Serve plan) is = absurd is
+of_log options (plans.Gen plan) is = absurd is
+
+pub of_gen : (options : List (List ℕ)) (plan : Plan) → IsPlanOf verbs.Gen options plan → (p : GenPlan) × IsGenPlan options p
+of_gen options (plans.Gen plan) is = (plan, is)
+of_gen options (plans.Serve plan) is = absurd is
+of_gen options (plans.Log plan) is = absurd is
 
 -- an option that is given once asks for what its text says, wherever it stands among the parts
 pub ask_once : {X : Type 0} (verb : Verb) (words : List (List ℕ)) (option text : List ℕ) (before after : List Part) (Says : List ℕ → X → Type 0) (default : Option X) (x : X)

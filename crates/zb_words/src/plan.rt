@@ -2,7 +2,7 @@ ghost use Rattle.std.specs.Prelude as prelude;
 ghost use Rattle.std.specs.Prelude.{◌≡◌, ◌≢◌, ◌≤◌, ◌^◌, ◌%◌, ℕ, [], length, map, string_bytes, unwrap_or, IfOk, IfErr};
 ghost use Rattle.clap.specs.Words.{all_of, found_of, kind_of, rows_of};
 ghost use Rattle.clap.specs.declared.error.kind.ErrorKind.TheVariants.{OutOfMemory};
-ghost use Rattle.zb_words.specs.App.{IsMatched, files_among};
+ghost use Rattle.zb_words.specs.App.{IsMatched, IsPlanOf, TakesVerb, files_among, word_of};
 ghost use Rattle.zb_words.specs.Plan.{IsPlan, IsServePlan, IsLogPlan, IsGenPlan, IsInRange};
 ghost use Rattle.zb_words.specs.Part.{before_dashes, behind_dashes};
 ghost use Rattle.zb_words.specs.declared.fault.PlanFault.TheVariants as faults;
@@ -140,7 +140,11 @@ pub fn plan_of(alloc: Global, words: &[String]) -> Result<Plan, PlanFault>
 {
     match read(alloc, words) {
         Ok(plan) => Ok(plan),
-        Err(error) => Err(fault_of(&error)),
+        Err(error) => {
+            let fault = fault_of(&error);
+            drop(error);
+            Err(fault)
+        }
     }
 }
 
@@ -150,8 +154,15 @@ pub fn usage_text(alloc: Global, words: &[String]) -> Result<String, AllocError>
     ensures { IfOk result (λ text. (plan : Plan) → IsPlan (map string_bytes words.now) plan → string_bytes text ≡ []) }
 {
     match read(alloc, words) {
-        Ok(_plan) => Ok(String::new(alloc)),
-        Err(error) => text_of(alloc, &error),
+        Ok(plan) => {
+            drop(plan);
+            Ok(String::new(alloc))
+        }
+        Err(error) => {
+            let told = text_of(alloc, &error);
+            drop(error);
+            told
+        }
     }
 }
 
@@ -181,28 +192,72 @@ fn read(alloc: Global, words: &[String]) -> Result<Plan, Error>
     ensures unplanned { IfErr result (λ error. kind_of error ≢ OutOfMemory → (plan : Plan) → IsPlan (map string_bytes words.now) plan → ⊥) }
     ensures within { IfOk result IsInRange }
 {
-    let matches = match app(alloc)?.try_get_matches_from(words) {
-        Ok(matches) => matches,
-        Err(error) => return Err(error),
-    };
-    let Some((verb, options)) = words.split_first() else {
+    let app = app(alloc)?;
+    match app.try_get_matches_from(words) {
+        Ok(matches) => {
+            let plan = plan_in(alloc, words, &matches);
+            drop(matches);
+            plan
+        }
+        Err(error) => Err(error),
+    }
+}
+
+// Makes the plan of words that clap took.
+fn plan_in(alloc: Global, words: &[String], matches: &ArgMatches<'_>) -> Result<Plan, Error>
+    requires taken { TakesVerb (map string_bytes words.now) matches.now }
+    ensures planned { IfOk result (IsPlan (map string_bytes words.now)) }
+    ensures unplanned { IfErr result (λ error. kind_of error ≢ OutOfMemory → (plan : Plan) → IsPlan (map string_bytes words.now) plan → ⊥) }
+    ensures within { IfOk result IsInRange }
+{
+    let Some((word, options)) = words.split_first() else {
         unreachable!()
     };
     let Some((_, asked)) = matches.subcommand() else {
         unreachable!()
     };
-    match verb.as_str() {
-        "serve" => match serve_plan(alloc, options, asked) {
+    let verb = verb_of(word.as_str());
+    match verb_plan(alloc, verb, options, asked) {
+        Ok(plan) => Ok(plan),
+        Err(refusal) => Err(error_of(alloc, verb, refusal)),
+    }
+}
+
+// The verb that a word is, which is one.
+fn verb_of(word: &str) -> Verb
+    ensures { (verb : Verb) → word.now ≡ word_of verb → result ≡ verb }
+{
+    match word {
+        "serve" => Verb::Serve,
+        "log" => Verb::Log,
+        _ => Verb::Gen,
+    }
+}
+
+// Makes the plan of the words behind a verb, as clap read them.
+fn verb_plan(
+    alloc: Global,
+    verb: Verb,
+    words: &[String],
+    asked: &ArgMatches<'_>,
+) -> Result<Plan, Refusal>
+    requires taken { IsMatched verb (map string_bytes words.now) (rows_of (found_of asked.now)) }
+    ensures planned { IfOk result (IsPlanOf verb (map string_bytes words.now)) }
+    ensures unplanned { IfErr result (λ refusal. refusal ≢ refusals.Memory → (plan : Plan) → IsPlanOf verb (map string_bytes words.now) plan → ⊥) }
+    ensures within { IfOk result IsInRange }
+{
+    match verb {
+        Verb::Serve => match serve_plan(alloc, words, asked) {
             Ok(plan) => Ok(Plan::Serve(plan)),
-            Err(refusal) => Err(error_of(alloc, Verb::Serve, refusal)),
+            Err(refusal) => Err(refusal),
         },
-        "log" => match log_plan(alloc, options, asked) {
+        Verb::Log => match log_plan(alloc, words, asked) {
             Ok(plan) => Ok(Plan::Log(plan)),
-            Err(refusal) => Err(error_of(alloc, Verb::Log, refusal)),
+            Err(refusal) => Err(refusal),
         },
-        _ => match gen_plan(options, asked) {
+        Verb::Gen => match gen_plan(words, asked) {
             Ok(plan) => Ok(Plan::Gen(plan)),
-            Err(refusal) => Err(error_of(alloc, Verb::Gen, refusal)),
+            Err(refusal) => Err(refusal),
         },
     }
 }
@@ -222,7 +277,10 @@ fn error_of(alloc: Global, verb: Verb, refusal: Refusal) -> Error
 
 // Tells what is wanted, and how the verb is used.
 fn usage_error(alloc: Global, verb: Verb, wanted: &str) -> Result<Error, AllocError> {
-    command_of(alloc, verb)?.error(ErrorKind::ValueValidation, wanted)
+    let mut command = command_of(alloc, verb)?;
+    let told = command.error(ErrorKind::ValueValidation, wanted);
+    drop(command);
+    told
 }
 
 // Makes the plan of the words behind `serve`, as clap read them.
@@ -241,14 +299,20 @@ fn serve_plan(alloc: Global, words: &[String], asked: &ArgMatches<'_>) -> Result
         Ok(files) => files,
         Err(refusal) => return Err(refusal),
     };
-    Ok(ServePlan {
-        partitions,
-        dir: Text::of(alloc, dir_in(asked))?,
-        clock,
-        limit,
-        units,
-        files,
-    })
+    match Text::of(alloc, dir_in(asked)) {
+        Ok(dir) => Ok(ServePlan {
+            partitions,
+            dir,
+            clock,
+            limit,
+            units,
+            files,
+        }),
+        Err(no_memory) => {
+            drop(files);
+            Err(Refusal::from(no_memory))
+        }
+    }
 }
 
 // Makes the plan of the words behind `log`, as clap read them.

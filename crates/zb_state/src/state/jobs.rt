@@ -72,7 +72,7 @@ impl State {
         ensures { (es : List Event) → IsStateOf es self.now → result ≡ is_job_in is_given_out key es }
     {
         match self.tables.jobs.get(key) {
-            Some(job) => matches!(job.phase, JobPhase::Activated | JobPhase::TimedOut),
+            Some(job) => job.phase.is_given_out(),
             None => false,
         }
     }

@@ -2,25 +2,16 @@
 ghost use Rattle.std.specs.Prelude.{◌≡◌, ◌≤◌, List, IfOk};
 ghost use Rattle.zb_model.specs.declared.record.Event.{Event};
 ghost use Rattle.zb_views.specs.Distributions.{is_distributed_to, is_distributed};
-ghost use Rattle.zb_record.specs.Sendings as views;
 ghost use Rattle.zb_record.specs.Packets.{packet_for, packet_of_definition, outbox_of, first_packet};
 ghost use Rattle.zb_state.specs.State.{partition_of, IsStateOf};
 
 use crate::State;
 use std::alloc::{AllocError, Global};
 use zb_model::{Key, Packet, TryCopy};
-use zb_outbox::Outbox;
 use zb_record::{Sending, distribute};
 use zb_views::Distribution;
 
 impl State {
-    /// What is sent and no event has ended.
-    pub fn sendings(&self) -> &Outbox
-        ensures { (es : List Event) → IsStateOf es self.now → views.sendings es ≡ result.now }
-    {
-        &self.tables.sendings
-    }
-
     /// The packets that the partition, of so many, has sent and that no event has ended, in the order in which they were
     /// sent. Each costs a copy of what is sent; one of a definition the logarithm of how many there are, and a copy of
     /// its model.
@@ -52,15 +43,15 @@ impl State {
         Ok(None)
     }
 
-    // Whether this definition is on its way to this partition.
-    pub(super) fn is_distributed_to(&self, definition: Key, partition: u32) -> bool
+    /// Whether this definition is on its way to this partition. It costs what `Outbox::is_sent_to` does.
+    pub fn is_distributed_to(&self, definition: Key, partition: u32) -> bool
         ensures { (es : List Event) → IsStateOf es self.now → result ≡ is_distributed_to definition partition es }
     {
         self.tables.sendings.is_sent_to(definition, partition)
     }
 
-    // Whether this definition is on its way to some partition.
-    pub(super) fn is_distributed(&self, definition: Key) -> bool
+    /// Whether this definition is on its way to some partition. It costs what `Outbox::is_sent` does.
+    pub fn is_distributed(&self, definition: Key) -> bool
         ensures { (es : List Event) → IsStateOf es self.now → result ≡ is_distributed definition es }
     {
         self.tables.sendings.is_sent(definition)

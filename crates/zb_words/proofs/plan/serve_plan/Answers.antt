@@ -47,13 +47,13 @@ returns-in-Err-clause-unplanned c = λ other plan is.
     ours.all ∙ ap (λ among. among ++ behind) (one_files verbs.Serve (before_dashes words) ours.among is.files.among ours.given is.files.given) ∙ sym is.files.all in
     c.in-Err.ensures.none other (ap (λ fs. length fs % 2) same ∙ is.files.pairs)
 
-pub returns-clause-planned : goal.returns-clause-planned
-returns-clause-planned c =
+pub returns-in-Ok-of-clause-planned : goal.returns-in-Ok-of-clause-planned
+returns-in-Ok-of-clause-planned c =
     let found = found_of c.args.asked.now in
     let ours = asked verbs.Serve (map string_bytes c.args.words.now) found c.requires.taken c.in_ok-check_dashes.ensures.fit in
     record {
       partitions = record { text = first_value found (codes "partitions"); once = ours.option (codes "partitions") refl; meant = c.in_ok-partitions.ensures.some };
-      dir = record { text = first_value found (codes "dir"); once = ours.option (codes "dir") refl; meant = subst (IsMeant IsPath (first_value found (codes "dir")) (Some (codes "zb"))) (sym c.in_ok-of.ensures) c.dir_in.ensures };
+      dir = record { text = first_value found (codes "dir"); once = ours.option (codes "dir") refl; meant = subst (IsMeant IsPath (first_value found (codes "dir")) (Some (codes "zb"))) (sym c.in-Ok-of.ensures) c.dir_in.ensures };
       clock = record { text = first_value found (codes "clock"); once = ours.option (codes "clock") refl; meant = c.in_ok-clock.ensures.some };
       limit = record { text = first_value found (codes "limit"); once = ours.option (codes "limit") refl; meant = c.in_ok-limit.ensures.some };
       units = record { text = first_value found (codes "units"); once = ours.option (codes "units") refl; meant = c.in_ok-units.ensures.some };

@@ -1,0 +1,57 @@
+use crate::models::straight;
+use std::alloc::Global;
+use std::mem::forget;
+use std::process::Abort;
+use zb_game::{Game, GameFault};
+use zb_graph::{BoxedGraph, compile};
+use zb_model::{Key, TryCopy};
+use zb_tokens::{Deployed, Move, Start};
+
+// The graph of the process `p`.
+fn graph(rt: &impl Abort, alloc: Global) -> BoxedGraph {
+    let Ok(graph) = compile(alloc, straight(rt, alloc)) else {
+        panic!(rt; "no memory");
+    };
+    match BoxedGraph::new(alloc, graph) {
+        Ok(boxed) => boxed,
+        Err(_) => panic!(rt; "no memory"),
+    }
+}
+
+// A board with the process `p` under key 1, and an instance of it begun under key 2.
+fn started(rt: &impl Abort, alloc: Global) -> Game {
+    let mut game = Game::empty(alloc);
+    let definition = Key::new(1);
+    let stand = Move::Stand(Deployed {
+        key: definition,
+        model: graph(rt, alloc),
+    });
+    assert!(rt; game.make(alloc, stand) == Ok(()));
+    let key = Key::new(2);
+    let start = Move::Start(Start { key, definition });
+    assert!(rt; game.play(alloc, start) == Ok(()));
+    game
+}
+
+// Whether the token game can't finish a cell that isn't there.
+fn refuses(alloc: Global, game: &mut Game) -> bool {
+    let finish = Move::Finish(Key::new(7));
+    let fits = game.fits(&finish);
+    let made = game.make(alloc, finish);
+    let played = game.play(alloc, Move::Finish(Key::new(7)));
+    !fits && made == Err(GameFault::Illegal) && played == Err(GameFault::Illegal)
+}
+
+#[test]
+fn refuses_a_cell_that_is_not_there(rt: HostRuntime) {
+    let alloc = rt.alloc();
+    let mut game = started(&rt, alloc);
+    assert!(rt; refuses(alloc, &mut game));
+    let Ok(copy) = game.copy(alloc) else {
+        panic!(&rt; "no memory");
+    };
+    assert!(rt; copy.definition_of(Key::new(2)) == Some(Key::new(1)));
+    assert!(rt; copy.is_process_of(Key::new(1), "p"));
+    forget(copy);
+    forget(game);
+}
