@@ -5,11 +5,10 @@ ghost use Rattle.zb_table.specs.Rows.{Ascend, are_below};
 ghost use Rattle.zb_tokens.specs.Edits.{edited, without_first};
 ghost use Rattle.zb_tokens.specs.Forced.{greatest};
 
-use crate::copies::copy_of;
 use crate::others::{self, HasKey};
 use std::alloc::{AllocError, Global};
 use std::marker::Model;
-use zb_base::{Key, TryCopy};
+use zb_base::Key;
 use zb_table::{Edit, Query, Row, Table};
 
 // How many rows memory has room for, at most.
@@ -148,16 +147,6 @@ impl<R: Row> Arrivals<R> {
             self.ordered.last_key(query),
             others::greatest(query, &self.others),
         )
-    }
-}
-
-impl<R: Row + TryCopy> TryCopy for Arrivals<R> {
-    fn copy(&self, alloc: Global) -> Result<Arrivals<R>, AllocError> {
-        Ok(Arrivals {
-            ordered: self.ordered.copy(alloc)?,
-            next: self.next,
-            others: copy_of(alloc, &self.others)?.into_vec(),
-        })
     }
 }
 

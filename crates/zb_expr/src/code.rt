@@ -2,9 +2,8 @@ ghost use Rattle.std.specs.Prelude.{◌≡◌, IsTrue};
 ghost use Rattle.zb_expr.specs.Postfix.{tree_written, writes_one};
 
 use crate::instruction::Instruction;
-use std::alloc::{AllocError, Global};
 use std::marker::Model;
-use zb_base::{List, TryCopy};
+use zb_base::List;
 
 /// The postfix code of an expression. Contracts see the expression.
 #[derive(Drop)]
@@ -43,13 +42,5 @@ impl Code {
         ensures tree { tree_written result.now ≡ self.now }
     {
         self.instructions.as_slice()
-    }
-}
-
-impl TryCopy for Code {
-    fn copy(&self, alloc: Global) -> Result<Code, AllocError> {
-        Ok(Code {
-            instructions: self.instructions.copy(alloc)?,
-        })
     }
 }

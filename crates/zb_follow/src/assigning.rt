@@ -11,6 +11,7 @@ use std::alloc::{AllocError, Global};
 use zb_model::{Event, Key, Moment, ScopeVariable, TryCopy, Variable};
 use zb_state::{Out, Refusal, State};
 use zb_tokens::Assignments;
+use zb_values::{has_name, holder_of};
 
 /// Where variables are set: in a scope where they are local, else from it on up.
 #[derive(Clone, Copy)]
@@ -19,7 +20,7 @@ pub struct Place {
     pub scope: Key,
 }
 
-/// A variable is set there. It costs what `Game::holder_of` does.
+/// A variable is set there. It costs what `holder_of` does.
 impl FindEach<Variable> for Place {
     ghost finds = { λ place v p moment. set_by place.local place.scope v };
 
@@ -45,7 +46,7 @@ impl Place {
         if self.local {
             Some(self.scope)
         } else {
-            state.game().holder_of(self.scope, name)
+            holder_of(state.game(), self.scope, name)
         }
     }
 }
@@ -64,7 +65,7 @@ fn event_of(
         name: variable.name.copy(alloc)?,
         value: variable.value.copy(alloc)?,
     };
-    if state.game().has_name(cell, variable.name.as_str()) {
+    if has_name(state.game(), cell, variable.name.as_str()) {
         Ok(Event::VariableUpdated(variable))
     } else {
         Ok(Event::VariableCreated(variable))

@@ -8,14 +8,16 @@ ghost use Rattle.zb_follow.specs.Behind.{made_behind, job_canceled, ended_with};
 use crate::making::{Find, Found, Maker};
 use crate::timers::{ClosedTimers, OpenedTimers};
 use std::alloc::{AllocError, Global};
+use zb_game::is_interrupting;
 use zb_model::{Event, IncidentResolved, JobCreated, Key, Moment, TryCopy};
 use zb_state::{Out, Refusal, State};
 use zb_tokens::{Incident, Triggered};
+use zb_values::work_at;
 
 /// An event, and those behind it. It costs what `Out::put` does for each; where a cell becomes active what
-/// `Game::work_at` and `Game::openings_at` do, where it begins to complete what `Timers::on` does, and where it begins to
+/// `work_at` and `openings_at` do, where it begins to complete what `Timers::on` does, and where it begins to
 /// terminate what that, `Jobs::on` and `Game::incident_on` do; where a node's event has come about what
-/// `Game::is_interrupting` does too.
+/// `is_interrupting` does too.
 #[derive(Drop)]
 pub struct WithBehind(pub Event);
 
@@ -111,7 +113,7 @@ impl Maker for Interrupted {
     ) -> Result<(), Refusal> {
         let Interrupted(told) = self;
         let cell = told.cell;
-        let interrupts = state.game().is_interrupting(cell, told.node.as_str());
+        let interrupts = is_interrupting(state.game(), cell, told.node.as_str());
         if interrupts {
             return Halted(cell).put(alloc, state, moment, out);
         }
@@ -183,7 +185,7 @@ impl Find for JobOf {
     ghost finds = { λ it p. job_made_on p it.0 };
 
     fn find(self, alloc: Global, state: &State) -> Result<Option<Event>, AllocError> {
-        let Some(node) = state.game().work_at(self.0) else {
+        let Some(node) = work_at(state.game(), self.0) else {
             return Ok(None);
         };
         Ok(Some(Event::JobCreated(JobCreated {

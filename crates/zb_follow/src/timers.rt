@@ -8,9 +8,10 @@ use std::alloc::{AllocError, Global};
 use zb_model::{Event, Key, Moment, TimerCreated, TryCopy};
 use zb_state::{Out, Refusal, State};
 use zb_tokens::Opening;
+use zb_values::openings_at;
 
 /// The timers that open for a cell as it becomes active are made, one after the other, each under a fresh key. It costs
-/// what `Game::openings_at` does, and what `Out::put` does for each.
+/// what `openings_at` does, and what `Out::put` does for each.
 #[derive(Drop)]
 pub struct OpenedTimers(pub Key);
 
@@ -24,7 +25,7 @@ impl Maker for OpenedTimers {
         moment: Moment,
         out: &mut Out,
     ) -> Result<(), Refusal> {
-        let openings = state.game().openings_at(alloc, moment, self.0)?;
+        let openings = openings_at(state.game(), alloc, moment, self.0)?;
         let finder = &TimerOf(self.0);
         let things = openings.as_slice();
         Each { finder, things }.put(alloc, state, moment, out)

@@ -6,9 +6,7 @@ use Rattle.std.proofs.lemmas.Bool.{or_left, or_right}
 use Rattle.std.proofs.lemmas.Bool.Decides.{nat_tests}
 use Rattle.std.proofs.lemmas.List.Elements.{All-filter, All-map, All-head, All-tail, filter_passes}
 use Rattle.zb_table.specs.Rows.{Ascend, last_passing}
-use Rattle.zb_groups.specs.declared.held.Held.{Held}
 use Rattle.zb_tokens.specs.declared.board.Cell.{Cell}
-use Rattle.zb_tokens.specs.declared.board.Token.{Token}
 use Rattle.zb_tokens.specs.declared.board.Phase.{Phase}
 use Rattle.zb_tokens.specs.declared.board.Phase.TheVariants as phases
 use Rattle.zb_tokens.specs.Edits.{is_none_of}
@@ -23,8 +21,7 @@ use Rattle.zb_tokens.specs.Marks.{error_of}
 use Rattle.zb_tokens.specs.MoveFinish.{is_done}
 use Rattle.zb_tokens.specs.Forced.{ends_in, goes_on_in, is_forced, greatest}
 use Rattle.zb_process.specs.declared.model.Model.{Model}
-use Rattle.zb_game.specs.declared.tallies.Tally.{Tally}
-use Rattle.zb_game.specs.Indexed.{IsIndexed, is_done_in, rests_in, is_resting, is_kept}
+use Rattle.zb_board.specs.Indexed.{is_done_in, rests_in, is_resting, is_kept}
 use Rattle.zb_game.specs.Searches.{comes_about_at, is_forced_at, newest_key}
 use Rattle.zb_table.proofs.Ascending.{finds_own}
 
@@ -146,7 +143,7 @@ among_kept p key (x ∷ cells) c found it = by_key (x.key == key) (p x) refl ref
     by_key false true other passes found later = rw other (later found)
     by_key false false other fails found later = later found
 
-module _ (b : Board) (rows : List (Held Token)) (inside : List Tally) (stuck : List (ℕ × ℕ)) (ready calling coming : List ℕ) (kept : IsIndexed b rows inside stuck ready calling coming) (free : (c : Cell) → is_doomed b c ≡ false) where
+module _ (b : Board) (ready : List ℕ) (ascend : Ascend (λ (c : Cell). c.key) 0 b.cells) (awake : All (λ c. is_resting b c ≡ false → is_kept ready c.key ≡ true) b.cells) (free : (c : Cell) → is_doomed b c ≡ false) where
   -- the key of a forced cell is among the ready ones, and one of a forced cell
   abbrev IsFound : ℕ → Type 0
   IsFound n = (is_kept ready n ≡ true) × (is_forced_at b n ≡ true)
@@ -156,10 +153,10 @@ module _ (b : Board) (rows : List (Held Token)) (inside : List Tally) (stuck : L
       let c = get_or b.cells k d in
       let goes_free : (not (is_stuck b c) && goes_on_in b c c.phase) ≡ true = sym (ap (λ (t : Bool). if t then ends_in b c c.phase else not (is_stuck b c) && goes_on_in b c c.phase) (free c)) ∙ forced in
       let goes : goes_on_in b c c.phase ≡ true = both (not (is_stuck b c)) (goes_on_in b c c.phase) goes_free in
-      let found : cell_at b c.key ≡ Some c = finds_own (λ (x : Cell). x.key) 0 b.cells k d within kept.cells_ascend in
+      let found : cell_at b c.key ≡ Some c = finds_own (λ (x : Cell). x.key) 0 b.cells k d within ascend in
       let free_of : is_stuck b c ≡ false = is_not (is_stuck b c) (one_of (not (is_stuck b c)) (goes_on_in b c c.phase) goes_free) in
       let moves : is_resting b c ≡ false = rw free_of (goes_not_rests b c c.phase goes) in
-      (kept.awake k d within moves, rw found forced)
+      (awake k d within moves, rw found forced)
 
   all_found : All IsFound (map (λ (c : Cell). c.key) (filter (is_forced b) b.cells))
   all_found = All-map IsFound (λ (c : Cell). c.key) (filter (is_forced b) b.cells)
@@ -219,7 +216,7 @@ module _ (b : Board) (t : Triggered) where
           or_left (comes_about_at b t k) (list_any (comes_about_at b t) keys) (subst (λ (n : ℕ). comes_about_at b t n ≡ true) (sym one) comes)
       by_test false other there later = or_right (comes_about_at b t k) (list_any (comes_about_at b t) keys) (later there)
 
-  module _ (rows : List (Held Token)) (inside : List Tally) (stuck : List (ℕ × ℕ)) (ready calling coming : List ℕ) (kept : IsIndexed b rows inside stuck ready calling coming) where
+  module _ (ready : List ℕ) (ascend : Ascend (λ (c : Cell). c.key) 0 b.cells) (awake : All (λ c. is_resting b c ≡ false → is_kept ready c.key ≡ true) b.cells) where
     -- its cell doesn't rest
     awake_by : (c : Cell) → comes_about_by b t c ≡ true → is_resting b c ≡ false
     awake_by c comes =
@@ -241,8 +238,8 @@ module _ (b : Board) (t : Triggered) where
     all_kept : All (λ c. comes_about_by b t c ≡ true → list_any (comes_about_at b t) ready ≡ true) b.cells
     all_kept k d within comes =
         let c = get_or b.cells k d in
-        let found : cell_at b c.key ≡ Some c = finds_own (λ (x : Cell). x.key) 0 b.cells k d within kept.cells_ascend in
-        kept_any ready c.key (kept.awake k d within (awake_by c comes)) (rw found comes)
+        let found : cell_at b c.key ≡ Some c = finds_own (λ (x : Cell). x.key) 0 b.cells k d within ascend in
+        kept_any ready c.key (awake k d within (awake_by c comes)) (rw found comes)
 
     from_cells : (cells : List Cell) → All (λ c. comes_about_by b t c ≡ true → list_any (comes_about_at b t) ready ≡ true) cells → list_any (comes_about_by b t) cells ≡ true → list_any (comes_about_at b t) ready ≡ true
     from_cells [] all some = absurd (cc)

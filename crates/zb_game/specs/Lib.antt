@@ -1,8 +1,1 @@
-pub mod BoardCode
-pub mod Tallies
-pub mod Kept
-pub mod Indexed
 pub mod Searches
-pub mod Exits
-pub mod Mapped
-pub mod Opens

@@ -1,17 +1,26 @@
-//! The player of moves: a game of tokens, which moves fit it, what a move makes of it, and who is
-//! forced to move.
+//! The player of moves: which moves fit a game of tokens, what a move makes of it, and who is forced to move.
 #![tactic(auto)]
 
-mod edits;
-mod flows;
-mod game;
-mod keys;
-mod kinds;
-mod lasts;
-mod lookups;
-mod marks;
-mod models;
-mod tallies;
-mod unseen;
+mod assign;
+mod done;
+mod enter;
+mod errors;
+mod finish;
+mod forced;
+mod gone;
+mod halt;
+mod incident;
+mod leave;
+mod moves;
+mod open;
+mod player;
+mod stand;
+mod start;
+mod take;
+mod throw;
+mod trigger;
 
-pub use game::{Game, GameFault};
+pub use forced::{is_quiet, next_mover};
+pub use moves::move_of;
+pub use player::{fits, make, play};
+pub use trigger::{is_interrupting, may_open, waits_at};

@@ -4,7 +4,6 @@ ghost use Rattle.std.specs.Prelude.{◌≡◌, IfOk};
 use crate::Graph;
 use std::alloc::{AllocError, Global};
 use std::marker::Model;
-use zb_base::TryCopy;
 
 /// A graph behind a pointer, so that what holds one is small, and moves in few steps. Contracts see its model.
 #[derive(Drop)]
@@ -38,11 +37,5 @@ impl BoxedGraph {
         ensures { result.now ≡ self.now }
     {
         &self.graph
-    }
-}
-
-impl TryCopy for BoxedGraph {
-    fn copy(&self, alloc: Global) -> Result<BoxedGraph, AllocError> {
-        BoxedGraph::new(alloc, self.graph().copy(alloc)?)
     }
 }

@@ -4,7 +4,7 @@ ghost use Rattle.std.specs.Option.{option_copied};
 ghost use Rattle.zb_graph.specs.Codes.{codes_of, codes_of_node};
 
 use std::alloc::{AllocError, Global};
-use zb_base::{List, TryCopy};
+use zb_base::List;
 use zb_expr::{Code, compile};
 use zb_process::{Expr, Flow, Mapping, Model, Node};
 
@@ -96,25 +96,5 @@ fn maybe_compiled(alloc: Global, expr: Option<&Expr>) -> Result<Option<Code>, Al
     match expr {
         Some(expr) => Ok(Some(compile(alloc, expr)?)),
         None => Ok(None),
-    }
-}
-
-impl TryCopy for Codes {
-    fn copy(&self, alloc: Global) -> Result<Codes, AllocError> {
-        Ok(Codes {
-            conditions: self.conditions.copy(alloc)?,
-            nodes: self.nodes.copy(alloc)?,
-        })
-    }
-}
-
-impl TryCopy for NodeCodes {
-    fn copy(&self, alloc: Global) -> Result<NodeCodes, AllocError> {
-        Ok(NodeCodes {
-            expr: self.expr.copy(alloc)?,
-            collection: self.collection.copy(alloc)?,
-            inputs: self.inputs.copy(alloc)?,
-            outputs: self.outputs.copy(alloc)?,
-        })
     }
 }

@@ -8,11 +8,9 @@ ghost use Rattle.zb_graph.specs.Links.{bounds_of, id_at, ins_of, outs_of};
 ghost use Rattle.zb_graph.specs.Codes.{codes_of, codes_of_node, inputs_at, outputs_at};
 
 use crate::codes::{Codes, HasCodes, NodeCodes};
-use crate::index::index_of;
-use crate::places::Places;
+use crate::index::{Index, index_of};
 use std::alloc::{AllocError, Global};
 use std::marker::Model;
-use zb_base::TryCopy;
 use zb_expr::Code;
 use zb_process::{Flow, Model as ProcessModel, Node};
 
@@ -21,17 +19,8 @@ use zb_process::{Flow, Model as ProcessModel, Node};
 #[derive(Drop)]
 pub struct Graph {
     model: ProcessModel,
-    // Where the nodes of each id stand.
-    nodes: Places,
-    // Where the flows of each id stand.
-    flows: Places,
-    // Where the flows out of each node stand, and those into it.
-    outs: Places,
-    ins: Places,
-    // Where the boundary events at each activity stand.
-    bounds: Places,
-    // Where the start events of each scope stand.
-    starts: Places,
+    // Where its nodes and flows stand.
+    index: Index,
     // The codes of its expressions.
     codes: Codes,
 }
@@ -48,7 +37,7 @@ impl Model for Graph {
 
     ghost view = { λ g. g.model };
 
-    ghost invariant = { λ g. IsGraph g.model g.nodes g.flows g.outs g.ins g.bounds g.starts g.codes };
+    ghost invariant = { λ g. IsGraph g.model g.index g.codes };
 }
 
 /// The graph of a model. Its expressions are compiled here, once. It takes a step for each node, each flow and each
@@ -77,31 +66,13 @@ fn with_codes(alloc: Global, model: ProcessModel, codes: Codes) -> Result<Graph,
     match index_of(alloc, &model) {
         Ok(index) => Ok(Graph {
             model,
-            nodes: index.nodes,
-            flows: index.flows,
-            outs: index.outs,
-            ins: index.ins,
-            bounds: index.bounds,
-            starts: index.starts,
+            index,
             codes,
         }),
         Err(no_memory) => {
             drop(model);
             drop(codes);
             Err(no_memory)
-        }
-    }
-}
-
-impl TryCopy for Graph {
-    fn copy(&self, alloc: Global) -> Result<Graph, AllocError> {
-        let model = self.model.copy(alloc)?;
-        match self.codes.copy(alloc) {
-            Ok(codes) => with_codes(alloc, model, codes),
-            Err(no_memory) => {
-                drop(model);
-                Err(no_memory)
-            }
         }
     }
 }
@@ -125,7 +96,7 @@ impl Graph {
     pub fn number(&self, id: &str) -> Option<u32>
         ensures { result ≡ position (λ n. bytes_eq n.id id.now) self.now.nodes }
     {
-        self.nodes.at(id).first().copied()
+        self.index.nodes.by_id.at(id).first().copied()
     }
 
     /// The node with a number.
@@ -173,14 +144,14 @@ impl Graph {
     pub fn node_with(&self, id: &str) -> Option<&Node>
         ensures { option_copied result ≡ find (λ n. bytes_eq n.id id.now) self.now.nodes }
     {
-        first_of(self.nodes.at(id), self.model.nodes.as_slice())
+        first_of(self.index.nodes.by_id.at(id), self.model.nodes.as_slice())
     }
 
     /// The flow with an id.
     pub fn flow_with(&self, id: &str) -> Option<&Flow>
         ensures { option_copied result ≡ find (λ f. bytes_eq f.id id.now) self.now.flows }
     {
-        first_of(self.flows.at(id), self.model.flows.as_slice())
+        first_of(self.index.flows.by_id.at(id), self.model.flows.as_slice())
     }
 
     /// The numbers of the flows out of the node with an id, in the order of the model.
@@ -188,7 +159,7 @@ impl Graph {
         ensures places { result.now ≡ outs_of self.now id.now }
         ensures flows { map (slice_get self.now.flows) result.now ≡ map Some (filter (λ f. bytes_eq f.from id.now) self.now.flows) }
     {
-        self.outs.at(id)
+        self.index.flows.outs.at(id)
     }
 
     /// The numbers of the flows into the node with an id, in the order of the model.
@@ -196,7 +167,7 @@ impl Graph {
         ensures places { result.now ≡ ins_of self.now id.now }
         ensures flows { map (slice_get self.now.flows) result.now ≡ map Some (filter (λ f. bytes_eq f.to id.now) self.now.flows) }
     {
-        self.ins.at(id)
+        self.index.flows.ins.at(id)
     }
 
     /// The numbers of the boundary events at the activity with an id, in the order of the model.
@@ -204,14 +175,17 @@ impl Graph {
         ensures places { result.now ≡ bounds_of self.now id.now }
         ensures nodes { map (slice_get self.now.nodes) result.now ≡ map Some (filter (is_boundary_of id.now) self.now.nodes) }
     {
-        self.bounds.at(id)
+        self.index.nodes.bounds.at(id)
     }
 
     /// The start event of a scope: the id of a subprocess, or the empty text at the top.
     pub fn start_in(&self, scope: &str) -> Option<&Node>
         ensures { option_copied result ≡ find (λ n. is_start n.kind && bytes_eq n.parent scope.now) self.now.nodes }
     {
-        first_of(self.starts.at(scope), self.model.nodes.as_slice())
+        first_of(
+            self.index.nodes.starts.at(scope),
+            self.model.nodes.as_slice(),
+        )
     }
 
     /// The code of the condition of a flow, if it has one. It takes constant time, as do the other questions for codes.

@@ -10,7 +10,7 @@ use crate::members::{Members, join, leave, numbers_kept, numbers_taken};
 use std::alloc::{AllocError, Global};
 use std::marker::Model;
 use std::mem;
-use zb_base::{Key, TryCopy};
+use zb_base::Key;
 use zb_table::{Query, Table};
 
 /// Rows in the order in which they came, each in a group, and each under a number of its own. Contracts see the list of
@@ -153,16 +153,6 @@ impl<R: Grouped> Groups<R> {
         for number in numbers.as_slice() {
             self.rows.remove(*number);
         }
-    }
-}
-
-impl<R: Grouped + TryCopy> TryCopy for Groups<R> {
-    fn copy(&self, alloc: Global) -> Result<Groups<R>, AllocError> {
-        Ok(Groups {
-            rows: self.rows.copy(alloc)?,
-            members: self.members.copy(alloc)?,
-            next: self.next,
-        })
     }
 }
 

@@ -1,7 +1,6 @@
 ghost use Rattle.std.specs.Prelude.{◌≡◌, ℕ};
 
-use std::alloc::{AllocError, Global};
-use zb_base::{Key, TryCopy};
+use zb_base::Key;
 use zb_table::Row;
 
 /// What stands in a group.
@@ -24,14 +23,5 @@ impl<R: Grouped> Row for Held<R> {
 
     fn key(&self) -> Key {
         self.number
-    }
-}
-
-impl<R: Grouped + TryCopy> TryCopy for Held<R> {
-    fn copy(&self, alloc: Global) -> Result<Held<R>, AllocError> {
-        Ok(Held {
-            number: self.number,
-            row: self.row.copy(alloc)?,
-        })
     }
 }

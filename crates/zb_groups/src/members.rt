@@ -3,7 +3,7 @@ ghost use Rattle.std.specs.Prelude.{◌≡◌, ℕ, ◌==◌, ◌++◌, ◌∷�
 ghost use Rattle.zb_groups.specs.Groups.{numbers_kept};
 
 use std::alloc::{AllocError, Global};
-use zb_base::{Key, List, TryCopy};
+use zb_base::{Key, List};
 use zb_table::{Edit, Row, Table};
 
 /// A group, and the numbers of the rows in it.
@@ -18,15 +18,6 @@ impl Row for Members {
 
     fn key(&self) -> Key {
         self.group
-    }
-}
-
-impl TryCopy for Members {
-    fn copy(&self, alloc: Global) -> Result<Members, AllocError> {
-        Ok(Members {
-            group: self.group,
-            numbers: self.numbers.copy(alloc)?,
-        })
     }
 }
 

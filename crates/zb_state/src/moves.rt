@@ -12,7 +12,8 @@ ghost use Rattle.zb_state.specs.Shows.{may_show};
 ghost use Rattle.zb_state.specs.Small.{IsSmall, HasSmallModel};
 
 use std::alloc::{AllocError, Global};
-use zb_game::{Game, GameFault};
+use zb_board::{Game, GameFault};
+use zb_game::make as make_move;
 use zb_graph::{BoxedGraph, compile};
 use zb_jobs::Jobs;
 use zb_model::{
@@ -24,7 +25,7 @@ use zb_tokens::{Assigned, Deployed, Enter, Incident, Leave, Move, Start, Take, T
 
 /// Makes the move that the event shows, if it shows one. At `NotApplicable`, exactly where it doesn't fit,
 /// nothing has changed; after `Memory` the game is only dropped. It costs a copy of the event's texts, its
-/// model, which becomes a graph, and its value, and what `Game::make` does.
+/// model, which becomes a graph, and its value, and what `zb_game::make` does.
 pub fn play(alloc: Global, event: &Event, jobs: &Jobs, game: &mut Game) -> Result<(), TableFault>
     requires { HasSmallModel event.now }
     ensures fit { (before : List Event) → views.jobs before ≡ jobs.now → OnOk result (IsTrue (may_fit (shown before event.now) game.old)) }
@@ -34,6 +35,9 @@ pub fn play(alloc: Global, event: &Event, jobs: &Jobs, game: &mut Game) -> Resul
     ensures silent { may_show event.now ≡ false → OnOk result (game.new ≡ game.old) }
     ensures kept { IsErrOf result TableFault.NotApplicable → game.new ≡ game.old }
 {
+    if !may_show(event) {
+        return Ok(());
+    }
     match shown(alloc, event, jobs)? {
         Some(step) => make(alloc, step, game),
         None => Ok(()),
@@ -71,7 +75,7 @@ fn make(alloc: Global, shown: Move, game: &mut Game) -> Result<(), TableFault>
     ensures illegal { IsErrOf result TableFault.NotApplicable → IsFalse (fits game.old shown) }
     ensures kept { IsErrOf result TableFault.NotApplicable → game.new ≡ game.old }
 {
-    match game.make(alloc, shown) {
+    match make_move(game, alloc, shown) {
         Ok(()) => Ok(()),
         Err(GameFault::Illegal) => Err(TableFault::NotApplicable),
         Err(GameFault::Memory) => Err(TableFault::Memory),
@@ -81,8 +85,7 @@ fn make(alloc: Global, shown: Move, game: &mut Game) -> Result<(), TableFault>
 // The move that the event shows, if it shows one.
 fn shown(alloc: Global, event: &Event, jobs: &Jobs) -> Result<Option<Move>, AllocError>
     requires { HasSmallModel event.now }
-    ensures shown { (before : List Event) → views.jobs before ≡ jobs.now → IfOk result (λ move. move ≡ shown before event.now) }
-    ensures silent { may_show event.now ≡ false → IfOk result (λ move. move ≡ None) }
+    ensures { (before : List Event) → views.jobs before ≡ jobs.now → IfOk result (λ move. move ≡ shown before event.now) }
 {
     match event {
         Event::ProcessCreated(process) => stand_of(alloc, process),

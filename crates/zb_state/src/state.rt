@@ -35,9 +35,10 @@ use crate::moves::{may_show, play};
 use crate::tables::Tables;
 use crate::turn::{Turn, turn_by};
 use std::alloc::{AllocError, Global};
+use zb_board::Game;
 use zb_check::{ModelFault, check};
 use zb_definitions::Definitions;
-use zb_game::Game;
+use zb_game::{is_quiet, move_of, next_mover};
 use zb_jobs::Jobs;
 use zb_model::{
     ElementActivating, Event, IncidentCreated, Key, MessagePublished, Model as ProcessModel,
@@ -45,6 +46,7 @@ use zb_model::{
 };
 use zb_timers::Timers;
 use zb_tokens::Mover;
+use zb_values::phase_of;
 use zb_views::{Begun, Left};
 
 /// What the events of a partition's log come to. Its clauses hold for all lists of events of which it is
@@ -88,7 +90,7 @@ impl State {
     /// Takes in an event that applies to those before it. At `NotApplicable`, exactly where it doesn't,
     /// nothing has changed; after `Memory` the state is only dropped. A message costs its copy and the logarithm
     /// of how many are buffered; one that expires costs that logarithm, on average. An event of the game costs
-    /// what `Game::make` does; a model costs its check and its copies.
+    /// what `zb_game::make` does; a model costs its check and its copies.
     pub fn apply(&mut self, alloc: Global, event: &Event) -> Result<(), TableFault>
         ensures place { partition_of self.new ≡ partition_of self.old }
         ensures applied { (es : List Event) → IsStateOf es self.old → OnOk result (IsTrue (applies (partition_of self.old) es event.now)) }
@@ -197,7 +199,7 @@ impl State {
         &self.tables.timers
     }
 
-    /// Who moves next; `None` where the game is quiet. It costs what `Game::next_mover` does, and nothing where nobody
+    /// Who moves next; `None` where the game is quiet. It costs what `zb_game::next_mover` does, and nothing where nobody
     /// was forced when it was last asked and no move was made since.
     pub fn next_mover(&mut self, alloc: Global) -> Result<Option<Mover>, AllocError>
         ensures mover { (es : List Event) (b : Board) → IsStateOf es self.new → board_of es ≡ Some b → IfOk result (λ mover. mover ≡ next_mover b) }
@@ -207,21 +209,21 @@ impl State {
         if self.rests {
             return Ok(None);
         }
-        let mover = self.game.next_mover(alloc)?;
+        let mover = next_mover(&self.game, alloc)?;
         self.rests = mover.is_none();
         Ok(mover)
     }
 
-    /// Whether nobody is forced to move. It costs what `Game::is_quiet` does, where that isn't known.
+    /// Whether nobody is forced to move. It costs what `zb_game::is_quiet` does, where that isn't known.
     pub fn quiet(&self) -> bool
         ensures game { (es : List Event) → IsStateOf es self.now → IsTrue result ↔ HasQuietGame es }
         ensures told { (es : List Event) → IsStateOf es self.now → result ≡ is_quiet es }
     {
-        self.rests || self.game.is_quiet()
+        self.rests || is_quiet(&self.game)
     }
 
     /// What a mover does at a moment, if it does anything: the event of its move, and the variables that are set in front of that;
-    /// the turn has the events behind it too. It costs what `Game::move_of` and `Game::assignments_of` do.
+    /// the turn has the events behind it too. It costs what `zb_game::move_of` and `assignments_of` do.
     pub fn turn_of(
         &self,
         alloc: Global,
@@ -232,7 +234,7 @@ impl State {
             → IfOk result (λ turn. turn_of (partition_of self.now) moment es b mover
             ≡ option_map (λ t. turn_with (partition_of self.now) moment t.assignments t.event es) turn) }
     {
-        match self.game.move_of(alloc, moment, self.next_key(), mover)? {
+        match move_of(&self.game, alloc, moment, self.next_key(), mover)? {
             Some(made) => turn_by(alloc, made, &self.game),
             None => Ok(None),
         }
@@ -258,7 +260,7 @@ impl State {
     fn has_cell(&self, key: Key) -> bool
         ensures { (es : List Event) → IsStateOf es self.now → result ≡ holds_of_game (has_cell key) es }
     {
-        self.game.phase_of(key).is_some()
+        phase_of(&self.game, key).is_some()
     }
 
     // Whether a definition has this key.

@@ -5,9 +5,10 @@ ghost use Rattle.zb_rules.specs.Shown.{event_of};
 
 use crate::moves::event_of;
 use std::alloc::{AllocError, Global};
-use zb_game::Game;
+use zb_board::Game;
 use zb_model::Event;
 use zb_tokens::{Assignments, Move};
+use zb_values::assignments_of;
 
 /// What a mover does: the event of its move, and what is set in front of that.
 #[derive(Drop)]
@@ -16,12 +17,12 @@ pub struct Turn {
     pub event: Event,
 }
 
-/// What is done by a forced move; `None` of a move that is never forced. It costs what `Game::assignments_of` and
+/// What is done by a forced move; `None` of a move that is never forced. It costs what `assignments_of` and
 /// `Game::definition_of` do.
 pub fn turn_by(alloc: Global, made: Move, game: &Game) -> Result<Option<Turn>, AllocError>
     ensures { IfOk result (λ turn. turn ≡ option_map (λ e. record { assignments = assignments_of game.now made; event = e }) (event_of game.now made)) }
 {
-    let assignments = match game.assignments_of(alloc, &made) {
+    let assignments = match assignments_of(game, alloc, &made) {
         Ok(assignments) => assignments,
         Err(AllocError) => {
             drop(made);

@@ -16,6 +16,7 @@ use zb_model::{
     RejectionKind, Text, TryCopy,
 };
 use zb_state::{Out, Refusal, State};
+use zb_values::{node_id, root_of, visible};
 use zb_views::Job;
 
 /// Why no jobs are given: no type is named.
@@ -29,7 +30,7 @@ pub fn reason(alloc: Global, command: &JobBatchActivate) -> Result<Option<Reject
 }
 
 /// The worker is given the first jobs of the type, one after the other, and then it is told which they are. Each costs
-/// what `Game::visible` and `Out::put` do.
+/// what `visible` and `Out::put` do.
 #[derive(Drop)]
 pub struct Activated<'a>(pub &'a JobBatchActivate);
 
@@ -108,7 +109,7 @@ fn given(
         node: node_of(alloc, state, job.cell)?,
         kind: job.kind.copy(alloc)?,
         retries: job.retries,
-        variables: state.game().visible(alloc, job.cell)?,
+        variables: visible(state.game(), alloc, job.cell)?,
     })
 }
 
@@ -116,7 +117,7 @@ fn given(
 fn instance_of(state: &State, cell: Key) -> Key
     ensures { (es : List Event) (b : Board) → IsStateOf es state.now → board_of es ≡ Some b → result ≡ option_map_or (λ root. root) (root_of b cell) 0 }
 {
-    match state.game().root_of(cell) {
+    match root_of(state.game(), cell) {
         Some(root) => root,
         None => Key::new(0),
     }
@@ -127,7 +128,7 @@ fn node_of(alloc: Global, state: &State, cell: Key) -> Result<Text, AllocError>
     ensures { (es : List Event) (b : Board) → IsStateOf es state.now → board_of es ≡ Some b
         → IfOk result (λ node. node ≡ option_map_or (λ c. c.node) (cell_at b cell) []) }
 {
-    match state.game().node_id(cell) {
+    match node_id(state.game(), cell) {
         Some(node) => node.copy(alloc),
         None => Ok(Text::empty(alloc)),
     }

@@ -11,12 +11,13 @@ use zb_follow::{Maker, WithBehind};
 use zb_model::{Event, Key, Moment, Rejection};
 use zb_state::{Out, Refusal, State};
 use zb_tokens::Phase;
+use zb_values::{is_instance, phase_of};
 
 /// Why an instance isn't cancelled: there is none with this key, or it is being terminated.
 pub fn reason(alloc: Global, state: &State, key: Key) -> Result<Option<Rejection>, AllocError>
     ensures { (es : List Event) → IsStateOf es state.now → IfOk result (λ rejection. rejection ≡ reason_to_cancel es key) }
 {
-    if !state.game().is_instance(key) {
+    if !is_instance(state.game(), key) {
         return no_such(alloc, "no instance ", key);
     }
     if is_terminating(state, key) {
@@ -29,7 +30,7 @@ pub fn reason(alloc: Global, state: &State, key: Key) -> Result<Option<Rejection
 fn is_terminating(state: &State, key: Key) -> bool
     ensures { (es : List Event) → IsStateOf es state.now → result ≡ holds_of_game (is_terminating key) es }
 {
-    match state.game().phase_of(key) {
+    match phase_of(state.game(), key) {
         Some(phase) => phase == Phase::Terminating,
         None => false,
     }

@@ -8,8 +8,9 @@ use std::alloc::Global;
 use zb_follow::{Each, Maker, Place};
 use zb_model::{Event, JobComplete, Moment};
 use zb_state::{Out, Refusal, State};
+use zb_values::gives_outputs;
 
-/// The job is completed, and its results are set one after the other. Each costs what `Game::holder_of` and `Out::put`
+/// The job is completed, and its results are set one after the other. Each costs what `holder_of` and `Out::put`
 /// do.
 #[derive(Drop)]
 pub struct Completed<'a>(pub &'a JobComplete);
@@ -43,6 +44,6 @@ fn place_of(state: &State, command: &JobComplete) -> Option<Place>
         → results command.now es ≡ option_map (λ place. record { scope = place.scope; local = place.local; variables = command.now.variables }) result }
 {
     let scope = state.jobs().get(command.key)?.cell;
-    let local = state.game().gives_outputs(scope)?;
+    let local = gives_outputs(state.game(), scope)?;
     Some(Place { local, scope })
 }

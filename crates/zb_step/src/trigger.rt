@@ -8,12 +8,13 @@ ghost use Rattle.zb_state.specs.State.{IsStateOf};
 use crate::rejection::{no_such, wrong_state};
 use std::alloc::{AllocError, Global};
 use zb_follow::{Maker, WithBehind};
+use zb_game::waits_at;
 use zb_model::{Event, Key, Moment, ProcessEventTriggered, Rejection, TryCopy};
 use zb_state::{Out, Refusal, State};
 use zb_views::Timer;
 
 /// Why a timer isn't triggered: it isn't there, its moment lies ahead, or its cell doesn't wait for it. It costs what
-/// `Timers::get` and `Game::waits_at` do.
+/// `Timers::get` and `waits_at` do.
 pub fn reason(
     alloc: Global,
     state: &State,
@@ -40,7 +41,7 @@ fn reason_to_hold(
     if moment < timer.due {
         return wrong_state(alloc, "timer ", timer.key, " isn't due");
     }
-    if !state.game().waits_at(timer.cell, timer.node.as_str()) {
+    if !waits_at(state.game(), timer.cell, timer.node.as_str()) {
         return wrong_state(alloc, "element ", timer.cell, " doesn't wait");
     }
     Ok(None)

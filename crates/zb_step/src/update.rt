@@ -9,18 +9,19 @@ use std::alloc::{AllocError, Global};
 use zb_follow::{Each, Maker, Place};
 use zb_model::{Event, Key, Moment, Rejection, VariableDocumentUpdate};
 use zb_state::{Out, Refusal, State};
+use zb_values::phase_of;
 
 /// Why variables aren't updated: no cell has the key of their scope.
 pub fn reason(alloc: Global, state: &State, scope: Key) -> Result<Option<Rejection>, AllocError>
     ensures { (es : List Event) → IsStateOf es state.now → IfOk result (λ rejection. rejection ≡ reason_to_update es scope) }
 {
-    if state.game().phase_of(scope).is_some() {
+    if phase_of(state.game(), scope).is_some() {
         return Ok(None);
     }
     no_such(alloc, "no scope ", scope)
 }
 
-/// The variables are set one after the other, and then the document is updated. Each costs what `Game::holder_of` and
+/// The variables are set one after the other, and then the document is updated. Each costs what `holder_of` and
 /// `Out::put` do.
 #[derive(Drop)]
 pub struct Updated<'a>(pub &'a VariableDocumentUpdate);

@@ -1,7 +1,6 @@
-ghost use Rattle.std.specs.Prelude.{◌≡◌, ℕ, Bool, Option, IfOk, is_none};
+ghost use Rattle.std.specs.Prelude.{◌≡◌, ℕ, Bool, Option, is_none};
 
-use std::alloc::{AllocError, Global};
-use zb_base::{Key, Moment, TryCopy};
+use zb_base::{Key, Moment};
 
 /// What stands in a table, under its key.
 pub trait Row: Drop {
@@ -51,20 +50,4 @@ impl<R: Row> Place<R> {
     {
         self.row.replace(row).is_none()
     }
-}
-
-/// A copy of these places. It takes a step for each part of them.
-pub fn copies_of<R: Row + TryCopy>(
-    alloc: Global,
-    places: &[Place<R>],
-) -> Result<Vec<Place<R>>, AllocError>
-    ensures { IfOk result (λ copies. copies.items ≡ places.now) }
-{
-    let mut copies = Vec::new(alloc);
-    for place in places {
-        let key = place.key;
-        let row = place.row.copy(alloc)?;
-        copies.push(Place { key, row })?;
-    }
-    Ok(copies)
 }

@@ -5,10 +5,10 @@ ghost use Rattle.zb_table.specs.Rows.{Ascend, first_passing, last_passing, row_a
 
 use crate::row::Place;
 use crate::search::find;
-use crate::{Edit, Query, Row, row, search};
+use crate::{Edit, Query, Row, search};
 use std::alloc::{AllocError, Global};
 use std::marker::Model;
-use zb_base::{Key, TryCopy};
+use zb_base::Key;
 
 /// Rows in the order of their keys. Contracts see the list of them.
 #[derive(Drop)]
@@ -161,15 +161,6 @@ impl<R: Row> Table<R> {
             self.places.retain(|place| place.row.is_some());
             self.empty = 0;
         }
-    }
-}
-
-impl<R: Row + TryCopy> TryCopy for Table<R> {
-    fn copy(&self, alloc: Global) -> Result<Table<R>, AllocError> {
-        Ok(Table {
-            places: row::copies_of(alloc, &self.places)?,
-            empty: self.empty,
-        })
     }
 }
 

@@ -19,6 +19,7 @@ use zb_model::{Batch, Event, Key, Outcome, PartitionId};
 use zb_show::read_batch;
 use zb_state::State;
 use zb_store::{GateLog, Volume, one_reading};
+use zb_values::phase_of;
 use zb_world::partition_at;
 
 // The most bytes that a log may be opened with. None are added here.
@@ -171,7 +172,7 @@ fn count_keys(place: PartitionId, state: &State, tally: Tally) -> Tally
 fn has_cell(key: Key, state: &State) -> bool
     ensures { (es : List Happening) → IsStateOf es state.now → result ≡ holds_of_game (has_cell key) es }
 {
-    state.game().phase_of(key).is_some()
+    phase_of(state.game(), key).is_some()
 }
 
 // Whether a message with this key is buffered.

@@ -2,9 +2,10 @@ use crate::models::straight;
 use std::alloc::Global;
 use std::mem::forget;
 use std::process::Abort;
-use zb_game::{Game, GameFault};
+use zb_board::{Game, GameFault};
+use zb_game::{fits, make, play};
 use zb_graph::{BoxedGraph, compile};
-use zb_model::{Key, TryCopy};
+use zb_model::Key;
 use zb_tokens::{Deployed, Move, Start};
 
 // The graph of the process `p`.
@@ -26,20 +27,20 @@ fn started(rt: &impl Abort, alloc: Global) -> Game {
         key: definition,
         model: graph(rt, alloc),
     });
-    assert!(rt; game.make(alloc, stand) == Ok(()));
+    assert!(rt; make(&mut game, alloc, stand) == Ok(()));
     let key = Key::new(2);
     let start = Move::Start(Start { key, definition });
-    assert!(rt; game.play(alloc, start) == Ok(()));
+    assert!(rt; play(&mut game, alloc, start) == Ok(()));
     game
 }
 
 // Whether the token game can't finish a cell that isn't there.
 fn refuses(alloc: Global, game: &mut Game) -> bool {
     let finish = Move::Finish(Key::new(7));
-    let fits = game.fits(&finish);
-    let made = game.make(alloc, finish);
-    let played = game.play(alloc, Move::Finish(Key::new(7)));
-    !fits && made == Err(GameFault::Illegal) && played == Err(GameFault::Illegal)
+    let fitting = fits(game, &finish);
+    let made = make(game, alloc, finish);
+    let played = play(game, alloc, Move::Finish(Key::new(7)));
+    !fitting && made == Err(GameFault::Illegal) && played == Err(GameFault::Illegal)
 }
 
 #[test]
@@ -47,11 +48,7 @@ fn refuses_a_cell_that_is_not_there(rt: HostRuntime) {
     let alloc = rt.alloc();
     let mut game = started(&rt, alloc);
     assert!(rt; refuses(alloc, &mut game));
-    let Ok(copy) = game.copy(alloc) else {
-        panic!(&rt; "no memory");
-    };
-    assert!(rt; copy.definition_of(Key::new(2)) == Some(Key::new(1)));
-    assert!(rt; copy.is_process_of(Key::new(1), "p"));
-    forget(copy);
+    assert!(rt; game.definition_of(Key::new(2)) == Some(Key::new(1)));
+    assert!(rt; game.is_process_of(Key::new(1), "p"));
     forget(game);
 }

@@ -8,7 +8,8 @@ ghost use Rattle.zb_state.specs.State.{IsStateOf};
 ghost use Rattle.zb_state.specs.Alarms.{expiry_at, time_out_at, trigger_at};
 
 use crate::State;
-use zb_game::Game;
+use zb_board::Game;
+use zb_game::waits_at;
 use zb_model::{Command, Key, Moment};
 use zb_rules::Alarm;
 use zb_table::Query;
@@ -39,7 +40,7 @@ impl<'a> Query<Timer> for Awaited<'a> {
     ghost passes = { λ awaited t. waits_for t awaited.game.now };
 
     fn passes(&self, timer: &Timer) -> bool {
-        self.game.waits_at(timer.cell, timer.node.as_str())
+        waits_at(self.game, timer.cell, timer.node.as_str())
     }
 }
 

@@ -15,6 +15,7 @@ ghost use Rattle.zb_state.specs.Tables.{Draws};
 use crate::State;
 use zb_jobs::Jobs;
 use zb_model::{IncidentCreated, IncidentKind, JobActivated, JobCreated, Key};
+use zb_values::{is_work_in, may_have_job};
 use zb_views::JobPhase;
 
 impl State {
@@ -39,7 +40,7 @@ impl State {
         ensures first { IsTrue result → IsTrue (is_none (find (λ j. j.cell == cell) self.now.tables.jobs)) }
         ensures begins { (es : List Event) → IsStateOf es self.now → result ≡ begins_job cell es }
     {
-        self.game.may_have_job(cell) && self.tables.jobs.on(cell).is_none()
+        may_have_job(&self.game, cell) && self.tables.jobs.on(cell).is_none()
     }
 
     // Whether a worker may be given this.
@@ -49,9 +50,7 @@ impl State {
         match self.tables.jobs.get(given.key) {
             Some(job) => {
                 matches!(job.phase, JobPhase::Created | JobPhase::TimedOut)
-                    && self
-                        .game
-                        .is_work_in(job.cell, given.instance, given.node.as_str())
+                    && is_work_in(&self.game, job.cell, given.instance, given.node.as_str())
             }
             None => false,
         }

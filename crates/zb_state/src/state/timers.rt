@@ -8,6 +8,7 @@ ghost use Rattle.zb_state.specs.State.{partition_of, IsStateOf};
 ghost use Rattle.zb_state.specs.Tables.{IsNext};
 
 use crate::State;
+use zb_game::may_open;
 use zb_model::{Key, TimerCreated};
 
 impl State {
@@ -17,7 +18,7 @@ impl State {
         ensures own { (es : List Event) → IsStateOf es self.now
             → result ≡ (is_fresh (partition_of self.now) es made.now.key && holds_of_game (may_open made.now) es) }
     {
-        self.is_fresh(made.key) && self.game.may_open(made.cell, made.node.as_str())
+        self.is_fresh(made.key) && may_open(&self.game, made.cell, made.node.as_str())
     }
 
     // Whether the timer with this key is there.

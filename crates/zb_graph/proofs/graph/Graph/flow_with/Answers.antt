@@ -6,4 +6,4 @@ use Rattle.zb_graph.proofs.PlaceLemmas.{item_kept}
 use Rattle.zb_graph.proofs.graph.Graph.flow_with.Goals as goal
 
 pub returns : goal.returns
-returns c = item_kept (λ (f : Flow). bytes_eq f.id c.args.id.now) (λ (m : Model). m.flows) c.self.inside.model c.args.self.now c.at.result.now c.self.view_is (c.at.ensures ∙ c.self.invariant.flows_by_id c.args.id.now) c.as_slice.result.now _ c.as_slice.ensures c.first_of.ensures
+returns c = item_kept (λ (f : Flow). bytes_eq f.id c.args.id.now) (λ (m : Model). m.flows) c.self.inside.model c.args.self.now c.at.result.now c.self.view_is (c.at.ensures ∙ c.self.invariant.places.flows.by_id c.args.id.now) c.as_slice.result.now _ c.as_slice.ensures c.first_of.ensures

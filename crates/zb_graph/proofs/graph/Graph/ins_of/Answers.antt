@@ -6,4 +6,4 @@ use Rattle.zb_graph.proofs.PlaceLemmas.{items_kept}
 use Rattle.zb_graph.proofs.graph.Graph.ins_of.Goals as goal
 
 pub returns-clause-flows : goal.returns-clause-flows
-returns-clause-flows c = items_kept (λ (f : Flow). bytes_eq f.to c.args.id.now) (λ (m : Model). m.flows) c.self.inside.model c.args.self.now c.at.result.now c.self.view_is (c.at.ensures ∙ c.self.invariant.flows_in c.args.id.now)
+returns-clause-flows c = items_kept (λ (f : Flow). bytes_eq f.to c.args.id.now) (λ (m : Model). m.flows) c.self.inside.model c.args.self.now c.at.result.now c.self.view_is (c.at.ensures ∙ c.self.invariant.places.flows.ins c.args.id.now)

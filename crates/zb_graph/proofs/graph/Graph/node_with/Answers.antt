@@ -6,4 +6,4 @@ use Rattle.zb_graph.proofs.PlaceLemmas.{item_kept}
 use Rattle.zb_graph.proofs.graph.Graph.node_with.Goals as goal
 
 pub returns : goal.returns
-returns c = item_kept (λ (n : Node). bytes_eq n.id c.args.id.now) (λ (m : Model). m.nodes) c.self.inside.model c.args.self.now c.at.result.now c.self.view_is (c.at.ensures ∙ c.self.invariant.nodes_by_id c.args.id.now) c.as_slice.result.now _ c.as_slice.ensures c.first_of.ensures
+returns c = item_kept (λ (n : Node). bytes_eq n.id c.args.id.now) (λ (m : Model). m.nodes) c.self.inside.model c.args.self.now c.at.result.now c.self.view_is (c.at.ensures ∙ c.self.invariant.places.nodes.by_id c.args.id.now) c.as_slice.result.now _ c.as_slice.ensures c.first_of.ensures

@@ -7,4 +7,4 @@ use Rattle.zb_graph.proofs.PlaceLemmas.{item_kept}
 use Rattle.zb_graph.proofs.graph.Graph.start_in.Goals as goal
 
 pub returns : goal.returns
-returns c = item_kept (λ (n : Node). is_start n.kind && bytes_eq n.parent c.args.scope.now) (λ (m : Model). m.nodes) c.self.inside.model c.args.self.now c.at.result.now c.self.view_is (c.at.ensures ∙ c.self.invariant.starts_by_scope c.args.scope.now) c.as_slice.result.now _ c.as_slice.ensures c.first_of.ensures
+returns c = item_kept (λ (n : Node). is_start n.kind && bytes_eq n.parent c.args.scope.now) (λ (m : Model). m.nodes) c.self.inside.model c.args.self.now c.at.result.now c.self.view_is (c.at.ensures ∙ c.self.invariant.places.nodes.starts c.args.scope.now) c.as_slice.result.now _ c.as_slice.ensures c.first_of.ensures

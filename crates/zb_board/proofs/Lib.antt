@@ -1,0 +1,12 @@
+pub mod AskingLemmas
+pub mod PlaceLemmas
+pub mod ScopeLemmas
+pub mod ComingLemmas
+pub mod FirstLemmas
+pub mod EditedLemmas
+pub mod TallyLemmas
+pub mod SweepLemmas
+pub mod KeyLemmas
+pub mod KeptLemmas
+pub mod RestLemmas
+pub mod IndexedLemmas

@@ -1,0 +1,109 @@
+-- What stays where some are taken away, one after another.
+use Rattle.std.proofs.Common.{◌≡◌, ℕ, ◌<◌, ◌==◌, ◌&&◌, ◌||◌, nat_le, max, map, All, List, [], ◌∷◌, length, filter, Bool, true, false, not, cond, if◌then◌else◌, Option, Some, None, is_some, option_map, refl, ap, arith}
+use Rattle.std.specs.List.{find, list_any}
+use Rattle.std.specs.Option.{option_map_or}
+use Rattle.std.proofs.lemmas.Bool.Decides.{nat_tests}
+use Rattle.std.proofs.lemmas.List.Elements.{All-head, All-tail}
+use Rattle.zb_tokens.specs.declared.board.Cell.{Cell}
+use Rattle.zb_tokens.specs.declared.board.Phase.TheVariants as phases
+use Rattle.zb_tokens.specs.Board.{is_phase, leaves_in}
+use Rattle.zb_tokens.specs.Forced.{greatest}
+use Rattle.zb_board.specs.Searches.{is_older_or_leaves}
+use Rattle.zb_tokens.specs.Edits.{removed, without_first}
+use Rattle.zb_arrivals.proofs.SplitLemmas.{or_kept}
+
+module _ {A : Type 0} (p : A → Bool) where
+  -- those that stay stay where the first that doesn't is taken away
+  pub stay_without : (xs : List A) → filter (λ x. not (p x)) (without_first p xs) ≡ filter (λ x. not (p x)) xs
+  stay_without [] = refl
+  stay_without (x ∷ xs) = by_test (p x) refl (stay_without xs)
+    where
+      by_rest : (rest : Option (List A)) → filter (λ y. not (p y)) (or_kept rest xs) ≡ filter (λ y. not (p y)) xs → filter (λ y. not (p y)) (or_kept (option_map (λ l. x ∷ l) rest) (x ∷ xs)) ≡ filter (λ y. not (p y)) (x ∷ xs)
+      by_rest None later = refl
+      by_rest (Some l) later = ap (λ (m : List A). cond (not (p x)) (x ∷ m) m) later
+
+      by_test : (t : Bool) → p x ≡ t → filter (λ y. not (p y)) (without_first p xs) ≡ filter (λ y. not (p y)) xs
+          → filter (λ y. not (p y)) (or_kept (if t then Some xs else option_map (λ l. x ∷ l) (removed p xs)) (x ∷ xs)) ≡ filter (λ y. not (p y)) (x ∷ xs)
+      by_test true here later = rw here refl
+      by_test false here later = by_rest (removed p xs) later
+
+  -- they get fewer
+  pub fewer_without : (xs : List A) → is_some (find p xs) ≡ true → length (without_first p xs) < length xs
+  fewer_without [] some = absurd (cc)
+  fewer_without (x ∷ xs) some = by_test (p x) some (fewer_without xs)
+    where
+      by_rest : (rest : Option (List A)) → length (or_kept rest xs) < length xs → length (or_kept (option_map (λ l. x ∷ l) rest) (x ∷ xs)) < length (x ∷ xs)
+      by_rest None later = absurd (omega (arith, later))
+      by_rest (Some l) later = omega (arith, later)
+
+      by_test : (t : Bool) → is_some {T = A} (cond t (Some x) (find p xs)) ≡ true → (is_some (find p xs) ≡ true → length (without_first p xs) < length xs)
+          → length (or_kept (if t then Some xs else option_map (λ l. x ∷ l) (removed p xs)) (x ∷ xs)) < length (x ∷ xs)
+      by_test true some later = omega arith
+      by_test false some later = by_rest (removed p xs) (later some)
+
+  -- where there is none, all stay
+  pub none_goes : (xs : List A) → is_some (find p xs) ≡ false → filter (λ x. not (p x)) xs ≡ xs
+  none_goes [] none = refl
+  none_goes (x ∷ xs) none = by_test (p x) none (none_goes xs)
+    where
+      by_test : (t : Bool) → is_some {T = A} (cond t (Some x) (find p xs)) ≡ false → (is_some (find p xs) ≡ false → filter (λ y. not (p y)) xs ≡ xs)
+          → cond (not t) (x ∷ filter (λ y. not (p y)) xs) (filter (λ y. not (p y)) xs) ≡ x ∷ xs
+      by_test true none later = absurd (cc)
+      by_test false none later = ap (λ (l : List A). x ∷ l) (later none)
+
+  pub none_taken : (xs : List A) → is_some (find p xs) ≡ false → without_first p xs ≡ xs
+  none_taken [] none = refl
+  none_taken (x ∷ xs) none = by_test (p x) none (none_taken xs)
+    where
+      by_rest : (rest : Option (List A)) → or_kept rest xs ≡ xs → or_kept (option_map (λ l. x ∷ l) rest) (x ∷ xs) ≡ x ∷ xs
+      by_rest None later = refl
+      by_rest (Some l) later = ap (λ (m : List A). x ∷ m) later
+
+      by_test : (t : Bool) → is_some {T = A} (cond t (Some x) (find p xs)) ≡ false → (is_some (find p xs) ≡ false → without_first p xs ≡ xs)
+          → or_kept (if t then Some xs else option_map (λ l. x ∷ l) (removed p xs)) (x ∷ xs) ≡ x ∷ xs
+      by_test true none later = absurd (cc)
+      by_test false none later = by_rest (removed p xs) (later none)
+
+module _ {A : Type 0} (keep : A → Bool) where
+  kept_by : (drops : A → Bool) (t : Bool) (x : A) (xs : List A) → drops x ≡ t → (drops x ≡ false → keep x ≡ true) → (list_any drops xs ≡ false → filter keep xs ≡ xs) → (t || list_any drops xs) ≡ false → filter keep (x ∷ xs) ≡ x ∷ xs
+  kept_by drops true x xs it here later none = absurd (cc)
+  kept_by drops false x xs not_it here later none = rw (here not_it) (ap (λ (ys : List A). x ∷ ys) (later none))
+
+  -- where none is dropped, all are kept
+  pub all_kept : (drops : A → Bool) (xs : List A) → ((x : A) → drops x ≡ false → keep x ≡ true) → list_any drops xs ≡ false → filter keep xs ≡ xs
+  all_kept drops [] each none = refl
+  all_kept drops (x ∷ xs) each none = kept_by drops (drops x) x xs refl (each x) (all_kept drops xs each) none
+
+-- where each cell is newer than its scope, and the newest of those that are no newer than a scope or leave in it is no newer, none leaves in it
+pub none_leaves : (scope : ℕ) (cells : List Cell) → All (λ c. c.scope < c.key) cells
+    → option_map_or (λ k. nat_le k scope) (greatest (map (λ c. c.key) (filter (is_older_or_leaves scope) cells))) true ≡ true → list_any (leaves_in scope) cells ≡ false
+none_leaves scope [] newer old = refl
+none_leaves scope (c ∷ cells) newer old =
+    by_tests (nat_le c.key scope) (leaves_in scope c) refl refl old (none_leaves scope cells (All-tail (λ (x : Cell). x.scope < x.key) c cells newer))
+  where
+    own : c.scope < c.key
+    own = All-head (λ (x : Cell). x.scope < x.key) c cells newer
+
+    apart : leaves_in scope c ≡ true → nat_le c.key scope ≡ true → false ≡ true
+    apart leaves older = absurd (let its : (c.scope == scope) ≡ true = first (c.scope == scope) (is_phase c.phase phases.Leaving) leaves in let isnt : nat_le c.key scope ≡ false = grind (arith, nat_tests, own, its) in cc)
+      where
+        first : (s t : Bool) → (s && t) ≡ true → s ≡ true
+        first true t is = refl
+        first false t is = absurd (cc)
+
+    rest_old : (found : Option ℕ) → nat_le (option_map_or (max c.key) found c.key) scope ≡ true → option_map_or (λ k. nat_le k scope) found true ≡ true
+    rest_old None is = refl
+    rest_old (Some k) is = grind (arith, nat_tests, is)
+
+    own_old : (found : Option ℕ) → nat_le (option_map_or (max c.key) found c.key) scope ≡ true → nat_le c.key scope ≡ true
+    own_old None is = is
+    own_old (Some k) is = grind (arith, nat_tests, is)
+
+    by_tests : (s t : Bool) → nat_le c.key scope ≡ s → leaves_in scope c ≡ t
+        → option_map_or (λ k. nat_le k scope) (greatest (map (λ x. x.key) (cond (s || t) (c ∷ filter (is_older_or_leaves scope) cells) (filter (is_older_or_leaves scope) cells)))) true ≡ true
+        → (option_map_or (λ k. nat_le k scope) (greatest (map (λ x. x.key) (filter (is_older_or_leaves scope) cells))) true ≡ true → list_any (leaves_in scope) cells ≡ false)
+        → (t || list_any (leaves_in scope) cells) ≡ false
+    by_tests true true older leaves old later = absurd (let no = apart leaves older in cc)
+    by_tests true false older stays old later = later (rest_old (greatest (map (λ x. x.key) (filter (is_older_or_leaves scope) cells))) old)
+    by_tests false true newer leaves old later = absurd (let older = own_old (greatest (map (λ x. x.key) (filter (is_older_or_leaves scope) cells))) old in cc)
+    by_tests false false newer stays old later = later old

@@ -1,0 +1,38 @@
+use Rattle.std.proofs.Common.{◌≡◌, ◌==◌, is_none, true, false, refl, ap, ◌∙◌, rules}
+use Rattle.std.specs.List.{find}
+use Rattle.zb_tokens.specs.Board.{Board}
+use Rattle.zb_tokens.specs.declared.board.Cell.{Cell}
+use Rattle.zb_tokens.specs.Marks.{with_mark}
+use Rattle.zb_arrivals.proofs.EditLemmas.{found_none}
+use Rattle.zb_arrivals.proofs.SplitLemmas.{or_kept}
+use Rattle.zb_board.proofs.EditedLemmas.{none_there, some_there}
+use Rattle.zb_board.proofs.IndexedLemmas.{kept_changed, calls_as}
+use Rattle.zb_board.proofs.game.Game.put_mark.Goals as goal
+
+pub returns-then-is_none-clause-none : goal.returns-then-is_none-clause-none
+returns-then-is_none-clause-none c = λ _.
+    let cells = c.args.self.now.cells in
+    let none : is_none (find (λ (x : Cell). x.key == c.args.key) cells) ≡ true = search rules in
+    (found_none (λ (x : Cell). x.key == c.args.key) cells (none_there cells c.args.key none)).1 (with_mark c.args.mark)
+
+pub invariant_of-self-2 : goal.invariant_of-self-2
+invariant_of-self-2 c = λ ascends.
+    let cells = c.self.inside.cells in
+    let kept = c.self.invariant ascends in
+    let found : is_none (find (λ (x : Cell). x.key == c.args.key) c.args.self.now.cells) ≡ false = search rules in
+    let r = some_there cells c.args.key (ap (λ (b : Board). is_none (find (λ (x : Cell). x.key == c.args.key) b.cells)) c.self.view_is ∙ found) in
+    let cell = r.0 in
+    let its = r.1 in
+    let made = c.in_ok-edit.ensures ∙ ap (λ o. or_kept o cells) (its.made (with_mark c.args.mark)) in
+    rw made (kept_changed _ _ _ _ _ _ _ kept its.place cell (with_mark c.args.mark cell) _ _ its.within its.at refl refl refl
+    c.in_ok-keep.ensures.others (λ k is. is) (λ moves. rw its.own c.in_ok-keep.ensures.kept)
+    (calls_as _ _ _ _ _ _ _ kept its.place cell its.within its.at))
+
+pub returns-clause-put : goal.returns-clause-put
+returns-clause-put c =
+    let cells = c.self.inside.cells in
+    let found : is_none (find (λ (x : Cell). x.key == c.args.key) c.args.self.now.cells) ≡ false = search rules in
+    let r = some_there cells c.args.key (ap (λ (b : Board). is_none (find (λ (x : Cell). x.key == c.args.key) b.cells)) c.self.view_is ∙ found) in
+    let its = r.1 in
+    let made = its.made (with_mark c.args.mark) in
+    rw (← c.self.view_is, c.in_ok-edit.ensures, made) refl

@@ -1,0 +1,42 @@
+use Rattle.std.proofs.Common.{◌≡◌, ◌==◌, List, length, not, false, filter, refl, sym, ap, ◌∙◌, arith, rules}
+use Rattle.std.specs.List.{list_any}
+use Rattle.zb_tokens.specs.declared.board.Cell.{Cell}
+use Rattle.zb_tokens.specs.Board.{Board, leaves_in}
+use Rattle.zb_tokens.specs.Edits.{without_first}
+use Rattle.zb_board.proofs.SweepLemmas.{all_kept, stay_without, fewer_without, none_goes, none_taken}
+use Rattle.zb_board.proofs.game.Game.take_leaving.Goals as goal
+
+pub returns-then-not-has_child : goal.returns-then-not-has_child
+returns-then-not-has_child c =
+    let b = c.args.self.now in
+    let none : list_any (λ (x : Cell). x.scope == c.args.scope) b.cells ≡ false = search rules in
+    ap (λ (cs : List Cell). record b { cells = cs }) (sym (all_kept (λ (x : Cell). not (leaves_in c.args.scope x)) (λ (x : Cell). x.scope == c.args.scope) b.cells (λ x other. rw other refl) none))
+
+pub returns-then-not-may_leave : goal.returns-then-not-may_leave
+returns-then-not-may_leave c =
+    let b = c.args.self.now in
+    let none : list_any (leaves_in c.args.scope) b.cells ≡ false = search rules in
+    ap (λ (cs : List Cell). record b { cells = cs }) (sym (all_kept (λ (x : Cell). not (leaves_in c.args.scope x)) (leaves_in c.args.scope) b.cells (λ x other. rw other refl) none))
+
+pub loop-smaller : goal.loop-smaller
+loop-smaller c =
+    let some = sym c.in_ok-take_one_leaving.ensures.one ∙ c.if-branch.true in
+    let left = ap (λ (b : Board). length b.cells) c.in_ok-take_one_leaving.ensures.left in
+    let fewer = fewer_without (leaves_in c.args.scope) c.loop.self.cells some in
+    omega (arith, left, fewer)
+
+pub loop-preserved : goal.loop-preserved
+loop-preserved c =
+    let left = c.in_ok-take_one_leaving.ensures.left in
+    let cells = ap (λ (b : Board). b.cells) left in (
+      left ∙ (ap (λ (b : Board). record b { cells = without_first (leaves_in c.args.scope) c.loop.self.cells }) c.loop.invariant.0 ∙ ap (λ (cs : List Cell). record c.args.self.now { cells = cs }) (sym cells)),
+      ap (filter (λ (x : Cell). not (leaves_in c.args.scope x))) cells ∙ (stay_without (leaves_in c.args.scope) c.loop.self.cells ∙ c.loop.invariant.1),
+    )
+
+pub returns : goal.returns
+returns c =
+    let none = sym c.in_ok-take_one_leaving.ensures.one ∙ c.if-branch.false in
+    let stays = none_goes (leaves_in c.args.scope) c.loop.self.cells none in
+    let same = none_taken (leaves_in c.args.scope) c.loop.self.cells none in
+    c.in_ok-take_one_leaving.ensures.left ∙ (ap (λ (b : Board). record b { cells = without_first (leaves_in c.args.scope) c.loop.self.cells }) c.loop.invariant.0
+    ∙ ap (λ (cs : List Cell). record c.args.self.now { cells = cs }) (same ∙ (sym stays ∙ c.loop.invariant.1)))

@@ -1,0 +1,5 @@
+pub mod BoardCode
+pub mod Tallies
+pub mod Kept
+pub mod Indexed
+pub mod Searches

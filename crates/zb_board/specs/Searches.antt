@@ -1,0 +1,27 @@
+-- Words of the board's own functions.
+use Rattle.std.specs.Prelude.{ℕ, ◌==◌, nat_le, List, Bool, false, ◌||◌, Option, option_and_then}
+use Rattle.std.specs.Option.{option_map_or}
+use Rattle.std.specs.List.{list_any}
+use Rattle.zb_process.specs.declared.model.Model.{Model}
+use Rattle.zb_groups.specs.declared.held.Held.{Held}
+use Rattle.zb_groups.specs.Groups.{passes_at}
+use Rattle.zb_tokens.specs.declared.board.Cell.{Cell}
+use Rattle.zb_tokens.specs.declared.board.Token.{Token}
+use Rattle.zb_tokens.specs.Board.{Board, cell_at, leaves_in, model_under}
+use Rattle.zb_places.specs.Places.{counts_for}
+
+-- a cell is no newer than a scope, or leaves in it
+abbrev pub is_older_or_leaves : ℕ → Cell → Bool
+is_older_or_leaves scope c = nat_le c.key scope || leaves_in scope c
+
+-- a token is in a scope
+abbrev pub has_token : Board → ℕ → Bool
+has_token b scope = list_any (λ t. t.scope == scope) b.tokens
+
+-- the model by which tokens move in a scope
+abbrev pub scope_model : Board → ℕ → Option Model
+scope_model b scope = option_and_then (λ c. model_under b c.definition) (cell_at b scope)
+
+-- in a model, if there is one, the token with a number needs a token like this to enter its node (own)
+abbrev pub needs : Option Model → Token → List (Held Token) → ℕ → Bool
+needs found t rows number = option_map_or (λ m. passes_at (counts_for m t.spot) rows number) found false

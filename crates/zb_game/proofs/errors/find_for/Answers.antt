@@ -1,0 +1,24 @@
+use Rattle.std.proofs.Common.{◌≡◌, true, false, filter, refl, sym, ◌∙◌, arith, rules}
+use Rattle.zb_faults.specs.Elements.{is_boundary_of}
+use Rattle.zb_tokens.specs.Errors.{is_for}
+use Rattle.zb_values.proofs.AwaitedLemmas.{names_item, named_left}
+use Rattle.zb_game.proofs.errors.find_for.Goals as goal
+
+pub node-node-requires : goal.node-node-requires
+node-node-requires c =
+    let events = filter (is_boundary_of c.args.id.now) c.args.model.now.nodes in
+    names_item c.args.model.now.nodes events c.bounds_of-number-items.result.now (search rules) c.loop-number.number-index (omega arith)
+
+pub returns-then-is_for : goal.returns-then-is_for
+returns-then-is_for c =
+    let events = filter (is_boundary_of c.args.id.now) c.args.model.now.nodes in
+    let left = named_left c.args.model.now.nodes events c.bounds_of-number-items.result.now (search rules) c.loop-number.number-index (omega arith) c.node-node.result.now c.node-node.ensures in
+    let is : is_for c.args.code.now c.node-node.result.now ≡ true = search rules in
+    sym (sym c.loop-number.invariant ∙ rw (left, is) refl)
+
+pub loop-number-preserved : goal.loop-number-preserved
+loop-number-preserved c =
+    let events = filter (is_boundary_of c.args.id.now) c.args.model.now.nodes in
+    let left = named_left c.args.model.now.nodes events c.bounds_of-number-items.result.now (search rules) c.loop-number.number-index (omega arith) c.node-node.result.now c.node-node.ensures in
+    let other : is_for c.args.code.now c.node-node.result.now ≡ false = search rules in
+    rw (left, other) at c.loop-number.invariant

@@ -1,6 +1,0 @@
-use Rattle.std.proofs.Common.{◌≡◌, ◌++◌, take}
-use Rattle.zb_game.proofs.game.awaited.add_all.Given as goal
-
--- the numbers so far are added
-abbrev pub invariant-loop-number : goal.invariant-loop-number
-invariant-loop-number l = l.numbers ≡ l.fn.numbers ++ take l.number-index l.more

@@ -1,5 +1,0 @@
-use Rattle.zb_game.proofs.KeyLemmas.{left_kept}
-use Rattle.zb_game.proofs.keys.forget.Goals as goal
-
-pub returns : goal.returns
-returns c = λ other apart was. rw c.remove.ensures (left_kept c.args.key c.args.keys.now other apart was)

@@ -1,0 +1,36 @@
+ghost use Rattle.std.specs.Prelude.{◌≡◌, Some, None, OnOk, IsErrOf};
+ghost use Rattle.zb_tokens.specs.MoveFinish.{fits_finish, is_done, play_finish};
+
+use std::alloc::Global;
+use zb_base::{Key, List};
+use zb_board::{Game, GameFault};
+use zb_tokens::{Cell, Phase};
+
+/// Whether a cell may begin to complete.
+pub fn fits_finish(game: &Game, key: Key) -> bool
+    ensures { result ≡ fits_finish game.now key }
+{
+    match game.cell(key) {
+        Some(cell) => cell.phase == Phase::Active && is_done(game, cell),
+        None => false,
+    }
+}
+
+/// Whether nothing is left that a cell waits for.
+pub fn is_done(game: &Game, cell: &Cell) -> bool
+    ensures { result ≡ is_done game.now cell.now }
+{
+    match game.model(cell.definition) {
+        Some(model) => game.is_done_in(model, cell),
+        None => false,
+    }
+}
+
+/// Plays that a cell begins to complete.
+pub fn finish(game: &mut Game, alloc: Global, key: Key) -> Result<(), GameFault>
+    ensures played { OnOk result (play_finish game.old key ≡ Some game.new) }
+    ensures illegal { IsErrOf result GameFault.Illegal → play_finish game.old key ≡ None }
+    ensures kept { IsErrOf result GameFault.Illegal → game.new ≡ game.old }
+{
+    game.put_in_phase(key, Phase::Completing, List::empty(alloc))
+}

@@ -1,0 +1,115 @@
+ghost use Rattle.std.specs.Prelude.{◌≡◌, Some, None, OnOk, IsErrOf, is_some};
+ghost use Rattle.zb_tokens.specs.Choice.{gateway_of};
+ghost use Rattle.zb_tokens.specs.MoveLeave.{are_among, ends_scope, fits_leave, flows_of, is_single, leaving, may_owe, play_leave, scope_ended};
+
+use std::alloc::{AllocError, Global};
+use zb_base::{Key, List, Text};
+use zb_board::{Game, GameFault, chooses, terminates_at};
+use zb_tokens::{Cell, Leave, Phase};
+use zb_values::are_among_flows;
+
+/// Whether a cell has completed, and these flows may go out of its node.
+pub fn fits_leave(game: &Game, l: &Leave) -> bool
+    ensures { result ≡ fits_leave game.now l.now }
+{
+    match game.cell(l.key) {
+        Some(cell) => cell.phase == Phase::Completing && may_owe(game, cell, l.owed.as_slice()),
+        None => false,
+    }
+}
+
+// Whether a cell may owe these flows: they may go out of its node, in order, and are one at an exclusive gateway.
+fn may_owe(game: &Game, cell: &Cell, ids: &[Text]) -> bool
+    ensures { result ≡ may_owe game.now cell.now ids.now }
+{
+    are_among_its(game, cell, ids) && (!is_at_gateway(game, cell) || is_single(ids))
+}
+
+// Whether these are flows that may go out of the node of a cell, in order.
+#[tactic(auto, using(zb_board::proofs::AskingLemmas::compared))]
+fn are_among_its(game: &Game, cell: &Cell, ids: &[Text]) -> bool
+    ensures { result ≡ are_among ids.now (flows_of game.now cell.now) }
+{
+    if cell.scope == Key::new(0) {
+        return ids.is_empty();
+    }
+    match game.model(cell.definition) {
+        Some(model) => are_among_flows(ids, model, cell),
+        None => ids.is_empty(),
+    }
+}
+
+// Whether a cell is at an exclusive gateway.
+fn is_at_gateway(game: &Game, cell: &Cell) -> bool
+    ensures { result ≡ is_some (gateway_of game.now cell.now) }
+{
+    if cell.scope == Key::new(0) {
+        return false;
+    }
+    match game.model(cell.definition) {
+        Some(model) => chooses(model, cell.node.as_str()),
+        None => false,
+    }
+}
+
+/// Plays that a cell has completed. At a terminate end event it ends its scope.
+pub fn leave(game: &mut Game, alloc: Global, l: Leave) -> Result<(), GameFault>
+    ensures played { OnOk result (play_leave game.old l ≡ Some game.new) }
+    ensures illegal { IsErrOf result GameFault.Illegal → play_leave game.old l ≡ None }
+    ensures kept { IsErrOf result GameFault.Illegal → game.new ≡ game.old }
+{
+    let Some(cell) = game.cell(l.key) else {
+        return Err(GameFault::Illegal);
+    };
+    let scope = cell.scope;
+    let ends = ends_scope(game, cell);
+    leaving(game, l.key, l.owed)?;
+    if ends {
+        end(game, alloc, scope)?;
+    }
+    Ok(())
+}
+
+// Whether a cell is at a terminate end event.
+fn ends_scope(game: &Game, cell: &Cell) -> bool
+    ensures { result ≡ ends_scope game.now cell.now }
+{
+    if cell.scope == Key::new(0) {
+        return false;
+    }
+    match game.model(cell.definition) {
+        Some(model) => terminates_at(model, cell.node.as_str()),
+        None => false,
+    }
+}
+
+// Ends a scope, and empties it.
+fn end(game: &mut Game, alloc: Global, scope: Key) -> Result<(), AllocError>
+    ensures { OnOk result (game.new ≡ scope_ended scope game.old) }
+{
+    game.put_ending(scope)?;
+    game.empty_scope(alloc, scope)
+}
+
+/// A cell leaves and owes these flows; where there are none it is gone.
+pub fn leaving(game: &mut Game, key: Key, owed: List<Text>) -> Result<(), GameFault>
+    ensures left { OnOk result (leaving owed key game.old ≡ Some game.new) }
+    ensures none { IsErrOf result GameFault.Illegal → leaving owed key game.old ≡ None }
+    ensures kept { IsErrOf result GameFault.Illegal → game.new ≡ game.old }
+{
+    if owed.as_slice().is_empty() {
+        game.take_away(key)
+    } else {
+        game.put_in_phase(key, Phase::Leaving, owed)
+    }
+}
+
+// Whether there is one of these, and no other.
+fn is_single(ids: &[Text]) -> bool
+    ensures { result ≡ is_single ids.now }
+{
+    match ids {
+        [_] => true,
+        _ => false,
+    }
+}

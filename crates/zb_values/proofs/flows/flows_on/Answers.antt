@@ -1,0 +1,45 @@
+use Rattle.std.proofs.Common.{◌≡◌, ◌+◌, ◌++◌, ◌∷◌, [], Bool, true, false, drop, filter, List, ap, sym, ◌∙◌, append_assoc, append-nil, arith, rules}
+use Rattle.std.proofs.lemmas.List.{drop_all}
+use Rattle.zb_faults.specs.Elements.{is_at, is_event_gateway}
+use Rattle.zb_process.specs.declared.model.Flow.{Flow}
+use Rattle.zb_tokens.specs.MoveLeave.{may_take}
+use Rattle.zb_values.proofs.FlowLemmas.{flows_from, ids_of_flows, is_flow, flow_left, ids_taken, ids_passed, many}
+use Rattle.zb_values.proofs.flows.flows_on.Goals as goal
+use Rattle.zb_values.proofs.flows.flows_on.Goals.{then-may_take+in_ok-copy+in_ok-push, else-may_take}
+
+pub flow-flow-requires : goal.flow-flow-requires
+flow-flow-requires c = is_flow c.args.model.now (flows_from c.args.model.now c.args.cell.now.node) c.outs_of-number-items.result.now (search rules) c.loop-number.number-index (omega arith)
+
+pub loop-number-preserved : goal.loop-number-preserved
+loop-number-preserved c =
+    let p = may_take c.chooses_by_event-at_event_gateway.result c.args.cell.now in
+    let flows = flows_from c.args.model.now c.args.cell.now.node in
+    let i = c.loop-number.number-index in
+    let flow = c.flow-flow.result.now in
+    let left = flow_left c.args.model.now flows c.outs_of-number-items.result.now (search rules) i (omega arith) flow c.flow-flow.ensures in
+    let so_far = c.loop-number.invariant in
+    elim c.if-may_take.branch [
+      | then-may_take+in_ok-copy+in_ok-push w ↦
+          let takes : p flow ≡ true = search rules in
+          let taken = ids_taken p (drop i flows) (drop (i + 1) flows) flow left takes in
+          let is = w.ids-is in
+          let pushed = w.in_ok-push.ensures.ok in
+          let copied = w.in_ok-copy.ensures in
+          let moved = append_assoc c.loop-number.ids (flow.id ∷ []) (ids_of_flows (filter p (drop (i + 1) flows))) in
+          cc
+      | else-may_take w ↦
+          let out : p flow ≡ false = search rules in
+          let passed = ids_passed p (drop i flows) (drop (i + 1) flows) flow left out in
+          let is = w.ids-is in
+          cc
+    ]
+
+pub returns : goal.returns
+returns c =
+    let cell = c.args.cell.now in
+    let flows = flows_from c.args.model.now cell.node in
+    let all = many c.args.model.now flows c.outs_of-number-items.result.now (search rules) in
+    let at : c.chooses_by_event-at_event_gateway.result ≡ is_at c.args.model.now cell.node is_event_gateway = search rules in
+    sym (append-nil c.loop-number.ids)
+    ∙ (ap (λ (l : List Flow). c.loop-number.ids ++ ids_of_flows (filter (may_take c.chooses_by_event-at_event_gateway.result cell) l)) (sym (drop_all c.loop-number.number-index flows (omega (arith, all))))
+    ∙ (c.loop-number.invariant ∙ ap (λ (t : Bool). ids_of_flows (filter (may_take t cell) flows)) at))

@@ -1,0 +1,9 @@
+use Rattle.std.proofs.Common.{◌≡◌, ◌++◌, drop, filter}
+use Rattle.zb_tokens.specs.MoveLeave.{may_take}
+use Rattle.zb_values.proofs.FlowLemmas.{flows_from, ids_of_flows}
+use Rattle.zb_values.proofs.flows.flows_on.Given as goal
+
+-- the ids so far, and those of the flows that are left
+abbrev pub invariant-loop-number : goal.invariant-loop-number
+invariant-loop-number l = l.ids ++ ids_of_flows (filter (may_take l.at_event_gateway l.cell) (drop l.number-index (flows_from l.model l.cell.node)))
+    ≡ ids_of_flows (filter (may_take l.at_event_gateway l.cell) (flows_from l.model l.cell.node))

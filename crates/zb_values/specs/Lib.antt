@@ -1,0 +1,3 @@
+pub mod Exits
+pub mod Mapped
+pub mod Opens

@@ -1,0 +1,168 @@
+// The nodes for whose events a cell waits: its own one, those behind an event gateway, and those at the boundary of an
+// activity.
+ghost use Rattle.std.specs.Prelude.{◌≡◌, ◌≤◌, ◌<◌, ◌^◌, ◌++◌, ◌∷◌, [], false, Some, IfOk, OnOk, filter, length, map, if◌then◌else◌, slice_get};
+ghost use Rattle.std.specs.Option.{option_map_or};
+ghost use Rattle.zb_process.specs.declared.model.Node.{Node};
+ghost use Rattle.zb_tokens.specs.Board.{node_with};
+ghost use Rattle.zb_tokens.specs.Catches.{awaited, awaits_time, is_timed_at, leads_from, time_form, waits_beside, waits_itself};
+
+use std::alloc::{AllocError, Global};
+use zb_base::{Key, List};
+use zb_board::Game;
+use zb_duration::TimeForm;
+use zb_faults::{is_boundary_of, is_catch, is_event_gateway};
+use zb_graph::Graph;
+use zb_process::{Node, NodeKind};
+use zb_tokens::Cell;
+
+/// Whether a cell waits, or is about to, for the timer of the node with an id. A root waits for none. Its model is
+/// found as by `Game::model`; at an event gateway it goes through the flows into the node.
+pub fn awaits_time(game: &Game, cell: &Cell, id: &str) -> bool
+    ensures { result ≡ awaits_time game.now cell.now id.now }
+{
+    match game.model(cell.definition) {
+        Some(model) => cell.scope != Key::new(0) && awaits_time_in(model, cell, id),
+        None => false,
+    }
+}
+
+// The same in its model, for a cell that is no root.
+fn awaits_time_in(model: &Graph, cell: &Cell, id: &str) -> bool
+    ensures { result ≡ option_map_or (λ n. is_timed_at model.now cell.now n id.now) (node_with model.now cell.now.node) false }
+{
+    match model.node_with(cell.node.as_str()) {
+        Some(node) => is_timed_at(model, cell, node, id),
+        None => false,
+    }
+}
+
+// Whether at a node a cell waits for the timer of the node with an id.
+fn is_timed_at(model: &Graph, cell: &Cell, node: &Node, id: &str) -> bool
+    ensures { result ≡ is_timed_at model.now cell.now node.now id.now }
+{
+    match model.node_with(id) {
+        Some(other) => {
+            (cell.node.as_str() == id && waits_itself(cell, node)
+                || waits_beside(model, node, other))
+                && time_form(other.kind).is_some()
+        }
+        None => false,
+    }
+}
+
+/// Whether at its node in a model a cell waits for the node's own event. The node is found in constant time, on
+/// average.
+pub fn waits_itself_at(model: &Graph, cell: &Cell) -> bool
+    ensures { result ≡ option_map_or (waits_itself cell.now) (node_with model.now cell.now.node) false }
+{
+    match model.node_with(cell.node.as_str()) {
+        Some(node) => waits_itself(cell, node),
+        None => false,
+    }
+}
+
+// Whether at a node a cell waits for the node's own event.
+fn waits_itself(cell: &Cell, node: &Node) -> bool
+    ensures { result ≡ waits_itself cell.now node.now }
+{
+    is_catch(node.kind) && !cell.before
+}
+
+// Whether at a node a cell waits for the event of another one. At an event gateway it goes through the flows into
+// that.
+fn waits_beside(model: &Graph, at: &Node, other: &Node) -> bool
+    ensures { result ≡ waits_beside model.now at.now other.now }
+{
+    if is_event_gateway(at.kind) {
+        leads_from(model, at.id.as_str(), other.id.as_str())
+    } else {
+        is_boundary_of(at.id.as_str(), other)
+    }
+}
+
+// Whether a flow leads from one node to another. It goes through the flows into that.
+fn leads_from(model: &Graph, origin: &str, target: &str) -> bool
+    ensures { result ≡ leads_from model.now origin.now target.now }
+{
+    for number in model.ins_of(target) {
+        if model.flow(*number).from.as_str() == origin {
+            return true;
+        }
+    }
+    false
+}
+
+/// The numbers of the nodes for whose events a cell waits at the node with a number: its own one first, the others in
+/// the order of the model. It takes no memory where there are none.
+pub fn awaited(
+    alloc: Global,
+    model: &Graph,
+    cell: &Cell,
+    number: u32,
+) -> Result<List<u32>, AllocError>
+    requires { number < length model.now.nodes }
+    ensures { (n : Node) → slice_get model.now.nodes number ≡ Some n
+        → IfOk result (λ numbers. map (slice_get model.now.nodes) numbers ≡ map Some (awaited model.now cell.now n)) }
+{
+    let node = model.node(number);
+    let mut numbers = own_number(alloc, cell, node, number)?;
+    add_beside(model, node, &mut numbers)?;
+    Ok(numbers)
+}
+
+// The number of a node, where a cell at it waits for its own event.
+fn own_number(alloc: Global, cell: &Cell, node: &Node, number: u32) -> Result<List<u32>, AllocError>
+    ensures { IfOk result (λ numbers. numbers ≡ (if waits_itself cell.now node.now then number ∷ [] else [])) }
+{
+    let mut numbers = List::empty(alloc);
+    if !waits_itself(cell, node) {
+        return Ok(numbers);
+    }
+    numbers.push(number)?;
+    Ok(numbers)
+}
+
+// Adds the numbers of the other nodes for whose events a cell waits at a node, in the order of the model.
+fn add_beside(model: &Graph, at: &Node, numbers: &mut List<u32>) -> Result<(), AllocError>
+    ensures { OnOk result (map (slice_get model.now.nodes) numbers.new ≡ map (slice_get model.now.nodes) numbers.old ++ map Some (filter (waits_beside model.now at.now) model.now.nodes)) }
+{
+    if is_event_gateway(at.kind) {
+        add_behind(model, at.id.as_str(), numbers)
+    } else {
+        add_all(model.bounds_of(at.id.as_str()), numbers)
+    }
+}
+
+// Adds the numbers of the nodes to which a flow leads from the node with an id, in the order of the model. It goes
+// through all nodes, and for each through the flows into it.
+fn add_behind(model: &Graph, origin: &str, numbers: &mut List<u32>) -> Result<(), AllocError>
+    ensures { OnOk result (map (slice_get model.now.nodes) numbers.new ≡ map (slice_get model.now.nodes) numbers.old ++ map Some (filter (λ n. leads_from model.now origin.now n.id) model.now.nodes)) }
+{
+    for number in 0..model.node_count() {
+        if leads_from(model, origin, model.node(number).id.as_str()) {
+            numbers.push(number)?;
+        }
+    }
+    Ok(())
+}
+
+// Adds these numbers.
+fn add_all(more: &[u32], numbers: &mut List<u32>) -> Result<(), AllocError>
+    ensures { OnOk result (numbers.new ≡ numbers.old ++ more.now) }
+{
+    for number in more {
+        numbers.push(*number)?;
+    }
+    Ok(())
+}
+
+/// The form of the time at a node with a timer: an event in the flow, or at the boundary of an activity.
+pub fn time_form(kind: NodeKind) -> Option<TimeForm>
+    ensures { result ≡ time_form kind }
+{
+    match kind {
+        NodeKind::DateCatchEvent | NodeKind::DateBoundaryEvent => Some(TimeForm::Date),
+        NodeKind::DurationCatchEvent | NodeKind::DurationBoundaryEvent => Some(TimeForm::Duration),
+        _ => None,
+    }
+}
