@@ -10,3 +10,8 @@ pub mod KeyLemmas
 pub mod KeptLemmas
 pub mod RestLemmas
 pub mod IndexedLemmas
+pub mod ChildLemmas
+pub mod DoomLemmas
+pub mod EndingLemmas
+pub mod BelowLemmas
+pub mod LeavingLemmas

@@ -1,14 +1,7 @@
 -- What stays where some are taken away, one after another.
-use Rattle.std.proofs.Common.{◌≡◌, ℕ, ◌<◌, ◌==◌, ◌&&◌, ◌||◌, nat_le, max, map, All, List, [], ◌∷◌, length, filter, Bool, true, false, not, cond, if◌then◌else◌, Option, Some, None, is_some, option_map, refl, ap, arith}
+use Rattle.std.proofs.Common.{◌≡◌, ◌<◌, ◌||◌, List, [], ◌∷◌, length, filter, Bool, true, false, not, cond, if◌then◌else◌, Option, Some, None, is_some, option_map, refl, ap, arith}
 use Rattle.std.specs.List.{find, list_any}
-use Rattle.std.specs.Option.{option_map_or}
-use Rattle.std.proofs.lemmas.Bool.Decides.{nat_tests}
-use Rattle.std.proofs.lemmas.List.Elements.{All-head, All-tail}
-use Rattle.zb_tokens.specs.declared.board.Cell.{Cell}
 use Rattle.zb_tokens.specs.declared.board.Phase.TheVariants as phases
-use Rattle.zb_tokens.specs.Board.{is_phase, leaves_in}
-use Rattle.zb_tokens.specs.Forced.{greatest}
-use Rattle.zb_board.specs.Searches.{is_older_or_leaves}
 use Rattle.zb_tokens.specs.Edits.{removed, without_first}
 use Rattle.zb_arrivals.proofs.SplitLemmas.{or_kept}
 
@@ -73,37 +66,3 @@ module _ {A : Type 0} (keep : A → Bool) where
   pub all_kept : (drops : A → Bool) (xs : List A) → ((x : A) → drops x ≡ false → keep x ≡ true) → list_any drops xs ≡ false → filter keep xs ≡ xs
   all_kept drops [] each none = refl
   all_kept drops (x ∷ xs) each none = kept_by drops (drops x) x xs refl (each x) (all_kept drops xs each) none
-
--- where each cell is newer than its scope, and the newest of those that are no newer than a scope or leave in it is no newer, none leaves in it
-pub none_leaves : (scope : ℕ) (cells : List Cell) → All (λ c. c.scope < c.key) cells
-    → option_map_or (λ k. nat_le k scope) (greatest (map (λ c. c.key) (filter (is_older_or_leaves scope) cells))) true ≡ true → list_any (leaves_in scope) cells ≡ false
-none_leaves scope [] newer old = refl
-none_leaves scope (c ∷ cells) newer old =
-    by_tests (nat_le c.key scope) (leaves_in scope c) refl refl old (none_leaves scope cells (All-tail (λ (x : Cell). x.scope < x.key) c cells newer))
-  where
-    own : c.scope < c.key
-    own = All-head (λ (x : Cell). x.scope < x.key) c cells newer
-
-    apart : leaves_in scope c ≡ true → nat_le c.key scope ≡ true → false ≡ true
-    apart leaves older = absurd (let its : (c.scope == scope) ≡ true = first (c.scope == scope) (is_phase c.phase phases.Leaving) leaves in let isnt : nat_le c.key scope ≡ false = grind (arith, nat_tests, own, its) in cc)
-      where
-        first : (s t : Bool) → (s && t) ≡ true → s ≡ true
-        first true t is = refl
-        first false t is = absurd (cc)
-
-    rest_old : (found : Option ℕ) → nat_le (option_map_or (max c.key) found c.key) scope ≡ true → option_map_or (λ k. nat_le k scope) found true ≡ true
-    rest_old None is = refl
-    rest_old (Some k) is = grind (arith, nat_tests, is)
-
-    own_old : (found : Option ℕ) → nat_le (option_map_or (max c.key) found c.key) scope ≡ true → nat_le c.key scope ≡ true
-    own_old None is = is
-    own_old (Some k) is = grind (arith, nat_tests, is)
-
-    by_tests : (s t : Bool) → nat_le c.key scope ≡ s → leaves_in scope c ≡ t
-        → option_map_or (λ k. nat_le k scope) (greatest (map (λ x. x.key) (cond (s || t) (c ∷ filter (is_older_or_leaves scope) cells) (filter (is_older_or_leaves scope) cells)))) true ≡ true
-        → (option_map_or (λ k. nat_le k scope) (greatest (map (λ x. x.key) (filter (is_older_or_leaves scope) cells))) true ≡ true → list_any (leaves_in scope) cells ≡ false)
-        → (t || list_any (leaves_in scope) cells) ≡ false
-    by_tests true true older leaves old later = absurd (let no = apart leaves older in cc)
-    by_tests true false older stays old later = later (rest_old (greatest (map (λ x. x.key) (filter (is_older_or_leaves scope) cells))) old)
-    by_tests false true newer leaves old later = absurd (let older = own_old (greatest (map (λ x. x.key) (filter (is_older_or_leaves scope) cells))) old in cc)
-    by_tests false false newer stays old later = later old

@@ -1,9 +1,11 @@
 -- What a game keeps beside its board, so that a move needs no walk.
-use Rattle.std.specs.Prelude.{◌≡◌, ℕ, ◌<◌, ◌≤◌, ◌==◌, List, All, Bool, true, false, ◌&&◌, ◌||◌, not, is_some, if◌then◌else◌, option_map}
+use Rattle.std.specs.Prelude.{◌≡◌, ℕ, ◌<◌, ◌≤◌, ◌==◌, List, All, Bool, true, false, ◌&&◌, ◌||◌, not, is_some, if◌then◌else◌, Some, option_map}
 use Rattle.std.specs.List.{list_any}
 use Rattle.std.specs.Option.{option_map_or}
 use Rattle.zb_process.specs.declared.model.Model.{Model}
+use Rattle.std.specs.BTreeSet.{BTreeSet}
 use Rattle.zb_table.specs.Rows.{Ascend}
+use Rattle.zb_waits.specs.Pairs.{IsIndex}
 use Rattle.zb_groups.specs.declared.held.Held.{Held}
 use Rattle.zb_tokens.specs.declared.board.Cell.{Cell}
 use Rattle.zb_tokens.specs.declared.board.Token.{Token}
@@ -11,14 +13,14 @@ use Rattle.zb_tokens.specs.declared.board.Phase.{Phase}
 use Rattle.zb_tokens.specs.declared.board.Phase.TheVariants as phases
 use Rattle.zb_tokens.specs.Edits.{is_none_of}
 use Rattle.zb_tokens.specs.Board.{Board, cell_at, model_under, is_at, is_scope_in, is_empty, has_child}
-use Rattle.zb_tokens.specs.Doom.{calls_off}
+use Rattle.zb_tokens.specs.Doom.{calls_off, is_doomed}
+use Rattle.zb_tokens.specs.Forced.{ends_in}
 use Rattle.zb_tokens.specs.Incidents.{incident_on, is_stuck}
 use Rattle.zb_tokens.specs.Marks.{error_of, has_come_about}
 use Rattle.zb_tokens.specs.MoveFinish.{rests_at}
 use Rattle.zb_places.specs.Places.{comes_in}
 use Rattle.zb_board.specs.Kept.{number_under}
-use Rattle.zb_board.specs.Tallies.{tally_of, cells_in, incidents_on}
-use Rattle.zb_board.specs.declared.tallies.Tally.{Tally}
+use Rattle.zb_board.specs.Tallies.{incidents_on}
 
 -- in a model nothing is left that an active cell waits for (BPMN 2.0.2, 13.2, 13.3.3 and 13.3.4)
 abbrev pub is_done_in : Model → Board → Cell → Bool
@@ -40,30 +42,39 @@ rests_in b c phases.Terminating = has_child b c.key
 abbrev pub is_resting : Board → Cell → Bool
 is_resting b c = is_stuck b c || rests_in b c c.phase
 
--- the cell with a key is there, and doesn't rest (own)
+-- a cell that is called off ends in its phase (own)
+abbrev pub is_ending : Board → Cell → Bool
+is_ending b c = is_doomed b c && ends_in b c c.phase
+
+-- the cell with a key is there, and doesn't rest, or ends as it is called off (own)
 abbrev pub is_awake : Board → ℕ → Bool
-is_awake b key = option_map_or (λ c. not (is_resting b c)) (cell_at b key) false
+is_awake b key = option_map_or (λ c. not (is_resting b c) || is_ending b c) (cell_at b key) false
 
 -- a token rests, whatever models and cells come, where nobody is called off: its cell and its model are there, and the
 -- tokens that it needs to enter its node haven't come (own)
 abbrev pub stays_out : Board → Token → Bool
 stays_out b t = option_map_or (λ c. option_map_or (λ m. not (comes_in m b.tokens t)) (model_under b c.definition) false) (cell_at b t.scope) false
 
+-- the key of each cell is kept under its scope, and no other one is (own)
+abbrev pub AreChildren : List Cell → BTreeSet (ℕ × ℕ) → Type 0
+AreChildren cells children = IsIndex (λ c. c.key) (λ c. Some c.scope) cells children
+
 -- a key is among some that are kept (own)
 abbrev pub is_kept : List ℕ → ℕ → Bool
 is_kept keys key = list_any (λ k. k == key) keys
 
--- what is kept is right, where the tokens have these numbers: keys and numbers ascend, each cell is newer than its scope, no two incidents stand on one cell, the counts of cells are those
--- of the board, the key of the incident on each cell is kept, each cell that doesn't rest is among the ready ones, each that calls off what is in it among
+-- what is kept is right, where the tokens have these numbers: keys and numbers ascend, each cell is newer than its scope, no two incidents stand on one cell, the key of each cell is kept
+-- under its scope, that of the incident on each cell is kept, each cell that doesn't rest, or ends as it is called off, is among the ready ones, each that calls off what is in it among
 -- those that do, and each token that doesn't rest among the coming ones (own)
-pub record IsIndexed (b : Board) (rows : List (Held Token)) (inside : List Tally) (stuck : List (ℕ × ℕ)) (ready calling coming : List ℕ) : Type 0 where
+pub record IsIndexed (b : Board) (rows : List (Held Token)) (children : BTreeSet (ℕ × ℕ)) (stuck : List (ℕ × ℕ)) (ready calling coming : List ℕ) : Type 0 where
   pub cells_ascend : Ascend (λ c. c.key) 0 b.cells
   pub newer : All (λ c. c.scope < c.key) b.cells
   pub tokens_ascend : Ascend (λ h. h.number) 0 rows
   pub incidents_ascend : Ascend (λ i. i.key) 0 b.incidents
   pub alone : (cell : ℕ) → incidents_on b cell ≤ 1
-  pub cells_right : (scope : ℕ) → tally_of inside scope ≡ cells_in b scope
+  pub children_right : AreChildren b.cells children
   pub stuck_right : (cell : ℕ) → number_under stuck cell ≡ option_map (λ i. i.key) (incident_on b cell)
   pub awake : All (λ c. is_resting b c ≡ false → is_kept ready c.key ≡ true) b.cells
+  pub ending : All (λ c. is_ending b c ≡ true → is_kept ready c.key ≡ true) b.cells
   pub called : All (λ c. calls_off c ≡ true → is_kept calling c.key ≡ true) b.cells
   pub awaited : All (λ h. stays_out b h.row ≡ false → is_kept coming h.number ≡ true) rows

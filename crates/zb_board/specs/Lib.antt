@@ -3,3 +3,4 @@ pub mod Tallies
 pub mod Kept
 pub mod Indexed
 pub mod Searches
+pub mod Below

@@ -1,18 +1,18 @@
 -- Words of the board's own functions.
-use Rattle.std.specs.Prelude.{ℕ, ◌==◌, nat_le, List, Bool, false, ◌||◌, Option, option_and_then}
+use Rattle.std.specs.Prelude.{ℕ, ◌==◌, List, Bool, false, Option, option_and_then}
 use Rattle.std.specs.Option.{option_map_or}
 use Rattle.std.specs.List.{list_any}
 use Rattle.zb_process.specs.declared.model.Model.{Model}
 use Rattle.zb_groups.specs.declared.held.Held.{Held}
 use Rattle.zb_groups.specs.Groups.{passes_at}
-use Rattle.zb_tokens.specs.declared.board.Cell.{Cell}
 use Rattle.zb_tokens.specs.declared.board.Token.{Token}
-use Rattle.zb_tokens.specs.Board.{Board, cell_at, leaves_in, model_under}
+use Rattle.zb_tokens.specs.declared.board.Phase.TheVariants as phases
+use Rattle.zb_tokens.specs.Board.{Board, cell_at, is_phase, model_under}
 use Rattle.zb_places.specs.Places.{counts_for}
 
--- a cell is no newer than a scope, or leaves in it
-abbrev pub is_older_or_leaves : ℕ → Cell → Bool
-is_older_or_leaves scope c = nat_le c.key scope || leaves_in scope c
+-- the cell with a key is there, and leaves
+abbrev pub leaves_at : Board → ℕ → Bool
+leaves_at b key = option_map_or (λ c. is_phase c.phase phases.Leaving) (cell_at b key) false
 
 -- a token is in a scope
 abbrev pub has_token : Board → ℕ → Bool

@@ -5,7 +5,7 @@ ghost use Rattle.zb_table.specs.Rows.{Ascend};
 ghost use Rattle.zb_tokens.specs.Board.{cell_at, model_under};
 ghost use Rattle.zb_tokens.specs.Game.{empty_board};
 ghost use Rattle.zb_places.specs.Places.{held_tokens};
-ghost use Rattle.zb_board.specs.Indexed.{is_kept, is_resting};
+ghost use Rattle.zb_board.specs.Indexed.{is_ending, is_kept, is_resting};
 ghost use Rattle.zb_board.specs.declared.game.GameFault.TheVariants as faults;
 
 mod changes;
@@ -22,16 +22,14 @@ mod stand;
 mod tokens;
 
 use crate::models::Models;
-use crate::tallies::Tally;
 use std::alloc::{AllocError, AllocFailed, Global};
-use std::collections::BTreeMap;
+use std::collections::{BTreeMap, BTreeSet};
 use std::marker::Model;
 use thiserror::Error;
 use zb_arrivals::Arrivals;
 use zb_base::Key;
 use zb_graph::Graph;
 use zb_groups::Groups;
-use zb_table::Table;
 use zb_tokens::{Cell, Incident, Token};
 
 /// Why a move was not made.
@@ -70,16 +68,17 @@ pub struct Game {
     // Whether the keys of the cells and of the incidents ascend, no two incidents stand on one cell, and what is kept
     // below is right. Where it isn't set, what is kept below counts no more.
     ascends: bool,
-    // How many cells are in each scope.
-    inside: Table<Tally>,
+    // The scope and the key of each cell.
+    children: BTreeSet<(Key, Key)>,
     // The key of the incident on each cell on which one stands.
     stuck: BTreeMap<Key, Key>,
-    // The keys of the cells that may go on by themselves, as if nobody were called off.
-    ready: Table<Key>,
+    // The keys of the cells that may go on by themselves, as if nobody were called off, and of those that end as they
+    // are called off.
+    ready: BTreeSet<Key>,
     // The keys of the cells that call off what is in them.
-    calling: Table<Key>,
+    calling: BTreeSet<Key>,
     // The numbers of the tokens that may enter by themselves, as if nobody were called off.
-    coming: Table<Key>,
+    coming: BTreeSet<Key>,
 }
 
 impl Model for Game {
@@ -110,7 +109,7 @@ impl Model for Game {
       cells = g.cells;
       tokens = held_tokens g.tokens;
       incidents = g.incidents;
-    }) g.tokens g.inside g.stuck.entries g.ready g.calling g.coming };
+    }) g.tokens g.children g.stuck.entries g.ready.keys g.calling.keys g.coming.keys };
 }
 
 impl Game {
@@ -124,11 +123,11 @@ impl Game {
             tokens: Groups::empty(alloc),
             incidents: Arrivals::empty(alloc),
             ascends: true,
-            inside: Table::empty(alloc),
+            children: BTreeSet::new(alloc),
             stuck: BTreeMap::new(alloc),
-            ready: Table::empty(alloc),
-            calling: Table::empty(alloc),
-            coming: Table::empty(alloc),
+            ready: BTreeSet::new(alloc),
+            calling: BTreeSet::new(alloc),
+            coming: BTreeSet::new(alloc),
         }
     }
 
@@ -185,11 +184,12 @@ impl Game {
         &self.tokens
     }
 
-    /// The keys of the cells that may go on by themselves, as if nobody were called off: of all that don't rest, and of
-    /// some that do. `None` where they aren't known. It takes constant time.
-    pub fn ready(&self) -> Option<&Table<Key>>
+    /// The keys of the cells that may go on by themselves: of all that don't rest where nobody is called off, of all that
+    /// end as they are called off, and of some others. `None` where they aren't known. It takes constant time.
+    pub fn ready(&self) -> Option<&BTreeSet<Key>>
         ensures ascend { IfSome result (λ keys. Ascend (λ c. c.key) 0 self.now.cells) }
-        ensures awake { IfSome result (λ keys. All (λ c. is_resting self.now c ≡ false → is_kept keys.now c.key ≡ true) self.now.cells) }
+        ensures awake { IfSome result (λ keys. All (λ c. is_resting self.now c ≡ false → is_kept keys.now.keys c.key ≡ true) self.now.cells) }
+        ensures ending { IfSome result (λ keys. All (λ c. is_ending self.now c ≡ true → is_kept keys.now.keys c.key ≡ true) self.now.cells) }
     {
         if self.ascends {
             Some(&self.ready)

@@ -1,6 +1,7 @@
 //! The board of a game of tokens, what is kept beside it so that a move needs no walk, and how both change.
 #![tactic(auto)]
 
+mod below;
 mod edits;
 mod game;
 mod keys;
@@ -8,9 +9,9 @@ mod kinds;
 mod lookups;
 mod marks;
 mod models;
-mod tallies;
 
 pub use edits::new_cell;
 pub use game::{Game, GameFault};
+pub use keys::{first_key, last_key};
 pub use kinds::{chooses, chooses_by_event, is_scope_in, is_service_at, terminates_at};
 pub use marks::{error_of, is_unset};

@@ -1,7 +1,6 @@
 // What is looked for on a board.
 ghost use Rattle.std.specs.Prelude.{◌≡◌, ◌==◌};
 ghost use Rattle.zb_tokens.specs.Board.{leaves_in};
-ghost use Rattle.zb_board.specs.Searches.{is_older_or_leaves};
 
 use zb_base::Key;
 use zb_table::Query;
@@ -32,20 +31,6 @@ impl Query<Cell> for LeavingIn {
 
     fn passes(&self, cell: &Cell) -> bool {
         cell.scope == self.scope && cell.phase == Phase::Leaving
-    }
-}
-
-/// Whether a cell is no newer than a scope, or leaves in it.
-#[derive(Drop)]
-pub struct OlderOrLeaving {
-    pub scope: Key,
-}
-
-impl Query<Cell> for OlderOrLeaving {
-    ghost passes = { λ q c. is_older_or_leaves q.scope c };
-
-    fn passes(&self, cell: &Cell) -> bool {
-        cell.key <= self.scope || (cell.scope == self.scope && cell.phase == Phase::Leaving)
     }
 }
 

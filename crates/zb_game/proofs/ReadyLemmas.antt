@@ -21,7 +21,7 @@ use Rattle.zb_tokens.specs.Marks.{error_of}
 use Rattle.zb_tokens.specs.MoveFinish.{is_done}
 use Rattle.zb_tokens.specs.Forced.{ends_in, goes_on_in, is_forced, greatest}
 use Rattle.zb_process.specs.declared.model.Model.{Model}
-use Rattle.zb_board.specs.Indexed.{is_done_in, rests_in, is_resting, is_kept}
+use Rattle.zb_board.specs.Indexed.{is_done_in, rests_in, is_resting, is_ending, is_kept}
 use Rattle.zb_game.specs.Searches.{comes_about_at, is_forced_at, newest_key}
 use Rattle.zb_table.proofs.Ascending.{finds_own}
 
@@ -143,7 +143,8 @@ among_kept p key (x ∷ cells) c found it = by_key (x.key == key) (p x) refl ref
     by_key false true other passes found later = rw other (later found)
     by_key false false other fails found later = later found
 
-module _ (b : Board) (ready : List ℕ) (ascend : Ascend (λ (c : Cell). c.key) 0 b.cells) (awake : All (λ c. is_resting b c ≡ false → is_kept ready c.key ≡ true) b.cells) (free : (c : Cell) → is_doomed b c ≡ false) where
+module _ (b : Board) (ready : List ℕ) (ascend : Ascend (λ (c : Cell). c.key) 0 b.cells) (awake : All (λ c. is_resting b c ≡ false → is_kept ready c.key ≡ true) b.cells)
+    (ending : All (λ c. is_ending b c ≡ true → is_kept ready c.key ≡ true) b.cells) where
   -- the key of a forced cell is among the ready ones, and one of a forced cell
   abbrev IsFound : ℕ → Type 0
   IsFound n = (is_kept ready n ≡ true) × (is_forced_at b n ≡ true)
@@ -151,12 +152,16 @@ module _ (b : Board) (ready : List ℕ) (ascend : Ascend (λ (c : Cell). c.key) 
   forced_found : All (λ c. is_forced b c ≡ true → IsFound c.key) b.cells
   forced_found k d within forced =
       let c = get_or b.cells k d in
-      let goes_free : (not (is_stuck b c) && goes_on_in b c c.phase) ≡ true = sym (ap (λ (t : Bool). if t then ends_in b c c.phase else not (is_stuck b c) && goes_on_in b c c.phase) (free c)) ∙ forced in
-      let goes : goes_on_in b c c.phase ≡ true = both (not (is_stuck b c)) (goes_on_in b c c.phase) goes_free in
       let found : cell_at b c.key ≡ Some c = finds_own (λ (x : Cell). x.key) 0 b.cells k d within ascend in
-      let free_of : is_stuck b c ≡ false = is_not (is_stuck b c) (one_of (not (is_stuck b c)) (goes_on_in b c c.phase) goes_free) in
-      let moves : is_resting b c ≡ false = rw free_of (goes_not_rests b c c.phase goes) in
-      (awake k d within moves, rw found forced)
+      (by_doom c (is_doomed b c) refl forced (awake k d within) (ending k d within), rw found forced)
+    where
+      by_doom : (c : Cell) (t : Bool) → is_doomed b c ≡ t → (if t then ends_in b c c.phase else not (is_stuck b c) && goes_on_in b c c.phase) ≡ true
+          → (is_resting b c ≡ false → is_kept ready c.key ≡ true) → (is_ending b c ≡ true → is_kept ready c.key ≡ true) → is_kept ready c.key ≡ true
+      by_doom c true doomed ends awake ending = ending (rw doomed ends)
+      by_doom c false free goes awake ending =
+          let on : goes_on_in b c c.phase ≡ true = both (not (is_stuck b c)) (goes_on_in b c c.phase) goes in
+          let free_of : is_stuck b c ≡ false = is_not (is_stuck b c) (one_of (not (is_stuck b c)) (goes_on_in b c c.phase) goes) in
+          awake (rw free_of (goes_not_rests b c c.phase on))
 
   all_found : All IsFound (map (λ (c : Cell). c.key) (filter (is_forced b) b.cells))
   all_found = All-map IsFound (λ (c : Cell). c.key) (filter (is_forced b) b.cells)
@@ -187,7 +192,7 @@ module _ (b : Board) (ready : List ℕ) (ascend : Ascend (λ (c : Cell). c.key) 
       let same : r.0 ≡ k = (let e : Some r.0 ≡ Some k = sym r.1 ∙ is in cc) in
       omega (arith, le, same)))
 
-  -- the last of the ready keys that is one of a forced cell, where nobody is called off
+  -- the last of the ready keys that is one of a forced cell
   pub newest_ready : Ascend (λ (k : ℕ). k) 0 ready → last_passing (is_forced_at b) ready ≡ newest_key b
   newest_ready up = by_last (last_passing (is_forced_at b) ready) up refl
 

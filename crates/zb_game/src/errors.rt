@@ -8,7 +8,7 @@ ghost use Rattle.zb_tokens.specs.MoveTrigger.{comes_about_by};
 ghost use Rattle.zb_game.specs.Searches.{comes_about_at, error_event_in};
 
 use zb_base::{Key, Text};
-use zb_board::{Game, error_of};
+use zb_board::{Game, error_of, first_key};
 use zb_faults::{is_activity, is_error_boundary};
 use zb_graph::Graph;
 use zb_process::Node;
@@ -21,7 +21,7 @@ pub fn comes_about(game: &Game, t: &Triggered) -> bool
     ensures { result ≡ list_any (comes_about_by game.now t.now) game.now.cells }
 {
     match game.ready() {
-        Some(ready) => ready.any(&ComesAboutAt { game, told: t }),
+        Some(ready) => first_key(&ComesAboutAt { game, told: t }, ready).is_some(),
         None => game.cells().first(&ComesAbout { game, told: t }).is_some(),
     }
 }

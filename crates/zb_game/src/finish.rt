@@ -32,5 +32,5 @@ pub fn finish(game: &mut Game, alloc: Global, key: Key) -> Result<(), GameFault>
     ensures illegal { IsErrOf result GameFault.Illegal → play_finish game.old key ≡ None }
     ensures kept { IsErrOf result GameFault.Illegal → game.new ≡ game.old }
 {
-    game.put_in_phase(key, Phase::Completing, List::empty(alloc))
+    game.put_in_phase(alloc, key, Phase::Completing, List::empty(alloc))
 }

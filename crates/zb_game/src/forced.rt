@@ -1,13 +1,13 @@
 ghost use Rattle.std.specs.Prelude.{◌≡◌, IfOk, is_none};
 ghost use Rattle.std.specs.Option.{option_copied};
-ghost use Rattle.zb_tokens.specs.Forced.{ends_in, goes_on_in, is_forced, next_mover};
+ghost use Rattle.zb_tokens.specs.Forced.{goes_on_in, is_forced, next_mover};
 ghost use Rattle.zb_game.specs.Searches.{is_forced_at, newest_key};
 
 use crate::finish::is_done;
 use crate::open::opens;
 use std::alloc::{AllocError, Global};
 use zb_base::{Key, TryCopy};
-use zb_board::{Game, error_of};
+use zb_board::{Game, error_of, last_key};
 use zb_table::Query;
 use zb_tokens::{Cell, Mover, Phase};
 
@@ -25,9 +25,9 @@ pub fn next_mover(game: &Game, alloc: Global) -> Result<Option<Mover>, AllocErro
     }
 }
 
-/// Whether nobody is forced to move. Where the keys ascend and no cell is terminating or ended, it goes through the
-/// cells that may go on by themselves, from the greatest key down to the first that is forced, and through no others;
-/// else through all. Where no cell is forced it goes through the tokens that may enter by themselves, up to the first
+/// Whether nobody is forced to move. Where the keys ascend it goes through the cells that may go on by themselves or end
+/// as they are called off, from the greatest key down to the first that is forced, and through no others; else through
+/// all. Where no cell is forced it goes through the tokens that may enter by themselves, up to the first
 /// that can; where the keys don't ascend, through all. To see whether a cell or a token moves costs what `fits` does.
 pub fn is_quiet(game: &Game) -> bool
     ensures { result ≡ is_none (next_mover game.now) }
@@ -35,17 +35,14 @@ pub fn is_quiet(game: &Game) -> bool
     newest_key(game).is_none() && game.first_entering().is_none()
 }
 
-// The greatest key of the cells that are forced. Where the keys ascend and nobody is called off, it is among the
-// ready ones.
+// The greatest key of the cells that are forced. Where the keys ascend it is among the ready ones.
 fn newest_key(game: &Game) -> Option<Key>
     ensures { result ≡ newest_key game.now }
 {
-    if game.has_none_calling() {
-        if let Some(ready) = game.ready() {
-            return ready.last_key(&Forced { game });
-        }
+    match game.ready() {
+        Some(ready) => last_key(&Forced { game }, ready),
+        None => game.cells().greatest(&ForcedCell { game }),
     }
-    game.cells().greatest(&ForcedCell { game })
 }
 
 // Whether the cell with a key is there, and is forced.
@@ -63,20 +60,9 @@ fn is_forced(game: &Game, cell: &Cell) -> bool
     ensures { result ≡ is_forced game.now cell.now }
 {
     if game.is_doomed(cell) {
-        ends(game, cell)
+        game.ends(cell)
     } else {
         !game.is_stuck(cell) && goes_on_by_itself(game, cell)
-    }
-}
-
-// Whether a doomed cell ends in its phase.
-fn ends(game: &Game, cell: &Cell) -> bool
-    ensures { result ≡ ends_in game.now cell.now cell.now.phase }
-{
-    match cell.phase {
-        Phase::Leaving => false,
-        Phase::Terminating => !game.has_child(cell.key),
-        Phase::Activating | Phase::Active | Phase::Completing => true,
     }
 }
 

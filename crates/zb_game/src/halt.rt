@@ -41,7 +41,7 @@ pub fn halt(game: &mut Game, alloc: Global, key: Key) -> Result<(), GameFault>
     ensures illegal { IsErrOf result GameFault.Illegal → play_halt game.old key ≡ None }
     ensures kept { IsErrOf result GameFault.Illegal → game.new ≡ game.old }
 {
-    game.put_in_phase(key, Phase::Terminating, List::empty(alloc))?;
+    game.put_in_phase(alloc, key, Phase::Terminating, List::empty(alloc))?;
     game.empty_scope(alloc, key)?;
     game.look_at(key);
     Ok(())

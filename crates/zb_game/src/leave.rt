@@ -63,7 +63,7 @@ pub fn leave(game: &mut Game, alloc: Global, l: Leave) -> Result<(), GameFault>
     };
     let scope = cell.scope;
     let ends = ends_scope(game, cell);
-    leaving(game, l.key, l.owed)?;
+    leaving(game, alloc, l.key, l.owed)?;
     if ends {
         end(game, alloc, scope)?;
     }
@@ -87,12 +87,12 @@ fn ends_scope(game: &Game, cell: &Cell) -> bool
 fn end(game: &mut Game, alloc: Global, scope: Key) -> Result<(), AllocError>
     ensures { OnOk result (game.new ≡ scope_ended scope game.old) }
 {
-    game.put_ending(scope)?;
+    game.put_ending(alloc, scope)?;
     game.empty_scope(alloc, scope)
 }
 
 /// A cell leaves and owes these flows; where there are none it is gone.
-pub fn leaving(game: &mut Game, key: Key, owed: List<Text>) -> Result<(), GameFault>
+pub fn leaving(game: &mut Game, alloc: Global, key: Key, owed: List<Text>) -> Result<(), GameFault>
     ensures left { OnOk result (leaving owed key game.old ≡ Some game.new) }
     ensures none { IsErrOf result GameFault.Illegal → leaving owed key game.old ≡ None }
     ensures kept { IsErrOf result GameFault.Illegal → game.new ≡ game.old }
@@ -100,7 +100,7 @@ pub fn leaving(game: &mut Game, key: Key, owed: List<Text>) -> Result<(), GameFa
     if owed.as_slice().is_empty() {
         game.take_away(key)
     } else {
-        game.put_in_phase(key, Phase::Leaving, owed)
+        game.put_in_phase(alloc, key, Phase::Leaving, owed)
     }
 }
 

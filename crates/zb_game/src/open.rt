@@ -35,7 +35,7 @@ pub fn open(game: &mut Game, alloc: Global, key: Key) -> Result<(), GameFault>
         return Err(GameFault::Illegal);
     };
     let token = first_token(game, alloc, cell)?;
-    game.put_in_phase(key, Phase::Active, List::empty(alloc))?;
+    game.put_in_phase(alloc, key, Phase::Active, List::empty(alloc))?;
     match token {
         Some(token) => {
             game.add_token(alloc, token)?;

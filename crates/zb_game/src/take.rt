@@ -32,7 +32,7 @@ pub fn take(game: &mut Game, alloc: Global, t: Take) -> Result<(), GameFault>
     let scope = cell.scope;
     let owed = rest_of(alloc, cell.owed.as_slice())?;
     let spot = spot_behind(game, alloc, cell, t.flow)?;
-    leaving(game, t.key, owed)?;
+    leaving(game, alloc, t.key, owed)?;
     game.add_token(alloc, Token { scope, spot })?;
     Ok(())
 }

@@ -1,5 +1,5 @@
 -- Partitions that are closed one after the other.
-use Rattle.std.proofs.Common.{◌≡◌, ◌≤◌, ℕ, List, [], ◌∷◌, ◌++◌, length, map, take, drop, Option, refl, sym, ap, ◌∙◌, arith, append_assoc}
+use Rattle.std.proofs.Common.{◌≡◌, ◌≤◌, ℕ, List, [], ◌∷◌, ◌++◌, length, map, take, drop, Option, refl, sym, ap, ◌∙◌, arith, ◌+◌, append_assoc, length-append}
 use Rattle.std.specs.Option.{option_or}
 use Rattle.std.proofs.lemmas.List.{length-map}
 use Rattle.zb_disk.specs.declared.disk.Disk.{Ghosts}
@@ -59,3 +59,7 @@ rotated {D = D} others files refused count closed pushed new many is_closed is_p
 -- there are stamps where there are partitions
 pub some_stamps : {A : Type 0} (f : A → List ℕ) (lists : List A) (stamps : List (List ℕ)) → map f lists ≡ stamps → 1 ≤ length stamps → lists ≡ [] → ⊥
 some_stamps f lists stamps are some none = let many : length stamps ≡ 0 = ap length (sym are) ∙ ap (λ (l : List _). length (map f l)) none in omega (arith, some, many)
+
+-- how many volumes there are behind others
+pub filled : {A B : Type 0} (f : A → B) (before : List B) (more : List A) (all : List B) → all ≡ before ++ map f more → length all ≡ length before + length more
+filled f before more all is = ap length is ∙ (length-append before (map f more) ∙ ap (λ (n : ℕ). length before + n) (length-map more f))

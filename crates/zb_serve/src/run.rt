@@ -77,6 +77,13 @@ impl<S, K, D> Closed<S, K, D> {
     pub fn into_devices(self) -> (Vec<Session<S, K>>, Vec<Volume<D>>)
         ensures { result ≡ (self.sessions, self.volumes) }
     {
-        (self.sessions, self.volumes)
+        let Closed {
+            cause,
+            sessions,
+            volumes,
+            ..
+        } = self;
+        drop(cause);
+        (sessions, volumes)
     }
 }

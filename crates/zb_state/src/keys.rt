@@ -1,5 +1,5 @@
 // The keys that events name.
-ghost use Rattle.std.specs.Prelude.{◌≡◌, ◌<◌, ◌^◌};
+ghost use Rattle.std.specs.Prelude.{◌≡◌, ◌∷◌, [], ◌<◌, ◌^◌};
 ghost use Rattle.zb_views.specs.View.{counter_at, greatest_among, keys_in};
 
 use zb_model::{Event, Key, PartitionId};
@@ -10,61 +10,62 @@ pub fn greatest_counter_of(place: PartitionId, event: &Event) -> u64
     ensures small { result < 2 ^ 51 }
 {
     match event {
+        Event::CommandDistributionFinished(key)
+        | Event::ElementCompleting(key)
+        | Event::ElementTerminating(key)
+        | Event::ElementTerminated(key)
+        | Event::JobTimedOut(key)
+        | Event::JobCompleted(key)
+        | Event::JobCanceled(key)
+        | Event::TimerTriggered(key)
+        | Event::TimerCanceled(key)
+        | Event::MessageExpired(key)
+        | Event::MessageSubscriptionDeleted(key)
+        | Event::ProcessMessageSubscriptionCreated(key)
+        | Event::ProcessMessageSubscriptionDeleted(key)
+        | Event::VariableDocumentUpdated(key) => counter_of(place, *key),
         Event::ProcessCreated(record) => counter_of(place, record.key),
         Event::CommandDistributionDistributing(record)
         | Event::CommandDistributionAcknowledged(record) => counter_of(place, record.key),
-        Event::CommandDistributionFinished(key) => counter_of(place, *key),
         Event::DeploymentCreated(record) | Event::ProcessInstanceCreationCreated(record) => {
-            greatest_among(place, &[record.key, record.definition])
+            of_two(place, record.key, record.definition)
         }
         Event::ElementActivating(record) => {
-            greatest_among(place, &[record.key, record.scope, record.definition])
+            of_three(place, record.key, record.scope, record.definition)
         }
         Event::ElementActivated(record) => counter_of(place, record.key),
-        Event::ElementCompleting(key) => counter_of(place, *key),
         Event::ElementCompleted(record) => counter_of(place, record.key),
-        Event::ElementTerminating(key) => counter_of(place, *key),
-        Event::ElementTerminated(key) => counter_of(place, *key),
         Event::SequenceFlowTaken(record) => counter_of(place, record.key),
         Event::ElementMigrated(record) => counter_of(place, record.key),
         Event::ProcessInstanceMigrationMigrated(record) => {
-            greatest_among(place, &[record.key, record.definition])
+            of_two(place, record.key, record.definition)
         }
-        Event::JobCreated(record) => greatest_among(place, &[record.key, record.cell]),
-        Event::JobActivated(record) => greatest_among(place, &[record.key, record.instance]),
-        Event::JobTimedOut(key) => counter_of(place, *key),
-        Event::JobCompleted(key) => counter_of(place, *key),
-        Event::JobCanceled(key) => counter_of(place, *key),
+        Event::JobCreated(record) => of_two(place, record.key, record.cell),
+        Event::JobActivated(record) => of_two(place, record.key, record.instance),
         Event::JobFailed(record) => counter_of(place, record.key),
         Event::JobErrorThrown(record) => counter_of(place, record.key),
         Event::JobRetriesUpdated(record) => counter_of(place, record.key),
         Event::JobBatchActivated(record) => {
             counter_of(place, record.key).max(greatest_among(place, record.jobs.as_slice()))
         }
-        Event::TimerCreated(record) => greatest_among(place, &[record.key, record.cell]),
-        Event::TimerTriggered(key) => counter_of(place, *key),
-        Event::TimerCanceled(key) => counter_of(place, *key),
+        Event::TimerCreated(record) => of_two(place, record.key, record.cell),
         Event::ProcessEventTriggered(record) => counter_of(place, record.cell),
         Event::MessagePublished(record) => counter_of(place, record.key),
-        Event::MessageExpired(key) => counter_of(place, *key),
         Event::MessageStartEventSubscriptionCorrelated(record) => {
-            greatest_among(place, &[record.message, record.definition, record.instance])
+            of_three(place, record.message, record.definition, record.instance)
         }
         Event::MessageSubscriptionCreated(record) => counter_of(place, record.subscription),
         Event::MessageSubscriptionCorrelating(record) => {
-            greatest_among(place, &[record.subscription, record.message])
+            of_two(place, record.subscription, record.message)
         }
         Event::MessageSubscriptionCorrelated(record)
         | Event::MessageSubscriptionRejected(record)
         | Event::ProcessMessageSubscriptionCorrelated(record) => {
-            greatest_among(place, &[record.subscription, record.message])
+            of_two(place, record.subscription, record.message)
         }
-        Event::MessageSubscriptionDeleted(key) => counter_of(place, *key),
         Event::ProcessMessageSubscriptionCreating(record) => {
-            greatest_among(place, &[record.subscription, record.cell])
+            of_two(place, record.subscription, record.cell)
         }
-        Event::ProcessMessageSubscriptionCreated(key) => counter_of(place, *key),
-        Event::ProcessMessageSubscriptionDeleted(key) => counter_of(place, *key),
         Event::ProcessMessageSubscriptionDeleting(record) => {
             counter_of(place, record.subscription).max(greatest_among(
                 place,
@@ -74,12 +75,25 @@ pub fn greatest_counter_of(place: PartitionId, event: &Event) -> u64
         Event::VariableCreated(record) | Event::VariableUpdated(record) => {
             counter_of(place, record.scope)
         }
-        Event::VariableDocumentUpdated(key) => counter_of(place, *key),
-        Event::IncidentCreated(record) => {
-            greatest_among(place, &[record.key, record.cell, record.job])
-        }
-        Event::IncidentResolved(record) => greatest_among(place, &[record.key, record.job]),
+        Event::IncidentCreated(record) => of_three(place, record.key, record.cell, record.job),
+        Event::IncidentResolved(record) => of_two(place, record.key, record.job),
     }
+}
+
+// The greater counter of two keys, if they are of the partition, or 0.
+fn of_two(place: PartitionId, first: Key, second: Key) -> u64
+    ensures value { result ≡ greatest_among place (first ∷ second ∷ []) }
+    ensures small { result < 2 ^ 51 }
+{
+    counter_of(place, first).max(counter_of(place, second))
+}
+
+// The greatest counter of three keys, if they are of the partition, or 0.
+fn of_three(place: PartitionId, first: Key, second: Key, third: Key) -> u64
+    ensures value { result ≡ greatest_among place (first ∷ second ∷ third ∷ []) }
+    ensures small { result < 2 ^ 51 }
+{
+    counter_of(place, first).max(of_two(place, second, third))
 }
 
 // The greatest counter among the keys of the partition, or 0.

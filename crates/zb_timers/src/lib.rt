@@ -1,7 +1,6 @@
 //! The table of timers that a partition keeps.
 #![tactic(auto)]
 
-mod cells;
 mod change;
 mod timers;
 

@@ -7,7 +7,6 @@ ghost use Rattle.zb_views.specs.Standing.{standing_by};
 ghost use Rattle.zb_views.specs.Timers.{timer_of, timer_sort};
 ghost use Rattle.zb_timers.specs.Table.{has_place_for_timer, keys_on, place_of_timer, due_timer};
 
-use crate::cells::keys_under;
 use crate::change::{made, says_nothing_of_timers};
 use std::alloc::{AllocError, Global};
 use std::collections::BTreeSet;
@@ -16,7 +15,7 @@ use std::mem;
 use zb_model::{Event, Key, List, Moment, TimerCreated};
 use zb_table::Query;
 use zb_views::Timer;
-use zb_waits::Waits;
+use zb_waits::{Waits, keys_under};
 
 /// The timers that are there, in the order of their keys. Contracts see the list of them.
 #[derive(Drop)]

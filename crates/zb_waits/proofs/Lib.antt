@@ -4,3 +4,4 @@ pub mod OrderLemmas
 pub mod FirstLemmas
 pub mod PassingLemmas
 pub mod KeptLemmas
+pub mod UnderLemmas

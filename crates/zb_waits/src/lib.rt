@@ -3,6 +3,8 @@
 
 mod first;
 mod keeping;
+mod under;
 mod waits;
 
+pub use under::{first_under, keys_under};
 pub use waits::Waits;

@@ -103,6 +103,8 @@ fn run<H: Threads + Wait + Sync, R: Read + Drop, W: Write + Drop>(
     );
     let status = closed.status;
     let _ = report_served(rt, words, status, &closed.cause, directory, &closed.volumes);
-    drop(closed);
+    let (sessions, volumes) = closed.into_devices();
+    drop(sessions);
+    drop(volumes);
     status
 }

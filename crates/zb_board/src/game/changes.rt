@@ -10,16 +10,17 @@ ghost use Rattle.zb_tokens.specs.Edits.{edited};
 ghost use Rattle.zb_tokens.specs.Marks.{with_mark};
 ghost use Rattle.zb_tokens.specs.MoveAssign.{with_variable};
 ghost use Rattle.zb_tokens.specs.MoveLeave.{with_end};
+ghost use Rattle.zb_board.specs.Below.{HasBelow};
 ghost use Rattle.zb_board.specs.Indexed.{is_kept};
 
+use crate::below::wake_below;
 use crate::edits::{InPhase, WithEnd, WithMark, WithVariable};
 use crate::keys::keep;
-use crate::tallies::one_more;
 use crate::{Game, GameFault};
-use std::alloc::AllocError;
+use std::alloc::{AllocError, Global};
+use std::collections::BTreeSet;
 use zb_arrivals::Arrivals;
 use zb_base::{Key, List, Text, Value};
-use zb_table::Table;
 use zb_tokens::{Cell, Mark, Phase};
 
 impl Game {
@@ -34,17 +35,20 @@ impl Game {
         let ascends = self.ascends && comes_newest(key, scope, &self.cells);
         self.ascends = false;
         self.cells.push(cell)?;
-        one_more(&mut self.inside, scope)?;
+        self.children.insert((scope, key))?;
         keep(&mut self.ready, key)?;
         self.ascends = ascends;
         self.look_at(scope);
         Ok(())
     }
 
-    /// Puts a cell in another phase, owing these flows. It may go on by itself. `Illegal` says that the cell isn't
-    /// there, and nothing has changed; after `Memory` the game is only dropped. The cell is found as by `cell`.
+    /// Puts a cell in another phase, owing these flows. It may go on by itself, and where it terminates, so may the cells
+    /// below it. `Illegal` says that the cell isn't there, and nothing has changed; after `Memory` the game is only
+    /// dropped. The cell is found as by `cell`; for each below one that terminates it takes the logarithm of how many
+    /// cells there are.
     pub fn put_in_phase(
         &mut self,
+        alloc: Global,
         key: Key,
         phase: Phase,
         owed: List<Text>,
@@ -59,7 +63,14 @@ impl Game {
         let ascends = self.ascends;
         self.ascends = false;
         keep(&mut self.ready, key)?;
-        note_phase(&mut self.calling, key, phase)?;
+        note_phase(
+            alloc,
+            &mut self.ready,
+            &mut self.calling,
+            &self.children,
+            key,
+            phase,
+        )?;
         self.cells.edit(key, InPhase { phase, owed })?;
         self.ascends = ascends;
         Ok(())
@@ -82,9 +93,10 @@ impl Game {
         Ok(())
     }
 
-    /// Ends a cell, if it is there: what is in it is called off. After a refusal the game is only dropped. The cell is
-    /// found as by `cell`.
-    pub fn put_ending(&mut self, key: Key) -> Result<(), AllocError>
+    /// Ends a cell, if it is there: what is in it is called off, so that the cells below it may go on. After a refusal
+    /// the game is only dropped. The cell is found as by `cell`; for each below it it takes the logarithm of how many
+    /// cells there are.
+    pub fn put_ending(&mut self, alloc: Global, key: Key) -> Result<(), AllocError>
         ensures { OnOk result (self.new ≡ record self.old { cells = option_map_or (λ cells. cells) (edited (λ c. c.key == key) with_end self.old.cells) self.old.cells }) }
     {
         if self.cell(key).is_none() {
@@ -92,7 +104,13 @@ impl Game {
         }
         let ascends = self.ascends;
         self.ascends = false;
-        keep(&mut self.calling, key)?;
+        call_off(
+            alloc,
+            &mut self.ready,
+            &mut self.calling,
+            &self.children,
+            key,
+        )?;
         self.cells.edit(key, WithEnd)?;
         self.ascends = ascends;
         Ok(())
@@ -123,14 +141,40 @@ fn comes_newest(key: Key, scope: Key, cells: &Arrivals<Cell>) -> bool
     scope < key && cells.comes_last(key)
 }
 
-// Puts a cell among those that call off what is in them where it is put in a phase that does.
-fn note_phase(calling: &mut Table<Key>, key: Key, phase: Phase) -> Result<(), AllocError>
-    ensures still { OnOk result ((other : ℕ) → is_kept calling.old other ≡ true → is_kept calling.new other ≡ true) }
-    ensures noted { OnOk result (is_phase phase phases.Terminating ≡ true → is_kept calling.new key ≡ true) }
+// Notes that a cell calls off what is in it where it is put in a phase that does.
+fn note_phase(
+    alloc: Global,
+    ready: &mut BTreeSet<Key>,
+    calling: &mut BTreeSet<Key>,
+    children: &BTreeSet<(Key, Key)>,
+    key: Key,
+    phase: Phase,
+) -> Result<(), AllocError>
+    ensures noted { OnOk result (is_phase phase phases.Terminating ≡ true → is_kept calling.new.keys key ≡ true) }
+    ensures others { OnOk result ((other : ℕ) → is_kept calling.old.keys other ≡ true → is_kept calling.new.keys other ≡ true) }
+    ensures still { OnOk result ((other : ℕ) → is_kept ready.old.keys other ≡ true → is_kept ready.new.keys other ≡ true) }
+    ensures woken { OnOk result (is_phase phase phases.Terminating ≡ true → HasBelow children.now.keys key ready.new.keys) }
 {
     if phase == Phase::Terminating {
-        keep(calling, key)
+        call_off(alloc, ready, calling, children, key)
     } else {
         Ok(())
     }
+}
+
+// Puts a cell among those that call off what is in them, and the cells below it among the ready ones.
+fn call_off(
+    alloc: Global,
+    ready: &mut BTreeSet<Key>,
+    calling: &mut BTreeSet<Key>,
+    children: &BTreeSet<(Key, Key)>,
+    key: Key,
+) -> Result<(), AllocError>
+    ensures noted { OnOk result (is_kept calling.new.keys key ≡ true) }
+    ensures others { OnOk result ((other : ℕ) → is_kept calling.old.keys other ≡ true → is_kept calling.new.keys other ≡ true) }
+    ensures still { OnOk result ((other : ℕ) → is_kept ready.old.keys other ≡ true → is_kept ready.new.keys other ≡ true) }
+    ensures woken { OnOk result (HasBelow children.now.keys key ready.new.keys) }
+{
+    keep(calling, key)?;
+    wake_below(alloc, ready, children, key)
 }

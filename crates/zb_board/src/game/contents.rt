@@ -1,13 +1,13 @@
-// What is in a cell. Where the keys ascend, the numbers of the cells in it are kept.
+// What is in a cell. Where the keys ascend, the keys of the cells in it are kept.
 ghost use Rattle.std.specs.Prelude.{◌≡◌};
 ghost use Rattle.zb_tokens.specs.Board.{has_child, is_empty};
 ghost use Rattle.zb_board.specs.Searches.{has_token};
 
 use crate::Game;
 use crate::lookups::In;
-use crate::tallies::tally_of;
 use zb_base::Key;
 use zb_places::has_token_in;
+use zb_waits::first_under;
 
 impl Game {
     // Whether nothing runs in a cell, and no token is in it.
@@ -17,13 +17,13 @@ impl Game {
         !self.has_child(key) && !self.has_token(key)
     }
 
-    /// Whether something runs in a cell. Where `cell` takes a logarithm it takes that of how many scopes there are;
+    /// Whether something runs in a cell. Where `cell` takes a logarithm it takes that of how many cells there are;
     /// elsewhere it goes through the cells up to the first in this one.
     pub fn has_child(&self, key: Key) -> bool
         ensures { result ≡ has_child self.now key }
     {
         if self.ascends {
-            tally_of(&self.inside, key) != 0
+            first_under(key, &self.children).is_some()
         } else {
             self.cells.first(&In { scope: key }).is_some()
         }

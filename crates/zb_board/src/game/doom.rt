@@ -1,5 +1,7 @@
 ghost use Rattle.std.specs.Prelude.{◌≡◌, true, false, All};
 ghost use Rattle.zb_tokens.specs.Doom.{calls_off, is_called_off, is_doomed};
+ghost use Rattle.zb_tokens.specs.Forced.{ends_in};
+ghost use Rattle.zb_board.specs.Indexed.{is_ending};
 
 use crate::Game;
 use zb_base::Key;
@@ -19,7 +21,7 @@ impl Game {
     pub fn has_none_calling(&self) -> bool
         ensures { result ≡ true → All (λ c. calls_off c ≡ false) self.now.cells }
     {
-        self.ascends && !self.calling.any(&Each)
+        self.ascends && self.calling.is_empty()
     }
 
     /// Whether a cell above this one calls it off. It costs what `is_called_off` does.
@@ -27,6 +29,24 @@ impl Game {
         ensures { result ≡ is_doomed self.now cell.now }
     {
         self.is_called_off(cell.scope)
+    }
+
+    // Whether a cell is called off, and ends in its phase.
+    pub(super) fn is_ending(&self, cell: &Cell) -> bool
+        ensures { result ≡ is_ending self.now cell.now }
+    {
+        self.is_doomed(cell) && self.ends(cell)
+    }
+
+    /// Whether a cell ends in its phase where it is called off. It costs what `has_child` does.
+    pub fn ends(&self, cell: &Cell) -> bool
+        ensures { result ≡ ends_in self.now cell.now cell.now.phase }
+    {
+        match cell.phase {
+            Phase::Leaving => false,
+            Phase::Terminating => !self.has_child(cell.key),
+            Phase::Activating | Phase::Active | Phase::Completing => true,
+        }
     }
 }
 
@@ -38,16 +58,5 @@ impl Query<Cell> for CallsOff {
 
     fn passes(&self, cell: &Cell) -> bool {
         cell.phase == Phase::Terminating || cell.ending
-    }
-}
-
-// Each key.
-struct Each;
-
-impl Query<Key> for Each {
-    ghost passes = { λ _ _. true };
-
-    fn passes(&self, _key: &Key) -> bool {
-        true
     }
 }

@@ -1,18 +1,21 @@
 // How cells go from the board, and with them what is kept of them beside the board.
-ghost use Rattle.std.specs.Prelude.{◌≡◌, ℕ, true, false, ◌+◌, ◌==◌, ◌≤◌, Some, None, IfOk, OnOk, IsErrOf, IsFalse, filter, is_some, not, option_map, if◌then◌else◌};
-ghost use Rattle.std.specs.List.{find, list_any};
-ghost use Rattle.zb_tokens.specs.Board.{emptied, leaves_in};
+ghost use Rattle.std.specs.Prelude.{◌≡◌, ℕ, true, false, ◌==◌, ◌&&◌, Some, None, IfOk, OnOk, IsErrOf, cond, filter, is_some, not, option_map, slice_get};
+ghost use Rattle.std.specs.BTreeSet.{IsOrdered};
+ghost use Rattle.std.specs.List.{find};
+ghost use Rattle.zb_tokens.specs.Board.{cell_at, emptied, leaves_in};
 ghost use Rattle.zb_tokens.specs.Edits.{removed, without_first};
+ghost use Rattle.zb_waits.specs.Pairs.{has_pair, keys_under, place_cmp};
 ghost use Rattle.zb_board.specs.Indexed.{is_kept};
-ghost use Rattle.zb_board.specs.Tallies.{tally_of};
+ghost use Rattle.zb_board.specs.Searches.{leaves_at};
 
 use crate::keys::{forget, keep};
-use crate::lookups::{LeavingIn, OlderOrLeaving};
-use crate::tallies::{Tally, one_less, tally_of};
+use crate::lookups::LeavingIn;
 use crate::{Game, GameFault};
 use std::alloc::{AllocError, Global};
+use std::collections::BTreeSet;
 use zb_base::Key;
-use zb_table::Table;
+use zb_tokens::Phase;
+use zb_waits::{first_under, keys_under};
 
 impl Game {
     /// Takes away a cell. Its scope may go on then. Where tokens are in it, what is kept counts no more. `Illegal`
@@ -27,10 +30,19 @@ impl Game {
             return Err(GameFault::Illegal);
         };
         let around = cell.scope;
+        self.take_out(key, around)?;
+        Ok(())
+    }
+
+    // Takes away the cell with a key, which is in this scope. Where tokens are in it, what is kept counts no more.
+    fn take_out(&mut self, key: Key, around: Key) -> Result<(), AllocError>
+        requires { option_map (λ c. c.scope) (cell_at self.old key) ≡ Some around }
+        ensures { OnOk result (self.new ≡ record self.old { cells = without_first (λ c. c.key == key) self.old.cells }) }
+    {
         let ascends = self.ascends && !self.has_token(key);
         self.ascends = false;
         note_gone(
-            &mut self.inside,
+            &mut self.children,
             &mut self.ready,
             &mut self.calling,
             key,
@@ -43,86 +55,82 @@ impl Game {
     }
 
     /// Empties a scope of its tokens, and of the cells that leave in it. After a refusal the game is only dropped. It
-    /// goes through these tokens; where cells are in it, from the newest cell back to it, and where some of them
-    /// leave, through all cells, once more for each.
+    /// goes through these tokens, and through the cells in the scope up to the first that leaves, once more for each;
+    /// each cell is found as by `cell`.
     pub fn empty_scope(&mut self, alloc: Global, scope: Key) -> Result<(), AllocError>
         ensures { OnOk result (self.new ≡ emptied scope self.old) }
     {
         self.take_tokens(alloc, scope)?;
-        self.take_leaving(scope)
+        self.take_leaving(alloc, scope)
     }
 
     // Takes away the cells that leave in a scope.
-    fn take_leaving(&mut self, scope: Key) -> Result<(), AllocError>
+    fn take_leaving(&mut self, alloc: Global, scope: Key) -> Result<(), AllocError>
         ensures { OnOk result (self.new ≡ record self.old { cells = filter (λ c. not (leaves_in scope c)) self.old.cells }) }
     {
-        if !self.has_child(scope) {
-            return Ok(());
-        }
-        if !self.may_leave(scope) {
-            return Ok(());
-        }
-        while self.take_one_leaving(scope)? {}
+        while self.take_one_leaving(alloc, scope)? {}
         Ok(())
     }
 
-    // Whether a cell may leave in a scope. Where the keys of cells ascend, each is newer than its scope, so it goes
-    // from the newest back to the scope, and tells whether one does.
-    fn may_leave(&self, scope: Key) -> bool
-        ensures { IsFalse result → list_any (leaves_in scope) self.now.cells ≡ false }
-    {
-        if !self.ascends {
-            return true;
-        }
-        match self.cells.greatest(&OlderOrLeaving { scope }) {
-            Some(key) => key > scope,
-            None => false,
-        }
-    }
-
-    // Takes away the first cell that leaves in a scope, and tells whether there was one. Where tokens are in it, what
-    // is kept counts no more.
-    fn take_one_leaving(&mut self, scope: Key) -> Result<bool, AllocError>
+    // Takes away the first cell that leaves in a scope, and tells whether there was one.
+    fn take_one_leaving(&mut self, alloc: Global, scope: Key) -> Result<bool, AllocError>
         ensures one { IfOk result (λ one. one ≡ is_some (find (leaves_in scope) self.old.cells)) }
         ensures left { OnOk result (self.new ≡ record self.old { cells = without_first (leaves_in scope) self.old.cells }) }
     {
-        let Some(cell) = self.cells.first(&LeavingIn { scope }) else {
-            return Ok(false);
-        };
-        let key = cell.key;
-        let around = cell.scope;
-        let ascends = self.ascends && !self.has_token(key);
-        self.ascends = false;
-        note_gone(
-            &mut self.inside,
-            &mut self.ready,
-            &mut self.calling,
-            key,
-            around,
-        )?;
-        self.cells.remove_first(&LeavingIn { scope });
-        self.ascends = ascends;
-        self.look_at(around);
-        Ok(true)
+        if !self.ascends {
+            let found = self.cells.first(&LeavingIn { scope }).is_some();
+            self.cells.remove_first(&LeavingIn { scope });
+            return Ok(found);
+        }
+        let keys = keys_under(alloc, scope, &self.children)?;
+        match self.first_leaving(keys.as_slice()) {
+            Some(key) => {
+                self.take_out(key, scope)?;
+                Ok(true)
+            }
+            None => Ok(false),
+        }
+    }
+
+    // The first of these keys whose cell is there, and leaves.
+    fn first_leaving(&self, keys: &[Key]) -> Option<Key>
+        ensures { result ≡ find (leaves_at self.now) keys.now }
+    {
+        for key in keys {
+            if self.leaves_at(*key) {
+                return Some(*key);
+            }
+        }
+        None
+    }
+
+    // Whether the cell with a key is there, and leaves.
+    fn leaves_at(&self, key: Key) -> bool
+        ensures { result ≡ leaves_at self.now key }
+    {
+        match self.cell(key) {
+            Some(cell) => cell.phase == Phase::Leaving,
+            None => false,
+        }
     }
 }
 
-// Counts a cell less in its scope, which may go on then, and keeps its key no longer.
+// Keeps the key of a cell no longer. Its scope may go on then.
 fn note_gone(
-    inside: &mut Table<Tally>,
-    ready: &mut Table<Key>,
-    calling: &mut Table<Key>,
+    children: &mut BTreeSet<(Key, Key)>,
+    ready: &mut BTreeSet<Key>,
+    calling: &mut BTreeSet<Key>,
     key: Key,
     around: Key,
 ) -> Result<(), AllocError>
-    ensures fewer { OnOk result (1 ≤ tally_of inside.old around
-        → (other : ℕ) → tally_of inside.old other ≡ tally_of inside.new other + (if around == other then 1 else 0)) }
-    ensures ready { OnOk result ((other : ℕ) → (other == key) ≡ false → is_kept ready.old other ≡ true → is_kept ready.new other ≡ true) }
-    ensures calling { OnOk result ((other : ℕ) → (other == key) ≡ false → is_kept calling.old other ≡ true → is_kept calling.new other ≡ true) }
-    ensures woken { OnOk result (tally_of inside.new around ≡ 0 → (around == key) ≡ false → is_kept ready.new around ≡ true) }
+    ensures fewer { OnOk result ((scope other : ℕ) → has_pair children.new scope other ≡ cond ((around == scope) && (key == other)) false (has_pair children.old scope other)) }
+    ensures order { OnOk result (IsOrdered place_cmp children.new) }
+    ensures ready { OnOk result ((other : ℕ) → (other == key) ≡ false → is_kept ready.old.keys other ≡ true → is_kept ready.new.keys other ≡ true) }
+    ensures calling { OnOk result ((other : ℕ) → (other == key) ≡ false → is_kept calling.old.keys other ≡ true → is_kept calling.new.keys other ≡ true) }
+    ensures woken { OnOk result (slice_get (keys_under around children.new.keys) 0 ≡ None → (around == key) ≡ false → is_kept ready.new.keys around ≡ true) }
 {
-    one_less(inside, around)?;
-    wake(ready, inside, around)?;
+    children.remove(&(around, key));
+    wake(ready, children, around)?;
     forget(ready, key);
     forget(calling, key);
     Ok(())
@@ -130,14 +138,15 @@ fn note_gone(
 
 // Puts a scope among the ready cells where no cell is left in it.
 pub(super) fn wake(
-    ready: &mut Table<Key>,
-    inside: &Table<Tally>,
+    ready: &mut BTreeSet<Key>,
+    children: &BTreeSet<(Key, Key)>,
     scope: Key,
 ) -> Result<(), AllocError>
-    ensures still { OnOk result ((key : ℕ) → is_kept ready.old key ≡ true → is_kept ready.new key ≡ true) }
-    ensures woken { OnOk result (tally_of inside.now scope ≡ 0 → is_kept ready.new scope ≡ true) }
+    ensures still { OnOk result ((key : ℕ) → is_kept ready.old.keys key ≡ true → is_kept ready.new.keys key ≡ true) }
+    ensures woken { OnOk result (slice_get (keys_under scope children.now.keys) 0 ≡ None → is_kept ready.new.keys scope ≡ true) }
+    ensures order { IsOrdered place_cmp children.now }
 {
-    if tally_of(inside, scope) == 0 {
+    if first_under(scope, children).is_none() {
         keep(ready, scope)
     } else {
         Ok(())

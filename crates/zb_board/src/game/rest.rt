@@ -13,8 +13,8 @@ use zb_places::comes;
 use zb_tokens::{Cell, Phase, Token};
 
 impl Game {
-    /// Looks at a cell again: where it rests, it isn't among the ready ones any more. It costs what `is_done_in` and
-    /// `incident_on` do.
+    /// Looks at a cell again: where it rests, and doesn't end as it is called off, it isn't among the ready ones any more.
+    /// It costs what `is_done_in`, `incident_on` and `is_called_off` do.
     pub fn look_at(&mut self, key: Key)
         ensures { self.new ≡ self.old }
     {
@@ -37,7 +37,7 @@ impl Game {
     pub(super) fn look_at_token(&mut self, number: Key)
         ensures { self.new ≡ self.old }
     {
-        if !self.coming.contains(number) {
+        if !self.coming.contains(&number) {
             return;
         }
         match self.tokens.get(number) {
@@ -63,12 +63,12 @@ impl Game {
         }
     }
 
-    // Whether a cell is there and doesn't rest.
+    // Whether a cell is there, and doesn't rest, or ends as it is called off.
     fn is_awake(&self, key: Key) -> bool
         ensures { result ≡ is_awake self.now key }
     {
         match self.cell(key) {
-            Some(cell) => !self.is_resting(cell),
+            Some(cell) => !self.is_resting(cell) || self.is_ending(cell),
             None => false,
         }
     }

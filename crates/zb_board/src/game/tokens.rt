@@ -50,7 +50,7 @@ impl Game {
         let ascends = self.ascends;
         self.ascends = false;
         take_first(alloc, &mut self.tokens, scope, query)?;
-        wake(&mut self.ready, &self.inside, scope)?;
+        wake(&mut self.ready, &self.children, scope)?;
         self.ascends = ascends;
         self.look_at(scope);
         Ok(())
@@ -106,7 +106,7 @@ impl Game {
         let ascends = self.ascends;
         self.ascends = false;
         take_scope(alloc, &mut self.tokens, scope);
-        wake(&mut self.ready, &self.inside, scope)?;
+        wake(&mut self.ready, &self.children, scope)?;
         self.ascends = ascends;
         self.look_at_tokens(numbers.as_slice());
         Ok(())

@@ -1,20 +1,22 @@
-use Rattle.std.proofs.Common.{◌≡◌, ℕ, ◌+◌, ◌-◌, ◌^◌, ◌<◌, ◌==◌, ◌∷◌, [], length, true, if◌then◌else◌, ap, rules, arith, length-append}
+use Rattle.std.proofs.Common.{◌≡◌, ℕ, ◌==◌, ◌&&◌, Bool, true, cond, ap, ◌∙◌, rules}
 use Rattle.zb_table.specs.Rows.{are_below}
+use Rattle.zb_waits.specs.Pairs.{has_pair}
+use Rattle.zb_waits.proofs.PairLemmas.{same_place}
 use Rattle.zb_tokens.specs.declared.board.Cell.{Cell}
-use Rattle.zb_board.specs.Tallies.{tally_of}
 use Rattle.zb_board.specs.Indexed.{is_kept}
-use Rattle.zb_board.proofs.IndexedLemmas.{kept_cell, more_cells}
+use Rattle.zb_board.proofs.IndexedLemmas.{kept_cell}
 use Rattle.zb_board.proofs.game.Game.add_cell.Goals as goal
 use Rattle.zb_board.proofs.game.Game.add_cell.Goals.{then-self, else-self}
 
 pub invariant_of-self-2 : goal.invariant_of-self-2
 invariant_of-self-2 c = λ ascends. elim c.if-self.branch [
   | then-self w ↦
+      let cell = c.args.cell in
       let last : w.comes_newest-ascends.result ≡ true = search rules in
-      let below : are_below (λ (x : Cell). x.key) c.args.cell.key c.self.inside.cells ≡ true = w.comes_newest-ascends.ensures.below last in
-      let cells : length c.self.inside.cells < 2 ^ 64 - 1 = omega (arith, c.in_ok-push.ensures.few, ap length c.in_ok-push.ensures.added, length-append c.self.inside.cells (c.args.cell ∷ [])) in
-      let more : (k : ℕ) → tally_of c.one_more.new.tallies k ≡ tally_of c.self.inside.inside k + (if c.args.cell.scope == k then 1 else 0) = c.in_ok-one_more.ensures (more_cells _ _ _ _ _ _ _ (c.self.invariant w.if-self.true) c.args.cell.scope cells) in
-      let still : (k : ℕ) → is_kept c.self.inside.ready k ≡ true → is_kept c.keep.new.keys k ≡ true = c.in_ok-keep.ensures.others in
-      rw c.in_ok-push.ensures.added (kept_cell _ _ _ _ _ _ _ (c.self.invariant w.if-self.true) c.args.cell _ _ below (w.comes_newest-ascends.ensures.newer last) c.requires more still c.in_ok-keep.ensures.kept)
+      let below : are_below (λ (x : Cell). x.key) cell.key c.self.inside.cells ≡ true = w.comes_newest-ascends.ensures.below last in
+      let more : (scope key : ℕ) → has_pair c.insert.new.self scope key ≡ cond ((cell.scope == scope) && (cell.key == key)) true (has_pair c.self.inside.children scope key) =
+      λ s k. c.in_ok-insert.ensures.updates.0 (s, k) ∙ ap (λ (t : Bool). cond t true (has_pair c.self.inside.children s k)) (same_place cell.scope cell.key s k) in
+      let still : (k : ℕ) → is_kept c.self.inside.ready.keys k ≡ true → is_kept c.keep.new.keys.keys k ≡ true = c.in_ok-keep.ensures.others in
+      rw c.in_ok-push.ensures.added (kept_cell _ _ _ _ _ _ _ (c.self.invariant w.if-self.true) cell _ _ below (w.comes_newest-ascends.ensures.newer last) c.requires more still c.in_ok-keep.ensures.kept)
   | else-self w ↦ absurd (search rules)
 ]

@@ -6,6 +6,8 @@ use Rattle.zb_tokens.specs.MoveLeave.{with_end}
 use Rattle.zb_arrivals.proofs.EditLemmas.{found_none}
 use Rattle.zb_arrivals.proofs.SplitLemmas.{or_kept}
 use Rattle.zb_board.proofs.EditedLemmas.{none_there, some_there}
+use Rattle.zb_tokens.specs.Doom.{calls_off}
+use Rattle.zb_board.proofs.EndingLemmas.{below_met, or_true}
 use Rattle.zb_board.proofs.IndexedLemmas.{kept_within}
 use Rattle.zb_board.proofs.game.Game.put_ending.Goals as goal
 
@@ -22,8 +24,11 @@ invariant_of-self-2 c = λ ascends.
     let r = some_there cells c.args.key (ap (λ (b : Board). is_none (find (λ (x : Cell). x.key == c.args.key) b.cells)) c.self.view_is ∙ found) in
     let cell = r.0 in
     let its = r.1 in
+    let kept = c.self.invariant ascends in
     let made = c.in_ok-edit.ensures ∙ ap (λ o. or_kept o cells) (its.made with_end) in
-    rw made (kept_within _ _ _ _ _ _ _ (c.self.invariant ascends) its.place cell cell.variables true _ its.within its.at c.in_ok-keep.ensures.others (λ _. rw its.own c.in_ok-keep.ensures.kept))
+    rw made (kept_within _ _ _ _ _ _ _ kept its.place cell cell.variables true true _ _ its.within its.at c.in_ok-call_off.ensures.still c.in_ok-call_off.ensures.others
+    (λ is. or_true (calls_off cell)) (λ _. below_met _ _ cell.key _ kept.cells_ascend kept.newer kept.children_right (rw its.own c.in_ok-call_off.ensures.woken))
+    (λ _. rw its.own c.in_ok-call_off.ensures.noted))
 
 pub returns : goal.returns
 returns c =

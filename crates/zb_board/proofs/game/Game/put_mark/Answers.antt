@@ -24,8 +24,8 @@ invariant_of-self-2 c = λ ascends.
     let cell = r.0 in
     let its = r.1 in
     let made = c.in_ok-edit.ensures ∙ ap (λ o. or_kept o cells) (its.made (with_mark c.args.mark)) in
-    rw made (kept_changed _ _ _ _ _ _ _ kept its.place cell (with_mark c.args.mark cell) _ _ its.within its.at refl refl refl
-    c.in_ok-keep.ensures.others (λ k is. is) (λ moves. rw its.own c.in_ok-keep.ensures.kept)
+    rw made (kept_changed _ _ _ _ _ _ _ kept its.place cell (with_mark c.args.mark cell) false _ _ its.within its.at refl refl refl
+    c.in_ok-keep.ensures.others (λ k is. is) (λ is. rw is refl) (λ is. absurd (cc)) (λ moves. rw its.own c.in_ok-keep.ensures.kept) (λ ends. rw its.own c.in_ok-keep.ensures.kept)
     (calls_as _ _ _ _ _ _ _ kept its.place cell its.within its.at))
 
 pub returns-clause-put : goal.returns-clause-put

@@ -24,7 +24,7 @@ invariant_of-self-2 c = λ ascends.
     let cell = r.0 in
     let its = r.1 in
     let made = c.in_ok-edit.ensures ∙ ap (λ o. or_kept o cells) (its.made (with_variable c.args.name c.args.value)) in
-    rw made (kept_within _ _ _ _ _ _ _ kept its.place cell (with_variable c.args.name c.args.value cell).variables cell.ending _ its.within its.at (λ k is. is) (calls_as _ _ _ _ _ _ _ kept its.place cell its.within its.at))
+    rw made (kept_within _ _ _ _ _ _ _ kept its.place cell (with_variable c.args.name c.args.value cell).variables cell.ending false _ _ its.within its.at (λ k is. is) (λ k is. is) (λ is. rw is refl) (λ is. absurd (cc)) (calls_as _ _ _ _ _ _ _ kept its.place cell its.within its.at))
 
 pub returns-clause-put : goal.returns-clause-put
 returns-clause-put c =

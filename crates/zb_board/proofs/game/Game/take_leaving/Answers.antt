@@ -1,22 +1,9 @@
-use Rattle.std.proofs.Common.{◌≡◌, ◌==◌, List, length, not, false, filter, refl, sym, ap, ◌∙◌, arith, rules}
-use Rattle.std.specs.List.{list_any}
+use Rattle.std.proofs.Common.{◌≡◌, List, length, not, filter, refl, sym, ap, ◌∙◌, arith}
 use Rattle.zb_tokens.specs.declared.board.Cell.{Cell}
 use Rattle.zb_tokens.specs.Board.{Board, leaves_in}
 use Rattle.zb_tokens.specs.Edits.{without_first}
-use Rattle.zb_board.proofs.SweepLemmas.{all_kept, stay_without, fewer_without, none_goes, none_taken}
+use Rattle.zb_board.proofs.SweepLemmas.{stay_without, fewer_without, none_goes, none_taken}
 use Rattle.zb_board.proofs.game.Game.take_leaving.Goals as goal
-
-pub returns-then-not-has_child : goal.returns-then-not-has_child
-returns-then-not-has_child c =
-    let b = c.args.self.now in
-    let none : list_any (λ (x : Cell). x.scope == c.args.scope) b.cells ≡ false = search rules in
-    ap (λ (cs : List Cell). record b { cells = cs }) (sym (all_kept (λ (x : Cell). not (leaves_in c.args.scope x)) (λ (x : Cell). x.scope == c.args.scope) b.cells (λ x other. rw other refl) none))
-
-pub returns-then-not-may_leave : goal.returns-then-not-may_leave
-returns-then-not-may_leave c =
-    let b = c.args.self.now in
-    let none : list_any (leaves_in c.args.scope) b.cells ≡ false = search rules in
-    ap (λ (cs : List Cell). record b { cells = cs }) (sym (all_kept (λ (x : Cell). not (leaves_in c.args.scope x)) (leaves_in c.args.scope) b.cells (λ x other. rw other refl) none))
 
 pub loop-smaller : goal.loop-smaller
 loop-smaller c =

@@ -1,38 +1,47 @@
-use Rattle.std.proofs.Common.{◌≡◌, ℕ, ◌+◌, ◌≤◌, ◌==◌, false, if◌then◌else◌, refl, sym, ap, ◌∙◌, rules}
-use Rattle.std.specs.List.{list_any}
-use Rattle.zb_groups.specs.declared.held.Held.{Held}
-use Rattle.zb_tokens.specs.declared.board.Token.{Token}
+use Rattle.std.proofs.Common.{◌≡◌, ◌==◌, List, is_some, refl, sym, ap, ◌∙◌}
+use Rattle.std.specs.List.{find}
+use Rattle.zb_arrivals.proofs.EditLemmas.{found_none}
+use Rattle.zb_tokens.specs.declared.board.Cell.{Cell}
 use Rattle.zb_tokens.specs.Board.{Board, leaves_in}
-use Rattle.zb_places.specs.Places.{held_tokens}
-use Rattle.zb_places.proofs.HeldLemmas.{any_row, none_passing}
-use Rattle.zb_arrivals.proofs.EditLemmas.{found_place, found_none}
-use Rattle.zb_arrivals.proofs.SplitLemmas.{or_kept}
-use Rattle.zb_board.specs.Searches.{has_token}
-use Rattle.zb_board.specs.Tallies.{tally_of}
-use Rattle.zb_board.proofs.IndexedLemmas.{kept_away, some_cell}
+use Rattle.zb_board.proofs.LeavingLemmas.{first_leaving, found_leaving, now_up}
+use Rattle.zb_board.proofs.TallyLemmas.{unmapped}
 use Rattle.zb_board.proofs.game.Game.take_one_leaving.Goals as goal
-use Rattle.zb_board.proofs.game.Game.take_one_leaving.Goals.{then-self, else-self}
 
-pub invariant_of-self-2 : goal.invariant_of-self-2
-invariant_of-self-2 c = λ ascends. elim c.if-self.branch [
-  | then-self w ↦
-      let cell = c.in-Some.cell.now in
-      let cells = c.self.inside.cells in
-      let its = found_place (leaves_in c.args.scope) cells cell (sym c.in-Some.ensures) in
-      let kept = c.self.invariant w.if-self.true in
-      let some : 1 ≤ tally_of c.self.inside.inside cell.scope = some_cell _ _ _ _ _ _ _ kept its.0 cell its.1 its.2 in
-      let fewer : (k : ℕ) → tally_of c.self.inside.inside k ≡ tally_of c.note_gone.new.inside k + (if cell.scope == k then 1 else 0) = c.in_ok-note_gone.ensures.fewer some in
-      let none : w.has_token.result ≡ false = search rules in
-      let nobody : list_any (λ (t : Token). t.scope == cell.key) (held_tokens c.self.inside.tokens) ≡ false = ap (λ (b : Board). has_token b cell.key) c.self.view_is ∙ (sym w.has_token.ensures ∙ none) in
-      let empty = none_passing (λ (h : Held Token). h.row.scope == cell.key) c.self.inside.tokens (sym (any_row (λ (t : Token). t.scope == cell.key) c.self.inside.tokens) ∙ nobody) in
-      let left = c.remove_first.ensures ∙ ap (λ o. or_kept o cells) its.3 in
-      rw left (kept_away _ _ _ _ _ _ _ kept its.0 cell _ _ _ its.1 its.2 fewer
-      c.in_ok-note_gone.ensures.ready c.in_ok-note_gone.ensures.calling c.in_ok-note_gone.ensures.woken empty)
-  | else-self w ↦ absurd (search rules)
-]
+pub take_out-requires : goal.take_out-requires
+take_out-requires c =
+    let kept = c.self.invariant c.if-not-self.false in
+    let keys = c.in_ok-keys.ensures in
+    let found = found_leaving _ _ c.self.view_is c.self.inside.children kept.children_right kept.cells_ascend c.args.scope keys.order _ _ c.as_slice.ensures.value keys.keys _ c.in-Some.ensures in
+    let ascend = now_up _ _ c.self.view_is c.self.inside.children kept.children_right kept.cells_ascend c.args.scope keys.order _ _ c.as_slice.ensures.value keys.keys _ c.in-Some.ensures in
+    (first_leaving c.args.self.now c.args.scope c.in-Some.key ascend found).around
 
-pub returns-in_default-clause-left : goal.returns-in_default-clause-left
-returns-in_default-clause-left c =
-    let cells = c.self.inside.cells in
-    let none = (found_none (leaves_in c.args.scope) cells (sym c.in_default.ensures)).0 in
-    rw (← c.self.view_is, none) refl
+pub returns-in-Some-clause-one : goal.returns-in-Some-clause-one
+returns-in-Some-clause-one c =
+    let kept = c.self.invariant c.if-not-self.false in
+    let keys = c.in_ok-keys.ensures in
+    let found = found_leaving _ _ c.self.view_is c.self.inside.children kept.children_right kept.cells_ascend c.args.scope keys.order _ _ c.as_slice.ensures.value keys.keys _ c.in-Some.ensures in
+    let ascend = now_up _ _ c.self.view_is c.self.inside.children kept.children_right kept.cells_ascend c.args.scope keys.order _ _ c.as_slice.ensures.value keys.keys _ c.in-Some.ensures in
+    sym (ap is_some (first_leaving c.args.self.now c.args.scope c.in-Some.key ascend found).found)
+
+pub returns-in-Some-clause-left : goal.returns-in-Some-clause-left
+returns-in-Some-clause-left c =
+    let kept = c.self.invariant c.if-not-self.false in
+    let keys = c.in_ok-keys.ensures in
+    let found = found_leaving _ _ c.self.view_is c.self.inside.children kept.children_right kept.cells_ascend c.args.scope keys.order _ _ c.as_slice.ensures.value keys.keys _ c.in-Some.ensures in
+    let ascend = now_up _ _ c.self.view_is c.self.inside.children kept.children_right kept.cells_ascend c.args.scope keys.order _ _ c.as_slice.ensures.value keys.keys _ c.in-Some.ensures in
+    c.in_ok-take_out-in-Some.ensures ∙ ap (λ (cs : List Cell). record c.args.self.now { cells = cs }) (first_leaving c.args.self.now c.args.scope c.in-Some.key ascend found).gone
+
+pub returns-clause-one : goal.returns-clause-one
+returns-clause-one c =
+    let kept = c.self.invariant c.if-not-self.false in
+    let keys = c.in_ok-keys.ensures in
+    let found = found_leaving _ _ c.self.view_is c.self.inside.children kept.children_right kept.cells_ascend c.args.scope keys.order _ _ c.as_slice.ensures.value keys.keys _ c.in-None.ensures in
+    sym (ap is_some (unmapped (λ (x : Cell). x.key) (find (leaves_in c.args.scope) c.args.self.now.cells) found))
+
+pub returns-clause-left : goal.returns-clause-left
+returns-clause-left c =
+    let kept = c.self.invariant c.if-not-self.false in
+    let keys = c.in_ok-keys.ensures in
+    let found = found_leaving _ _ c.self.view_is c.self.inside.children kept.children_right kept.cells_ascend c.args.scope keys.order _ _ c.as_slice.ensures.value keys.keys _ c.in-None.ensures in
+    let none = (found_none (leaves_in c.args.scope) c.args.self.now.cells (unmapped (λ (x : Cell). x.key) (find (leaves_in c.args.scope) c.args.self.now.cells) found)).0 in
+    rw none refl

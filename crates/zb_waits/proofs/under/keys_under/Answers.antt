@@ -1,13 +1,13 @@
 use Rattle.std.proofs.Common.{◌≡◌, ℕ, ◌==◌, not, filter, false, true, Bool, List, ◌∷◌, ◌++◌, refl, sym, ap, subst, ◌∙◌, append-nil}
-use Rattle.zb_timers.specs.Cells.{keys_under}
-use Rattle.zb_timers.proofs.CellLemmas.{RiseFrom, is_from, under_from, from_rises, none_behind}
-use Rattle.zb_timers.proofs.cells.keys_under.Goals as goal
+use Rattle.zb_waits.specs.Pairs.{keys_under}
+use Rattle.zb_waits.proofs.UnderLemmas.{RiseFrom, is_from, under_from, from_rises, none_behind}
+use Rattle.zb_waits.proofs.under.keys_under.Goals as goal
 
 pub loop-pair-init : goal.loop-pair-init
 loop-pair-init c =
-    let pairs = c.args.cells.now.keys in
-    let is : c.into_iter-pair-iterator.result ≡ filter (is_from c.args.cell) pairs = c.into_iter-pair-iterator.ensures.into_iter_gives ∙ (c.range-pair-items.ensures.between tt ∙ rw c.new.ensures refl) in
-    (rw (c.new-keys.ensures.items, is) (under_from c.args.cell pairs), rw is (from_rises c.args.cell pairs c.range-pair-items.ensures.ordered), refl)
+    let pairs = c.args.pairs.now.keys in
+    let is : c.into_iter-pair-iterator.result ≡ filter (is_from c.args.number) pairs = c.into_iter-pair-iterator.ensures.into_iter_gives ∙ (c.range-pair-items.ensures.between tt ∙ rw c.new.ensures refl) in
+    (rw (c.new-keys.ensures.items, is) (under_from c.args.number pairs), rw is (from_rises c.args.number pairs c.range-pair-items.ensures.ordered), refl)
 
 -- what isn't equal
 is_other : (t : Bool) → true ≡ not t → t ≡ false
@@ -16,7 +16,7 @@ is_other false is = refl
 
 pub returns-then-ne-clause-keys : goal.returns-then-ne-clause-keys
 returns-then-ne-clause-keys c =
-    let cell = c.args.cell in
+    let cell = c.args.number in
     let rises : RiseFrom cell (c.in-Some.pair.now ∷ c.next.new.self) = subst (λ (ps : List (ℕ × ℕ)). RiseFrom cell ps) c.in-Some.ensures.steps c.loop-pair.invariant.1 in
     let none = ap (keys_under cell) c.in-Some.ensures.steps ∙ none_behind cell c.in-Some.pair.now c.next.new.self rises (is_other (c.in-Some.pair.now.0 == cell) c.if-ne.ensures) in
     sym (append-nil c.loop-pair.keys.items) ∙ (ap (λ (ks : List ℕ). c.loop-pair.keys.items ++ ks) (sym none) ∙ c.loop-pair.invariant.0)

@@ -1,4 +1,4 @@
--- The keys that are kept under a cell are those of its timers.
+-- The keys that are kept under a number are those of its rows.
 use Rattle.std.proofs.Common.{◌≡◌, ℕ, ◌+◌, ◌<◌, ◌≤◌, ◌==◌, nat_lt, List, [], ◌∷◌, map, filter, Bool, true, false, ◌&&◌, ◌||◌, cond, Some, refl, sym, ap, subst, ◌∙◌, arith, nat_cmp}
 use Rattle.std.specs.declared.cmp.Ordering.TheVariants.{Less, Equal, Greater}
 use Rattle.std.specs.declared.ops.Bound.TheVariants.{Included, Unbounded}
@@ -11,12 +11,9 @@ use Rattle.std.specs.List.Sorted.{IsStrictlySortedBy}
 use Rattle.std.proofs.lemmas.Bool.Decides.{nat_tests}
 use Rattle.std.proofs.lemmas.Map.Keys.{sorted_head, sorted_tail}
 use Rattle.zb_table.specs.Rows.{Ascend}
-use Rattle.zb_views.specs.declared.timer.Timer.{Timer}
-use Rattle.zb_waits.specs.Pairs.{is_row_under, IsIndex}
+use Rattle.zb_waits.specs.Pairs.{is_row_under, keys_under, place_cmp, IsIndex}
 use Rattle.zb_waits.proofs.FoundLemmas.{ascend_kept}
 use Rattle.zb_waits.proofs.PairLemmas.{same_place}
-use Rattle.zb_timers.specs.Cells.{place_cmp, keys_under}
-use Rattle.zb_timers.specs.Table.{keys_on}
 
 -- of two pairs that ascend
 place_less : (a b : ℕ × ℕ) → place_cmp a b ≡ Less → (a.0 ≤ b.0) × (a.0 ≡ b.0 → a.1 < b.1)
@@ -86,7 +83,7 @@ keys_ascend cell low (p ∷ ps) up above =
     by_test all later false there = all
 
 -- a key is among those under a cell where the pair is
-under_any : (cell k : ℕ) (ps : List (ℕ × ℕ)) → list_any (λ x. x == k) (keys_under cell ps) ≡ list_any (λ p. is_eq (place_cmp (cell, k) p)) ps
+pub under_any : (cell k : ℕ) (ps : List (ℕ × ℕ)) → list_any (λ x. x == k) (keys_under cell ps) ≡ list_any (λ p. is_eq (place_cmp (cell, k) p)) ps
 under_any cell k [] = refl
 under_any cell k (p ∷ ps) =
     by_test (p.0 == cell) refl (under_any cell k ps)
@@ -108,27 +105,6 @@ none_lower k low [] up below = refl
 none_lower k low (x ∷ ks) up below =
     let apart : (x == k) ≡ false = grind (arith, nat_tests, up.0, below) in
     rw apart (none_lower k (x + 1) ks up.1 (omega (arith, up.0, below)))
-
--- the keys of timers ascend by themselves
-on_ascend : (low : ℕ) (ts : List Timer) → Ascend (λ t. t.key) low ts → Ascend (λ k. k) low (map (λ (t : Timer). t.key) ts)
-on_ascend low [] up = tt
-on_ascend low (t ∷ ts) up = (up.0, on_ascend (t.key + 1) ts up.1)
-
-pub keys_on_ascend : (cell low : ℕ) (ts : List Timer) → Ascend (λ t. t.key) low ts → Ascend (λ k. k) low (keys_on cell ts)
-keys_on_ascend cell low ts up = on_ascend low (filter (λ t. t.cell == cell) ts) (ascend_kept (λ (t : Timer). t.key) (λ (t : Timer). t.cell == cell) low ts up)
-
--- a key is among those of a cell where its timer is on that
-on_any : (cell k low : ℕ) (ts : List Timer) → Ascend (λ t. t.key) low ts → list_any (λ x. x == k) (keys_on cell ts) ≡ is_row_under (λ t. Some t.cell) cell (find (λ t. t.key == k) ts)
-on_any cell k low [] up = refl
-on_any cell k low (t ∷ ts) up = by_tests (t.cell == cell) (t.key == k) refl refl (on_any cell k (t.key + 1) ts up.1)
-  where
-    by_tests : (c s : Bool) → (t.cell == cell) ≡ c → (t.key == k) ≡ s → list_any (λ x. x == k) (keys_on cell ts) ≡ is_row_under (λ o. Some o.cell) cell (find (λ o. o.key == k) ts)
-        → list_any (λ x. x == k) (map (λ (o : Timer). o.key) (cond c (t ∷ filter (λ o. o.cell == cell) ts) (filter (λ o. o.cell == cell) ts))) ≡ is_row_under (λ o. Some o.cell) cell (cond s (Some t) (find (λ o. o.key == k) ts))
-    by_tests true true on its later = rw (its, on) refl
-    by_tests true false on other later = rw other later
-    by_tests false true off its later =
-        rw off (none_lower k (t.key + 1) (keys_on cell ts) (keys_on_ascend cell (t.key + 1) ts up.1) (grind (arith, nat_tests, its)))
-    by_tests false false off other later = later
 
 -- two lists that ascend and have the same members are one
 same_members : (low : ℕ) (xs ys : List ℕ) → Ascend (λ x. x) low xs → Ascend (λ y. y) low ys → ((k : ℕ) → list_any (λ x. x == k) xs ≡ list_any (λ y. y == k) ys) → xs ≡ ys
@@ -166,13 +142,6 @@ same_members low (x ∷ xs) (y ∷ ys) up too same = joined first (same_members 
 
     joined : x ≡ y → xs ≡ ys → x ∷ xs ≡ y ∷ ys
     joined one others = ap (λ (n : ℕ). n ∷ xs) one ∙ ap (λ (l : List ℕ). y ∷ l) others
-
--- the keys that are kept under a cell are those of its timers
-pub kept_on : (cell : ℕ) (rows : List Timer) (cells : BTreeSet (ℕ × ℕ)) → Ascend (λ t. t.key) 0 rows → IsIndex (λ t. t.key) (λ t. Some t.cell) rows cells → IsStrictlySortedBy place_cmp cells.keys
-    → keys_under cell cells.keys ≡ keys_on cell rows
-kept_on cell rows cells up index sorted =
-    same_members 0 (keys_under cell cells.keys) (keys_on cell rows) (keys_ascend cell 0 cells.keys sorted (above_none cell cells.keys)) (keys_on_ascend cell 0 rows up)
-    (λ k. under_any cell k cells.keys ∙ (index cell k ∙ sym (on_any cell k 0 rows up)))
 
 -- pairs from a cell on
 from_cell : (cell : ℕ) (p : ℕ × ℕ) → is_le (place_cmp (cell, 0) p) ≡ true → cell ≤ p.0
@@ -215,3 +184,36 @@ module _ (cell : ℕ) where
   -- none is under it behind a pair that isn't
   pub none_behind : (p : ℕ × ℕ) (ps : List (ℕ × ℕ)) → RiseFrom cell (p ∷ ps) → (p.0 == cell) ≡ false → keys_under cell (p ∷ ps) ≡ []
   none_behind p ps up apart = rw apart (none_under cell p.0 ps up.1 (grind (arith, nat_tests, up.0, apart)))
+
+module _ {A : Type 0} (key number : A → ℕ) where
+  -- the keys of the rows of a number
+  abbrev pub keys_of : ℕ → List A → List ℕ
+  keys_of n rows = map key (filter (λ r. number r == n) rows)
+
+  -- the keys of rows ascend by themselves
+  own_ascend : (low : ℕ) (rows : List A) → Ascend key low rows → Ascend (λ k. k) low (map key rows)
+  own_ascend low [] up = tt
+  own_ascend low (r ∷ rows) up = (up.0, own_ascend (key r + 1) rows up.1)
+
+  pub keys_of_ascend : (n low : ℕ) (rows : List A) → Ascend key low rows → Ascend (λ k. k) low (keys_of n rows)
+  keys_of_ascend n low rows up = own_ascend low (filter (λ r. number r == n) rows) (ascend_kept key (λ r. number r == n) low rows up)
+
+  -- a key is among those of a number where its row has that
+  of_any : (n k low : ℕ) (rows : List A) → Ascend key low rows → list_any (λ x. x == k) (keys_of n rows) ≡ is_row_under (λ r. Some (number r)) n (find (λ r. key r == k) rows)
+  of_any n k low [] up = refl
+  of_any n k low (r ∷ rows) up = by_tests (number r == n) (key r == k) refl refl (of_any n k (key r + 1) rows up.1)
+    where
+      by_tests : (c s : Bool) → (number r == n) ≡ c → (key r == k) ≡ s → list_any (λ x. x == k) (keys_of n rows) ≡ is_row_under (λ o. Some (number o)) n (find (λ o. key o == k) rows)
+          → list_any (λ x. x == k) (map key (cond c (r ∷ filter (λ o. number o == n) rows) (filter (λ o. number o == n) rows))) ≡ is_row_under (λ o. Some (number o)) n (cond s (Some r) (find (λ o. key o == k) rows))
+      by_tests true true on its later = rw (its, on) refl
+      by_tests true false on other later = rw other later
+      by_tests false true off its later =
+          rw off (none_lower k (key r + 1) (keys_of n rows) (keys_of_ascend n (key r + 1) rows up.1) (grind (arith, nat_tests, its)))
+      by_tests false false off other later = later
+
+  -- the keys that are kept under a number are those of its rows
+  pub kept_under : (n : ℕ) (rows : List A) (pairs : BTreeSet (ℕ × ℕ)) → Ascend key 0 rows → IsIndex key (λ r. Some (number r)) rows pairs → IsStrictlySortedBy place_cmp pairs.keys
+      → keys_under n pairs.keys ≡ keys_of n rows
+  kept_under n rows pairs up index sorted =
+      same_members 0 (keys_under n pairs.keys) (keys_of n rows) (keys_ascend n 0 pairs.keys sorted (above_none n pairs.keys)) (keys_of_ascend n 0 rows up)
+      (λ k. under_any n k pairs.keys ∙ (index n k ∙ sym (of_any n k 0 rows up)))
