@@ -4,7 +4,7 @@ use Rattle.std.specs.List.{find, insert, position, position_or_len}
 use Rattle.std.proofs.lemmas.Grind.{common_steps}
 use Rattle.std.proofs.lemmas.List.Folds.{find_at}
 use Rattle.std.proofs.lemmas.Option.{slice_get_read}
-use Rattle.zb_tokens.specs.Edits.{edited, removed}
+use Rattle.zb_table.specs.Edits.{edited, removed}
 
 -- what was there where what is made of it is there
 pub mapped_from : {A B : Type 0} (f : A → B) (o : Option A) (y : B) → option_map f o ≡ Some y → (x : A) × (o ≡ Some x) × (f x ≡ y)

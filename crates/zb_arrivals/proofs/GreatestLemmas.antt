@@ -3,7 +3,7 @@ use Rattle.std.proofs.Common.{◌≡◌, ℕ, ◌+◌, ◌<◌, ◌≤◌, max, 
 use Rattle.std.specs.Option.{option_map_or, option_or}
 use Rattle.std.proofs.lemmas.List.{take_more}
 use Rattle.zb_table.specs.Rows.{Ascend, last_passing}
-use Rattle.zb_tokens.specs.Forced.{greatest}
+use Rattle.zb_table.specs.Greatest.{greatest}
 use Rattle.zb_arrivals.specs.Newer.{newer_of}
 
 -- one more key is the greatest where it is greater than the best so far

@@ -4,7 +4,7 @@ use Rattle.std.specs.List.{find}
 use Rattle.std.proofs.lemmas.Bool.Decides.{nat_tests}
 use Rattle.zb_table.specs.Rows.{Ascend, first_passing, row_at, with_edit, without}
 use Rattle.zb_table.proofs.Changing.{without_none, edit_none}
-use Rattle.zb_tokens.specs.Edits.{edited, removed}
+use Rattle.zb_table.specs.Edits.{edited, removed}
 
 -- what is found first
 pub first_is_found : {A : Type 0} (p : A → Bool) (xs : List A) → first_passing p xs ≡ find p xs

@@ -2,7 +2,7 @@
 use Rattle.std.proofs.Common.{◌≡◌, List, [], ◌∷◌, ◌++◌, Bool, true, false, cond, if◌then◌else◌, Option, Some, None, option_map, refl, ap, ◌∙◌, append-nil}
 use Rattle.std.specs.List.{find}
 use Rattle.std.specs.Option.{option_map_or}
-use Rattle.zb_tokens.specs.Edits.{edited, removed, without_first}
+use Rattle.zb_table.specs.Edits.{edited, removed, without_first}
 
 -- what a list is, or becomes where it can
 abbrev pub or_kept : {A : Type 0} → Option (List A) → List A → List A

@@ -2,8 +2,8 @@
 ghost use Rattle.std.specs.Prelude.{◌≡◌, ◌==◌, OnOk, filter, map, position};
 ghost use Rattle.std.specs.List.{find};
 ghost use Rattle.std.specs.Option.{option_copied, option_map_or};
-ghost use Rattle.zb_tokens.specs.Edits.{edited, without_first};
-ghost use Rattle.zb_tokens.specs.Forced.{greatest};
+ghost use Rattle.zb_table.specs.Edits.{edited, without_first};
+ghost use Rattle.zb_table.specs.Greatest.{greatest};
 ghost use Rattle.zb_arrivals.specs.Newer.{newer_of};
 
 use std::alloc::AllocError;

@@ -16,7 +16,7 @@ pub use key::Key;
 pub use list::List;
 pub use moment::Moment;
 pub use pair::Pair;
-pub use partition::{PartitionId, home_of};
+pub use partition::{PartitionId, hash_of, home_of};
 pub use text::Text;
 pub use value::Value;
 pub use vars::{Variable, Vars};

@@ -46,9 +46,17 @@ pub fn home_of(key: &[u8], partitions: u32) -> PartitionId
     requires to { partitions ≤ 16 }
     ensures { result ≡ spec.home_of key.now partitions }
 {
+    PartitionId(hash_of(key) % partitions + 1)
+}
+
+/// A number of 32 bits for these bytes: the same for the same ones, and mostly another one for others. It takes one step
+/// for each of them.
+pub fn hash_of(bytes: &[u8]) -> u32
+    ensures { result ≡ spec.hash_of bytes.now }
+{
     let mut hash: u32 = 0;
-    for byte in key {
+    for byte in bytes {
         hash = hash.wrapping_mul(31).wrapping_add(u32::from(*byte));
     }
-    PartitionId(hash % partitions + 1)
+    hash
 }

@@ -1,5 +1,6 @@
 -- Up the scopes from a cell, with the cells that are left as fuel.
-use Rattle.std.proofs.Common.{◌≡◌, ℕ, ◌+◌, ◌<◌, ◌≤◌, ◌==◌, List, [], ◌∷◌, All, length, drop, get_or, Bool, true, false, is_some, Option, Some, None, refl, sym, ◌∙◌, arith}
+use Rattle.std.proofs.Common.{◌≡◌, ℕ, ◌+◌, ◌<◌, ◌≤◌, ◌==◌, List, [], ◌∷◌, All, length, drop, get_or, Bool, true, false, is_some, Option, Some, None, refl, sym, ◌∙◌}
+use Rattle.std.specs.List.{list_any}
 use Rattle.std.proofs.lemmas.List.{at_drop_all, at_drop_more}
 use Rattle.zb_tokens.specs.declared.board.Cell.{Cell}
 use Rattle.zb_tokens.specs.Board.{Board, cell_at, nearest, up_from}
@@ -34,10 +35,10 @@ none_called b none key = by_nearest (nearest calls_off b key) refl
         absurd (cc)
 
 -- no cell calls off what is in it where none is kept that does
-pub none_calling : (calling : List ℕ) (cells : List Cell) → length calling ≡ 0 → All (IsCalling calling) cells → All (λ (c : Cell). calls_off c ≡ false) cells
+pub none_calling : (calling : List ℕ) (cells : List Cell) → list_any (λ (k : ℕ). true) calling ≡ false → All (IsCalling calling) cells → All (λ (c : Cell). calls_off c ≡ false) cells
 none_calling [] cells none called = λ k d within. not_true (calls_off (get_or cells k d)) (called k d within)
   where
     not_true : (t : Bool) → (t ≡ true → false ≡ true) → t ≡ false
     not_true true is = sym (is refl)
     not_true false is = refl
-none_calling (key ∷ calling) cells none called = absurd (omega (arith, none))
+none_calling (key ∷ calling) cells none called = absurd (cc)

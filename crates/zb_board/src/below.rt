@@ -10,18 +10,19 @@ use crate::keys::keep;
 use std::alloc::{AllocError, Global};
 use std::collections::BTreeSet;
 use zb_base::Key;
+use zb_table::Table;
 use zb_waits::keys_under;
 
 /// Puts the cells below a scope among the ready ones. For each of them it takes the logarithm of how many cells there
 /// are, and costs what `keep` does.
 pub fn wake_below(
     alloc: Global,
-    ready: &mut BTreeSet<Key>,
+    ready: &mut Table<Key>,
     children: &BTreeSet<(Key, Key)>,
     scope: Key,
 ) -> Result<(), AllocError>
-    ensures still { OnOk result ((key : ℕ) → is_kept ready.old.keys key ≡ true → is_kept ready.new.keys key ≡ true) }
-    ensures woken { OnOk result (HasBelow children.now.keys scope ready.new.keys) }
+    ensures still { OnOk result ((key : ℕ) → is_kept ready.old key ≡ true → is_kept ready.new key ≡ true) }
+    ensures woken { OnOk result (HasBelow children.now.keys scope ready.new) }
 {
     let mut waiting = BTreeSet::new(alloc);
     wake_children(alloc, ready, &mut waiting, children, scope)?;
@@ -35,14 +36,14 @@ pub fn wake_below(
 // its scope.
 fn wake_children(
     alloc: Global,
-    ready: &mut BTreeSet<Key>,
+    ready: &mut Table<Key>,
     waiting: &mut BTreeSet<Key>,
     children: &BTreeSet<(Key, Key)>,
     scope: Key,
 ) -> Result<(), AllocError>
-    ensures still { OnOk result ((key : ℕ) → is_kept ready.old.keys key ≡ true → is_kept ready.new.keys key ≡ true) }
+    ensures still { OnOk result ((key : ℕ) → is_kept ready.old key ≡ true → is_kept ready.new key ≡ true) }
     ensures stay { OnOk result ((key : ℕ) → contains nat_cmp waiting.old key ≡ true → contains nat_cmp waiting.new key ≡ true) }
-    ensures woken { OnOk result ((key : ℕ) → scope < key → is_kept (keys_under scope children.now.keys) key ≡ true → is_kept ready.new.keys key ≡ true) }
+    ensures woken { OnOk result ((key : ℕ) → scope < key → is_kept (keys_under scope children.now.keys) key ≡ true → is_kept ready.new key ≡ true) }
     ensures waits { OnOk result ((key : ℕ) → scope < key → is_kept (keys_under scope children.now.keys) key ≡ true → contains nat_cmp waiting.new key ≡ true) }
     ensures newer { OnOk result (All (λ key. scope < key) waiting.old.keys → All (λ key. scope < key) waiting.new.keys) }
 {
@@ -55,14 +56,14 @@ fn wake_children(
 
 // Puts a cell that is newer than its scope among the ready ones, and among those below which is still to be looked.
 fn wake_newer(
-    ready: &mut BTreeSet<Key>,
+    ready: &mut Table<Key>,
     waiting: &mut BTreeSet<Key>,
     scope: Key,
     key: Key,
 ) -> Result<(), AllocError>
-    ensures still { OnOk result ((other : ℕ) → is_kept ready.old.keys other ≡ true → is_kept ready.new.keys other ≡ true) }
+    ensures still { OnOk result ((other : ℕ) → is_kept ready.old other ≡ true → is_kept ready.new other ≡ true) }
     ensures stay { OnOk result ((other : ℕ) → contains nat_cmp waiting.old other ≡ true → contains nat_cmp waiting.new other ≡ true) }
-    ensures woken { OnOk result (scope < key → is_kept ready.new.keys key ≡ true) }
+    ensures woken { OnOk result (scope < key → is_kept ready.new key ≡ true) }
     ensures waits { OnOk result (scope < key → contains nat_cmp waiting.new key ≡ true) }
     ensures newer { OnOk result (All (λ other. scope < other) waiting.old.keys → All (λ other. scope < other) waiting.new.keys) }
 {

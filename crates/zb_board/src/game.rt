@@ -30,6 +30,7 @@ use zb_arrivals::Arrivals;
 use zb_base::Key;
 use zb_graph::Graph;
 use zb_groups::Groups;
+use zb_table::Table;
 use zb_tokens::{Cell, Incident, Token};
 
 /// Why a move was not made.
@@ -74,11 +75,11 @@ pub struct Game {
     stuck: BTreeMap<Key, Key>,
     // The keys of the cells that may go on by themselves, as if nobody were called off, and of those that end as they
     // are called off.
-    ready: BTreeSet<Key>,
+    ready: Table<Key>,
     // The keys of the cells that call off what is in them.
-    calling: BTreeSet<Key>,
+    calling: Table<Key>,
     // The numbers of the tokens that may enter by themselves, as if nobody were called off.
-    coming: BTreeSet<Key>,
+    coming: Table<Key>,
 }
 
 impl Model for Game {
@@ -109,7 +110,7 @@ impl Model for Game {
       cells = g.cells;
       tokens = held_tokens g.tokens;
       incidents = g.incidents;
-    }) g.tokens g.children g.stuck.entries g.ready.keys g.calling.keys g.coming.keys };
+    }) g.tokens g.children g.stuck.entries g.ready g.calling g.coming };
 }
 
 impl Game {
@@ -125,9 +126,9 @@ impl Game {
             ascends: true,
             children: BTreeSet::new(alloc),
             stuck: BTreeMap::new(alloc),
-            ready: BTreeSet::new(alloc),
-            calling: BTreeSet::new(alloc),
-            coming: BTreeSet::new(alloc),
+            ready: Table::empty(alloc),
+            calling: Table::empty(alloc),
+            coming: Table::empty(alloc),
         }
     }
 
@@ -186,10 +187,10 @@ impl Game {
 
     /// The keys of the cells that may go on by themselves: of all that don't rest where nobody is called off, of all that
     /// end as they are called off, and of some others. `None` where they aren't known. It takes constant time.
-    pub fn ready(&self) -> Option<&BTreeSet<Key>>
+    pub fn ready(&self) -> Option<&Table<Key>>
         ensures ascend { IfSome result (λ keys. Ascend (λ c. c.key) 0 self.now.cells) }
-        ensures awake { IfSome result (λ keys. All (λ c. is_resting self.now c ≡ false → is_kept keys.now.keys c.key ≡ true) self.now.cells) }
-        ensures ending { IfSome result (λ keys. All (λ c. is_ending self.now c ≡ true → is_kept keys.now.keys c.key ≡ true) self.now.cells) }
+        ensures awake { IfSome result (λ keys. All (λ c. is_resting self.now c ≡ false → is_kept keys.now c.key ≡ true) self.now.cells) }
+        ensures ending { IfSome result (λ keys. All (λ c. is_ending self.now c ≡ true → is_kept keys.now c.key ≡ true) self.now.cells) }
     {
         if self.ascends {
             Some(&self.ready)

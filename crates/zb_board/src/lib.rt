@@ -12,6 +12,5 @@ mod models;
 
 pub use edits::new_cell;
 pub use game::{Game, GameFault};
-pub use keys::{first_key, last_key};
 pub use kinds::{chooses, chooses_by_event, is_scope_in, is_service_at, terminates_at};
 pub use marks::{error_of, is_unset};

@@ -77,7 +77,7 @@ fn tick<D: Disk>(alloc: Global, solo: &mut Solo<D>, reading: Moment) -> Result<R
         };
         let (partition, command) = next;
         match solo.commit(alloc, reading, partition, command) {
-            Ok(batch) => drop(batch),
+            Ok(batch) => batch.discard(),
             Err(stop) => return Err(stop),
         }
     }
@@ -108,11 +108,11 @@ fn command<D: Disk>(
     };
     match reply_of(alloc, &batch) {
         Ok(reply) => {
-            drop(batch);
+            batch.discard();
             Ok(reply)
         }
         Err(AllocError) => {
-            drop(batch);
+            batch.discard();
             Err(solo.keep(PartitionId::new(1), Stop::Memory))
         }
     }

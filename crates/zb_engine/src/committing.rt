@@ -29,13 +29,13 @@ impl<D: Disk> Solo<D> {
         let index = partition.number() as usize - 1;
         let place = self.place;
         let Some(next) = place.checked_add(1) else {
-            drop(command);
+            command.discard();
             return Err(self.keep(partition, Stop::Memory));
         };
         match self.stamps[index].reserve(1) {
             Ok(()) => {}
             Err(AllocError) => {
-                drop(command);
+                command.discard();
                 return Err(self.keep(partition, Stop::Memory));
             }
         }

@@ -108,7 +108,7 @@ fn do_unit<D: Disk>(
     match hand.reserve(1) {
         Ok(()) => {}
         Err(AllocError) => {
-            drop(command);
+            command.discard();
             return Err(solo.keep(PartitionId::new(1), Stop::Memory));
         }
     }
@@ -119,6 +119,6 @@ fn do_unit<D: Disk>(
     if let Some(answer) = answer_packet(&batch, partition, solo.count()) {
         hand.push_reserved(answer);
     }
-    drop(batch);
+    batch.discard();
     Ok(())
 }

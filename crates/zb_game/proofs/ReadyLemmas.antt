@@ -92,6 +92,17 @@ module _ (q : ℕ → Bool) where
           let r = later there in
           (r.0, or_first (last_passing q keys) (if q x then Some x else None) r.0 r.1, r.2)
 
+-- a last one passes where one does
+pub last_any : (passes : ℕ → Bool) (keys : List ℕ) → is_some (last_passing passes keys) ≡ list_any passes keys
+last_any passes [] = refl
+last_any passes (k ∷ keys) = by_tests (passes k) (last_passing passes keys) (list_any passes keys) (last_any passes keys)
+  where
+    by_tests : (t : Bool) (later : Option ℕ) (u : Bool) → is_some later ≡ u → is_some (option_or later (if t then Some k else None)) ≡ (t || u)
+    by_tests true None u is = refl
+    by_tests true (Some x) u is = refl
+    by_tests false None u is = is
+    by_tests false (Some x) u is = is
+
 -- the greatest of some numbers, of which none is greater
 greatest_is : (ns : List ℕ) (k : ℕ) → is_kept ns k ≡ true → All (λ n. n ≤ k) ns → greatest ns ≡ Some k
 greatest_is [] k in_it all = absurd (cc)

@@ -8,7 +8,7 @@ ghost use Rattle.zb_tokens.specs.MoveTrigger.{comes_about_by};
 ghost use Rattle.zb_game.specs.Searches.{comes_about_at, error_event_in};
 
 use zb_base::{Key, Text};
-use zb_board::{Game, error_of, first_key};
+use zb_board::{Game, error_of};
 use zb_faults::{is_activity, is_error_boundary};
 use zb_graph::Graph;
 use zb_process::Node;
@@ -16,12 +16,13 @@ use zb_table::Query;
 use zb_tokens::{Cell, Phase, Triggered};
 
 /// Whether at an event an error comes about that was thrown in a cell. It goes through the cells that may go on by
-/// themselves; where the keys don't ascend, through all.
+/// themselves, from the greatest key down to that one, which is the one that moves next; where the keys don't ascend,
+/// through all.
 pub fn comes_about(game: &Game, t: &Triggered) -> bool
     ensures { result ≡ list_any (comes_about_by game.now t.now) game.now.cells }
 {
     match game.ready() {
-        Some(ready) => first_key(&ComesAboutAt { game, told: t }, ready).is_some(),
+        Some(ready) => ready.last_key(&ComesAboutAt { game, told: t }).is_some(),
         None => game.cells().first(&ComesAbout { game, told: t }).is_some(),
     }
 }

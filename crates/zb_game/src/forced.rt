@@ -7,7 +7,7 @@ use crate::finish::is_done;
 use crate::open::opens;
 use std::alloc::{AllocError, Global};
 use zb_base::{Key, TryCopy};
-use zb_board::{Game, error_of, last_key};
+use zb_board::{Game, error_of};
 use zb_table::Query;
 use zb_tokens::{Cell, Mover, Phase};
 
@@ -40,7 +40,7 @@ fn newest_key(game: &Game) -> Option<Key>
     ensures { result ≡ newest_key game.now }
 {
     match game.ready() {
-        Some(ready) => last_key(&Forced { game }, ready),
+        Some(ready) => ready.last_key(&Forced { game }),
         None => game.cells().greatest(&ForcedCell { game }),
     }
 }

@@ -58,9 +58,8 @@ pub fn fits(game: &Game, m: &Move) -> bool
 /// new cell takes constant time, a new model or incident, and what changes or goes, the logarithm of how many there are,
 /// on average. Where a token comes, it goes through those in its scope, and looks again at those that need one like
 /// it; where one goes, at those that may enter by themselves. Each look costs what an entry does in `fits`. A halt
-/// and a terminate end go through the cells in the scope that they empty up to the first that leaves, once more for
-/// each that does, through its tokens, and once through the cells below it; each of these costs the logarithm of how
-/// many cells there are.
+/// and a terminate end go through all cells, where the scope that they empty has any, once more for each that leaves
+/// in it, and through its tokens.
 pub fn play(game: &mut Game, alloc: Global, m: Move) -> Result<(), GameFault>
     ensures played { OnOk result (played game.old m ≡ Some game.new) }
     ensures illegal { IsErrOf result GameFault.Illegal → played game.old m ≡ None }

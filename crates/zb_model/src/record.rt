@@ -159,3 +159,31 @@ pub struct Packet {
     pub to: PartitionId,
     pub command: Command,
 }
+
+// A crate that drops a record proves anew how each of its parts is dropped. One that hands it to these calls doesn't.
+
+impl Command {
+    /// Drops it.
+    pub fn discard(self) {
+        drop(self)
+    }
+}
+
+impl Event {
+    /// Drops it.
+    pub fn discard(self) {
+        drop(self)
+    }
+}
+
+impl Batch {
+    /// Drops it.
+    pub fn discard(self) {
+        drop(self)
+    }
+
+    /// Drops it, if there is one.
+    pub fn discard_any(batch: Option<Batch>) {
+        drop(batch)
+    }
+}

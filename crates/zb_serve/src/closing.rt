@@ -37,7 +37,7 @@ pub fn close_behind<D: Disk>(
     ensures capacity { vec_capacity result ≡ vec_capacity volumes }
 {
     let (volumes, writing) = close_all(partitions, volumes);
-    drop(writing);
+    Batch::discard_any(writing);
     volumes
 }
 

@@ -229,7 +229,7 @@ fn cause(end: End, stop: Option<(PartitionId, Stop)>, in_writing: Option<Batch>)
             in_writing,
         },
         None => {
-            drop(in_writing);
+            Batch::discard_any(in_writing);
             other_cause(end, stop)
         }
     }

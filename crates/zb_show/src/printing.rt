@@ -86,11 +86,11 @@ fn print_frame<D: Disk, K: Sink>(
         Err(fault) => return Err(ShowFault::Log(fault)),
     };
     if let Err(trouble) = print_batch(alloc, place, position, &batch, sink) {
-        drop(batch);
+        batch.discard();
         return Err(ShowFault::Sink(trouble));
     }
     let next = position + records_in(&batch);
-    drop(batch);
+    batch.discard();
     Ok(next)
 }
 

@@ -17,7 +17,7 @@ use crate::fault::{ShowFault, status};
 use crate::printing::print_log;
 use std::alloc::Global;
 use zb_disk::Disk;
-use zb_model::PartitionId;
+use zb_model::{Batch, PartitionId};
 use zb_outside::Sink;
 use zb_partition::{OpenFault, Partition, Stopped};
 use zb_store::{GateLog, Volume, one_reading};
@@ -100,7 +100,7 @@ fn show_volume<D: Disk, K: Sink>(
         Err((fault, volume)) => return (Err(ShowFault::Log(fault)), volume, sink),
     };
     let Stopped { volume, in_writing } = partition.stopped();
-    drop(in_writing);
+    Batch::discard_any(in_writing);
     let Volume {
         log,
         snap_a,

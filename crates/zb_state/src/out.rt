@@ -92,7 +92,7 @@ impl Out {
         match state.apply_as(alloc, &event, known) {
             Ok(()) => {}
             Err(fault) => {
-                drop(event);
+                event.discard();
                 return Err(Refusal::from(fault));
             }
         }

@@ -135,14 +135,14 @@ impl State {
         match self.admit(alloc, &event, false) {
             Ok(()) => {}
             Err(fault) => {
-                drop(event);
+                event.discard();
                 return Err(fault);
             }
         }
         match self.follow(alloc, &event) {
             Ok(()) => {}
             Err(AllocError) => {
-                drop(event);
+                event.discard();
                 return Err(TableFault::Memory);
             }
         }

@@ -1,5 +1,5 @@
 -- Changing a place.
-use Rattle.std.proofs.Common.{◌≡◌, ℕ, zero, suc, ◌+◌, ◌<◌, ◌≤◌, ◌==◌, nat_lt, not, List, [], ◌∷◌, slice_get, set, map, filter, Option, Some, None, is_some, Bool, true, false, if◌then◌else◌, refl, ap, sym, ◌∙◌, subst, arith}
+use Rattle.std.proofs.Common.{◌≡◌, ℕ, zero, suc, ◌+◌, ◌<◌, ◌≤◌, ◌==◌, nat_lt, not, List, [], ◌∷◌, ◌++◌, length, take, slice_get, set, map, filter, Option, Some, None, is_some, Bool, true, false, if◌then◌else◌, refl, ap, sym, ◌∙◌, subst, arith}
 use Rattle.std.specs.List.{insert}
 use Rattle.std.proofs.lemmas.Bool.Decides.{nat_tests}
 use Rattle.zb_table.specs.declared.row.Place.{Place}
@@ -187,3 +187,16 @@ module _ {A : Type 0} (key : A → ℕ) where
       by_test : (t : Bool) → AreOrdered key (p.key + 1) (filter (λ p. is_some p.row) ps) → AreOrdered key low (if t then p ∷ filter (λ p. is_some p.row) ps else filter (λ p. is_some p.row) ps)
       by_test true later = (o.0, o.1, later)
       by_test false later = lower (p.key + 1) (filter (λ p. is_some p.row) ps) (omega (arith, o.0)) later
+
+-- the last place, where it is empty, has no row
+pub rows_front : {A : Type 0} (front : List (Place A)) (last : Place A) → last.row ≡ None → rows_in (front ++ last ∷ []) ≡ rows_in front
+rows_front [] last none = rw none refl
+rows_front (p ∷ front) last none = ap (held p.row) (rows_front front last none)
+
+pub ordered_front : {A : Type 0} (key : A → ℕ) (low : ℕ) (front : List (Place A)) (last : Place A) → AreOrdered key low (front ++ last ∷ []) → AreOrdered key low front
+ordered_front key low [] last up = tt
+ordered_front key low (p ∷ front) last up = (up.0, up.1, ordered_front key (p.key + 1) front last up.2)
+
+pub take_front : {A : Type 0} (front : List A) (last : A) → take (length front) (front ++ last ∷ []) ≡ front
+take_front [] last = refl
+take_front (p ∷ front) last = ap (λ (l : List _). p ∷ l) (take_front front last)

@@ -1,5 +1,5 @@
 -- How many places are empty, where one is changed or put in, and where the empty ones are dropped.
-use Rattle.std.proofs.Common.{◌≡◌, ℕ, zero, suc, ◌+◌, ◌-◌, ◌≤◌, ◌==◌, List, [], ◌∷◌, length, get_or, slice_get, set, filter, Option, Some, None, is_some, is_none, false, cond, refl, sym, ap, ◌∙◌, subst, arith}
+use Rattle.std.proofs.Common.{◌≡◌, ℕ, zero, suc, ◌+◌, ◌-◌, ◌≤◌, ◌==◌, List, [], ◌∷◌, ◌++◌, length, get_or, slice_get, set, filter, Option, Some, None, is_some, is_none, false, cond, refl, sym, ap, ◌∙◌, subst, arith}
 use Rattle.std.specs.List.{insert}
 use Rattle.std.proofs.lemmas.List.Sums.{sum_by-cons, sum_by-set, sum_by-insert, get_or-le-sum_by}
 use Rattle.std.proofs.lemmas.Option.{slice_get_within, get_or_from_slice_get}
@@ -21,6 +21,15 @@ module _ {A : Type 0} where
       by_row : (row : Option A) → length (rows_in ps) + count_empty ps ≡ length ps → length (held row (rows_in ps)) + (cond (is_none row) 1 0 + count_empty ps) ≡ length (p ∷ ps)
       by_row None later = omega (arith, later)
       by_row (Some r) later = omega (arith, later)
+
+  -- the last place, where it is empty, is one of the empty ones
+  pub count_front : (front : List (Place A)) (last : Place A) → last.row ≡ None → count_empty (front ++ last ∷ []) ≡ count_empty front + 1
+  count_front [] last none = rw none refl
+  count_front (p ∷ front) last none =
+      let one = sum_by-cons lack p (front ++ last ∷ []) in
+      let other = sum_by-cons lack p front in
+      let later = count_front front last none in
+      omega (arith, one, other, later)
 
   -- a place that is changed is what it was changed to last
   pub set_at : (ps : List (Place A)) (i : ℕ) (q new : Place A) → slice_get ps i ≡ Some q → slice_get (set ps i new) i ≡ Some new

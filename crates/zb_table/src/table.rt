@@ -1,6 +1,8 @@
-ghost use Rattle.std.specs.Prelude.{◌≡◌, ◌≤◌, ◌<◌, ◌^◌, [], OnOk, OnErr, is_some, length, map, option_map};
+ghost use Rattle.std.specs.Prelude.{◌≡◌, ◌≤◌, ◌<◌, ◌+◌, ◌^◌, ◌++◌, ◌∷◌, [], List, None, IsTrue, OnOk, OnErr, is_some, length, map, option_map};
 ghost use Rattle.std.specs.List.{insert, list_any};
 ghost use Rattle.std.specs.Option.{option_copied};
+ghost use Rattle.zb_table.specs.declared.row.Place.{Place};
+ghost use Rattle.zb_table.specs.Places.{count_empty, rows_in, AreOrdered};
 ghost use Rattle.zb_table.specs.Rows.{Ascend, first_passing, last_passing, row_at, with_edit, with_row, without};
 
 use crate::row::Place;
@@ -153,14 +155,39 @@ impl<R: Row> Table<R> {
         Some(row)
     }
 
-    // Drops the empty places, where more than half of them are.
+    // Drops the empty places behind the last row, and all of them where more than half are.
     fn sweep(&mut self)
         ensures { self.new ≡ self.old }
     {
+        self.empty -= trim(&mut self.places);
         if self.empty > self.places.len() / 2 {
             self.places.retain(|place| place.row.is_some());
             self.empty = 0;
         }
+    }
+}
+
+// Drops the empty places at the end, and tells how many they were.
+fn trim<R: Row>(places: &mut Vec<Place<R>>) -> usize
+    ensures rows { rows_in places.new.items ≡ rows_in places.old.items }
+    ensures order { AreOrdered R.key_in 0 places.old.items → AreOrdered R.key_in 0 places.new.items }
+    ensures count { count_empty places.new.items + result ≡ count_empty places.old.items }
+{
+    let mut trimmed = 0;
+    while ends_empty(places) {
+        drop(places.pop());
+        trimmed += 1;
+    }
+    trimmed
+}
+
+// Whether there is a last place, and it is empty.
+fn ends_empty<R: Row>(places: &[Place<R>]) -> bool
+    ensures { IsTrue result → (front : List (Place R)) × (last : Place R) × (places.now ≡ front ++ last ∷ []) × (last.row ≡ None) }
+{
+    match places.last() {
+        Some(last) => last.row.is_none(),
+        None => false,
     }
 }
 

@@ -100,7 +100,7 @@ fn count_frame<D: Disk>(
     match read_batch(alloc, i, log, body) {
         Ok(batch) => {
             let counted = count_batch(alloc, &batch, state, tally);
-            drop(batch);
+            batch.discard();
             counted
         }
         Err(_) => None,

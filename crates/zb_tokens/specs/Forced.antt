@@ -3,6 +3,7 @@ use Rattle.std.specs.Prelude.{ℕ, max, List, [], ◌∷◌, map, filter, Bool, 
 use Rattle.std.specs.Option.{option_map_or, option_or}
 use Rattle.std.specs.List.{find}
 use Rattle.std.specs.Str.{bytes_eq}
+pub use Rattle.zb_table.specs.Greatest.{greatest}
 use Rattle.zb_base.specs.declared.vars.Variable.{Variable}
 use Rattle.zb_process.specs.declared.model.Model.{Model}
 use Rattle.zb_tokens.specs.declared.board.Cell.{Cell}
@@ -62,11 +63,6 @@ way_of b t = option_and_then (λ c. option_and_then (λ m. entry_at m t.spot) (m
 -- a token can enter the node that it has come to (BPMN 2.0.2, 13.3.2)
 abbrev pub can_enter : Board → Token → Bool
 can_enter b t = option_map_or (λ way. may_enter b t.scope way.0 way.1) (way_of b t) false
-
--- the greatest of some numbers
-abbrev pub greatest : List ℕ → Option ℕ
-greatest [] = None
-greatest (n ∷ ns) = Some (option_map_or (max n) (greatest ns) n)
 
 -- who moves next: the forced cell with the greatest key, or else the first token that can enter (own)
 abbrev pub next_mover : Board → Option Mover

@@ -21,6 +21,7 @@ use std::alloc::{AllocError, Global};
 use std::collections::BTreeSet;
 use zb_arrivals::Arrivals;
 use zb_base::{Key, List, Text, Value};
+use zb_table::Table;
 use zb_tokens::{Cell, Mark, Phase};
 
 impl Game {
@@ -144,16 +145,16 @@ fn comes_newest(key: Key, scope: Key, cells: &Arrivals<Cell>) -> bool
 // Notes that a cell calls off what is in it where it is put in a phase that does.
 fn note_phase(
     alloc: Global,
-    ready: &mut BTreeSet<Key>,
-    calling: &mut BTreeSet<Key>,
+    ready: &mut Table<Key>,
+    calling: &mut Table<Key>,
     children: &BTreeSet<(Key, Key)>,
     key: Key,
     phase: Phase,
 ) -> Result<(), AllocError>
-    ensures noted { OnOk result (is_phase phase phases.Terminating ≡ true → is_kept calling.new.keys key ≡ true) }
-    ensures others { OnOk result ((other : ℕ) → is_kept calling.old.keys other ≡ true → is_kept calling.new.keys other ≡ true) }
-    ensures still { OnOk result ((other : ℕ) → is_kept ready.old.keys other ≡ true → is_kept ready.new.keys other ≡ true) }
-    ensures woken { OnOk result (is_phase phase phases.Terminating ≡ true → HasBelow children.now.keys key ready.new.keys) }
+    ensures noted { OnOk result (is_phase phase phases.Terminating ≡ true → is_kept calling.new key ≡ true) }
+    ensures others { OnOk result ((other : ℕ) → is_kept calling.old other ≡ true → is_kept calling.new other ≡ true) }
+    ensures still { OnOk result ((other : ℕ) → is_kept ready.old other ≡ true → is_kept ready.new other ≡ true) }
+    ensures woken { OnOk result (is_phase phase phases.Terminating ≡ true → HasBelow children.now.keys key ready.new) }
 {
     if phase == Phase::Terminating {
         call_off(alloc, ready, calling, children, key)
@@ -165,15 +166,15 @@ fn note_phase(
 // Puts a cell among those that call off what is in them, and the cells below it among the ready ones.
 fn call_off(
     alloc: Global,
-    ready: &mut BTreeSet<Key>,
-    calling: &mut BTreeSet<Key>,
+    ready: &mut Table<Key>,
+    calling: &mut Table<Key>,
     children: &BTreeSet<(Key, Key)>,
     key: Key,
 ) -> Result<(), AllocError>
-    ensures noted { OnOk result (is_kept calling.new.keys key ≡ true) }
-    ensures others { OnOk result ((other : ℕ) → is_kept calling.old.keys other ≡ true → is_kept calling.new.keys other ≡ true) }
-    ensures still { OnOk result ((other : ℕ) → is_kept ready.old.keys other ≡ true → is_kept ready.new.keys other ≡ true) }
-    ensures woken { OnOk result (HasBelow children.now.keys key ready.new.keys) }
+    ensures noted { OnOk result (is_kept calling.new key ≡ true) }
+    ensures others { OnOk result ((other : ℕ) → is_kept calling.old other ≡ true → is_kept calling.new other ≡ true) }
+    ensures still { OnOk result ((other : ℕ) → is_kept ready.old other ≡ true → is_kept ready.new other ≡ true) }
+    ensures woken { OnOk result (HasBelow children.now.keys key ready.new) }
 {
     keep(calling, key)?;
     wake_below(alloc, ready, children, key)

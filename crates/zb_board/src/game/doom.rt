@@ -21,7 +21,7 @@ impl Game {
     pub fn has_none_calling(&self) -> bool
         ensures { result ≡ true → All (λ c. calls_off c ≡ false) self.now.cells }
     {
-        self.ascends && self.calling.is_empty()
+        self.ascends && !self.calling.any(&Each)
     }
 
     /// Whether a cell above this one calls it off. It costs what `is_called_off` does.
@@ -58,5 +58,16 @@ impl Query<Cell> for CallsOff {
 
     fn passes(&self, cell: &Cell) -> bool {
         cell.phase == Phase::Terminating || cell.ending
+    }
+}
+
+// Each key.
+struct Each;
+
+impl Query<Key> for Each {
+    ghost passes = { λ _ _. true };
+
+    fn passes(&self, _key: &Key) -> bool {
+        true
     }
 }

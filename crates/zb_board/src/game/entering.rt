@@ -6,7 +6,6 @@ ghost use Rattle.zb_groups.specs.Groups.{passes_at};
 ghost use Rattle.zb_tokens.specs.Forced.{can_enter};
 
 use crate::Game;
-use crate::keys::first_key;
 use zb_base::Key;
 use zb_groups::Groups;
 use zb_places::comes;
@@ -26,7 +25,7 @@ impl Game {
             game: self,
             tokens: &self.tokens,
         };
-        match first_key(&query, &self.coming) {
+        match self.coming.first_key(&query) {
             Some(number) => self.tokens.get(number),
             None => None,
         }

@@ -14,6 +14,7 @@ use crate::{Game, GameFault};
 use std::alloc::{AllocError, Global};
 use std::collections::BTreeSet;
 use zb_base::Key;
+use zb_table::Table;
 use zb_tokens::Phase;
 use zb_waits::{first_under, keys_under};
 
@@ -118,16 +119,16 @@ impl Game {
 // Keeps the key of a cell no longer. Its scope may go on then.
 fn note_gone(
     children: &mut BTreeSet<(Key, Key)>,
-    ready: &mut BTreeSet<Key>,
-    calling: &mut BTreeSet<Key>,
+    ready: &mut Table<Key>,
+    calling: &mut Table<Key>,
     key: Key,
     around: Key,
 ) -> Result<(), AllocError>
     ensures fewer { OnOk result ((scope other : ℕ) → has_pair children.new scope other ≡ cond ((around == scope) && (key == other)) false (has_pair children.old scope other)) }
     ensures order { OnOk result (IsOrdered place_cmp children.new) }
-    ensures ready { OnOk result ((other : ℕ) → (other == key) ≡ false → is_kept ready.old.keys other ≡ true → is_kept ready.new.keys other ≡ true) }
-    ensures calling { OnOk result ((other : ℕ) → (other == key) ≡ false → is_kept calling.old.keys other ≡ true → is_kept calling.new.keys other ≡ true) }
-    ensures woken { OnOk result (slice_get (keys_under around children.new.keys) 0 ≡ None → (around == key) ≡ false → is_kept ready.new.keys around ≡ true) }
+    ensures ready { OnOk result ((other : ℕ) → (other == key) ≡ false → is_kept ready.old other ≡ true → is_kept ready.new other ≡ true) }
+    ensures calling { OnOk result ((other : ℕ) → (other == key) ≡ false → is_kept calling.old other ≡ true → is_kept calling.new other ≡ true) }
+    ensures woken { OnOk result (slice_get (keys_under around children.new.keys) 0 ≡ None → (around == key) ≡ false → is_kept ready.new around ≡ true) }
 {
     children.remove(&(around, key));
     wake(ready, children, around)?;
@@ -138,12 +139,12 @@ fn note_gone(
 
 // Puts a scope among the ready cells where no cell is left in it.
 pub(super) fn wake(
-    ready: &mut BTreeSet<Key>,
+    ready: &mut Table<Key>,
     children: &BTreeSet<(Key, Key)>,
     scope: Key,
 ) -> Result<(), AllocError>
-    ensures still { OnOk result ((key : ℕ) → is_kept ready.old.keys key ≡ true → is_kept ready.new.keys key ≡ true) }
-    ensures woken { OnOk result (slice_get (keys_under scope children.now.keys) 0 ≡ None → is_kept ready.new.keys scope ≡ true) }
+    ensures still { OnOk result ((key : ℕ) → is_kept ready.old key ≡ true → is_kept ready.new key ≡ true) }
+    ensures woken { OnOk result (slice_get (keys_under scope children.now.keys) 0 ≡ None → is_kept ready.new scope ≡ true) }
     ensures order { IsOrdered place_cmp children.now }
 {
     if first_under(scope, children).is_none() {

@@ -37,7 +37,7 @@ impl Game {
     pub(super) fn look_at_token(&mut self, number: Key)
         ensures { self.new ≡ self.old }
     {
-        if !self.coming.contains(&number) {
+        if !self.coming.contains(number) {
             return;
         }
         match self.tokens.get(number) {

@@ -5,7 +5,7 @@ use Rattle.zb_board.proofs.below.wake_below.Goals as goal
 
 pub loop-key-init : goal.loop-key-init
 loop-key-init c = record {
-  looking = looking_first c.args.children.now.keys c.args.scope c.wake_children.new.ready.keys c.wake_children.new.waiting c.in_ok-wake_children.ensures.woken c.in_ok-wake_children.ensures.waits;
+  looking = looking_first c.args.children.now.keys c.args.scope c.wake_children.new.ready c.wake_children.new.waiting c.in_ok-wake_children.ensures.woken c.in_ok-wake_children.ensures.waits;
   still = c.in_ok-wake_children.ensures.still;
 }
 
@@ -17,7 +17,7 @@ loop-key-smaller c =
 
 pub loop-key-preserved : goal.loop-key-preserved
 loop-key-preserved c = record {
-  looking = looking_next c.args.children.now.keys c.args.scope c.in-Some.key c.loop-key.ready.keys c.wake_children-in-Some.new.ready.keys c.loop-key.waiting c.pop_first.new.self c.wake_children-in-Some.new.waiting c.loop-key.invariant.looking
+  looking = looking_next c.args.children.now.keys c.args.scope c.in-Some.key c.loop-key.ready c.wake_children-in-Some.new.ready c.loop-key.waiting c.pop_first.new.self c.wake_children-in-Some.new.waiting c.loop-key.invariant.looking
       c.in-Some.ensures.updates.0 c.in_ok-wake_children-2.ensures.still c.in_ok-wake_children-2.ensures.stay c.in_ok-wake_children-2.ensures.woken c.in_ok-wake_children-2.ensures.waits;
   still = λ key is. c.in_ok-wake_children-2.ensures.still key (c.loop-key.invariant.still key is);
 }

@@ -7,8 +7,8 @@ use Rattle.zb_board.proofs.below.wake_below.Given as goal
 -- those below that were found are ready, and some of them wait
 abbrev pub invariant-loop-key : goal.invariant-loop-key
 invariant-loop-key l = record {
-  looking : IsLooking l.fn.children.keys l.fn.scope l.ready.keys l.waiting;
-  still : (key : ℕ) → is_kept l.fn.ready.keys key ≡ true → is_kept l.ready.keys key ≡ true;
+  looking : IsLooking l.fn.children.keys l.fn.scope l.ready l.waiting;
+  still : (key : ℕ) → is_kept l.fn.ready key ≡ true → is_kept l.ready key ≡ true;
 }
 
 -- the first that waits gets greater

@@ -4,4 +4,4 @@ use Rattle.zb_board.proofs.keys.keep_all.Given as goal
 
 -- the keys so far are kept, and those that were
 abbrev pub invariant-loop-key : goal.invariant-loop-key
-invariant-loop-key l = ((key : ℕ) → is_kept (take l.key-index l.more) key ≡ true → is_kept l.keys.keys key ≡ true) × ((other : ℕ) → is_kept l.fn.keys.keys other ≡ true → is_kept l.keys.keys other ≡ true)
+invariant-loop-key l = ((key : ℕ) → is_kept (take l.key-index l.more) key ≡ true → is_kept l.keys key ≡ true) × ((other : ℕ) → is_kept l.fn.keys other ≡ true → is_kept l.keys other ≡ true)

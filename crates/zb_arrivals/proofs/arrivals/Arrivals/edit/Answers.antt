@@ -1,7 +1,7 @@
 use Rattle.std.proofs.Common.{◌==◌, ◌++◌, List, sym, ap, ◌∙◌}
 use Rattle.std.proofs.lemmas.Result.{on_ok_weaker}
 use Rattle.zb_table.specs.Rows.{row_at, with_edit}
-use Rattle.zb_tokens.specs.Edits.{edited}
+use Rattle.zb_table.specs.Edits.{edited}
 use Rattle.zb_arrivals.proofs.OrderedLemmas.{first_is_found, edited_row, none_with}
 use Rattle.zb_arrivals.proofs.SplitLemmas.{or_kept, edited_front, edited_back}
 use Rattle.zb_arrivals.proofs.KeptLemmas.{in_order_edited}

@@ -1,6 +1,6 @@
 use Rattle.std.proofs.Common.{◌==◌, ◌++◌, List, sym, ap, ◌∙◌}
 use Rattle.zb_table.proofs.Changing.{without_absent}
-use Rattle.zb_tokens.specs.Edits.{without_first}
+use Rattle.zb_table.specs.Edits.{without_first}
 use Rattle.zb_arrivals.proofs.OrderedLemmas.{first_is_found, removed_row}
 use Rattle.zb_arrivals.proofs.SplitLemmas.{removed_front, removed_back}
 use Rattle.zb_arrivals.proofs.KeptLemmas.{in_order_without}

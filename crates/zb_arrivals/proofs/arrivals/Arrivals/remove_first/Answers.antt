@@ -1,5 +1,5 @@
 use Rattle.std.proofs.Common.{◌≡◌, ℕ, ◌==◌, ◌++◌, List, sym, ap, subst, ◌∙◌}
-use Rattle.zb_tokens.specs.Edits.{removed, without_first}
+use Rattle.zb_table.specs.Edits.{removed, without_first}
 use Rattle.zb_arrivals.proofs.OrderedLemmas.{first_with_key, has_key, none_first, removed_row, removes_first}
 use Rattle.zb_arrivals.proofs.SplitLemmas.{removed_front, removed_back}
 use Rattle.zb_arrivals.proofs.arrivals.Arrivals.remove_first.Goals as goal

@@ -19,9 +19,9 @@ invariant_of-self-2 c = λ ascends.
     let new : Held Token = record { number = c.in_ok-number.number; row = token } in
     let added : c.push.new.self ≡ rows ++ new ∷ [] = c.in_ok-number.ensures.row in
     let numbers : c.as_slice.result.now ≡ c.in_ok-numbers.numbers = search rules in
-    let own : is_kept c.keep_all.new.keys.keys new.number ≡ true = c.in_ok-keep_all.ensures.others new.number c.in_ok-keep.ensures.kept in
-    let still : (k : ℕ) → is_kept c.self.inside.coming.keys k ≡ true → is_kept c.keep_all.new.keys.keys k ≡ true = λ k is. c.in_ok-keep_all.ensures.others k (c.in_ok-keep.ensures.others k is) in
-    let met : (k : ℕ) → is_kept (numbers_in scope_of token.scope rows) k ≡ true → needs (scope_model b token.scope) token rows k ≡ true → is_kept c.keep_all.new.keys.keys k ≡ true =
+    let own : is_kept c.keep_all.new.keys new.number ≡ true = c.in_ok-keep_all.ensures.others new.number c.in_ok-keep.ensures.kept in
+    let still : (k : ℕ) → is_kept c.self.inside.coming k ≡ true → is_kept c.keep_all.new.keys k ≡ true = λ k is. c.in_ok-keep_all.ensures.others k (c.in_ok-keep.ensures.others k is) in
+    let met : (k : ℕ) → is_kept (numbers_in scope_of token.scope rows) k ≡ true → needs (scope_model b token.scope) token rows k ≡ true → is_kept c.keep_all.new.keys k ≡ true =
     λ k there needed.
     let asked = ap (λ (m : Option Model). needs m token rows k) c.scope_model.ensures ∙ (ap (λ (x : Board). needs (scope_model x token.scope) token rows k) (sym c.self.view_is) ∙ needed) in
     c.in_ok-keep_all.ensures.kept k (ap (λ (keys : List ℕ). is_kept keys k) numbers ∙ c.in_ok-numbers.ensures k there asked) in

@@ -26,9 +26,9 @@ invariant_of-self-2 c = λ ascends.
     let r = some_there cells c.args.key (ap (λ (b : Board). is_none (find (λ (x : Cell). x.key == c.args.key) b.cells)) c.self.view_is ∙ found) in
     let cell = r.0 in
     let its = r.1 in
-    let calls : (k : ℕ) → is_kept c.self.inside.calling.keys k ≡ true → is_kept c.note_phase.new.calling.keys k ≡ true = c.in_ok-note_phase.ensures.others in
-    let still : (k : ℕ) → is_kept c.self.inside.ready.keys k ≡ true → is_kept c.note_phase.new.ready.keys k ≡ true = λ k is. c.in_ok-note_phase.ensures.still k (c.in_ok-keep.ensures.others k is) in
-    let own : is_kept c.note_phase.new.ready.keys c.args.key ≡ true = c.in_ok-note_phase.ensures.still c.args.key c.in_ok-keep.ensures.kept in
+    let calls : (k : ℕ) → is_kept c.self.inside.calling k ≡ true → is_kept c.note_phase.new.calling k ≡ true = c.in_ok-note_phase.ensures.others in
+    let still : (k : ℕ) → is_kept c.self.inside.ready k ≡ true → is_kept c.note_phase.new.ready k ≡ true = λ k is. c.in_ok-note_phase.ensures.still k (c.in_ok-keep.ensures.others k is) in
+    let own : is_kept c.note_phase.new.ready c.args.key ≡ true = c.in_ok-note_phase.ensures.still c.args.key c.in_ok-keep.ensures.kept in
     let off = is_phase c.args.phase phases.Terminating in
     let made = c.in_ok-edit.ensures ∙ ap (λ o. or_kept o cells) (its.made (in_phase c.args.phase c.args.owed)) in
     rw made (kept_changed _ _ _ _ _ _ _ kept its.place cell (in_phase c.args.phase c.args.owed cell) off _ _ its.within its.at refl refl refl still calls

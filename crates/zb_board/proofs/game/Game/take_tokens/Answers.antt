@@ -13,4 +13,4 @@ returns-then-not-has_token c =
 
 pub invariant_of-self-2 : goal.invariant_of-self-2
 invariant_of-self-2 c = λ ascends.
-    kept_taken _ _ _ _ _ _ _ (c.self.invariant ascends) c.args.scope c.take_scope.new.tokens c.wake.new.ready.keys refl c.take_scope.ensures.fewer c.in_ok-wake.ensures.still c.in_ok-wake.ensures.woken c.wake.ensures.order
+    kept_taken _ _ _ _ _ _ _ (c.self.invariant ascends) c.args.scope c.take_scope.new.tokens c.wake.new.ready refl c.take_scope.ensures.fewer c.in_ok-wake.ensures.still c.in_ok-wake.ensures.woken c.wake.ensures.order
