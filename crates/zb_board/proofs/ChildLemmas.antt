@@ -1,19 +1,18 @@
 -- The keys of cells that are kept under their scopes.
-use Rattle.std.proofs.Common.{◌≡◌, ℕ, zero, suc, ◌+◌, ◌<◌, ◌==◌, List, [], ◌∷◌, ◌++◌, length, map, filter, get_or, slice_get, slice_set, remove, All, Bool, true, false, ◌&&◌, ◌||◌, cond, if◌then◌else◌, is_some, Option, Some, None, refl, sym, ap, subst, ◌∙◌, arith}
+use Rattle.std.proofs.Common.{◌≡◌, ℕ, zero, suc, ◌<◌, ◌==◌, List, [], ◌∷◌, ◌++◌, length, map, filter, get_or, slice_get, slice_set, remove, All, Bool, true, false, ◌&&◌, ◌||◌, cond, is_some, Some, None, refl, sym, ap, subst, ◌∙◌, arith}
 use Rattle.std.specs.BTreeSet.{BTreeSet}
 use Rattle.std.specs.List.{find, list_any}
 use Rattle.std.specs.List.Sorted.{IsStrictlySortedBy}
 use Rattle.std.proofs.lemmas.Bool.Decides.{nat_tests}
-use Rattle.std.proofs.lemmas.List.Elements.{All-head, All-tail}
-use Rattle.zb_table.specs.Rows.{Ascend, are_below, with_row}
+use Rattle.zb_table.specs.Rows.{Ascend, are_below}
 use Rattle.zb_table.proofs.Growing.{with_last}
-use Rattle.zb_waits.specs.Pairs.{has_pair, is_row_under, keys_under, place_cmp, IsIndex}
+use Rattle.zb_waits.specs.Pairs.{has_pair, is_row_under, keys_under, place_cmp}
 use Rattle.zb_waits.proofs.FoundLemmas.{none_below}
 use Rattle.zb_waits.proofs.PairLemmas.{index_with}
 use Rattle.zb_waits.proofs.UnderLemmas.{kept_under}
 use Rattle.zb_tokens.specs.declared.board.Cell.{Cell}
 use Rattle.zb_board.specs.Indexed.{AreChildren}
-use Rattle.zb_board.proofs.TallyLemmas.{found_without}
+use Rattle.zb_board.proofs.TallyLemmas.{found_without, none_with}
 
 module _ (cells : List Cell) (children : BTreeSet (ℕ × ℕ)) (kept : AreChildren cells children) where
   -- with a cell more
@@ -50,10 +49,6 @@ module _ (cells : List Cell) (children : BTreeSet (ℕ × ℕ)) (kept : AreChild
       → ((scope key : ℕ) → has_pair left scope key ≡ cond ((c.scope == scope) && (c.key == key)) false (has_pair children scope key)) → AreChildren (remove cells i) left
   children_away i c left within at apart own takes = λ s k. takes s k ∙ by_key s k (c.key == k) refl
     where
-      none_found : (k : ℕ) (xs : List Cell) → All (λ (x : Cell). (x.key == k) ≡ false) xs → find (λ x. x.key == k) xs ≡ None
-      none_found k [] none = refl
-      none_found k (x ∷ xs) none = rw (All-head (λ (y : Cell). (y.key == k) ≡ false) x xs none) (none_found k xs (All-tail (λ (y : Cell). (y.key == k) ≡ false) x xs none))
-
       here : (t u : Bool) → u ≡ t → cond (t && true) false u ≡ false
       here true u same = refl
       here false u same = same
@@ -65,7 +60,7 @@ module _ (cells : List Cell) (children : BTreeSet (ℕ × ℕ)) (kept : AreChild
       by_key : (s k : ℕ) (t : Bool) → (c.key == k) ≡ t → cond ((c.scope == s) && t) false (has_pair children s k) ≡ is_row_under (λ (x : Cell). Some x.scope) s (find (λ x. x.key == k) (remove cells i))
       by_key s k true is =
           let same : c.key ≡ k = grind (arith, nat_tests, is) in
-          let none : find (λ (x : Cell). x.key == k) (remove cells i) ≡ None = subst (λ (n : ℕ). find (λ (x : Cell). x.key == n) (remove cells i) ≡ None) same (none_found c.key (remove cells i) apart) in
+          let none : find (λ (x : Cell). x.key == k) (remove cells i) ≡ None = subst (λ (n : ℕ). find (λ (x : Cell). x.key == n) (remove cells i) ≡ None) same (none_with c.key (remove cells i) apart) in
           let found : find (λ (x : Cell). x.key == k) cells ≡ Some c = subst (λ (n : ℕ). find (λ (x : Cell). x.key == n) cells ≡ Some c) same own in
           rw none (here (c.scope == s) (has_pair children s k) (kept s k ∙ rw found refl))
       by_key s k false other = rw (found_without (λ (x : Cell). x.key == k) cells i c within at other) (there (c.scope == s) (has_pair children s k) ∙ kept s k)

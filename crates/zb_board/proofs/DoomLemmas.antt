@@ -1,12 +1,10 @@
 -- Who is called off where cells come, change and go: nobody is but those who were, and those below a cell that begins to call off what is in it.
-use Rattle.std.proofs.Common.{◌≡◌, ℕ, zero, suc, ◌+◌, ◌<◌, ◌≤◌, ◌==◌, nat_lt, List, [], ◌∷◌, ◌++◌, length, filter, get_or, slice_set, remove, All, Bool, true, false, ◌&&◌, ◌||◌, not, cond, is_some, Option, Some, None, refl, sym, ap, subst, ◌∙◌, arith, length-append}
+use Rattle.std.proofs.Common.{◌≡◌, ℕ, ◌+◌, ◌<◌, ◌≤◌, ◌==◌, nat_lt, List, [], ◌∷◌, length, filter, All, Bool, true, false, ◌||◌, cond, is_some, Option, Some, None, refl, sym, ap, ◌∙◌, arith}
 use Rattle.std.specs.List.{find}
 use Rattle.std.specs.Option.{option_map_or}
 use Rattle.std.proofs.lemmas.Bool.Decides.{nat_tests}
-use Rattle.std.proofs.lemmas.List.Elements.{All-head, All-tail}
 use Rattle.zb_tokens.specs.declared.board.Cell.{Cell}
-use Rattle.zb_tokens.specs.Board.{Board, cell_at, nearest, up_from}
-use Rattle.zb_tokens.specs.Doom.{calls_off, is_doomed}
+use Rattle.zb_tokens.specs.Board.{Board, cell_at, up_from}
 use Rattle.zb_tokens.proofs.FoundLaws.{found_holds}
 
 -- a cell is newer than its scope

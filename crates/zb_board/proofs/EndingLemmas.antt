@@ -1,10 +1,10 @@
 -- Cells that end as they are called off stay among the ready ones as the board changes.
-use Rattle.std.proofs.Common.{◌≡◌, ℕ, zero, suc, ◌+◌, ◌<◌, ◌≤◌, ◌==◌, nat_lt, List, [], ◌∷◌, ◌++◌, length, filter, get_or, slice_set, remove, All, Bool, true, false, ◌&&◌, ◌||◌, not, cond, is_some, Option, Some, None, refl, sym, ap, subst, ◌∙◌, arith, ◌⊎◌, inl, inr}
+use Rattle.std.proofs.Common.{◌≡◌, ℕ, zero, suc, ◌+◌, ◌<◌, ◌≤◌, ◌==◌, nat_lt, List, [], ◌∷◌, ◌++◌, length, get_or, slice_set, remove, All, Bool, true, false, ◌&&◌, ◌||◌, not, cond, is_some, Option, Some, None, refl, sym, ap, subst, ◌∙◌, arith, ◌⊎◌, inl, inr}
 use Rattle.std.specs.BTreeSet.{BTreeSet}
-use Rattle.std.specs.List.{find, list_any}
+use Rattle.std.specs.List.{find}
 use Rattle.std.specs.Option.{option_map_or, option_or}
+use Rattle.std.proofs.lemmas.Bool.{and_parts}
 use Rattle.std.proofs.lemmas.Bool.Decides.{nat_tests}
-use Rattle.std.proofs.lemmas.List.Elements.{All-head, All-tail}
 use Rattle.std.proofs.lemmas.List.Folds.{find-append}
 use Rattle.zb_table.specs.Rows.{Ascend, are_below}
 use Rattle.zb_table.proofs.Ascending.{finds_own}
@@ -21,15 +21,11 @@ use Rattle.zb_tokens.proofs.FoundLaws.{found_passes}
 use Rattle.zb_board.specs.Below.{HasBelow}
 use Rattle.zb_board.specs.Indexed.{AreChildren, is_ending, is_kept}
 use Rattle.zb_board.proofs.DoomLemmas.{IsNewer, climbs, climbed, climbs_less, none_climbs, scope_older}
-use Rattle.zb_board.proofs.TallyLemmas.{found_without}
+use Rattle.zb_board.proofs.TallyLemmas.{found_without, none_with}
 
 -- a cell that ends as it is called off is among the ready ones
 abbrev pub IsEnding : Board → List ℕ → Cell → Type 0
 IsEnding b ready c = is_ending b c ≡ true → is_kept ready c.key ≡ true
-
-both : (s t : Bool) → (s && t) ≡ true → (s ≡ true) × (t ≡ true)
-both true t is = (refl, is)
-both false t is = absurd (cc)
 
 -- either of two tests passes where the second does
 pub or_true : (t : Bool) → (t || true) ≡ true
@@ -63,7 +59,7 @@ module _ (b after : Board) where
   pub ended_on : (ready more : List ℕ) (c : Cell) → (is_doomed after c ≡ true → is_doomed b c ≡ true) → (has_child b c.key ≡ true → has_child after c.key ≡ true) → (is_kept ready c.key ≡ true → is_kept more c.key ≡ true)
       → IsEnding b ready c → IsEnding after more c
   ended_on ready more c doomed full still was is =
-      let r = both (is_doomed after c) (ends_in after c c.phase) is in
+      let r = and_parts (is_doomed after c) (ends_in after c c.phase) is in
       let one = doomed r.0 in
       let other = ends_on c c.phase full r.1 in
       still (was (rw (one, other) refl))
@@ -92,8 +88,8 @@ first_of_two false t none is = absurd (cc)
 -- a key is among those that ascend to a bound, and so it is below that
 pub below_at : (high : ℕ) (cells : List Cell) (i : ℕ) (d : Cell) → are_below (λ (x : Cell). x.key) high cells ≡ true → i < length cells → (get_or cells i d).key < high
 below_at high [] i d below within = absurd (omega (arith, within))
-below_at high (c ∷ cells) zero d below within = grind (arith, nat_tests, (both (nat_lt c.key high) (are_below (λ (x : Cell). x.key) high cells) below).0)
-below_at high (c ∷ cells) (suc i) d below within = below_at high cells i d (both (nat_lt c.key high) (are_below (λ (x : Cell). x.key) high cells) below).1 (omega (arith, within))
+below_at high (c ∷ cells) zero d below within = grind (arith, nat_tests, (and_parts (nat_lt c.key high) (are_below (λ (x : Cell). x.key) high cells) below).0)
+below_at high (c ∷ cells) (suc i) d below within = below_at high cells i d (and_parts (nat_lt c.key high) (are_below (λ (x : Cell). x.key) high cells) below).1 (omega (arith, within))
 
 -- a cell more
 pub ending_more : (b : Board) (c : Cell) (ready more : List ℕ) → All IsNewer b.cells → are_below (λ (x : Cell). x.key) c.key b.cells ≡ true → ((k : ℕ) → has_child b k ≡ true → has_child (record b { cells = b.cells ++ c ∷ [] }) k ≡ true)
@@ -173,7 +169,7 @@ pub ending_set : (b : Board) (i : ℕ) (c d : Cell) (off : Bool) (ready more : L
 ending_set b i c d off ready more newer at key scope met below full still was = λ j e within ends.
     let x = get_or b.cells j e in
     let older : x.scope < x.key = newer j e within in
-    let r = both (is_doomed after x) (ends_in after x x.phase) ends in
+    let r = and_parts (is_doomed after x) (ends_in after x x.phase) ends in
     let either = climbed b after calls_off (λ y. off && (y.key == c.key)) calls_off x.key (same x.key) (slice_set b.cells i d) b.cells x.scope (length_set b.cells i) older r.0 in
     by_two x off (climbs calls_off b b.cells x.scope) refl refl either
     (λ doomed. ended_on b after ready more x (λ _. doomed) (full x.key) (still x.key) (was j e within) ends)
@@ -218,17 +214,13 @@ ending_away b i c ready more newer within at apart full still woken was = λ j e
     length_less (x ∷ cells) zero within = omega arith
     length_less (x ∷ cells) (suc j) within = (let later = length_less cells j (omega (arith, within)) in omega (arith, later))
 
-    none_found : (k : ℕ) (xs : List Cell) → All (λ (x : Cell). (x.key == k) ≡ false) xs → find (λ x. x.key == k) xs ≡ None
-    none_found k [] none = refl
-    none_found k (x ∷ xs) none = rw (All-head (λ (y : Cell). (y.key == k) ≡ false) x xs none) (none_found k xs (All-tail (λ (y : Cell). (y.key == k) ≡ false) x xs none))
-
     before : (k : ℕ) (e : Cell) → cell_at after k ≡ Some e → cell_at b k ≡ Some e
     before k e found = by_key (c.key == k) refl
       where
         by_key : (t : Bool) → (c.key == k) ≡ t → cell_at b k ≡ Some e
         by_key true is =
             absurd (let own : c.key ≡ k = grind (arith, nat_tests, is) in
-            let none : cell_at after k ≡ None = subst (λ (n : ℕ). find (λ (x : Cell). x.key == n) (remove b.cells i) ≡ None) own (none_found c.key (remove b.cells i) apart) in
+            let none : cell_at after k ≡ None = subst (λ (n : ℕ). find (λ (x : Cell). x.key == n) (remove b.cells i) ≡ None) own (none_with c.key (remove b.cells i) apart) in
             let never = sym none ∙ found in cc)
         by_key false is = sym (found_without (λ (x : Cell). x.key == k) b.cells i c within at is) ∙ found
 

@@ -1,29 +1,22 @@
 -- The first token that can enter is the first of the coming numbers that is one of a token that can.
-use Rattle.std.proofs.Common.{◌≡◌, ℕ, ◌+◌, ◌≤◌, ◌==◌, List, [], ◌∷◌, All, Bool, true, false, ◌||◌, cond, if◌then◌else◌, Option, Some, None, option_map, refl, sym, ap, ◌∙◌, arith}
+use Rattle.std.proofs.Common.{◌≡◌, ℕ, ◌+◌, ◌≤◌, ◌==◌, List, [], ◌∷◌, Bool, true, false, ◌||◌, cond, if◌then◌else◌, Option, Some, None, option_map, refl, sym, ap, ◌∙◌, arith}
 use Rattle.std.specs.List.{find}
 use Rattle.std.specs.Option.{option_map_or}
 use Rattle.std.proofs.lemmas.Bool.Decides.{nat_tests}
-use Rattle.std.proofs.lemmas.List.Elements.{All-weaker}
 use Rattle.zb_table.specs.Rows.{Ascend, first_passing, row_at}
 use Rattle.zb_groups.specs.declared.held.Held.{Held}
 use Rattle.zb_groups.specs.Groups.{passes_at}
 use Rattle.zb_tokens.specs.declared.board.Token.{Token}
 use Rattle.zb_tokens.proofs.GameLaws.{found_holds}
-use Rattle.zb_places.specs.Places.{held_tokens}
+use Rattle.zb_tokens.specs.MoveEnter.{stands_at}
+use Rattle.zb_waits.proofs.FoundLemmas.{first_is_found}
+use Rattle.zb_places.specs.Places.{first_there, held_tokens, IsFirst}
 use Rattle.zb_places.proofs.HeldLemmas.{number_in, find_row, own_number}
+use Rattle.zb_places.proofs.SpotLemmas.{spot_itself}
 use Rattle.zb_tokens.specs.Board.{Board}
 use Rattle.zb_tokens.specs.Forced.{can_enter}
 use Rattle.zb_board.specs.Indexed.{is_kept}
-use Rattle.zb_board.proofs.ComingLemmas.{IsAwaited, enters_moves}
-
--- what is found first
-pub first_is_found : {A : Type 0} (p : A → Bool) (xs : List A) → first_passing p xs ≡ find p xs
-first_is_found p [] = refl
-first_is_found {A} p (x ∷ xs) = by_test (p x) (first_is_found p xs)
-  where
-    by_test : (t : Bool) → first_passing p xs ≡ find p xs → ◌≡◌ {A = Option A} (if t then Some x else first_passing p xs) (cond t (Some x) (find p xs))
-    by_test true later = refl
-    by_test false later = later
+use Rattle.zb_board.proofs.ComingLemmas.{IsAwaited, enters_moves, same_place}
 
 module _ (q : ℕ → Bool) where
   -- keys that are kept aren't below the first
@@ -84,13 +77,32 @@ module _ (p : Token → Bool) where
           let above = r.0 in
           (omega (arith, above, up.0), r.1)
 
-  module _ (rows : List (Held Token)) (coming : List ℕ) (rows_up : Ascend number_in 0 rows) (coming_up : Ascend (λ (k : ℕ). k) 0 coming) (kept : All (λ h. p h.row ≡ true → is_kept coming h.number ≡ true) rows) where
+  -- the first of all is the first at its spot
+  first_of_spot : (rows : List (Held Token)) (h : Held Token) → first rows ≡ Some h → p h.row ≡ true → IsFirst rows h
+  first_of_spot rows h is passes = narrowed rows is
+    where
+      same : (x : Held Token) → stands_at h.row.scope h.row.spot x.row ≡ true → p x.row ≡ true
+      same x there = ap p (same_place x.row h.row there) ∙ passes
+
+      itself : stands_at h.row.scope h.row.spot h.row ≡ true
+      itself = let one : (h.row.scope == h.row.scope) ≡ true = grind (arith, nat_tests) in rw one (spot_itself h.row.spot)
+
+      by_tests : (x : Held Token) (rows : List (Held Token)) → (first rows ≡ Some h → IsFirst rows h) → (t u : Bool) → p x.row ≡ t → stands_at h.row.scope h.row.spot x.row ≡ u → cond t (Some x) (first rows) ≡ Some h → cond u (Some x) (first_there h.row.scope h.row.spot rows) ≡ Some h
+      by_tests x rows later true true it there is = is
+      by_tests x rows later true false it apart is = absurd (let one : x ≡ h = cc in let both : true ≡ false = sym itself ∙ (sym (ap (λ (y : Held Token). stands_at h.row.scope h.row.spot y.row) one) ∙ apart) in cc)
+      by_tests x rows later false true fails there is = absurd (let both = sym (same x there) ∙ fails in cc)
+      by_tests x rows later false false fails apart is = later is
+
+      narrowed : (rows : List (Held Token)) → first rows ≡ Some h → IsFirst rows h
+      narrowed [] is = absurd (cc)
+      narrowed (x ∷ rows) is = by_tests x rows (narrowed rows) (p x.row) (stands_at h.row.scope h.row.spot x.row) refl refl is
+
+  module _ (rows : List (Held Token)) (coming : List ℕ) (rows_up : Ascend number_in 0 rows) (coming_up : Ascend (λ (k : ℕ). k) 0 coming) (kept : (h : Held Token) → IsFirst rows h → p h.row ≡ true → is_kept coming h.number ≡ true) where
     -- the first row that passes is among those that come
     found_kept : (h : Held Token) → first rows ≡ Some h → (is_kept coming h.number ≡ true) × (passes_at p rows h.number ≡ true)
     found_kept h is =
         let own = own_number (λ x. p x.row) rows h rows_up is in
-        let holds = found_holds (λ x. p x.row) (λ x. p x.row ≡ true → is_kept coming x.number ≡ true) rows h kept is in
-        (holds.0 own.1, ap (λ (o : Option (Held Token)). option_map_or (λ x. p x.row) o false) own.0 ∙ own.1)
+        (kept h (first_of_spot rows h is own.1) own.1, ap (λ (o : Option (Held Token)). option_map_or (λ x. p x.row) o false) own.0 ∙ own.1)
 
     by_none : (found : Option (Held Token)) → first rows ≡ found → first_passing (passes_at p rows) coming ≡ None → None ≡ option_map number_in found
     by_none None at is = refl
@@ -136,9 +148,6 @@ module _ (p : Token → Bool) where
       by_found None is = refl
       by_found (Some h) is = absurd (cc)
 
--- a token that can enter is among those that come
-abbrev pub IsWaiting : Board → List ℕ → Held Token → Type 0
-IsWaiting b coming h = can_enter b h.row ≡ true → is_kept coming h.number ≡ true
-
-pub all_waiting : (b : Board) (coming : List ℕ) (rows : List (Held Token)) → All (IsAwaited b coming) rows → All (IsWaiting b coming) rows
-all_waiting b coming rows all = All-weaker (IsAwaited b coming) (IsWaiting b coming) (λ h awaited enters. awaited (enters_moves b h.row enters)) rows all
+-- a token that can enter, and is the first at its spot, is among those that come
+pub all_waiting : (b : Board) (coming : List ℕ) (rows : List (Held Token)) → IsAwaited b rows coming → (h : Held Token) → IsFirst rows h → can_enter b h.row ≡ true → is_kept coming h.number ≡ true
+all_waiting b coming rows awaited h first enters = awaited h first (enters_moves b h.row enters)

@@ -11,9 +11,8 @@ use Rattle.zb_process.specs.declared.model.Model.{Model}
 use Rattle.zb_base.specs.declared.vars.Variable.{Variable}
 use Rattle.zb_table.specs.Rows.{Ascend, are_below, row_at}
 use Rattle.zb_groups.specs.declared.held.Held.{Held}
-use Rattle.zb_groups.specs.Groups.{numbers_in}
-use Rattle.zb_places.proofs.HeldLemmas.{number_in, scope_of, tokens_more}
-use Rattle.zb_table.proofs.Ascending.{ascend_more, ascend_set, ascend_remove, finds_own, finds_more, not_below, lower}
+use Rattle.zb_places.proofs.HeldLemmas.{number_in, tokens_more}
+use Rattle.zb_table.proofs.Ascending.{ascend_more, ascend_set, ascend_remove, finds_own, finds_more, not_below}
 use Rattle.zb_tokens.specs.declared.board.Cell.{Cell}
 use Rattle.zb_tokens.specs.declared.board.Incident.{Incident}
 use Rattle.zb_tokens.specs.Incidents.{incident_at, incident_on, is_stuck}
@@ -25,29 +24,20 @@ use Rattle.zb_tokens.specs.Board.{Board, cell_at, has_child, model_under}
 use Rattle.zb_tokens.specs.Doom.{calls_off, is_doomed}
 use Rattle.zb_tokens.specs.Forced.{ends_in}
 use Rattle.zb_waits.specs.Pairs.{has_pair, keys_under, place_cmp}
+use Rattle.zb_waits.proofs.FoundLemmas.{ascend_kept}
 use Rattle.zb_places.specs.Places.{held_tokens, count_in_scope, IsFewer}
-use Rattle.zb_board.specs.Tallies.{cells_in, tokens_in, incidents_on}
-use Rattle.zb_board.specs.Searches.{scope_model, needs}
+use Rattle.zb_board.specs.Tallies.{incidents_on}
 use Rattle.zb_board.specs.Kept.{number_under}
 use Rattle.zb_board.specs.Indexed.{IsIndexed, rests_in, is_resting, is_ending, stays_out, is_awake, is_kept}
 use Rattle.zb_arrivals.proofs.EditLemmas.{mapped_from, found_place}
-use Rattle.zb_places.proofs.CountLemmas.{passing_more, passing_fewer, passing_same, passing_within}
+use Rattle.zb_places.proofs.CountLemmas.{passing_more, passing_fewer, passing_same}
 use Rattle.zb_board.proofs.ChildLemmas.{children_more, children_set, children_away, children_in}
 use Rattle.zb_board.proofs.DoomLemmas.{IsNewer, climbs}
 use Rattle.zb_board.proofs.EndingLemmas.{IsEnding, ending_beside, ending_more, ending_set, ending_away}
-use Rattle.zb_board.proofs.TallyLemmas.{child_counted, stuck_counted, counted_none, none_counted, unmapped, found_without}
+use Rattle.zb_board.proofs.TallyLemmas.{child_counted, stuck_counted, counted_none, none_counted, unmapped, found_without, cells_in, tokens_in}
 use Rattle.zb_board.proofs.KeptLemmas.{same_number, none_behind}
 use Rattle.zb_board.proofs.RestLemmas.{fuller, fuller_by_child, IsSeen, IsCalling, seen_on}
-use Rattle.zb_board.proofs.ComingLemmas.{all_met, awaited_model, awaited_cell, awaited_set, awaited_away, awaited_more, awaited_fewer, awaited_looked}
-
--- without some the others go on ascending
-ascend_filter : {A : Type 0} (key : A → ℕ) (stays : A → Bool) (low : ℕ) (rows : List A) → Ascend key low rows → Ascend key low (filter stays rows)
-ascend_filter key stays low [] up = tt
-ascend_filter key stays low (r ∷ rows) up = by_test (stays r) (ascend_filter key stays (key r + 1) rows up.1)
-  where
-    by_test : (t : Bool) → Ascend key (key r + 1) (filter stays rows) → Ascend key low (cond t (r ∷ filter stays rows) (filter stays rows))
-    by_test true later = (up.0, later)
-    by_test false later = lower key low (key r + 1) (filter stays rows) (omega (arith, up.0)) later
+use Rattle.zb_board.proofs.ComingLemmas.{awaited_model, awaited_cell, awaited_set, awaited_away, awaited_looked, IsAwaited}
 
 -- the others have other keys than one that goes, where the keys ascend
 all_apart : (low : ℕ) (cells : List Cell) (key : ℕ) → key < low → Ascend (λ (x : Cell). x.key) low cells → All (λ (x : Cell). (x.key == key) ≡ false) cells
@@ -206,10 +196,10 @@ module _ (b : Board) (rows : List (Held Token)) (children : BTreeSet (ℕ × ℕ
       }
 
   -- a token more
-  pub kept_token : (h : Held Token) (coming' : List ℕ) → Ascend number_in 0 (rows ++ h ∷ []) → b.tokens ≡ held_tokens rows → ((k : ℕ) → is_kept coming k ≡ true → is_kept coming' k ≡ true)
-      → is_kept coming' h.number ≡ true → ((k : ℕ) → is_kept (numbers_in scope_of h.row.scope rows) k ≡ true → needs (scope_model b h.row.scope) h.row rows k ≡ true → is_kept coming' k ≡ true)
+  pub kept_token : (h : Held Token) (coming' : List ℕ) → Ascend number_in 0 (rows ++ h ∷ []) → b.tokens ≡ held_tokens rows
+      → (IsAwaited b rows coming → IsAwaited (record b { tokens = held_tokens (rows ++ h ∷ []) }) (rows ++ h ∷ []) coming')
       → IsIndexed (record b { tokens = held_tokens (rows ++ h ∷ []) }) (rows ++ h ∷ []) children stuck ready calling coming'
-  kept_token h coming' up their still own met =
+  kept_token h coming' up their come =
       let after : Board = record b { tokens = held_tokens (rows ++ h ∷ []) } in
       let numbers : (k : ℕ) → tokens_in after k ≡ tokens_in b k + (if h.row.scope == k then 1 else 0) = λ k. ap (count_in_scope k) (tokens_more rows h ∙ ap (λ (ts : List Token). ts ++ h.row ∷ []) (sym their)) ∙ passing_more (λ (x : Token). x.scope == k) b.tokens h.row in
       record {
@@ -223,20 +213,20 @@ module _ (b : Board) (rows : List (Held Token)) (children : BTreeSet (ℕ × ℕ
         awake = All-weaker (IsSeen b ready) (IsSeen after ready) (λ x. seen_on b after ready ready x refl (λ m is. is) (fuller b after x.key (omega arith) (omega (arith, numbers x.key))) (λ is. is)) b.cells kept.awake;
         ending = ending_beside b after ready ready refl (λ k. refl) (λ k is. is) (λ k is. is) kept.ending;
         called = kept.called;
-        awaited = awaited_more b h coming coming' rows their still own (all_met b h.row coming' rows kept.tokens_ascend met) kept.awaited;
+        awaited = come kept.awaited;
       }
 
   -- tokens fewer in a scope, and that seen
-  pub kept_taken : (scope : ℕ) (left : List (Held Token)) (ready' : List ℕ) → b.tokens ≡ held_tokens rows → IsFewer scope rows left
+  pub kept_taken : (scope : ℕ) (left : List (Held Token)) (ready' coming' : List ℕ) → b.tokens ≡ held_tokens rows → IsFewer scope rows left → (IsAwaited b rows coming → IsAwaited (record b { tokens = held_tokens left }) left coming')
       → ((k : ℕ) → is_kept ready k ≡ true → is_kept ready' k ≡ true) → (slice_get (keys_under scope children.keys) 0 ≡ None → is_kept ready' scope ≡ true) → IsOrdered place_cmp children
-      → IsIndexed (record b { tokens = held_tokens left }) left children stuck ready' calling coming
-  kept_taken scope left ready' their fewer still woken order =
+      → IsIndexed (record b { tokens = held_tokens left }) left children stuck ready' calling coming'
+  kept_taken scope left ready' coming' their fewer come still woken order =
       let after : Board = record b { tokens = held_tokens left } in
       let others : (k : ℕ) → (scope == k) ≡ false → tokens_in b k ≤ tokens_in after k = λ k other. (let n = fewer.elsewhere k other in let all = ap (count_in_scope k) their in omega (arith, n, all)) in
       record {
         cells_ascend = kept.cells_ascend;
         newer = kept.newer;
-        tokens_ascend = subst (λ (l : List (Held Token)). Ascend number_in 0 l) (sym fewer.among) (ascend_filter number_in fewer.stays 0 rows kept.tokens_ascend);
+        tokens_ascend = subst (λ (l : List (Held Token)). Ascend number_in 0 l) (sym fewer.among) (ascend_kept number_in fewer.stays 0 rows kept.tokens_ascend);
         children_right = kept.children_right;
         incidents_ascend = kept.incidents_ascend;
         alone = kept.alone;
@@ -245,7 +235,7 @@ module _ (b : Board) (rows : List (Held Token)) (children : BTreeSet (ℕ × ℕ
             (λ none is. subst (λ (n : ℕ). is_kept ready' n ≡ true) is (woken (ap (λ (ks : List ℕ). slice_get ks 0) (children_in b.cells children kept.children_right scope kept.cells_ascend order ∙ ap (map (λ (c : Cell). c.key)) (no_length (filter (λ (c : Cell). c.scope == scope) b.cells) none))))) (λ m is. is)) b.cells kept.awake;
         ending = ending_beside b after ready ready' refl (λ k. refl) (λ k is. is) still kept.ending;
         called = kept.called;
-        awaited = awaited_fewer b coming scope rows left their fewer kept.awaited;
+        awaited = come kept.awaited;
       }
 
   -- a token that was looked at, and rests or isn't there

@@ -1,5 +1,5 @@
 -- The first cell that leaves in a scope, among the keys of the cells in it.
-use Rattle.std.proofs.Common.{◌≡◌, ℕ, ◌+◌, ◌<◌, ◌≤◌, ◌==◌, ◌&&◌, List, [], ◌∷◌, map, filter, All, Bool, true, false, cond, if◌then◌else◌, Option, Some, None, option_map, refl, sym, ap, subst, ◌∙◌, arith}
+use Rattle.std.proofs.Common.{◌≡◌, ℕ, ◌+◌, ◌≤◌, ◌==◌, ◌&&◌, List, [], ◌∷◌, map, filter, All, Bool, true, false, cond, if◌then◌else◌, Option, Some, option_map, refl, sym, ap, subst, ◌∙◌, arith}
 use Rattle.std.specs.BTreeSet.{BTreeSet, IsOrdered}
 use Rattle.std.specs.List.{find}
 use Rattle.std.specs.Option.{option_map_or}
@@ -97,11 +97,11 @@ first_leaving b scope key up is = record {
 
 -- what is found among the keys that are kept is the key of the first cell that leaves
 module _ (b now : Board) (same : b ≡ now) (children : BTreeSet (ℕ × ℕ)) (right : AreChildren b.cells children) (up : Ascend (λ c. c.key) 0 b.cells) (scope : ℕ) (order : IsOrdered place_cmp children)
-    (keys slice : List ℕ) (lent : slice ≡ keys) (under : keys ≡ keys_under scope children.keys) (found : Option ℕ) (is : found ≡ find (leaves_at now) slice) where
+    (found : Option ℕ) (is : found ≡ find (leaves_at now) (keys_under scope children.keys)) where
   pub now_up : Ascend (λ c. c.key) 0 now.cells
   now_up = subst (λ (x : Board). Ascend (λ (c : Cell). c.key) 0 x.cells) same up
 
   pub found_leaving : option_map (λ (c : Cell). c.key) (find (leaves_in scope) now.cells) ≡ found
   found_leaving =
-      let all = lent ∙ (under ∙ (children_in b.cells children right scope up order ∙ ap (λ (x : Board). map (λ (c : Cell). c.key) (filter (λ (c : Cell). c.scope == scope) x.cells)) same)) in
+      let all = children_in b.cells children right scope up order ∙ ap (λ (x : Board). map (λ (c : Cell). c.key) (filter (λ (c : Cell). c.scope == scope) x.cells)) same in
       sym (is ∙ (ap (find (leaves_at now)) all ∙ leaving_key now scope now_up))

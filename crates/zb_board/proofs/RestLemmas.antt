@@ -11,9 +11,8 @@ use Rattle.zb_tokens.specs.Doom.{calls_off}
 use Rattle.zb_tokens.specs.Incidents.{is_stuck}
 use Rattle.zb_tokens.specs.Marks.{error_of, has_come_about}
 use Rattle.zb_tokens.specs.MoveFinish.{rests_at}
-use Rattle.zb_board.specs.Tallies.{cells_in, tokens_in}
 use Rattle.zb_board.specs.Indexed.{is_done_in, rests_in, is_resting, is_kept}
-use Rattle.zb_board.proofs.TallyLemmas.{child_counted, token_counted}
+use Rattle.zb_board.proofs.TallyLemmas.{child_counted, token_counted, cells_in, tokens_in}
 
 -- a law of tests
 pub back : (s t : Bool) → (s ≡ true → t ≡ true) → t ≡ false → s ≡ false

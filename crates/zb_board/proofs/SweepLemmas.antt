@@ -1,7 +1,6 @@
 -- What stays where some are taken away, one after another.
 use Rattle.std.proofs.Common.{◌≡◌, ◌<◌, ◌||◌, List, [], ◌∷◌, length, filter, Bool, true, false, not, cond, if◌then◌else◌, Option, Some, None, is_some, option_map, refl, ap, arith}
 use Rattle.std.specs.List.{find, list_any}
-use Rattle.zb_tokens.specs.declared.board.Phase.TheVariants as phases
 use Rattle.zb_tokens.specs.Edits.{removed, without_first}
 use Rattle.zb_arrivals.proofs.SplitLemmas.{or_kept}
 

@@ -1,13 +1,23 @@
 -- Counting what is in scopes, and on cells.
-use Rattle.std.proofs.Common.{◌≡◌, ℕ, zero, suc, ◌<◌, ◌==◌, List, [], ◌∷◌, length, get_or, remove, Bool, true, false, ◌||◌, cond, Option, Some, None, option_map, not, is_some, refl, sym, ap, ◌∙◌, arith}
+use Rattle.std.proofs.Common.{◌≡◌, ℕ, zero, suc, ◌<◌, ◌==◌, List, [], ◌∷◌, filter, length, All, get_or, remove, Bool, true, false, ◌||◌, cond, Option, Some, None, option_map, not, is_some, refl, sym, ap, ◌∙◌, arith}
 use Rattle.std.specs.List.{find, list_any}
 use Rattle.std.proofs.lemmas.Bool.Decides.{nat_tests}
+use Rattle.std.proofs.lemmas.List.Elements.{All-head, All-tail}
 use Rattle.zb_tokens.specs.declared.board.Cell.{Cell}
 use Rattle.zb_tokens.specs.Board.{Board, has_child}
 use Rattle.zb_tokens.specs.Incidents.{incident_on, is_stuck}
-use Rattle.zb_board.specs.Tallies.{cells_in, tokens_in, incidents_on}
+use Rattle.zb_places.specs.Places.{count_in_scope}
+use Rattle.zb_board.specs.Tallies.{incidents_on}
 use Rattle.zb_board.specs.Searches.{has_token}
 use Rattle.zb_places.proofs.CountLemmas.{any_passing}
+
+-- how many cells of a board are in a scope
+abbrev pub cells_in : Board → ℕ → ℕ
+cells_in b scope = length (filter (λ c. c.scope == scope) b.cells)
+
+-- and how many tokens
+abbrev pub tokens_in : Board → ℕ → ℕ
+tokens_in b scope = count_in_scope scope b.tokens
 
 -- a cell is in a scope where the number of those in it isn't 0
 pub child_counted : (b : Board) (scope : ℕ) → has_child b scope ≡ not (cells_in b scope == 0)
@@ -61,3 +71,8 @@ unmapped f (Some x) is = absurd (cc)
 pub some_mapped : {A B : Type 0} (f : A → B) (o : Option A) → is_some (option_map f o) ≡ is_some o
 some_mapped f None = refl
 some_mapped f (Some x) = refl
+
+-- none is found with a key that none has
+pub none_with : (k : ℕ) (xs : List Cell) → All (λ (x : Cell). (x.key == k) ≡ false) xs → find (λ x. x.key == k) xs ≡ None
+none_with k [] none = refl
+none_with k (x ∷ xs) none = rw (All-head (λ (y : Cell). (y.key == k) ≡ false) x xs none) (none_with k xs (All-tail (λ (y : Cell). (y.key == k) ≡ false) x xs none))

@@ -1,6 +1,5 @@
 -- What a game keeps beside its board, so that a move needs no walk.
-use Rattle.std.specs.Prelude.{◌≡◌, ℕ, ◌<◌, ◌≤◌, ◌==◌, List, All, Bool, true, false, ◌&&◌, ◌||◌, not, is_some, if◌then◌else◌, Some, option_map}
-use Rattle.std.specs.List.{list_any}
+use Rattle.std.specs.Prelude.{◌≡◌, ℕ, ◌<◌, ◌≤◌, List, All, Bool, true, false, ◌&&◌, ◌||◌, not, is_some, if◌then◌else◌, Some, option_map}
 use Rattle.std.specs.Option.{option_map_or}
 use Rattle.zb_process.specs.declared.model.Model.{Model}
 use Rattle.std.specs.BTreeSet.{BTreeSet}
@@ -18,7 +17,8 @@ use Rattle.zb_tokens.specs.Forced.{ends_in}
 use Rattle.zb_tokens.specs.Incidents.{incident_on, is_stuck}
 use Rattle.zb_tokens.specs.Marks.{error_of, has_come_about}
 use Rattle.zb_tokens.specs.MoveFinish.{rests_at}
-use Rattle.zb_places.specs.Places.{comes_in}
+use Rattle.zb_places.specs.Places.{comes_in, IsFirst}
+pub use Rattle.zb_places.specs.Places.{is_kept}
 use Rattle.zb_board.specs.Kept.{number_under}
 use Rattle.zb_board.specs.Tallies.{incidents_on}
 
@@ -59,13 +59,9 @@ stays_out b t = option_map_or (λ c. option_map_or (λ m. not (comes_in m b.toke
 abbrev pub AreChildren : List Cell → BTreeSet (ℕ × ℕ) → Type 0
 AreChildren cells children = IsIndex (λ c. c.key) (λ c. Some c.scope) cells children
 
--- a key is among some that are kept (own)
-abbrev pub is_kept : List ℕ → ℕ → Bool
-is_kept keys key = list_any (λ k. k == key) keys
-
 -- what is kept is right, where the tokens have these numbers: keys and numbers ascend, each cell is newer than its scope, no two incidents stand on one cell, the key of each cell is kept
 -- under its scope, that of the incident on each cell is kept, each cell that doesn't rest, or ends as it is called off, is among the ready ones, each that calls off what is in it among
--- those that do, and each token that doesn't rest among the coming ones (own)
+-- those that do, and each token that doesn't rest, and is the first at its spot, among the coming ones (own)
 pub record IsIndexed (b : Board) (rows : List (Held Token)) (children : BTreeSet (ℕ × ℕ)) (stuck : List (ℕ × ℕ)) (ready calling coming : List ℕ) : Type 0 where
   pub cells_ascend : Ascend (λ c. c.key) 0 b.cells
   pub newer : All (λ c. c.scope < c.key) b.cells
@@ -77,4 +73,4 @@ pub record IsIndexed (b : Board) (rows : List (Held Token)) (children : BTreeSet
   pub awake : All (λ c. is_resting b c ≡ false → is_kept ready c.key ≡ true) b.cells
   pub ending : All (λ c. is_ending b c ≡ true → is_kept ready c.key ≡ true) b.cells
   pub called : All (λ c. calls_off c ≡ true → is_kept calling c.key ≡ true) b.cells
-  pub awaited : All (λ h. stays_out b h.row ≡ false → is_kept coming h.number ≡ true) rows
+  pub awaited : (h : Held Token) → IsFirst rows h → stays_out b h.row ≡ false → is_kept coming h.number ≡ true

@@ -13,7 +13,7 @@ mod contents;
 mod doom;
 mod entering;
 mod incident;
-mod needing;
+mod meeting;
 mod removals;
 mod repair;
 mod rest;
@@ -78,7 +78,7 @@ pub struct Game {
     ready: Table<Key>,
     // The keys of the cells that call off what is in them.
     calling: Table<Key>,
-    // The numbers of the tokens that may enter by themselves, as if nobody were called off.
+    // The numbers of the tokens that may enter by themselves, as if nobody were called off, the first at each spot.
     coming: Table<Key>,
 }
 
@@ -165,10 +165,7 @@ impl Game {
     pub fn model(&self, definition: Key) -> Option<&Graph>
         ensures { option_copied result ≡ model_under self.now definition }
     {
-        match self.models.get(definition) {
-            Some(deployed) => Some(deployed.model.graph()),
-            None => None,
-        }
+        self.models.get(definition)
     }
 
     /// The cells, in the order in which they came. It takes constant time.

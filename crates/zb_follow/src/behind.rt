@@ -37,7 +37,7 @@ impl Maker for WithBehind {
         match behind_of(alloc, state, &event) {
             Ok(behind) => (event, behind).put(alloc, state, moment, out),
             Err(AllocError) => {
-                event.discard();
+                drop(event);
                 Err(Refusal::Memory)
             }
         }

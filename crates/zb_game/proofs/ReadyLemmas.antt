@@ -3,6 +3,7 @@ use Rattle.std.proofs.Common.{◌≡◌, ℕ, ◌+◌, ◌≤◌, ◌==◌, max,
 use Rattle.std.specs.Option.{option_map_or, option_or}
 use Rattle.std.specs.List.{find, list_any}
 use Rattle.std.proofs.lemmas.Bool.{or_left, or_right}
+use Rattle.std.proofs.lemmas.Bool.{and_parts}
 use Rattle.std.proofs.lemmas.Bool.Decides.{nat_tests}
 use Rattle.std.proofs.lemmas.List.Elements.{All-filter, All-map, All-head, All-tail, filter_passes}
 use Rattle.zb_table.specs.Rows.{Ascend, last_passing}
@@ -28,14 +29,6 @@ use Rattle.zb_table.proofs.Ascending.{finds_own}
 is_not : (t : Bool) → not t ≡ true → t ≡ false
 is_not true is = absurd (cc)
 is_not false is = refl
-
-one_of : (s t : Bool) → (s && t) ≡ true → s ≡ true
-one_of true t is = refl
-one_of false t is = absurd (cc)
-
-both : (s t : Bool) → (s && t) ≡ true → t ≡ true
-both true t is = is
-both false t is = absurd (cc)
 
 -- a cell that goes on by itself doesn't rest
 goes_not_rests : (b : Board) (c : Cell) (phase : Phase) → goes_on_in b c phase ≡ true → rests_in b c phase ≡ false
@@ -170,8 +163,8 @@ module _ (b : Board) (ready : List ℕ) (ascend : Ascend (λ (c : Cell). c.key) 
           → (is_resting b c ≡ false → is_kept ready c.key ≡ true) → (is_ending b c ≡ true → is_kept ready c.key ≡ true) → is_kept ready c.key ≡ true
       by_doom c true doomed ends awake ending = ending (rw doomed ends)
       by_doom c false free goes awake ending =
-          let on : goes_on_in b c c.phase ≡ true = both (not (is_stuck b c)) (goes_on_in b c c.phase) goes in
-          let free_of : is_stuck b c ≡ false = is_not (is_stuck b c) (one_of (not (is_stuck b c)) (goes_on_in b c c.phase) goes) in
+          let on : goes_on_in b c c.phase ≡ true = (and_parts (not (is_stuck b c)) (goes_on_in b c c.phase) goes).1 in
+          let free_of : is_stuck b c ≡ false = is_not (is_stuck b c) ((and_parts (not (is_stuck b c)) (goes_on_in b c c.phase) goes).0) in
           awake (rw free_of (goes_not_rests b c c.phase on))
 
   all_found : All IsFound (map (λ (c : Cell). c.key) (filter (is_forced b) b.cells))
@@ -236,11 +229,11 @@ module _ (b : Board) (t : Triggered) where
     -- its cell doesn't rest
     awake_by : (c : Cell) → comes_about_by b t c ≡ true → is_resting b c ≡ false
     awake_by c comes =
-        let active = one_of (is_phase c.phase phases.Active) _ comes in
-        let rest = both (is_phase c.phase phases.Active) _ comes in
-        let inner = both (not (is_doomed b c)) _ rest in
-        let free = is_not (is_stuck b c) (one_of (not (is_stuck b c)) _ inner) in
-        let some = thrown (error_of c.mark) (both (not (is_stuck b c)) _ inner) in
+        let active = (and_parts (is_phase c.phase phases.Active) _ comes).0 in
+        let rest = (and_parts (is_phase c.phase phases.Active) _ comes).1 in
+        let inner = (and_parts (not (is_doomed b c)) _ rest).1 in
+        let free = is_not (is_stuck b c) ((and_parts (not (is_stuck b c)) _ inner).0) in
+        let some = thrown (error_of c.mark) ((and_parts (not (is_stuck b c)) _ inner).1) in
         rw free (by_phase c.phase active some)
       where
         thrown : (error : Option (List ℕ)) → option_map_or (is_same_event t) (option_and_then (λ code. catcher b code c.key) error) false ≡ true → is_some error ≡ true

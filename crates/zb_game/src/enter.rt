@@ -46,7 +46,7 @@ pub fn enter(game: &mut Game, alloc: Global, e: Enter) -> Result<(), GameFault>
         return Err(GameFault::Illegal);
     }
     let flows = flows_in(alloc, model, e.node.as_str())?;
-    game.take_each(alloc, e.scope, flows.as_slice())?;
+    game.take_each(e.scope, flows.as_slice())?;
     let cell = new_cell(alloc, e.key, e.scope, definition, e.node, false);
     game.add_cell(cell)?;
     Ok(())
@@ -65,7 +65,7 @@ fn enter_alone(game: &mut Game, alloc: Global, definition: Key, e: Enter) -> Res
     if !stands_coming(e.scope, e.node.as_str(), e.via.as_str(), game.tokens()) {
         return Err(GameFault::Illegal);
     }
-    game.take_coming(alloc, e.scope, e.node.as_str(), e.via.as_str())?;
+    game.take_coming(e.scope, e.node.as_str(), e.via.as_str())?;
     let before = comes_by_none(&e);
     let cell = new_cell(alloc, e.key, e.scope, definition, e.node, before);
     game.add_cell(cell)?;

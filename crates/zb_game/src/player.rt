@@ -66,7 +66,7 @@ pub fn play(game: &mut Game, alloc: Global, m: Move) -> Result<(), GameFault>
     ensures kept { IsErrOf result GameFault.Illegal → game.new ≡ game.old }
 {
     match m {
-        Move::Stand(d) => game.stand(d),
+        Move::Stand(d) => game.stand(alloc, d),
         Move::Start(s) => start(game, alloc, s),
         Move::Enter(e) => enter(game, alloc, e),
         Move::Open(key) => open(game, alloc, key),

@@ -40,13 +40,19 @@ impl Model for Graph {
     ghost invariant = { λ g. IsGraph g.model g.index g.codes };
 }
 
-/// The graph of a model. Its expressions are compiled here, once. It takes a step for each node, each flow and each
-/// expression in them, and for each byte of these expressions' texts, on average.
+// How many nodes, and how many flows, are too many to be numbered.
+const TOO_MANY: usize = 1 << 32;
+
+/// The graph of a model. Its expressions are compiled here, once. It is refused as well where it has 2^32 nodes or flows,
+/// or more. It takes a step for each node, each flow and each expression in them, and for each byte of these expressions'
+/// texts, on average.
 pub fn compile(alloc: Global, model: ProcessModel) -> Result<Graph, AllocError>
-    requires nodes { length model.nodes < 2 ^ 32 }
-    requires flows { length model.flows < 2 ^ 32 }
     ensures { IfOk result (λ graph. graph ≡ model) }
 {
+    if model.nodes.as_slice().len() >= TOO_MANY || model.flows.as_slice().len() >= TOO_MANY {
+        drop(model);
+        return Err(AllocError);
+    }
     match model.compiled(alloc) {
         Ok(codes) => with_codes(alloc, model, codes),
         Err(no_memory) => {
@@ -78,6 +84,11 @@ fn with_codes(alloc: Global, model: ProcessModel, codes: Codes) -> Result<Graph,
 }
 
 impl Graph {
+    /// Lets go of it.
+    pub fn discard(self) {
+        drop(self);
+    }
+
     /// The model that it was made of.
     pub fn model(&self) -> &ProcessModel
         ensures { result.now ≡ self.now }
@@ -152,6 +163,13 @@ impl Graph {
         ensures { option_copied result ≡ find (λ f. bytes_eq f.id id.now) self.now.flows }
     {
         first_of(self.index.flows.by_id.at(id), self.model.flows.as_slice())
+    }
+
+    /// The numbers of the flows with an id, in the order of the model.
+    pub fn flows_with(&self, id: &str) -> &[u32]
+        ensures { map (slice_get self.now.flows) result.now ≡ map Some (filter (λ f. bytes_eq f.id id.now) self.now.flows) }
+    {
+        self.index.flows.by_id.at(id)
     }
 
     /// The numbers of the flows out of the node with an id, in the order of the model.

@@ -1,12 +1,10 @@
 //! Process models with their nodes and flows numbered, and found by their names, and their expressions compiled.
 #![tactic(auto)]
 
-mod boxed;
 mod codes;
 mod graph;
 mod index;
 mod label;
 mod places;
 
-pub use boxed::BoxedGraph;
 pub use graph::{Graph, compile};

@@ -1,9 +1,8 @@
 -- A group that is emptied, row by row.
-use Rattle.std.proofs.Common.{◌≡◌, ℕ, ◌+◌, ◌≤◌, ◌==◌, List, [], ◌∷◌, map, filter, Bool, true, false, not, cond, if◌then◌else◌, IsTrue, refl, sym, ap, ◌∙◌, arith}
+use Rattle.std.proofs.Common.{◌≡◌, ℕ, ◌+◌, ◌≤◌, ◌==◌, List, [], ◌∷◌, map, filter, Bool, true, false, not, cond, refl, sym, ap, ◌∙◌, arith}
 use Rattle.std.proofs.lemmas.Bool.Decides.{nat_tests}
-use Rattle.zb_table.specs.Rows.{Ascend, are_below, without}
+use Rattle.zb_table.specs.Rows.{Ascend, without}
 use Rattle.zb_table.proofs.Changing.{without_none}
-use Rattle.zb_table.proofs.Growing.{below_without}
 use Rattle.zb_groups.specs.declared.held.Held.{Held}
 use Rattle.zb_groups.specs.Groups.{numbers_in}
 use Rattle.zb_groups.proofs.RowLemmas.{ascend_without}
@@ -16,15 +15,9 @@ module _ {A : Type 0} (group_in : A → ℕ) (group : ℕ) where
   abbrev is_out : Held A → Bool
   is_out h = not (group_in h.row == group)
 
-  -- without the first row of the group the others of it are left, those of other groups stay, and so do their numbers
+  -- without the first row of the group the others of it are left, and those of other groups stay
   abbrev IsLeft : ℕ → List (Held A) → ℕ → List ℕ → Type 0
   IsLeft low rows n left = (low ≤ n) × (numbers_in group_in group (without number_in n rows) ≡ left) × (filter is_out (without number_in n rows) ≡ filter is_out rows)
-      × ((k : ℕ) → (group == k) ≡ false → numbers_in group_in k (without number_in n rows) ≡ numbers_in group_in k rows)
-
-  in_front : (u : Bool) (x : Held A) (some rows : List (Held A)) (k : ℕ) → numbers_in group_in k some ≡ numbers_in group_in k rows
-      → map number_in (cond u (x ∷ filter (λ y. group_in y.row == k) some) (filter (λ y. group_in y.row == k) some)) ≡ map number_in (cond u (x ∷ filter (λ y. group_in y.row == k) rows) (filter (λ y. group_in y.row == k) rows))
-  in_front true x some rows k same = ap (λ (l : List ℕ). x.number ∷ l) same
-  in_front false x some rows k same = same
 
   one_gone : (low : ℕ) (rows : List (Held A)) (n : ℕ) (left : List ℕ) → Ascend number_in low rows → numbers_in group_in group rows ≡ n ∷ left → IsLeft low rows n left
   one_gone low [] n left up is = absurd (cc)
@@ -37,31 +30,27 @@ module _ {A : Type 0} (group_in : A → ℕ) (group : ℕ) where
           let rest : numbers_in group_in group rows ≡ left = cc in
           let same : (x.number == n) ≡ true = grind (arith, nat_tests, one) in
           let gone : without number_in n rows ≡ rows = without_none number_in n (x.number + 1) rows up.1 (omega (arith, one)) in
-          (omega (arith, one, up.0), rw (same, gone) rest, rw (same, gone, its) refl, λ k apart. let other : (group_in x.row == k) ≡ false = grind (arith, nat_tests) in rw (same, gone, other) refl)
+          (omega (arith, one, up.0), rw (same, gone) rest, rw (same, gone, its) refl)
       by_group false its is later =
           let r = later is in
           let above = r.0 in
           let other : (x.number == n) ≡ false = grind (arith, nat_tests, above) in
-          (omega (arith, above, up.0), rw (other, its) r.1, rw (other, its) (ap (λ (l : List (Held A)). x ∷ l) r.2), λ k apart. rw other (in_front (group_in x.row == k) x (without number_in n rows) rows k (r.3 k apart)))
+          (omega (arith, above, up.0), rw (other, its) r.1, rw (other, its) (ap (λ (l : List (Held A)). x ∷ l) r.2))
 
   -- some rows of the group are gone, and these numbers of it are left
-  pub record IsEmptying (next : ℕ) (all rows : List (Held A)) (left : List ℕ) : Type 0 where
+  pub record IsEmptying (all rows : List (Held A)) (left : List ℕ) : Type 0 where
     pub ascend : Ascend number_in 0 rows
-    pub below : IsTrue (are_below number_in next rows)
     pub here : numbers_in group_in group rows ≡ left
     pub out : filter is_out rows ≡ filter is_out all
-    pub others : (k : ℕ) → (group == k) ≡ false → numbers_in group_in k rows ≡ numbers_in group_in k all
 
   -- one more is gone
-  pub goes_on : (next : ℕ) (all rows : List (Held A)) (n : ℕ) (left : List ℕ) → IsEmptying next all rows (n ∷ left) → IsEmptying next all (without number_in n rows) left
-  goes_on next all rows n left so_far =
+  pub goes_on : (all rows : List (Held A)) (n : ℕ) (left : List ℕ) → IsEmptying all rows (n ∷ left) → IsEmptying all (without number_in n rows) left
+  goes_on all rows n left so_far =
       let r = one_gone 0 rows n left so_far.ascend so_far.here in
       record {
         ascend = ascend_without number_in n 0 rows so_far.ascend;
-        below = below_without number_in n next rows so_far.below;
         here = r.1;
         out = r.2 ∙ so_far.out;
-        others = λ k apart. r.3 k apart ∙ so_far.others k apart;
       }
 
   out_by : (t : Bool) (x : Held A) (rows : List (Held A)) → map number_in (cond t (x ∷ filter (λ y. group_in y.row == group) rows) (filter (λ y. group_in y.row == group) rows)) ≡ []
@@ -75,16 +64,5 @@ module _ {A : Type 0} (group_in : A → ℕ) (group : ℕ) where
   all_out (x ∷ rows) is = out_by (group_in x.row == group) x rows is (all_out rows)
 
   -- the rows that are left then
-  pub emptied : (next : ℕ) (all rows : List (Held A)) → IsEmptying next all rows [] → rows ≡ filter is_out all
-  emptied next all rows done = sym (all_out rows done.here) ∙ done.out
-
-  -- and their numbers
-  pub numbers_emptied : (next : ℕ) (all rows : List (Held A)) (before after : ℕ → List ℕ) → IsEmptying next all rows [] → ((k : ℕ) → before k ≡ numbers_in group_in k all) → ((k : ℕ) → after k ≡ (if group == k then [] else before k))
-      → (k : ℕ) → after k ≡ numbers_in group_in k rows
-  numbers_emptied next all rows before after done right taken k = by_test (group == k) refl (taken k)
-    where
-      by_test : (t : Bool) → (group == k) ≡ t → after k ≡ (if t then [] else before k) → after k ≡ numbers_in group_in k rows
-      by_test true same is =
-          let at : group ≡ k = grind (arith, nat_tests) in
-          is ∙ (sym done.here ∙ ap (λ (j : ℕ). numbers_in group_in j rows) at)
-      by_test false apart is = is ∙ (right k ∙ sym (done.others k apart))
+  pub emptied : (all rows : List (Held A)) → IsEmptying all rows [] → rows ≡ filter is_out all
+  emptied all rows done = sym (all_out rows done.here) ∙ done.out

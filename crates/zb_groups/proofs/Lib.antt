@@ -1,3 +1,2 @@
-pub mod MemberLemmas
 pub mod RowLemmas
 pub mod EmptyingLemmas

@@ -1,6 +1,6 @@
 -- Rows under their numbers, in their groups.
-use Rattle.std.proofs.Common.{◌≡◌, ℕ, ◌+◌, ◌==◌, List, [], ◌∷◌, ◌++◌, map, filter, length, get_or, All, Bool, true, false, ◌&&◌, not, cond, if◌then◌else◌, Option, Some, option_map, refl, sym, ap, subst, ◌∙◌, arith}
-use Rattle.std.specs.List.{find}
+use Rattle.std.proofs.Common.{◌≡◌, ℕ, ◌+◌, ◌==◌, List, [], ◌∷◌, ◌++◌, map, filter, length, get_or, slice_get, All, Bool, true, false, ◌&&◌, ◌||◌, not, cond, is_some, if◌then◌else◌, Option, Some, option_map, refl, sym, ap, subst, ◌∙◌, arith}
+use Rattle.std.specs.List.{find, list_any}
 use Rattle.std.specs.Option.{option_map_or}
 use Rattle.std.proofs.lemmas.Bool.Decides.{nat_tests}
 use Rattle.std.proofs.lemmas.List.{length-map}
@@ -47,6 +47,16 @@ module _ {A : Type 0} (group_in : A → ℕ) (group : ℕ) where
   pub numbers_counted : (rows : List (Held A)) → length (numbers_in group_in group rows) ≡ length (filter is_in rows)
   numbers_counted rows = length-map (filter is_in rows) (λ (h : Held A). h.number)
 
+  -- there is a first number where the group has a row
+  pub has_first : (rows : List (Held A)) → is_some (slice_get (numbers_in group_in group rows) 0) ≡ list_any is_in rows
+  has_first [] = refl
+  has_first (h ∷ rows) = by_test (is_in h) (has_first rows)
+    where
+      by_test : (t : Bool) → is_some (slice_get (numbers_in group_in group rows) 0) ≡ list_any is_in rows
+          → is_some (slice_get (map (λ (x : Held A). x.number) (cond t (h ∷ filter is_in rows) (filter is_in rows))) 0) ≡ (t || list_any is_in rows)
+      by_test true later = refl
+      by_test false later = later
+
   module _ (passes : A → Bool) (all : List (Held A)) where
     -- a row is the one that is found with its number
     abbrev IsFound : Held A → Type 0
@@ -74,21 +84,10 @@ module _ {A : Type 0} (group_in : A → ℕ) (group : ℕ) where
     row_found (h ∷ rows) each =
         found_by (is_in h) (passes h.row) h rows (asked h (All-head IsFound h rows each)) (row_found rows (All-tail IsFound h rows each))
 
--- without a row its number goes from its group
+-- without a row the numbers of other groups stay
 module _ {A : Type 0} (group_in : A → ℕ) (n : ℕ) where
   abbrev number_in : Held A → ℕ
   number_in h = h.number
-
-  gone_by : (t u : Bool) (h : Held A) (rows : List (Held A)) (group : ℕ) → (h.number == n) ≡ t → numbers_in group_in group (without number_in n rows) ≡ filter (λ (m : ℕ). not (m == n)) (numbers_in group_in group rows) → (group_in h.row == group) ≡ u
-      → numbers_in group_in group (cond (not t) (h ∷ without number_in n rows) (without number_in n rows)) ≡ filter (λ (m : ℕ). not (m == n)) (map number_in (cond u (h ∷ filter (λ x. group_in x.row == group) rows) (filter (λ x. group_in x.row == group) rows)))
-  gone_by true true h rows group same later its = rw same later
-  gone_by true false h rows group same later its = later
-  gone_by false true h rows group other later its = rw (its, other) (ap (λ (l : List ℕ). h.number ∷ l) later)
-  gone_by false false h rows group other later its = rw its later
-
-  pub number_gone : (group : ℕ) (rows : List (Held A)) → numbers_in group_in group (without number_in n rows) ≡ filter (λ (m : ℕ). not (m == n)) (numbers_in group_in group rows)
-  number_gone group [] = refl
-  number_gone group (h ∷ rows) = gone_by (h.number == n) (group_in h.row == group) h rows group refl (number_gone group rows) refl
 
   stay_by : (t u : Bool) (low : ℕ) (x h : Held A) (rows : List (Held A)) (group : ℕ) → (x.number == n) ≡ t → (group_in x.row == group) ≡ u → (group_in h.row == group) ≡ false → Ascend number_in (x.number + 1) rows
       → (row_at number_in n rows ≡ Some h → numbers_in group_in group (without number_in n rows) ≡ numbers_in group_in group rows)
@@ -103,21 +102,9 @@ module _ {A : Type 0} (group_in : A → ℕ) (n : ℕ) where
   stay_by false true low x h rows group apart its other up later is = rw its (ap (λ (l : List ℕ). x.number ∷ l) (later is))
   stay_by false false low x h rows group apart its other up later is = rw its (later is)
 
-  -- and the others keep theirs
   pub numbers_stay : (group low : ℕ) (h : Held A) (rows : List (Held A)) → Ascend number_in low rows → (group_in h.row == group) ≡ false → row_at number_in n rows ≡ Some h → numbers_in group_in group (without number_in n rows) ≡ numbers_in group_in group rows
   numbers_stay group low h [] up other is = absurd (cc)
   numbers_stay group low h (x ∷ rows) up other is = stay_by (x.number == n) (group_in x.row == group) low x h rows group refl refl other up.1 (numbers_stay group (x.number + 1) h rows up.1 other) is
-
-  -- the numbers that are kept, without that of a row
-  pub numbers_left : (group key : ℕ) (before : ℕ → List ℕ) (rows : List (Held A)) (h : Held A) → Ascend number_in 0 rows → ((k : ℕ) → before k ≡ numbers_in group_in k rows) → row_at number_in n rows ≡ Some h → (group_in h.row == group) ≡ true
-      → (if group == key then filter (λ (m : ℕ). not (m == n)) (before key) else before key) ≡ numbers_in group_in key (without number_in n rows)
-  numbers_left group key before rows h up right is its = by_test (group == key) refl
-    where
-      by_test : (t : Bool) → (group == key) ≡ t → (if t then filter (λ (m : ℕ). not (m == n)) (before key) else before key) ≡ numbers_in group_in key (without number_in n rows)
-      by_test true same = ap (λ (l : List ℕ). filter (λ (m : ℕ). not (m == n)) l) (right key) ∙ sym (number_gone key rows)
-      by_test false apart =
-          let other : (group_in h.row == key) ≡ false = grind (arith, nat_tests) in
-          right key ∙ sym (numbers_stay key 0 h rows up other is)
 
 -- rows without some go on ascending
 pub ascend_without : {A : Type 0} (key : A → ℕ) (n low : ℕ) (rows : List A) → Ascend key low rows → Ascend key low (without key n rows)

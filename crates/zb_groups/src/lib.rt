@@ -1,9 +1,8 @@
-//! Rows in the order in which they came, each in a group.
+//! Rows in the order in which they came, each in a group, and at a place there.
 #![tactic(auto)]
 
 mod groups;
 mod held;
-mod members;
 
 pub use groups::Groups;
 pub use held::Grouped;

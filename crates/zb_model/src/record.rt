@@ -169,13 +169,6 @@ impl Command {
     }
 }
 
-impl Event {
-    /// Drops it.
-    pub fn discard(self) {
-        drop(self)
-    }
-}
-
 impl Batch {
     /// Drops it.
     pub fn discard(self) {

@@ -326,7 +326,7 @@ impl<D: Disk> Partition<D> {
         let outcome = match outcome_of(alloc, &mut self.state, self.partitions, moment, &command) {
             Ok(outcome) => outcome,
             Err(Refusal::Memory | Refusal::Misfit) => {
-                command.discard();
+                drop(command);
                 return Err(Stop::Memory);
             }
         };
@@ -372,7 +372,7 @@ impl<D: Disk> Partition<D> {
         match self.prepare(&batch) {
             Ok(()) => {}
             Err(stop) => {
-                batch.discard();
+                drop(batch);
                 return Err(stop);
             }
         }

@@ -73,9 +73,13 @@ module _ (m : Model) (flows : List Flow) (numbers : List ℕ) (named : map (slic
           let same : at.0 ≡ flow = (let e : Some at.0 ≡ Some flow = sym at.1 ∙ there in cc) in
           (subst (λ (f : Flow). get_or flows i f ≡ f) same at.2, at.3)
 
-      -- with the id of one more
+      -- with one more
+      pub flow_more : take (i + 1) flows ≡ take i flows ++ flow ∷ []
+      flow_more = take_more flows i flow stands.1 ∙ ap (λ (f : Flow). take i flows ++ f ∷ []) stands.0
+
+      -- and its id
       pub ids_more : ids_of_flows (take (i + 1) flows) ≡ ids_of_flows (take i flows) ++ flow.id ∷ []
-      ids_more = ap ids_of_flows (take_more flows i flow stands.1 ∙ ap (λ (f : Flow). take i flows ++ f ∷ []) stands.0) ∙ map-append (λ (f : Flow). f.id) (take i flows) (flow ∷ [])
+      ids_more = ap ids_of_flows flow_more ∙ map-append (λ (f : Flow). f.id) (take i flows) (flow ∷ [])
 
       -- with one fewer that is left
       pub flow_left : drop i flows ≡ flow ∷ drop (i + 1) flows

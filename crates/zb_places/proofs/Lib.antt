@@ -1,6 +1,7 @@
 pub mod FlowLemmas
 pub mod CountLemmas
 pub mod HeldLemmas
-pub mod JoinLemmas
+pub mod SpotLemmas
+pub mod MeetingLemmas
 pub mod EntryLemmas
 pub mod TakingLemmas

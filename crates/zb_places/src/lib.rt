@@ -3,10 +3,14 @@
 
 mod coming;
 mod flows;
+mod meeting;
+mod place;
 mod standing;
 mod taking;
 
-pub use coming::{comes, counts_for, has_come, joins, way_by};
+pub use coming::{comes, has_come, joins, way_by};
 pub use flows::are_on_each;
-pub use standing::{Coming, On, has_token_in, stands_coming};
+pub use meeting::met_by;
+pub use place::{Place, SpotRef};
+pub use standing::{first_at, has_token_in, stands, stands_coming};
 pub use taking::{take_first, take_scope};

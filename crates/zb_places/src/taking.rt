@@ -1,36 +1,32 @@
 // Tokens that are taken away.
-ghost use Rattle.std.specs.Prelude.{◌≡◌, ◌==◌, ◌&&◌, IfOk, filter, not};
+ghost use Rattle.std.specs.Prelude.{◌≡◌, ◌==◌, OnOk, filter, not};
 ghost use Rattle.zb_places.specs.Places.{held_tokens, IsFewer, IsTokenTaken};
 
+use crate::place::Place;
+use crate::standing::first_at;
 use std::alloc::{AllocError, Global};
 use zb_base::Key;
 use zb_groups::Groups;
-use zb_table::Query;
 use zb_tokens::Token;
 
-/// Takes the first token in a scope that passes, if there is one, and tells whether there was. After a refusal the
-/// tokens are only dropped. It goes through the tokens in the scope up to that one, and costs what `Groups::take` does.
-pub fn take_first<Q: Query<Token>>(
-    alloc: Global,
-    tokens: &mut Groups<Token>,
-    scope: Key,
-    query: &Q,
-) -> Result<bool, AllocError>
-    ensures { IfOk result (λ taken. IsTokenTaken scope (λ t. (t.scope == scope) && Q.passes query.now t) tokens.old taken tokens.new) }
+/// Takes the first token at a place, if there is one, and tells its number. It costs what `first_at` does.
+pub fn take_first(place: &Place, tokens: &mut Groups<Token>) -> Option<Key>
+    ensures { IsTokenTaken place.now.scope place.now.spot tokens.old result tokens.new }
 {
-    match tokens.first_in(scope, query) {
+    match first_at(place, tokens) {
         Some(number) => {
-            tokens.take(alloc, number)?;
-            Ok(true)
+            tokens.take(number);
+            Some(number)
         }
-        None => Ok(false),
+        None => None,
     }
 }
 
-/// Takes the tokens in a scope. It costs what `Groups::take_group` does.
-pub fn take_scope(alloc: Global, tokens: &mut Groups<Token>, scope: Key)
-    ensures left { held_tokens tokens.new ≡ filter (λ t. not (t.scope == scope)) (held_tokens tokens.old) }
-    ensures fewer { IsFewer scope tokens.old tokens.new }
+/// Takes the tokens in a scope. After a refusal nothing has changed. It costs what `Groups::take_group` does.
+pub fn take_scope(alloc: Global, tokens: &mut Groups<Token>, scope: Key) -> Result<(), AllocError>
+    ensures rows { OnOk result (tokens.new ≡ filter (λ h. not (h.row.scope == scope)) tokens.old) }
+    ensures left { OnOk result (held_tokens tokens.new ≡ filter (λ t. not (t.scope == scope)) (held_tokens tokens.old)) }
+    ensures fewer { OnOk result (IsFewer scope tokens.old tokens.new) }
 {
-    tokens.take_group(alloc, scope);
+    tokens.take_group(alloc, scope)
 }

@@ -3,5 +3,4 @@ pub mod JobLemmas
 pub mod KeyLemmas
 pub mod MessageLemmas
 pub mod PacketLemmas
-pub mod SmallLemmas
 pub mod StateLemmas

@@ -2,6 +2,6 @@ pub mod Alarms
 pub mod Messages
 pub mod Refusal
 pub mod Shows
-pub mod Small
+pub mod Sound
 pub mod State
 pub mod Tables

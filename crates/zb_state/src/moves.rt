@@ -9,25 +9,24 @@ ghost use Rattle.zb_tokens.specs.Game.{fits, played};
 ghost use Rattle.zb_rules.specs.Shown.{shown, after_shown, event_of};
 ghost use Rattle.zb_tokens.specs.declared.board.Move.TheVariants as moves;
 ghost use Rattle.zb_state.specs.Shows.{may_show};
-ghost use Rattle.zb_state.specs.Small.{IsSmall, HasSmallModel};
 
 use std::alloc::{AllocError, Global};
 use zb_board::{Game, GameFault};
 use zb_game::make as make_move;
-use zb_graph::{BoxedGraph, compile};
 use zb_jobs::Jobs;
 use zb_model::{
     ElementActivated, ElementActivating, ElementCompleted, Event, IncidentCreated, JobError, Key,
     List, Model, ProcessDefinition, ProcessEventTriggered, Role, ScopeVariable, SequenceFlowTaken,
     TableFault, Text, TryCopy,
 };
-use zb_tokens::{Assigned, Deployed, Enter, Incident, Leave, Move, Start, Take, Thrown, Triggered};
+use zb_tokens::{
+    Assigned, BoxedModel, Deployed, Enter, Incident, Leave, Move, Start, Take, Thrown, Triggered,
+};
 
 /// Makes the move that the event shows, if it shows one. At `NotApplicable`, exactly where it doesn't fit,
 /// nothing has changed; after `Memory` the game is only dropped. It costs a copy of the event's texts, its
 /// model, which becomes a graph, and its value, and what `zb_game::make` does.
 pub fn play(alloc: Global, event: &Event, jobs: &Jobs, game: &mut Game) -> Result<(), TableFault>
-    requires { HasSmallModel event.now }
     ensures fit { (before : List Event) → views.jobs before ≡ jobs.now → OnOk result (IsTrue (may_fit (shown before event.now) game.old)) }
     ensures played { (before : List Event) → views.jobs before ≡ jobs.now → OnOk result (after_shown game.old (shown before event.now) ≡ Some game.new) }
     ensures illegal { (before : List Event) → views.jobs before ≡ jobs.now
@@ -84,7 +83,6 @@ fn make(alloc: Global, shown: Move, game: &mut Game) -> Result<(), TableFault>
 
 // The move that the event shows, if it shows one.
 fn shown(alloc: Global, event: &Event, jobs: &Jobs) -> Result<Option<Move>, AllocError>
-    requires { HasSmallModel event.now }
     ensures { (before : List Event) → views.jobs before ≡ jobs.now → IfOk result (λ move. move ≡ shown before event.now) }
 {
     match event {
@@ -107,34 +105,21 @@ fn shown(alloc: Global, event: &Event, jobs: &Jobs) -> Result<Option<Move>, Allo
     }
 }
 
-// The model of a process stands, as a graph.
+// The model of a process stands.
 fn stand_of(alloc: Global, process: &ProcessDefinition) -> Result<Option<Move>, AllocError>
-    requires { IsSmall process.now.model }
     ensures { IfOk result (λ move. move ≡ shown [] (events.ProcessCreated process.now)) }
 {
-    let model = graph_of(alloc, &process.model)?;
+    let model = boxed_copy(alloc, &process.model)?;
     let key = process.key;
     Ok(Some(Move::Stand(Deployed { key, model })))
 }
 
-// The graph of a copy of a model.
-fn graph_of(alloc: Global, model: &Model) -> Result<BoxedGraph, AllocError>
-    requires { IsSmall model.now }
-    ensures { IfOk result (λ graph. graph ≡ model.now) }
+// A copy of a model, behind a pointer.
+fn boxed_copy(alloc: Global, model: &Model) -> Result<BoxedModel, AllocError>
+    ensures { IfOk result (λ boxed. boxed ≡ model.now) }
 {
     match model.copy(alloc) {
-        Ok(copied) => boxed_graph(alloc, copied),
-        Err(AllocError) => Err(AllocError),
-    }
-}
-
-// The graph of a model.
-fn boxed_graph(alloc: Global, model: Model) -> Result<BoxedGraph, AllocError>
-    requires { IsSmall model }
-    ensures { IfOk result (λ graph. graph ≡ model) }
-{
-    match compile(alloc, model) {
-        Ok(graph) => BoxedGraph::new(alloc, graph),
+        Ok(copied) => BoxedModel::new(alloc, copied),
         Err(AllocError) => Err(AllocError),
     }
 }

@@ -1,6 +1,6 @@
 ghost use Rattle.std.specs.Prelude.{◌≡◌, ◌++◌, [], ◌∷◌, length, IsTrue, IfOk, OnOk, IsErrOf};
 ghost use Rattle.zb_rules.specs.Making.{just};
-ghost use Rattle.zb_state.specs.Small.{HasSoundModel};
+ghost use Rattle.zb_state.specs.Sound.{HasSoundModel};
 ghost use Rattle.zb_state.specs.State.{partition_of, CantMake, HasPut};
 ghost use Rattle.zb_state.specs.declared.refusal.Refusal.TheVariants.{Misfit};
 
@@ -92,7 +92,7 @@ impl Out {
         match state.apply_as(alloc, &event, known) {
             Ok(()) => {}
             Err(fault) => {
-                event.discard();
+                drop(event);
                 return Err(Refusal::from(fault));
             }
         }

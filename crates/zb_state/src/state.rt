@@ -21,7 +21,7 @@ ghost use Rattle.zb_rules.specs.Sound.{HasKeys};
 ghost use Rattle.zb_tokens.specs.Board.{Board};
 ghost use Rattle.zb_tokens.specs.Forced.{next_mover};
 ghost use Rattle.zb_rules.specs.Shown.{shown, after_shown, board_of};
-ghost use Rattle.zb_state.specs.Small.{HasSmallModel, HasSoundModel};
+ghost use Rattle.zb_state.specs.Sound.{HasSoundModel};
 ghost use Rattle.zb_state.specs.Tables.{IsNext, Draws, are_all_below};
 
 mod due;
@@ -135,14 +135,14 @@ impl State {
         match self.admit(alloc, &event, false) {
             Ok(()) => {}
             Err(fault) => {
-                event.discard();
+                drop(event);
                 return Err(fault);
             }
         }
         match self.follow(alloc, &event) {
             Ok(()) => {}
             Err(AllocError) => {
-                event.discard();
+                drop(event);
                 return Err(TableFault::Memory);
             }
         }
@@ -286,7 +286,6 @@ impl State {
         requires { IsTrue known → HasSoundModel event.now }
         ensures own { (es : List Event) → IsStateOf es self.now → IfOk result (λ meets. meets ≡ holds_own (partition_of self.now) es event.now) }
         ensures draws { IfOk result (λ meets. IsTrue meets → Draws (partition_of self.now) self.now.counter self.now.tables.jobs event.now) }
-        ensures small { IfOk result (λ meets. IsTrue meets → HasSmallModel event.now) }
     {
         match event {
             Event::ProcessCreated(process) => is_sound(alloc, &process.model, known),

@@ -4,16 +4,12 @@ use std::mem::forget;
 use std::process::Abort;
 use zb_board::{Game, GameFault};
 use zb_game::{fits, make, play};
-use zb_graph::{BoxedGraph, compile};
 use zb_model::Key;
-use zb_tokens::{Deployed, Move, Start};
+use zb_tokens::{BoxedModel, Deployed, Move, Start};
 
-// The graph of the process `p`.
-fn graph(rt: &impl Abort, alloc: Global) -> BoxedGraph {
-    let Ok(graph) = compile(alloc, straight(rt, alloc)) else {
-        panic!(rt; "no memory");
-    };
-    match BoxedGraph::new(alloc, graph) {
+// The process `p`, behind a pointer.
+fn boxed(rt: &impl Abort, alloc: Global) -> BoxedModel {
+    match BoxedModel::new(alloc, straight(rt, alloc)) {
         Ok(boxed) => boxed,
         Err(_) => panic!(rt; "no memory"),
     }
@@ -25,7 +21,7 @@ fn started(rt: &impl Abort, alloc: Global) -> Game {
     let definition = Key::new(1);
     let stand = Move::Stand(Deployed {
         key: definition,
-        model: graph(rt, alloc),
+        model: boxed(rt, alloc),
     });
     assert!(rt; make(&mut game, alloc, stand) == Ok(()));
     let key = Key::new(2);

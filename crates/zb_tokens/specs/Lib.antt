@@ -1,5 +1,6 @@
 pub mod Edits
 pub mod Board
+pub mod Places
 pub mod Doom
 pub mod Marks
 pub mod MoveStand

@@ -1,5 +1,5 @@
+use crate::BoxedModel;
 use zb_base::{Key, List, Moment, Text, Value, Variable, Vars};
-use zb_graph::BoxedGraph;
 use zb_instance_records::{IncidentKind, Role};
 
 /// Where a cell is in its life.
@@ -80,11 +80,11 @@ pub struct Incident {
     pub text: Text,
 }
 
-/// A model under the key of its definition. It is kept as a graph.
+/// A model under the key of its definition.
 #[derive(Drop)]
 pub struct Deployed {
     pub key: Key,
-    pub model: BoxedGraph,
+    pub model: BoxedModel,
 }
 
 /// A variable of a cell, and its value.

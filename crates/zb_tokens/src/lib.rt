@@ -3,6 +3,7 @@
 #![tactic(auto)]
 
 mod board;
+mod boxed;
 mod copies;
 mod keys;
 mod laws;
@@ -11,6 +12,8 @@ pub use board::{
     Assigned, Assignments, Cell, Deployed, Enter, Incident, Leave, Mark, Move, Mover, Opening,
     Phase, Spot, Start, Take, Thrown, Token, Triggered,
 };
+pub use boxed::BoxedModel;
+pub use keys::place_number;
 pub use laws::{
     doomed_cells_end, ended_scopes_are_emptied, entries_take_first_tokens,
     errors_are_caught_by_their_code, gateways_choose_one_flow, halted_cells_are_emptied,

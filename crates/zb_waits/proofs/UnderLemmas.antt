@@ -1,12 +1,12 @@
 -- The keys that are kept under a number are those of its rows.
-use Rattle.std.proofs.Common.{◌≡◌, ℕ, ◌+◌, ◌<◌, ◌≤◌, ◌==◌, nat_lt, List, [], ◌∷◌, map, filter, Bool, true, false, ◌&&◌, ◌||◌, cond, Some, refl, sym, ap, subst, ◌∙◌, arith, nat_cmp}
+use Rattle.std.proofs.Common.{◌≡◌, ℕ, ◌+◌, ◌<◌, ◌≤◌, ◌==◌, nat_lt, List, [], ◌∷◌, length, map, filter, Bool, true, false, not, ◌&&◌, ◌||◌, cond, Some, refl, sym, ap, subst, ◌∙◌, arith, nat_cmp}
 use Rattle.std.specs.declared.cmp.Ordering.TheVariants.{Less, Equal, Greater}
 use Rattle.std.specs.declared.ops.Bound.TheVariants.{Included, Unbounded}
 use Rattle.std.specs.Ordering.{is_eq, is_le, ordering_then}
 use Rattle.std.specs.BTreeMap.Range.{range_contains}
 use Rattle.std.proofs.lemmas.List.Kept.{IsStrictlySortedBy-filter}
 use Rattle.std.specs.List.{find, list_any, AllByRecursion}
-use Rattle.std.specs.BTreeSet.{BTreeSet}
+use Rattle.std.specs.BTreeSet.{BTreeSet, IsOrdered}
 use Rattle.std.specs.List.Sorted.{IsStrictlySortedBy}
 use Rattle.std.proofs.lemmas.Bool.Decides.{nat_tests}
 use Rattle.std.proofs.lemmas.Map.Keys.{sorted_head, sorted_tail}
@@ -14,6 +14,20 @@ use Rattle.zb_table.specs.Rows.{Ascend}
 use Rattle.zb_waits.specs.Pairs.{is_row_under, keys_under, place_cmp, IsIndex}
 use Rattle.zb_waits.proofs.FoundLemmas.{ascend_kept}
 use Rattle.zb_waits.proofs.PairLemmas.{same_place}
+
+-- what isn't equal
+pub is_other : (t : Bool) → true ≡ not t → t ≡ false
+is_other true is = absurd (cc)
+is_other false is = refl
+
+-- no pairs are in order
+no_keys : (keys : List (ℕ × ℕ)) → length keys ≡ 0 → IsStrictlySortedBy place_cmp keys
+unfolding IsStrictlySortedBy
+no_keys [] none = tt
+no_keys (p ∷ keys) none = absurd (cc)
+
+pub none_ordered : (pairs : BTreeSet (ℕ × ℕ)) → length pairs.keys ≡ 0 → IsOrdered place_cmp pairs
+none_ordered pairs none = no_keys pairs.keys none
 
 -- of two pairs that ascend
 place_less : (a b : ℕ × ℕ) → place_cmp a b ≡ Less → (a.0 ≤ b.0) × (a.0 ≡ b.0 → a.1 < b.1)

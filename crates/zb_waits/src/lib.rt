@@ -6,5 +6,5 @@ mod keeping;
 mod under;
 mod waits;
 
-pub use under::{first_under, keys_under};
+pub use under::{first_under, first_under_that, keys_under};
 pub use waits::Waits;

@@ -14,7 +14,7 @@ impl Game {
     pub(super) fn is_empty(&self, key: Key) -> bool
         ensures { result ≡ is_empty self.now key }
     {
-        !self.has_child(key) && !self.has_token(key)
+        !self.has_token(key) && !self.has_child(key)
     }
 
     /// Whether something runs in a cell. Where `cell` takes a logarithm it takes that of how many cells there are;

@@ -14,9 +14,9 @@ use crate::{Game, GameFault};
 use std::alloc::{AllocError, Global};
 use std::collections::BTreeSet;
 use zb_base::Key;
-use zb_table::Table;
+use zb_table::{Query, Table};
 use zb_tokens::Phase;
-use zb_waits::{first_under, keys_under};
+use zb_waits::{first_under, first_under_that};
 
 impl Game {
     /// Takes away a cell. Its scope may go on then. Where tokens are in it, what is kept counts no more. `Illegal`
@@ -62,19 +62,19 @@ impl Game {
         ensures { OnOk result (self.new ≡ emptied scope self.old) }
     {
         self.take_tokens(alloc, scope)?;
-        self.take_leaving(alloc, scope)
+        self.take_leaving(scope)
     }
 
     // Takes away the cells that leave in a scope.
-    fn take_leaving(&mut self, alloc: Global, scope: Key) -> Result<(), AllocError>
+    fn take_leaving(&mut self, scope: Key) -> Result<(), AllocError>
         ensures { OnOk result (self.new ≡ record self.old { cells = filter (λ c. not (leaves_in scope c)) self.old.cells }) }
     {
-        while self.take_one_leaving(alloc, scope)? {}
+        while self.take_one_leaving(scope)? {}
         Ok(())
     }
 
     // Takes away the first cell that leaves in a scope, and tells whether there was one.
-    fn take_one_leaving(&mut self, alloc: Global, scope: Key) -> Result<bool, AllocError>
+    fn take_one_leaving(&mut self, scope: Key) -> Result<bool, AllocError>
         ensures one { IfOk result (λ one. one ≡ is_some (find (leaves_in scope) self.old.cells)) }
         ensures left { OnOk result (self.new ≡ record self.old { cells = without_first (leaves_in scope) self.old.cells }) }
     {
@@ -83,8 +83,7 @@ impl Game {
             self.cells.remove_first(&LeavingIn { scope });
             return Ok(found);
         }
-        let keys = keys_under(alloc, scope, &self.children)?;
-        match self.first_leaving(keys.as_slice()) {
+        match first_under_that(scope, &LeavesAt { game: self }, &self.children) {
             Some(key) => {
                 self.take_out(key, scope)?;
                 Ok(true)
@@ -92,24 +91,19 @@ impl Game {
             None => Ok(false),
         }
     }
+}
 
-    // The first of these keys whose cell is there, and leaves.
-    fn first_leaving(&self, keys: &[Key]) -> Option<Key>
-        ensures { result ≡ find (leaves_at self.now) keys.now }
-    {
-        for key in keys {
-            if self.leaves_at(*key) {
-                return Some(*key);
-            }
-        }
-        None
-    }
+// Whether the cell with a key is there in a game, and leaves.
+#[derive(Drop)]
+struct LeavesAt<'a> {
+    game: &'a Game,
+}
 
-    // Whether the cell with a key is there, and leaves.
-    fn leaves_at(&self, key: Key) -> bool
-        ensures { result ≡ leaves_at self.now key }
-    {
-        match self.cell(key) {
+impl<'a> Query<Key> for LeavesAt<'a> {
+    ghost passes = { λ leaves key. leaves_at leaves.game.now key };
+
+    fn passes(&self, key: &Key) -> bool {
+        match self.game.cell(*key) {
             Some(cell) => cell.phase == Phase::Leaving,
             None => false,
         }

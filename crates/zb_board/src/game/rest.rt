@@ -18,7 +18,7 @@ impl Game {
     pub fn look_at(&mut self, key: Key)
         ensures { self.new ≡ self.old }
     {
-        if !self.is_awake(key) {
+        if self.ready.contains(key) && !self.is_awake(key) {
             forget(&mut self.ready, key);
         }
     }

@@ -1,114 +1,161 @@
 // How tokens come and go on the board, and with them what is kept of them beside the board.
-ghost use Rattle.std.specs.Prelude.{◌≡◌, ◌==◌, ◌&&◌, ◌++◌, ◌∷◌, [], OnOk, filter, map, not};
+ghost use Rattle.std.specs.Prelude.{◌≡◌, ℕ, ◌==◌, ◌++◌, ◌∷◌, [], Some, true, false, OnOk, filter, map, not};
+ghost use Rattle.std.specs.List.{list_any};
 ghost use Rattle.zb_tokens.specs.declared.board.Spot.TheVariants as spots;
 ghost use Rattle.zb_tokens.specs.Board.{spot_of};
 ghost use Rattle.zb_tokens.specs.Edits.{without_first};
 ghost use Rattle.zb_tokens.specs.MoveEnter.{stands_at, without_each};
+ghost use Rattle.zb_waits.specs.Pairs.{is_number};
+ghost use Rattle.zb_board.specs.Indexed.{is_kept};
 
 use crate::Game;
-use crate::game::needing::needing;
+use crate::game::meeting::met_by_number;
 use crate::game::removals::wake;
-use crate::keys::{keep, keep_all};
+use crate::keys::{forget, keep, keep_all};
 use std::alloc::{AllocError, Global};
-use zb_arrivals::copy_of;
 use zb_base::{Key, Text};
-use zb_places::{Coming, On, take_first, take_scope};
-use zb_table::Query;
+use zb_places::{Place, SpotRef, first_at, stands, take_first, take_scope};
+use zb_table::Table;
 use zb_tokens::Token;
 
 impl Game {
-    /// Adds a token. Its scope may rest then, and the tokens in it that need it may go on. After a refusal the game is
-    /// only dropped. It goes through the tokens in its scope, and looks again at those that need one like it; each
-    /// look costs what `comes` does.
+    /// Adds a token. Its scope may rest then, and where it is the first at its spot, what it meets may go on. After a
+    /// refusal the game is only dropped. It takes the logarithm of how many tokens there are, on average; on a flow into a
+    /// gateway where flows join, for each of these.
     pub fn add_token(&mut self, alloc: Global, token: Token) -> Result<(), AllocError>
         ensures { OnOk result (self.new ≡ record self.old { tokens = self.old.tokens ++ token ∷ [] }) }
     {
         let scope = token.scope;
-        let numbers = needing(alloc, self.scope_model(scope), &self.tokens, &token)?;
+        let spot = SpotRef::of(&token.spot);
+        if stands(&Place { scope, spot }, &self.tokens) {
+            return self.add_behind(alloc, token);
+        }
+        self.add_first(alloc, token)
+    }
+
+    // Adds a token behind one at its spot: nothing rests or goes on for it.
+    fn add_behind(&mut self, alloc: Global, token: Token) -> Result<(), AllocError>
+        requires { list_any (stands_at token.scope token.spot) self.old.tokens ≡ true }
+        ensures { OnOk result (self.new ≡ record self.old { tokens = self.old.tokens ++ token ∷ [] }) }
+    {
+        let ascends = self.ascends;
+        self.ascends = false;
+        self.tokens.push(alloc, token)?;
+        self.ascends = ascends;
+        Ok(())
+    }
+
+    // Adds a token that is the first at its spot.
+    fn add_first(&mut self, alloc: Global, token: Token) -> Result<(), AllocError>
+        requires { list_any (stands_at token.scope token.spot) self.old.tokens ≡ false }
+        ensures { OnOk result (self.new ≡ record self.old { tokens = self.old.tokens ++ token ∷ [] }) }
+    {
+        let scope = token.scope;
         let ascends = self.ascends;
         self.ascends = false;
         let number = self.tokens.push(alloc, token)?;
+        let met = met_by_number(alloc, self.scope_model(scope), &self.tokens, number)?;
         keep(&mut self.coming, number)?;
-        keep_all(&mut self.coming, numbers.as_slice())?;
+        keep_all(&mut self.coming, met.as_slice())?;
         self.ascends = ascends;
         self.look_at(scope);
         self.look_at_token(number);
-        self.look_at_tokens(numbers.as_slice());
         Ok(())
     }
 
-    // Takes the first token in a scope that passes, if there is one. The scope may go on then, and the tokens in it
-    // may rest: they are to be looked at again.
-    fn take_first<Q: Query<Token>>(
-        &mut self,
-        alloc: Global,
-        scope: Key,
-        query: &Q,
-    ) -> Result<(), AllocError>
-        ensures { OnOk result (self.new ≡ record self.old { tokens = without_first (λ t. (t.scope == scope) && Q.passes query.now t) self.old.tokens }) }
+    // Takes the first token at a place, if there is one. The scope may go on then, and is to be looked at. The number of
+    // the next one there is told, which is to be looked at as well.
+    fn take_first(&mut self, place: &Place) -> Result<Option<Key>, AllocError>
+        ensures { OnOk result (self.new ≡ record self.old { tokens = without_first (stands_at place.now.scope place.now.spot) self.old.tokens }) }
     {
         let ascends = self.ascends;
         self.ascends = false;
-        take_first(alloc, &mut self.tokens, scope, query)?;
-        wake(&mut self.ready, &self.children, scope)?;
+        let taken = take_first(place, &mut self.tokens);
+        let next = first_at(place, &self.tokens);
+        note_taken(&mut self.coming, taken, &next)?;
+        wake(&mut self.ready, &self.children, place.scope)?;
         self.ascends = ascends;
-        self.look_at(scope);
-        Ok(())
+        Ok(next)
     }
 
-    /// Takes the first token in a scope that comes to a node by a flow, or stands before it, if there is one. After a
-    /// refusal the game is only dropped. It goes through the tokens in the scope, and looks again at those of them
-    /// that may enter by themselves.
-    pub fn take_coming(
-        &mut self,
-        alloc: Global,
-        scope: Key,
-        node: &str,
-        via: &str,
-    ) -> Result<(), AllocError>
+    // Looks at the first token at a place again.
+    fn look_at_first(&mut self, place: &Place)
+        ensures { self.new ≡ self.old }
+    {
+        if let Some(number) = first_at(place, &self.tokens) {
+            self.look_at_token(number);
+        }
+    }
+
+    /// Takes the first token in a scope that comes to a node by a flow, or stands before it, if there is one. The scope
+    /// may go on then, and is to be looked at, as it is where a cell is added. After a refusal the game is only dropped. It
+    /// takes the logarithm of how many tokens there are, on average, and costs what `comes` does.
+    pub fn take_coming(&mut self, scope: Key, node: &str, via: &str) -> Result<(), AllocError>
         ensures { OnOk result (self.new ≡ record self.old { tokens = without_first (stands_at scope (spot_of via.now node.now)) self.old.tokens }) }
     {
-        let numbers = copy_of(alloc, self.tokens.numbers_in(scope))?;
-        self.take_first(alloc, scope, &Coming { node, via })?;
-        self.look_at_tokens(numbers.as_slice());
+        let spot = SpotRef::coming(node, via);
+        if let Some(next) = self.take_first(&Place { scope, spot })? {
+            self.look_at_token(next);
+        }
         Ok(())
     }
 
-    /// Takes the first token on each of these flows in a scope. After a refusal the game is only dropped. For each it
-    /// goes through the tokens in the scope; then it looks again at those of them that may enter by themselves.
-    pub fn take_each(&mut self, alloc: Global, scope: Key, flows: &[Text]) -> Result<(), AllocError>
+    /// Takes the first token on each of these flows in a scope, which is to be looked at then. After a refusal the game is
+    /// only dropped. For each it costs what `take_coming` does.
+    pub fn take_each(&mut self, scope: Key, flows: &[Text]) -> Result<(), AllocError>
         ensures { OnOk result (self.new ≡ record self.old { tokens = without_each scope (map spots.OnFlow flows.now) self.old.tokens }) }
     {
-        let numbers = copy_of(alloc, self.tokens.numbers_in(scope))?;
         for flow in flows {
-            self.take_first_on(alloc, scope, flow.as_str())?;
+            let spot = SpotRef::on(flow.as_str());
+            self.take_first(&Place { scope, spot })?;
         }
-        self.look_at_tokens(numbers.as_slice());
+        self.look_at_firsts(scope, flows);
         Ok(())
     }
 
-    // Takes the first token on a flow in a scope, if there is one.
-    fn take_first_on(&mut self, alloc: Global, scope: Key, flow: &str) -> Result<(), AllocError>
-        ensures { OnOk result (self.new ≡ record self.old { tokens = without_first (stands_at scope (spots.OnFlow flow.now)) self.old.tokens }) }
+    // Looks at the first token on each of these flows again.
+    fn look_at_firsts(&mut self, scope: Key, flows: &[Text])
+        ensures { self.new ≡ self.old }
     {
-        self.take_first(alloc, scope, &On { flow })
+        for flow in flows {
+            let spot = SpotRef::on(flow.as_str());
+            self.look_at_first(&Place { scope, spot });
+        }
     }
 
     /// Takes the tokens in a scope. The scope may go on then. After a refusal the game is only dropped. It goes
-    /// through these tokens.
+    /// through these tokens, and takes for each the logarithm of how many there are, on average.
     pub fn take_tokens(&mut self, alloc: Global, scope: Key) -> Result<(), AllocError>
         ensures { OnOk result (self.new ≡ record self.old { tokens = filter (λ t. not (t.scope == scope)) self.old.tokens }) }
     {
         if !self.has_token(scope) {
             return Ok(());
         }
-        let numbers = copy_of(alloc, self.tokens.numbers_in(scope))?;
+        let numbers = self.tokens.numbers_in(alloc, scope)?;
         let ascends = self.ascends;
         self.ascends = false;
-        take_scope(alloc, &mut self.tokens, scope);
+        take_scope(alloc, &mut self.tokens, scope)?;
         wake(&mut self.ready, &self.children, scope)?;
         self.ascends = ascends;
         self.look_at_tokens(numbers.as_slice());
         Ok(())
+    }
+}
+
+// Keeps the number of a token that was taken no longer, and that of the next one, if there is one.
+fn note_taken(
+    coming: &mut Table<Key>,
+    taken: Option<Key>,
+    next: &Option<Key>,
+) -> Result<(), AllocError>
+    ensures next { OnOk result ((n : ℕ) → next.now ≡ Some n → is_kept coming.new n ≡ true) }
+    ensures others { OnOk result ((other : ℕ) → is_number other taken ≡ false → is_kept coming.old other ≡ true → is_kept coming.new other ≡ true) }
+{
+    if let Some(number) = taken {
+        forget(coming, number);
+    }
+    match next {
+        Some(number) => keep(coming, *number),
+        None => Ok(()),
     }
 }

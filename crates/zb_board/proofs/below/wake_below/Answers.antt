@@ -1,6 +1,6 @@
-use Rattle.std.proofs.Common.{◌≡◌, ℕ, ◌<◌, ◌^◌, All, arith}
+use Rattle.std.proofs.Common.{◌<◌, ◌^◌, arith}
 use Rattle.std.proofs.lemmas.Bool.Decides.{nat_tests}
-use Rattle.zb_board.proofs.BelowLemmas.{less_left, looking_first, looking_last, looking_next}
+use Rattle.zb_board.proofs.BelowLemmas.{less_left, looking_first, looking_next}
 use Rattle.zb_board.proofs.below.wake_below.Goals as goal
 
 pub loop-key-init : goal.loop-key-init

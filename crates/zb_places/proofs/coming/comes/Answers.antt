@@ -8,7 +8,7 @@ returns-in-Some c =
     let t = c.args.token.now in
     let is_on : t.spot ≡ spots.OnFlow c.in-OnFlow.id = search rules in
     let way = entry_at-found c.args.model.now t.spot c.in-OnFlow.id _ c.in-Some.flow.now is_on c.as_str-in-OnFlow.ensures c.in-Some.ensures in
-    c.has_come-in-Some.ensures ∙ rw (way, c.way_by-via.ensures, c.as_str-node.ensures, c.as_str-in-Some.ensures) refl
+    c.has_come_by.ensures ∙ rw (way, c.as_str-node.ensures, c.as_str-in-Some.ensures) refl
 
 pub returns-in-None : goal.returns-in-None
 returns-in-None c =

@@ -1,6 +1,6 @@
 use Rattle.std.proofs.Common.{◌≡◌, ℕ, ◌==◌, filter, slice_get, true, List, [], ◌∷◌, Some, None, refl, sym, ap, subst, ◌∙◌}
 use Rattle.zb_waits.specs.Pairs.{keys_under}
-use Rattle.zb_waits.proofs.UnderLemmas.{RiseFrom, is_from, under_from, from_rises, none_behind}
+use Rattle.zb_waits.proofs.UnderLemmas.{RiseFrom, is_from, under_from, from_rises, none_behind, none_ordered}
 use Rattle.zb_waits.proofs.under.first_under.Goals as goal
 
 -- the first of those that are kept from a number on is that of all
@@ -33,3 +33,6 @@ returns-in-None-clause-key c =
     let pairs = c.args.pairs.now.keys in
     let is : c.range-from.result ≡ filter (is_from n) pairs = c.range-from.ensures.between tt ∙ rw c.new.ensures refl in
     same n pairs c.range-from.result is [] c.in-None.ensures.steps.0
+
+pub returns-then-is_empty-clause-order : goal.returns-then-is_empty-clause-order
+returns-then-is_empty-clause-order c = none_ordered c.args.pairs.now (c.is_empty.ensures.0 c.if-is_empty.true)

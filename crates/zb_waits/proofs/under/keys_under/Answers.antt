@@ -1,6 +1,6 @@
-use Rattle.std.proofs.Common.{◌≡◌, ℕ, ◌==◌, not, filter, false, true, Bool, List, ◌∷◌, ◌++◌, refl, sym, ap, subst, ◌∙◌, append-nil}
+use Rattle.std.proofs.Common.{◌≡◌, ℕ, ◌==◌, filter, List, ◌∷◌, ◌++◌, refl, sym, ap, subst, ◌∙◌, append-nil}
 use Rattle.zb_waits.specs.Pairs.{keys_under}
-use Rattle.zb_waits.proofs.UnderLemmas.{RiseFrom, is_from, under_from, from_rises, none_behind}
+use Rattle.zb_waits.proofs.UnderLemmas.{RiseFrom, is_from, under_from, from_rises, none_behind, is_other}
 use Rattle.zb_waits.proofs.under.keys_under.Goals as goal
 
 pub loop-pair-init : goal.loop-pair-init
@@ -8,11 +8,6 @@ loop-pair-init c =
     let pairs = c.args.pairs.now.keys in
     let is : c.into_iter-pair-iterator.result ≡ filter (is_from c.args.number) pairs = c.into_iter-pair-iterator.ensures.into_iter_gives ∙ (c.range-pair-items.ensures.between tt ∙ rw c.new.ensures refl) in
     (rw (c.new-keys.ensures.items, is) (under_from c.args.number pairs), rw is (from_rises c.args.number pairs c.range-pair-items.ensures.ordered), refl)
-
--- what isn't equal
-is_other : (t : Bool) → true ≡ not t → t ≡ false
-is_other true is = absurd (cc)
-is_other false is = refl
 
 pub returns-then-ne-clause-keys : goal.returns-then-ne-clause-keys
 returns-then-ne-clause-keys c =

@@ -1,4 +1,4 @@
-use Rattle.std.proofs.Common.{All, ap, subst, ◌∙◌, rules}
+use Rattle.std.proofs.Common.{ap, subst, ◌∙◌, rules}
 use Rattle.std.specs.Bool.{IsTrue}
 use Rattle.std.specs.List.{find}
 use Rattle.std.proofs.lemmas.Iterator.Adapters.{option_map_id}
@@ -14,7 +14,7 @@ returns-in-Some c =
     let rows = c.self.inside.tokens in
     let coming = c.self.inside.coming in
     let ascends : IsTrue c.self.inside.ascends = search rules in
-    let awaited = subst (λ (x : Board). All (IsAwaited x coming) rows) c.self.view_is (c.self.invariant ascends).awaited in
+    let awaited = subst (λ (x : Board). IsAwaited x rows coming) c.self.view_is (c.self.invariant ascends).awaited in
     let first = first_coming (can_enter b) rows coming (c.self.invariant ascends).tokens_ascend c.in-Some.ensures.order (all_waiting b coming rows awaited) in
     c.get.ensures.row ∙ (read_first (can_enter b) rows c.in-Some.number (c.self.invariant ascends).tokens_ascend (c.in-Some.ensures.key ∙ (option_map_id _ ∙ first)) ∙ ap (λ (x : Board). find (can_enter b) x.tokens) c.self.view_is)
 
@@ -24,6 +24,6 @@ returns-in-None c =
     let rows = c.self.inside.tokens in
     let coming = c.self.inside.coming in
     let ascends : IsTrue c.self.inside.ascends = search rules in
-    let awaited = subst (λ (x : Board). All (IsAwaited x coming) rows) c.self.view_is (c.self.invariant ascends).awaited in
+    let awaited = subst (λ (x : Board). IsAwaited x rows coming) c.self.view_is (c.self.invariant ascends).awaited in
     let first = first_coming (can_enter b) rows coming (c.self.invariant ascends).tokens_ascend c.in-None.ensures.order (all_waiting b coming rows awaited) in
     read_none (can_enter b) rows (c.in-None.ensures.key ∙ (option_map_id _ ∙ first)) ∙ ap (λ (x : Board). find (can_enter b) x.tokens) c.self.view_is

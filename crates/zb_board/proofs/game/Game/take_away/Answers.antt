@@ -1,7 +1,5 @@
-use Rattle.std.proofs.Common.{◌==◌, refl, sym, ap, ◌∙◌}
-use Rattle.std.specs.List.{find}
+use Rattle.std.proofs.Common.{◌==◌, refl, sym}
 use Rattle.zb_tokens.specs.declared.board.Cell.{Cell}
-use Rattle.zb_tokens.specs.Board.{Board}
 use Rattle.zb_arrivals.proofs.EditLemmas.{found_none}
 use Rattle.zb_board.proofs.EditedLemmas.{there}
 use Rattle.zb_board.proofs.game.Game.take_away.Goals as goal

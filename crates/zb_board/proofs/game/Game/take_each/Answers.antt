@@ -21,7 +21,7 @@ loop-flow-preserved c =
     let at : get_or on_flows i (spots.OnFlow flow) ≡ spots.OnFlow flow = get_or-map (λ (x : List ℕ). spots.OnFlow x) c.args.flows.now i flow (spots.OnFlow flow) within ∙ ap (λ (x : List ℕ). spots.OnFlow x) (sym c.flow-item.is) in
     let more : without_each scope (take (i + 1) on_flows) b.tokens ≡ without_first (stands_at scope (spots.OnFlow flow)) (without_each scope (take i on_flows) b.tokens) =
     fold_more (λ (left : List Token) (spot : Spot). without_first (stands_at scope spot) left) b.tokens on_flows i (spots.OnFlow flow) within' ∙ ap (λ (spot : Spot). without_first (stands_at scope spot) (without_each scope (take i on_flows) b.tokens)) at in
-    c.in_ok-take_first_on.ensures
-    ∙ (ap (λ (text : List ℕ). record c.loop-flow.self { tokens = without_first (stands_at scope (spots.OnFlow text)) c.loop-flow.self.tokens }) c.as_str.ensures
+    c.in_ok-take_first.ensures
+    ∙ (ap (λ (s : Spot). record c.loop-flow.self { tokens = without_first (stands_at scope s) c.loop-flow.self.tokens }) (c.on-spot.ensures ∙ ap (λ (x : List ℕ). spots.OnFlow x) c.as_str.ensures)
     ∙ (ap (λ (x : Board). record x { tokens = without_first (stands_at scope (spots.OnFlow flow)) x.tokens }) c.loop-flow.invariant
     ∙ ap (λ (ts : List Token). record b { tokens = ts }) (sym more)))

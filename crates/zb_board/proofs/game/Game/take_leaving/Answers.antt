@@ -1,4 +1,4 @@
-use Rattle.std.proofs.Common.{◌≡◌, List, length, not, filter, refl, sym, ap, ◌∙◌, arith}
+use Rattle.std.proofs.Common.{List, length, not, filter, sym, ap, ◌∙◌, arith}
 use Rattle.zb_tokens.specs.declared.board.Cell.{Cell}
 use Rattle.zb_tokens.specs.Board.{Board, leaves_in}
 use Rattle.zb_tokens.specs.Edits.{without_first}

@@ -1,4 +1,4 @@
-use Rattle.std.proofs.Common.{◌≡◌, ℕ, ◌==◌, ◌&&◌, Bool, false, cond, Some, refl, sym, ap, ◌∙◌, rules}
+use Rattle.std.proofs.Common.{◌≡◌, ℕ, ◌==◌, ◌&&◌, false, cond, sym, ap, ◌∙◌, rules}
 use Rattle.std.specs.List.{find, list_any}
 use Rattle.zb_waits.specs.Pairs.{has_pair}
 use Rattle.zb_groups.specs.declared.held.Held.{Held}

@@ -4,6 +4,4 @@ use Rattle.zb_groups.proofs.groups.Groups.take_group.Given as goal
 
 -- the rows whose numbers were passed are gone
 abbrev pub invariant-loop-number : goal.invariant-loop-number
-invariant-loop-number g l =
-    (l.self-inside.next ≡ l.initial.self-inside.next) × (l.self-inside.members ≡ l.initial.self-inside.members)
-    × IsEmptying g.R.Grouped.group_in l.fn.group l.initial.self-inside.next l.initial.self-inside.rows l.self-inside.rows (drop l.number-index l.number-items)
+invariant-loop-number g l = IsEmptying g.R.Grouped.group_in l.fn.group l.initial.self l.self (drop l.number-index l.number-items)
