@@ -9,7 +9,7 @@ use Rattle.zb_table.proofs.Growing.{with_last}
 use Rattle.zb_waits.specs.Pairs.{has_pair, is_row_under, keys_under, place_cmp}
 use Rattle.zb_waits.proofs.FoundLemmas.{none_below}
 use Rattle.zb_waits.proofs.PairLemmas.{index_with}
-use Rattle.zb_waits.proofs.UnderLemmas.{kept_under}
+use Rattle.zb_waits.proofs.UnderLemmas.{kept_under, under_any}
 use Rattle.zb_tokens.specs.declared.board.Cell.{Cell}
 use Rattle.zb_board.specs.Indexed.{AreChildren}
 use Rattle.zb_board.proofs.TallyLemmas.{found_without, none_with}
@@ -78,3 +78,11 @@ first_child scope (c ∷ cells) = by_test (c.scope == scope) (first_child scope 
         → is_some (slice_get (map (λ (x : Cell). x.key) (cond t (c ∷ filter (λ (x : Cell). x.scope == scope) cells) (filter (λ (x : Cell). x.scope == scope) cells))) 0) ≡ (t || list_any (λ x. x.scope == scope) cells)
     by_test true later = refl
     by_test false later = later
+
+-- a scope under which a key is kept has a first one
+pub has_first : {G : Type 0} (scope key : ℕ) (pairs : BTreeSet (ℕ × ℕ)) → has_pair pairs scope key ≡ true → slice_get (keys_under scope pairs.keys) 0 ≡ None → G
+has_first scope key pairs there none = by_keys (keys_under scope pairs.keys) (under_any scope key pairs.keys ∙ there) none
+  where
+    by_keys : {G : Type 0} (keys : List ℕ) → list_any (λ k. k == key) keys ≡ true → slice_get keys 0 ≡ None → G
+    by_keys [] is none = absurd (cc)
+    by_keys (k ∷ keys) is none = absurd (cc)

@@ -65,10 +65,9 @@ fn enter_alone(game: &mut Game, alloc: Global, definition: Key, e: Enter) -> Res
     if !stands_coming(e.scope, e.node.as_str(), e.via.as_str(), game.tokens()) {
         return Err(GameFault::Illegal);
     }
-    game.take_coming(e.scope, e.node.as_str(), e.via.as_str())?;
     let before = comes_by_none(&e);
     let cell = new_cell(alloc, e.key, e.scope, definition, e.node, before);
-    game.add_cell(cell)?;
+    game.enter_coming(e.via.as_str(), cell)?;
     Ok(())
 }
 

@@ -16,7 +16,7 @@ use Rattle.zb_tokens.specs.Forced.{entry_at, way_by}
 use Rattle.zb_tokens.specs.MoveEnter.{has_come, joins, spots_of}
 use Rattle.zb_places.specs.Places.{comes_in, counts_for, first_there, held_tokens, is_kept, IsFirst, IsMetAt}
 use Rattle.zb_places.proofs.FlowLemmas.{flows_to, spot_among, spot_apart}
-use Rattle.zb_places.proofs.SpotLemmas.{same_spot, spot_itself}
+use Rattle.zb_places.proofs.SpotLemmas.{only_spot, spot_itself}
 
 -- what is said of those of some flows that pass one test is said of the first that passes another one, where it passes the first
 found_among : (p q : Flow → Bool) (P : Flow → Type 0) (flows : List Flow) (f : Flow) → find p flows ≡ Some f → q f ≡ true → All P (filter q flows) → (p f ≡ true) × P f
@@ -156,15 +156,8 @@ module _ (m : Model) (rows : List (Held Token)) (t : Token) (met : List ℕ) (h 
         let r = into_node id w.0 (λ f. IsMetAt m rows t.scope f.to met) m.flows (sym (spot_among id (flows_in m w.0)) ∙ is) all in
         let at : IsMetAt m rows t.scope w.0 met = subst (λ (n : List ℕ). IsMetAt m rows t.scope n met) r.2 r.1 in
         at h first its (joined_way h.row.spot w way joined) joined comes
-    on_flow id on all false alone is = by_spot h.row.spot refl (own_way h.row.spot w way alone) (one is)
+    on_flow id on all false alone is = by_spot h.row.spot refl (own_way h.row.spot w way alone) (only_spot (spots.OnFlow id) (spot_of w.1 w.0) is)
       where
-        one : (is_spot (spots.OnFlow id) (spot_of w.1 w.0) || false) ≡ true → spots.OnFlow id ≡ spot_of w.1 w.0
-        one it = same_spot (spots.OnFlow id) (spot_of w.1 w.0) (unless (is_spot (spots.OnFlow id) (spot_of w.1 w.0)) it)
-          where
-            unless : (b : Bool) → (b || false) ≡ true → b ≡ true
-            unless true it = refl
-            unless false it = absurd (cc)
-
         by_spot : (spot : Spot) → h.row.spot ≡ spot → w.1 ≡ flow_of spot → spots.OnFlow id ≡ spot_of w.1 w.0 → is_kept met h.number ≡ true
         by_spot (spots.BeforeNode n) at via own = absurd (let before : spots.OnFlow id ≡ spots.BeforeNode w.0 = own ∙ ap (λ (v : List ℕ). spot_of v w.0) via in cc)
         by_spot (spots.OnFlow []) at via own = absurd (let before : spots.OnFlow id ≡ spots.BeforeNode w.0 = own ∙ ap (λ (v : List ℕ). spot_of v w.0) via in cc)
@@ -174,15 +167,8 @@ module _ (m : Model) (rows : List (Held Token)) (t : Token) (met : List ℕ) (h 
     before_node : (n : List ℕ) → t.spot ≡ spots.BeforeNode n → ((x : Held Token) → first_there t.scope (spots.OnFlow []) rows ≡ Some x → is_kept met x.number ≡ true) → (u : Bool) → joins m w.0 ≡ u
         → list_any (is_spot (spots.BeforeNode n)) (if u then map spots.OnFlow (flows_in m w.0) else spot_of w.1 w.0 ∷ []) ≡ true → is_kept met h.number ≡ true
     before_node n on none true joined is = absurd (let apart = spot_apart n (flows_in m w.0) in cc)
-    before_node n on none false alone is = by_spot h.row.spot refl (own_way h.row.spot w way alone) (one is)
+    before_node n on none false alone is = by_spot h.row.spot refl (own_way h.row.spot w way alone) (only_spot (spots.BeforeNode n) (spot_of w.1 w.0) is)
       where
-        one : (is_spot (spots.BeforeNode n) (spot_of w.1 w.0) || false) ≡ true → spots.BeforeNode n ≡ spot_of w.1 w.0
-        one it = same_spot (spots.BeforeNode n) (spot_of w.1 w.0) (unless (is_spot (spots.BeforeNode n) (spot_of w.1 w.0)) it)
-          where
-            unless : (b : Bool) → (b || false) ≡ true → b ≡ true
-            unless true it = refl
-            unless false it = absurd (cc)
-
         by_spot : (spot : Spot) → h.row.spot ≡ spot → w.1 ≡ flow_of spot → spots.BeforeNode n ≡ spot_of w.1 w.0 → is_kept met h.number ≡ true
         by_spot (spots.BeforeNode k) at via own =
             let same : spots.BeforeNode k ≡ spots.BeforeNode w.0 = before_own k at in

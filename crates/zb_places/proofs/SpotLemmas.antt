@@ -1,6 +1,6 @@
 -- Tokens at a spot, found by the number of their place.
-use Rattle.std.proofs.Common.{◌≡◌, ℕ, ◌==◌, List, [], ◌∷◌, Bool, true, false, ◌&&◌, cond, Option, Some, refl, sym, ap, ◌∙◌, arith}
-use Rattle.std.specs.List.{find}
+use Rattle.std.proofs.Common.{◌≡◌, ℕ, ◌==◌, List, [], ◌∷◌, Bool, true, false, ◌&&◌, ◌||◌, cond, Option, Some, refl, sym, ap, ◌∙◌, arith}
+use Rattle.std.specs.List.{find, list_any}
 use Rattle.std.specs.Str.{bytes_eq}
 use Rattle.std.proofs.lemmas.Bool.{and_parts}
 use Rattle.std.proofs.lemmas.Bool.Decides.{nat_tests}
@@ -20,6 +20,14 @@ same_spot (spots.OnFlow a) (spots.OnFlow b) is = ap (λ (id : List ℕ). spots.O
 same_spot (spots.BeforeNode a) (spots.BeforeNode b) is = ap (λ (id : List ℕ). spots.BeforeNode id) ((bytes_eq-Decides a b).0 is)
 same_spot (spots.OnFlow a) (spots.BeforeNode b) is = absurd (cc)
 same_spot (spots.BeforeNode a) (spots.OnFlow b) is = absurd (cc)
+
+-- and so is the only one of some
+pub only_spot : (a b : Spot) → list_any (is_spot a) (b ∷ []) ≡ true → a ≡ b
+only_spot a b is = same_spot a b (unless (is_spot a b) is)
+  where
+    unless : (t : Bool) → (t || false) ≡ true → t ≡ true
+    unless true it = refl
+    unless false it = absurd (cc)
 
 pub spot_itself : (a : Spot) → is_spot a a ≡ true
 spot_itself (spots.OnFlow id) = (bytes_eq-Decides id id).1 refl

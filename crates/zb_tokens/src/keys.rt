@@ -50,11 +50,8 @@ impl Grouped for Token {
 pub fn place_number(scope: Key, id: &str) -> Key
     ensures { result ≡ place_number scope id.now }
 {
-    Key::new(
-        scope
-            .number()
-            .wrapping_add(u64::from(hash_of(id.as_bytes()))),
-    )
+    let low = scope.number() % (1 << 32);
+    Key::new(low * (1 << 32) + u64::from(hash_of(id.as_bytes())))
 }
 
 // The id of the flow on which a spot is, or of the node before which it is.

@@ -135,7 +135,7 @@ impl Game {
 }
 
 // Whether a cell with this key in this scope comes behind all others, and is newer than its scope.
-fn comes_newest(key: Key, scope: Key, cells: &Arrivals<Cell>) -> bool
+pub(super) fn comes_newest(key: Key, scope: Key, cells: &Arrivals<Cell>) -> bool
     ensures below { IsTrue result → are_below (λ c. c.key) key cells.now ≡ true }
     ensures newer { IsTrue result → scope < key }
 {

@@ -1,5 +1,5 @@
 // How cells go from the board, and with them what is kept of them beside the board.
-ghost use Rattle.std.specs.Prelude.{◌≡◌, ℕ, true, false, ◌==◌, ◌&&◌, Some, None, IfOk, OnOk, IsErrOf, cond, filter, is_some, not, option_map, slice_get};
+ghost use Rattle.std.specs.Prelude.{◌≡◌, ℕ, true, false, ◌==◌, ◌&&◌, Some, None, IfOk, OnOk, IsErrOf, cond, filter, is_none, is_some, not, option_map, slice_get};
 ghost use Rattle.std.specs.BTreeSet.{IsOrdered};
 ghost use Rattle.std.specs.List.{find};
 ghost use Rattle.zb_tokens.specs.Board.{cell_at, emptied, leaves_in};
@@ -42,7 +42,7 @@ impl Game {
     {
         let ascends = self.ascends && !self.has_token(key);
         self.ascends = false;
-        note_gone(
+        let none_left = note_gone(
             &mut self.children,
             &mut self.ready,
             &mut self.calling,
@@ -51,8 +51,17 @@ impl Game {
         )?;
         self.cells.remove(key);
         self.ascends = ascends;
-        self.look_at(around);
+        self.look_at_emptied(around, none_left);
         Ok(())
+    }
+
+    // Looks at a scope again in which no cell is left, as is told, and a token is.
+    fn look_at_emptied(&mut self, scope: Key, none_left: bool)
+        ensures { self.new ≡ self.old }
+    {
+        if none_left && self.has_token(scope) {
+            self.look_at(scope);
+        }
     }
 
     /// Empties a scope of its tokens, and of the cells that leave in it. After a refusal the game is only dropped. It
@@ -110,14 +119,14 @@ impl<'a> Query<Key> for LeavesAt<'a> {
     }
 }
 
-// Keeps the key of a cell no longer. Its scope may go on then.
+// Keeps the key of a cell no longer, and tells whether none is left in its scope, which may go on then.
 fn note_gone(
     children: &mut BTreeSet<(Key, Key)>,
     ready: &mut Table<Key>,
     calling: &mut Table<Key>,
     key: Key,
     around: Key,
-) -> Result<(), AllocError>
+) -> Result<bool, AllocError>
     ensures fewer { OnOk result ((scope other : ℕ) → has_pair children.new scope other ≡ cond ((around == scope) && (key == other)) false (has_pair children.old scope other)) }
     ensures order { OnOk result (IsOrdered place_cmp children.new) }
     ensures ready { OnOk result ((other : ℕ) → (other == key) ≡ false → is_kept ready.old other ≡ true → is_kept ready.new other ≡ true) }
@@ -125,25 +134,26 @@ fn note_gone(
     ensures woken { OnOk result (slice_get (keys_under around children.new.keys) 0 ≡ None → (around == key) ≡ false → is_kept ready.new around ≡ true) }
 {
     children.remove(&(around, key));
-    wake(ready, children, around)?;
+    let none_left = wake(ready, children, around)?;
     forget(ready, key);
     forget(calling, key);
-    Ok(())
+    Ok(none_left)
 }
 
-// Puts a scope among the ready cells where no cell is left in it.
+// Puts a scope among the ready cells where no cell is left in it, and tells whether that is so.
 pub(super) fn wake(
     ready: &mut Table<Key>,
     children: &BTreeSet<(Key, Key)>,
     scope: Key,
-) -> Result<(), AllocError>
+) -> Result<bool, AllocError>
+    ensures none_left { IfOk result (λ none. none ≡ is_none (slice_get (keys_under scope children.now.keys) 0)) }
     ensures still { OnOk result ((key : ℕ) → is_kept ready.old key ≡ true → is_kept ready.new key ≡ true) }
     ensures woken { OnOk result (slice_get (keys_under scope children.now.keys) 0 ≡ None → is_kept ready.new scope ≡ true) }
     ensures order { IsOrdered place_cmp children.now }
 {
-    if first_under(scope, children).is_none() {
-        keep(ready, scope)
-    } else {
-        Ok(())
+    let none_left = first_under(scope, children).is_none();
+    if none_left {
+        keep(ready, scope)?;
     }
+    Ok(none_left)
 }

@@ -3,12 +3,14 @@ ghost use Rattle.std.specs.Prelude.{◌≡◌, ℕ, ◌==◌, ◌++◌, ◌∷�
 ghost use Rattle.std.specs.List.{list_any};
 ghost use Rattle.zb_tokens.specs.declared.board.Spot.TheVariants as spots;
 ghost use Rattle.zb_tokens.specs.Board.{spot_of};
+ghost use Rattle.zb_tokens.specs.Doom.{calls_off};
 ghost use Rattle.zb_tokens.specs.Edits.{without_first};
 ghost use Rattle.zb_tokens.specs.MoveEnter.{stands_at, without_each};
 ghost use Rattle.zb_waits.specs.Pairs.{is_number};
 ghost use Rattle.zb_board.specs.Indexed.{is_kept};
 
 use crate::Game;
+use crate::game::changes::comes_newest;
 use crate::game::meeting::met_by_number;
 use crate::game::removals::wake;
 use crate::keys::{forget, keep, keep_all};
@@ -16,7 +18,7 @@ use std::alloc::{AllocError, Global};
 use zb_base::{Key, Text};
 use zb_places::{Place, SpotRef, first_at, stands, take_first, take_scope};
 use zb_table::Table;
-use zb_tokens::Token;
+use zb_tokens::{Cell, Token};
 
 impl Game {
     /// Adds a token. Its scope may rest then, and where it is the first at its spot, what it meets may go on. After a
@@ -63,9 +65,9 @@ impl Game {
         Ok(())
     }
 
-    // Takes the first token at a place, if there is one. The scope may go on then, and is to be looked at. The number of
-    // the next one there is told, which is to be looked at as well.
-    fn take_first(&mut self, place: &Place) -> Result<Option<Key>, AllocError>
+    // Takes the first token at a place, if there is one. The scope may go on then, and is to be looked at, as the next
+    // token there is.
+    fn take_first(&mut self, place: &Place) -> Result<(), AllocError>
         ensures { OnOk result (self.new ≡ record self.old { tokens = without_first (stands_at place.now.scope place.now.spot) self.old.tokens }) }
     {
         let ascends = self.ascends;
@@ -75,7 +77,7 @@ impl Game {
         note_taken(&mut self.coming, taken, &next)?;
         wake(&mut self.ready, &self.children, place.scope)?;
         self.ascends = ascends;
-        Ok(next)
+        Ok(())
     }
 
     // Looks at the first token at a place again.
@@ -87,21 +89,38 @@ impl Game {
         }
     }
 
-    /// Takes the first token in a scope that comes to a node by a flow, or stands before it, if there is one. The scope
-    /// may go on then, and is to be looked at, as it is where a cell is added. After a refusal the game is only dropped. It
-    /// takes the logarithm of how many tokens there are, on average, and costs what `comes` does.
-    pub fn take_coming(&mut self, scope: Key, node: &str, via: &str) -> Result<(), AllocError>
-        ensures { OnOk result (self.new ≡ record self.old { tokens = without_first (stands_at scope (spot_of via.now node.now)) self.old.tokens }) }
+    /// Takes the first token in the scope of a cell that comes to its node by a flow, or stands before it, if there is one,
+    /// and adds the cell, as `add_cell` does. After a refusal the game is only dropped. It costs what `add_cell` and `comes`
+    /// do, and the logarithm of how many tokens there are, on average.
+    pub fn enter_coming(&mut self, via: &str, cell: Cell) -> Result<(), AllocError>
+        requires { calls_off cell ≡ false }
+        ensures { OnOk result (self.new ≡ record self.old {
+          cells = self.old.cells ++ cell ∷ [];
+          tokens = without_first (stands_at cell.scope (spot_of via.now cell.node)) self.old.tokens;
+        }) }
     {
-        let spot = SpotRef::coming(node, via);
-        if let Some(next) = self.take_first(&Place { scope, spot })? {
+        let scope = cell.scope;
+        let key = cell.key;
+        let ascends = self.ascends && comes_newest(key, scope, &self.cells);
+        self.ascends = false;
+        let spot = SpotRef::coming(cell.node.as_str(), via);
+        let place = Place { scope, spot };
+        let taken = take_first(&place, &mut self.tokens);
+        let next = first_at(&place, &self.tokens);
+        note_taken(&mut self.coming, taken, &next)?;
+        self.cells.push(cell)?;
+        self.children.insert((scope, key))?;
+        keep(&mut self.ready, key)?;
+        self.ascends = ascends;
+        self.look_at(scope);
+        if let Some(next) = next {
             self.look_at_token(next);
         }
         Ok(())
     }
 
     /// Takes the first token on each of these flows in a scope, which is to be looked at then. After a refusal the game is
-    /// only dropped. For each it costs what `take_coming` does.
+    /// only dropped. For each it takes the logarithm of how many tokens there are, on average, and what `comes` takes.
     pub fn take_each(&mut self, scope: Key, flows: &[Text]) -> Result<(), AllocError>
         ensures { OnOk result (self.new ≡ record self.old { tokens = without_each scope (map spots.OnFlow flows.now) self.old.tokens }) }
     {

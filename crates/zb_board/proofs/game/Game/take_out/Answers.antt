@@ -24,12 +24,12 @@ invariant_of-self-2 c = λ ascends. elim c.if-self.branch [
       let cells = c.self.inside.cells in
       let its = there cells c.args.key cell (ap (λ (b : Board). find (λ (x : Cell). x.key == c.args.key) b.cells) c.self.view_is ∙ r.1) in
       let kept = c.self.invariant w.if-self.true in
-      let fewer : (s k : ℕ) → has_pair c.note_gone.new.children s k ≡ cond ((c.args.around == s) && (c.args.key == k)) false (has_pair c.self.inside.children s k) = c.in_ok-note_gone.ensures.fewer in
+      let fewer : (s k : ℕ) → has_pair c.note_gone.new.children s k ≡ cond ((c.args.around == s) && (c.args.key == k)) false (has_pair c.self.inside.children s k) = c.in_ok-none_left.ensures.fewer in
       let none : w.has_token.result ≡ false = search rules in
       let nobody : list_any (λ (t : Token). t.scope == c.args.key) (held_tokens c.self.inside.tokens) ≡ false = ap (λ (b : Board). has_token b c.args.key) c.self.view_is ∙ (sym w.has_token.ensures ∙ none) in
       let empty = none_passing (λ (h : Held Token). h.row.scope == c.args.key) c.self.inside.tokens (sym (any_row (λ (t : Token). t.scope == c.args.key) c.self.inside.tokens) ∙ nobody) in
       let left = c.remove.ensures ∙ ap (λ o. or_kept o cells) its.gone in
-      rw left (kept_away _ _ _ _ _ _ _ kept its.place cell _ _ _ its.within its.at (rw (around, its.own) fewer) c.in_ok-note_gone.ensures.order
-      (rw its.own c.in_ok-note_gone.ensures.ready) (rw its.own c.in_ok-note_gone.ensures.calling) (rw (around, its.own) c.in_ok-note_gone.ensures.woken) (rw its.own empty))
+      rw left (kept_away _ _ _ _ _ _ _ kept its.place cell _ _ _ its.within its.at (rw (around, its.own) fewer) c.in_ok-none_left.ensures.order
+      (rw its.own c.in_ok-none_left.ensures.ready) (rw its.own c.in_ok-none_left.ensures.calling) (rw (around, its.own) c.in_ok-none_left.ensures.woken) (rw its.own empty))
   | else-self w ↦ absurd (search rules)
 ]
