@@ -8,7 +8,7 @@ use Rattle.std.specs.declared.cmp.Ordering.{Ordering}
 use Rattle.std.specs.declared.cmp.Ordering.TheVariants.{Less, Equal, Greater}
 use Rattle.std.proofs.lemmas.Bool.Decides.{nat_tests}
 use Rattle.std.proofs.lemmas.List.Elements.{All-head, All-tail, All-cons}
-use Rattle.zb_waits.specs.Pairs.{keys_under}
+use Rattle.zb_pairs.specs.Pairs.{keys_under}
 use Rattle.zb_board.specs.Below.{HasBelow}
 use Rattle.zb_board.specs.Indexed.{is_kept}
 

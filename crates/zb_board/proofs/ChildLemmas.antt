@@ -6,10 +6,10 @@ use Rattle.std.specs.List.Sorted.{IsStrictlySortedBy}
 use Rattle.std.proofs.lemmas.Bool.Decides.{nat_tests}
 use Rattle.zb_table.specs.Rows.{Ascend, are_below}
 use Rattle.zb_table.proofs.Growing.{with_last}
-use Rattle.zb_waits.specs.Pairs.{has_pair, is_row_under, keys_under, place_cmp}
-use Rattle.zb_waits.proofs.FoundLemmas.{none_below}
-use Rattle.zb_waits.proofs.PairLemmas.{index_with}
-use Rattle.zb_waits.proofs.UnderLemmas.{kept_under, under_any}
+use Rattle.zb_pairs.specs.Pairs.{has_pair, is_row_under, keys_under, place_cmp}
+use Rattle.zb_pairs.proofs.FoundLemmas.{none_below}
+use Rattle.zb_pairs.proofs.PairLemmas.{index_with}
+use Rattle.zb_pairs.proofs.UnderLemmas.{kept_under, under_any}
 use Rattle.zb_tokens.specs.declared.board.Cell.{Cell}
 use Rattle.zb_board.specs.Indexed.{AreChildren}
 use Rattle.zb_board.proofs.TallyLemmas.{found_without, none_with}
@@ -67,7 +67,7 @@ module _ (cells : List Cell) (children : BTreeSet (ℕ × ℕ)) (kept : AreChild
 
   -- those of one scope are the keys of the cells in it
   pub children_in : (scope : ℕ) → Ascend (λ c. c.key) 0 cells → IsStrictlySortedBy place_cmp children.keys → keys_under scope children.keys ≡ map (λ (c : Cell). c.key) (filter (λ (c : Cell). c.scope == scope) cells)
-  children_in scope up sorted = kept_under (λ (c : Cell). c.key) (λ (c : Cell). c.scope) scope cells children up kept sorted
+  children_in scope up sorted = kept_under (λ (c : Cell). c.key) (λ (c : Cell). Some c.scope) scope cells children up kept sorted
 
 -- there is a first one where there is one
 pub first_child : (scope : ℕ) (cells : List Cell) → is_some (slice_get (map (λ (c : Cell). c.key) (filter (λ (c : Cell). c.scope == scope) cells)) 0) ≡ list_any (λ c. c.scope == scope) cells

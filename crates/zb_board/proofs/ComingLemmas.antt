@@ -20,7 +20,7 @@ use Rattle.zb_tokens.specs.Board.{Board, cell_at, is_spot, model_under, node_wit
 use Rattle.zb_tokens.specs.MoveEnter.{stands_at, has_come, arrives, spots_of}
 use Rattle.zb_tokens.specs.Doom.{is_called_off}
 use Rattle.zb_tokens.specs.Forced.{entry_at, can_enter}
-use Rattle.zb_waits.specs.Pairs.{is_number}
+use Rattle.zb_pairs.specs.Pairs.{is_number}
 use Rattle.zb_places.specs.Places.{held_tokens, comes_in, counts_for, first_there, IsFewer, IsFirst, IsTokenTaken}
 use Rattle.zb_places.proofs.HeldLemmas.{number_in, any_number, any_row, none_passing, own_number, tokens_more}
 use Rattle.zb_places.proofs.SpotLemmas.{same_spot}

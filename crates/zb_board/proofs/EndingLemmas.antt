@@ -9,8 +9,8 @@ use Rattle.std.proofs.lemmas.List.Folds.{find-append}
 use Rattle.zb_table.specs.Rows.{Ascend, are_below}
 use Rattle.zb_table.proofs.Ascending.{finds_own}
 use Rattle.zb_places.proofs.CountLemmas.{passing_within}
-use Rattle.zb_waits.specs.Pairs.{keys_under}
-use Rattle.zb_waits.proofs.UnderLemmas.{under_any}
+use Rattle.zb_pairs.specs.Pairs.{keys_under}
+use Rattle.zb_pairs.proofs.UnderLemmas.{under_any}
 use Rattle.zb_tokens.specs.declared.board.Cell.{Cell}
 use Rattle.zb_tokens.specs.declared.board.Phase.{Phase}
 use Rattle.zb_tokens.specs.declared.board.Phase.TheVariants as phases

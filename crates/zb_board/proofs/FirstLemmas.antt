@@ -9,7 +9,7 @@ use Rattle.zb_groups.specs.Groups.{passes_at}
 use Rattle.zb_tokens.specs.declared.board.Token.{Token}
 use Rattle.zb_tokens.proofs.GameLaws.{found_holds}
 use Rattle.zb_tokens.specs.MoveEnter.{stands_at}
-use Rattle.zb_waits.proofs.FoundLemmas.{first_is_found}
+use Rattle.zb_pairs.proofs.FoundLemmas.{first_is_found}
 use Rattle.zb_places.specs.Places.{first_there, held_tokens, IsFirst}
 use Rattle.zb_places.proofs.HeldLemmas.{number_in, find_row, own_number}
 use Rattle.zb_places.proofs.SpotLemmas.{spot_itself}

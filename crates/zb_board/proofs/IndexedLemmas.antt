@@ -23,8 +23,8 @@ use Rattle.zb_tokens.specs.declared.board.Phase.TheVariants as phases
 use Rattle.zb_tokens.specs.Board.{Board, cell_at, has_child, model_under}
 use Rattle.zb_tokens.specs.Doom.{calls_off, is_doomed}
 use Rattle.zb_tokens.specs.Forced.{ends_in}
-use Rattle.zb_waits.specs.Pairs.{has_pair, keys_under, place_cmp}
-use Rattle.zb_waits.proofs.FoundLemmas.{ascend_kept}
+use Rattle.zb_pairs.specs.Pairs.{has_pair, keys_under, place_cmp}
+use Rattle.zb_pairs.proofs.FoundLemmas.{ascend_kept}
 use Rattle.zb_places.specs.Places.{held_tokens, count_in_scope, IsFewer}
 use Rattle.zb_board.specs.Tallies.{incidents_on}
 use Rattle.zb_board.specs.Kept.{number_under}

@@ -14,7 +14,7 @@ use Rattle.zb_tokens.specs.Edits.{removed, without_first}
 use Rattle.zb_tokens.proofs.FoundLaws.{found_holds, found_passes}
 use Rattle.zb_arrivals.proofs.EditLemmas.{found_place, mapped_from}
 use Rattle.zb_arrivals.proofs.SplitLemmas.{or_kept}
-use Rattle.zb_waits.specs.Pairs.{keys_under, place_cmp}
+use Rattle.zb_pairs.specs.Pairs.{keys_under, place_cmp}
 use Rattle.zb_board.specs.Indexed.{AreChildren}
 use Rattle.zb_board.specs.Searches.{leaves_at}
 use Rattle.zb_board.proofs.ChildLemmas.{children_in}

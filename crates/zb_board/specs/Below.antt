@@ -1,6 +1,6 @@
 -- What is below a scope, by pairs of a scope and the key of a cell in it.
 use Rattle.std.specs.Prelude.{◌≡◌, ℕ, ◌<◌, List, true}
-use Rattle.zb_waits.specs.Pairs.{keys_under}
+use Rattle.zb_pairs.specs.Pairs.{keys_under}
 use Rattle.zb_board.specs.Indexed.{is_kept}
 
 -- some keys are among the ready ones: those in a scope, and those in each of them, where each is newer than what it is in (own)

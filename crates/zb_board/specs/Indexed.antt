@@ -4,7 +4,7 @@ use Rattle.std.specs.Option.{option_map_or}
 use Rattle.zb_process.specs.declared.model.Model.{Model}
 use Rattle.std.specs.BTreeSet.{BTreeSet}
 use Rattle.zb_table.specs.Rows.{Ascend}
-use Rattle.zb_waits.specs.Pairs.{IsIndex}
+use Rattle.zb_pairs.specs.Pairs.{IsIndex}
 use Rattle.zb_groups.specs.declared.held.Held.{Held}
 use Rattle.zb_tokens.specs.declared.board.Cell.{Cell}
 use Rattle.zb_tokens.specs.declared.board.Token.{Token}

@@ -2,7 +2,7 @@
 ghost use Rattle.std.specs.Prelude.{◌≡◌, ℕ, true, ◌<◌, All, OnOk};
 ghost use Rattle.std.specs.BTreeSet.{contains};
 ghost use Rattle.std.specs.Ordering.{nat_cmp};
-ghost use Rattle.zb_waits.specs.Pairs.{keys_under};
+ghost use Rattle.zb_pairs.specs.Pairs.{keys_under};
 ghost use Rattle.zb_board.specs.Below.{HasBelow};
 ghost use Rattle.zb_board.specs.Indexed.{is_kept};
 
@@ -10,8 +10,8 @@ use crate::keys::keep;
 use std::alloc::{AllocError, Global};
 use std::collections::BTreeSet;
 use zb_base::Key;
+use zb_pairs::keys_under;
 use zb_table::Table;
-use zb_waits::keys_under;
 
 /// Puts the cells below a scope among the ready ones. For each of them it takes the logarithm of how many cells there
 /// are, and costs what `keep` does.

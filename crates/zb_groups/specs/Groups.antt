@@ -3,7 +3,7 @@ use Rattle.std.specs.Prelude.{◌≡◌, ℕ, ◌==◌, List, map, filter, Bool,
 use Rattle.std.specs.BTreeSet.{BTreeSet}
 use Rattle.std.specs.Option.{option_map_or}
 use Rattle.zb_table.specs.Rows.{Ascend, row_at, are_below}
-use Rattle.zb_waits.specs.Pairs.{IsIndex}
+use Rattle.zb_pairs.specs.Pairs.{IsIndex}
 use Rattle.zb_groups.specs.declared.held.Held.{Held}
 
 -- the numbers of the rows in a group

@@ -11,8 +11,8 @@ use std::collections::BTreeSet;
 use std::marker::Model;
 use std::mem;
 use zb_base::Key;
+use zb_pairs::{first_under, first_under_that, keys_under};
 use zb_table::{Query, Table};
-use zb_waits::{first_under, first_under_that, keys_under};
 
 /// Rows in the order in which they came, each in a group, and each under a number of its own. Contracts see the list of
 /// them. The rows of a group, and those at a place, are found without going through others.

@@ -3,7 +3,7 @@ use Rattle.std.proofs.Common.{◌≡◌, ℕ, ◌+◌, ◌==◌, List, [], ◌�
 use Rattle.std.proofs.lemmas.Bool.Decides.{nat_tests}
 use Rattle.zb_table.specs.Rows.{Ascend, are_below, without}
 use Rattle.zb_table.proofs.Changing.{without_none}
-use Rattle.zb_waits.proofs.FoundLemmas.{none_here, none_later, none_more, none_kept, none_mapped, all_stay, found_above}
+use Rattle.zb_pairs.proofs.FoundLemmas.{none_here, none_later, none_more, none_kept, none_mapped, all_stay, found_above}
 use Rattle.zb_views.specs.declared.job.Job.{Job}
 use Rattle.zb_jobs.specs.Table.{job_of_cell, HaveOwnCells}
 

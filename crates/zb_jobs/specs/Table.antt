@@ -1,12 +1,12 @@
 -- The table of jobs.
-use Rattle.std.specs.Prelude.{◌≡◌, ℕ, ◌==◌, List, [], ◌∷◌, map, filter, nat_le, Bool, true, false, ◌&&◌, is_none, Option, None}
+use Rattle.std.specs.Prelude.{◌≡◌, ℕ, ◌==◌, List, [], ◌∷◌, filter, nat_le, Bool, true, false, ◌&&◌, is_none, Option, None}
 use Rattle.std.specs.List.{find}
 use Rattle.zb_model.specs.declared.record.Event.{Event}
 use Rattle.zb_model.specs.declared.record.Event.TheVariants as events
 use Rattle.zb_table.specs.Earliest.{earliest}
 use Rattle.zb_table.specs.Rows.{are_below}
 use Rattle.zb_views.specs.declared.job.Job.{Job}
-use Rattle.zb_views.specs.Jobs.{is_offered, is_activated, job_changed}
+use Rattle.zb_views.specs.Jobs.{is_activated, job_changed}
 
 -- the first of some jobs that waits on a cell (own)
 abbrev pub job_of_cell : ℕ → List Job → Option Job
@@ -25,10 +25,6 @@ has_place_for js _ = true
 -- an event changes no job but the one with this key (own)
 abbrev pub ChangesOnly : ℕ → Event → Type 0
 ChangesOnly key e = (j : Job) → (j.key == key) ≡ false → job_changed e j ≡ j
-
--- the keys of the jobs of a type that a worker may be given, in the order of the list (own)
-abbrev pub offered_keys : List ℕ → List Job → List ℕ
-offered_keys kind js = map (λ j. j.key) (filter (is_offered kind) js)
 
 -- until when a worker has a job, and its key: jobs come due in this order (own)
 abbrev pub place_of_job : Job → ℕ × ℕ

@@ -3,7 +3,5 @@
 
 mod change;
 mod jobs;
-mod places;
-mod waiting;
 
 pub use jobs::Jobs;

@@ -1,19 +1,11 @@
--- The keys under which sendings stand: the events that end them name these.
+-- What names what is sent: the events that end it, and the questions.
 use Rattle.std.specs.Prelude.{ℕ, ◌==◌, Bool, false, Option, Some, None}
 use Rattle.std.specs.Option.{option_map_or}
 use Rattle.zb_model.specs.declared.record.Event.{Event}
 use Rattle.zb_model.specs.declared.record.Event.TheVariants as events
 use Rattle.zb_views.specs.Distributions.{is_that}
 use Rattle.zb_record.specs.declared.sending.Sending.{Sending}
-use Rattle.zb_record.specs.declared.sending.Sending.TheVariants as sending
 use Rattle.zb_record.specs.Sendings.{distribution_sent}
-
--- the key of the definition or of the subscription that a sending is of (own)
-abbrev pub key_of_sending : Sending → ℕ
-key_of_sending (sending.Definition d) = d.definition
-key_of_sending (sending.Opening s) = s.subscription
-key_of_sending (sending.Correlating c) = c.subscription
-key_of_sending (sending.Closing s) = s.subscription
 
 -- the key that an event names, if it may end what is sent (own)
 abbrev pub ending_key : Event → Option ℕ

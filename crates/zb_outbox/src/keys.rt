@@ -1,21 +1,8 @@
-// The keys under which sendings stand.
+// The keys by which events end what is sent.
 ghost use Rattle.std.specs.Prelude.{◌≡◌};
 ghost use Rattle.zb_outbox.specs.Keys as spec;
 
 use zb_model::{Event, Key};
-use zb_record::Sending;
-
-/// The key under which a sending stands: that of its definition or of its subscription.
-pub fn key_of_sending(sending: &Sending) -> Key
-    ensures { result ≡ spec.key_of_sending sending.now }
-{
-    match sending {
-        Sending::Definition(distribution) => distribution.definition,
-        Sending::Opening(opened) => opened.subscription,
-        Sending::Correlating(message) => message.subscription,
-        Sending::Closing(closing) => closing.subscription,
-    }
-}
 
 /// The key that an event names, if it may end what stands under that.
 pub fn ending_key(event: &Event) -> Option<Key>

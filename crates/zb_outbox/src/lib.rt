@@ -2,7 +2,6 @@
 #![tactic(auto)]
 
 mod keys;
-mod numbers;
 mod outbox;
 mod queries;
 

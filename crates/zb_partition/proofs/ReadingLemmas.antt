@@ -18,7 +18,7 @@ use Rattle.zb_views.proofs.ViewLaws.{events_of_more, moment_of_last_more}
 use Rattle.zb_rules.specs.Applies.{applies, all_apply}
 use Rattle.zb_rules.proofs.StepLaws.{all_apply_more, all_apply_on}
 use Rattle.zb_state.specs.State.{partition_of, IsStateOf}
-use Rattle.zb_state.specs.declared.state.State.{State}
+use Rattle.zb_state.specs.declared.facts.Facts.{Facts}
 use Rattle.zb_partition.specs.declared.opening.Known.{Known}
 use Rattle.zb_partition.specs.Log.{AreBatches, IsApplied, IsBadBody}
 use Rattle.zb_partition.specs.Reading.{IsKnown, IsRefused, AreTaken, AreRefused}
@@ -57,7 +57,7 @@ known_more p log batch old new is known place here state moment = record {
 -- ---- events as they are read
 
 -- some events were read, all events are these and those behind them, these apply and were taken in
-abbrev pub AreTakenSoFar : ℕ → List Event → Option (List Event × List ℕ) → Option (List Event × List ℕ) → State → Type 0
+abbrev pub AreTakenSoFar : ℕ → List Event → Option (List Event × List ℕ) → Option (List Event × List ℕ) → Facts → Type 0
 AreTakenSoFar p es behind all state = (front : List Event) × (with_front front behind ≡ all) × IsTrue (all_apply p es front) × IsStateOf (es ++ front) state
 
 fails_in : (p : ℕ) (es front events : List Event) (e : Event) (behind : Option (List Event × List ℕ)) → IsFalse (applies p (es ++ front) e)

@@ -9,7 +9,7 @@ use Rattle.zb_store.specs.declared.scan.Scan.{Scan}
 use Rattle.zb_views.specs.View.{events_of, moment_of_last}
 use Rattle.zb_state.specs.State as states
 use Rattle.zb_state.specs.State.{IsStateOf}
-use Rattle.zb_state.specs.declared.state.State.{State}
+use Rattle.zb_state.specs.declared.facts.Facts.{Facts}
 use Rattle.zb_rules.specs.Applies.{applies, all_apply}
 use Rattle.zb_partition.specs.Log.{bodies_of, AreBatches, IsApplied}
 use Rattle.zb_partition.specs.declared.opening.Known.{Known}
@@ -42,11 +42,11 @@ IsReadOn p file scan log known true = (batch : Batch) × IsRead p file scan (log
 IsReadOn {disks = disks} p file scan log known false = IsRead p file scan log known × (IsTrue disks.tells → slice_index file (gate_of_scan scan) ≡ 0)
 
 -- an event was read, and the bytes behind it; it applies to those before it, and the state has taken it in
-abbrev pub IsTaken : ℕ → List Event → Option (Event × List ℕ) → List ℕ → State → Type 0
+abbrev pub IsTaken : ℕ → List Event → Option (Event × List ℕ) → List ℕ → Facts → Type 0
 IsTaken p es read rest state = (e : Event) × (read ≡ Some (e, rest)) × IsTrue (applies p es e) × IsStateOf (es ++ e ∷ []) state
 
 -- events were read, and nothing stands behind them; they apply to those before them, and the state has taken them in
-abbrev pub AreTaken : ℕ → List Event → Option (List Event × List ℕ) → State → Type 0
+abbrev pub AreTaken : ℕ → List Event → Option (List Event × List ℕ) → Facts → Type 0
 AreTaken p es read state = (events : List Event) × (read ≡ Some (events, [])) × IsTrue (all_apply p es events) × IsStateOf (es ++ events) state
 
 -- an event that was read, if one was, doesn't apply to those before it

@@ -18,19 +18,56 @@ use std::alloc::{AllocError, Global};
 use zb_disk::Disk;
 use zb_format::{Cursor, Format, ReadFault};
 use zb_model::{Batch, Event, Moment, PartitionId, TableFault};
-use zb_state::State;
+use zb_state::{Facts, State};
 use zb_store::{Found, Scan};
 
 /// What is known of a log as far as it was read.
 #[derive(Drop)]
 pub struct Known {
-    pub state: State,
+    pub state: Facts,
     /// The moment of the last batch, or 0.
     pub last_moment: Moment,
 }
 
-/// Reads the frames of a log, one after the other, as they are found.
-pub fn read_frames<D: Disk>(
+/// Reads the frames of a log, one after the other, as they are found, and lists what they come to once at the end: the
+/// state, and the moment of the last batch, or 0. It costs what `Facts::take_in` does for each event, and what `State::of`
+/// does.
+pub fn read_state<D: Disk>(
+    alloc: Global,
+    scan: &mut Scan<D>,
+    place: PartitionId,
+) -> Result<(State, Moment), OpenFault>
+    requires { IsAtStart (D.view (disk_of_scan scan.old)).contents scan.old }
+    ensures read { IfOk result (λ opened. (log : List Batch)
+        × IsReadOn place (D.view (disk_of_scan scan.new)).contents scan.new log (record { state = opened.0; last_moment = opened.1 }) false) }
+    ensures over { OnOk result (IsTrue (is_over scan.new)) }
+    ensures closed { OnOk result (IsTrue (is_closed scan.new)) }
+    ensures bad { IsTrue D.tells → (n : ℕ) → IsErrOf result (OpenFault.BadLog n) → IsBadAt place (D.view (disk_of_scan scan.old)).contents n }
+    ensures limit { limit_of_scan scan.new ≡ limit_of_scan scan.old }
+    ensures reads { OnlyReads D.tells D.tells_images D.view D.images D.since (disk_of_scan scan.old) (disk_of_scan scan.new) }
+    ensures steady { IsTrue D.counts_failures → OnOk result ((D.view (disk_of_scan scan.new)).faults ≡ (D.view (disk_of_scan scan.old)).faults) }
+    ensures cause { IfErr result (IsDiskCause D.counts_failures (D.view (disk_of_scan scan.old)).faults (D.view (disk_of_scan scan.new)).faults) }
+{
+    match read_frames(alloc, scan, place) {
+        Ok(known) => listed(alloc, known),
+        Err(fault) => Err(fault),
+    }
+}
+
+// What is known of a log, listed.
+fn listed(alloc: Global, known: Known) -> Result<(State, Moment), OpenFault>
+    ensures known { IfOk result (λ opened. known ≡ record { state = opened.0; last_moment = opened.1 }) }
+    ensures refused { IfErr result (λ fault. fault ≡ OpenFault.Memory) }
+{
+    let Known { state, last_moment } = known;
+    match State::of(alloc, state) {
+        Ok(state) => Ok((state, last_moment)),
+        Err(AllocError) => Err(OpenFault::Memory),
+    }
+}
+
+// Reads the frames of a log, one after the other, as they are found.
+fn read_frames<D: Disk>(
     alloc: Global,
     scan: &mut Scan<D>,
     place: PartitionId,
@@ -47,7 +84,7 @@ pub fn read_frames<D: Disk>(
     ensures cause { IfErr result (IsDiskCause D.counts_failures (D.view (disk_of_scan scan.old)).faults (D.view (disk_of_scan scan.new)).faults) }
 {
     let mut known = Known {
-        state: State::empty(alloc, place),
+        state: Facts::empty(alloc, place),
         last_moment: Moment::new(0),
     };
     loop {
@@ -131,7 +168,7 @@ fn take_events(
     alloc: Global,
     count: u32,
     cursor: &mut Cursor<'_>,
-    state: &mut State,
+    state: &mut Facts,
 ) -> Result<bool, AllocError>
     ensures place { partition_of state.new ≡ partition_of state.old }
     ensures taken { (es : List Event) → IsStateOf es state.old → IfOk result (λ taken. IsTrue taken
@@ -150,7 +187,7 @@ fn take_events(
 }
 
 // Takes in the event that comes next: whether there is one, and it applies.
-fn take_event(alloc: Global, cursor: &mut Cursor<'_>, state: &mut State) -> Result<bool, AllocError>
+fn take_event(alloc: Global, cursor: &mut Cursor<'_>, state: &mut Facts) -> Result<bool, AllocError>
     ensures place { partition_of state.new ≡ partition_of state.old }
     ensures taken { (es : List Event) → IsStateOf es state.old → IfOk result (λ taken. IsTrue taken
         → IsTaken (partition_of state.old) es (layouts.event.reading cursor.old) cursor.new state.new) }
@@ -165,7 +202,7 @@ fn take_event(alloc: Global, cursor: &mut Cursor<'_>, state: &mut State) -> Resu
 }
 
 // Takes in an event: whether it applies.
-fn take_in(alloc: Global, event: Event, state: &mut State) -> Result<bool, AllocError>
+fn take_in(alloc: Global, event: Event, state: &mut Facts) -> Result<bool, AllocError>
     ensures place { partition_of state.new ≡ partition_of state.old }
     ensures taken { (es : List Event) → IsStateOf es state.old → IfOk result (λ taken. IsTrue taken
         → IsTrue (applies (partition_of state.old) es event) × IsStateOf (es ++ event ∷ []) state.new) }

@@ -22,7 +22,7 @@ ghost use Rattle.zb_partition.specs.Log.{bodies_of};
 ghost use Rattle.zb_partition.specs.Stopping.{IsStepOf, IsStopped, IsLogOrMore, IsUnwritten, IsTooLong, UnlessDiskFails, stop_of};
 
 use crate::fault::OpenFault;
-use crate::opening::read_frames;
+use crate::opening::read_state;
 use crate::record::put_frame;
 use std::alloc::{AllocError, Global};
 use std::mem;
@@ -278,14 +278,14 @@ impl<D: Disk> Partition<D> {
         ensures steady { IsTrue D.counts_failures → OnOk result ((D.view (disk_after result)).faults ≡ (D.view (disk_of_scan scan)).faults) }
         ensures cause { IfErr result (λ refused. IsDiskCause D.counts_failures (D.view (disk_of_scan scan)).faults (D.view refused.1.log).faults refused.0) }
     {
-        match read_frames(alloc, &mut scan, place) {
-            Ok(known) => Ok(Partition {
+        match read_state(alloc, &mut scan, place) {
+            Ok((state, last_moment)) => Ok(Partition {
                 log: scan.finish(),
                 snap_a,
                 snap_b,
-                state: known.state,
+                state,
                 partitions,
-                last_moment: known.last_moment,
+                last_moment,
                 live: true,
                 in_writing: None,
                 frame: Vec::new(alloc),

@@ -25,6 +25,13 @@ sending_told (events.MessageSubscriptionCorrelating e) = Some (sending.Correlati
 sending_told (events.ProcessMessageSubscriptionDeleting e) = Some (sending.Closing e)
 sending_told _ = None
 
+-- the key of the definition or of the subscription that a sending is of (own)
+abbrev pub key_of_sending : Sending → ℕ
+key_of_sending (sending.Definition d) = d.definition
+key_of_sending (sending.Opening s) = s.subscription
+key_of_sending (sending.Correlating c) = c.subscription
+key_of_sending (sending.Closing s) = s.subscription
+
 -- an event ends the opening of a subscription: the home of its messages has it, or it is closed (Zeebe, the records)
 abbrev pub ends_opening : ℕ → Event → Bool
 ends_opening subscription (events.ProcessMessageSubscriptionCreated key) = key == subscription

@@ -1,7 +1,7 @@
 // What a partition sends, again and again until an event ends it.
 ghost use Rattle.std.specs.Prelude.{◌≡◌, ◌≤◌, IfOk};
 ghost use Rattle.zb_views.specs.Distributions.{ends_distribution};
-ghost use Rattle.zb_record.specs.Sendings.{sending_told, opening_of, ends_sending, ends_opening, ends_correlating, ends_closing};
+ghost use Rattle.zb_record.specs.Sendings.{key_of_sending, sending_told, opening_of, ends_sending, ends_opening, ends_correlating, ends_closing};
 ghost use Rattle.zb_record.specs.Packets.{packet_alone};
 
 use crate::partitions::{home_known, partition_of_key};
@@ -11,6 +11,7 @@ use zb_model::{
     Packet, PartitionId, ProcessMessageSubscriptionCreating, ProcessMessageSubscriptionDeleting,
     TryCopy,
 };
+use zb_queue::Queued;
 use zb_views::Distribution;
 
 /// What a partition sends, again and again until an event ends it.
@@ -33,6 +34,20 @@ impl TryCopy for Sending {
             Sending::Opening(subscription) => Ok(Sending::Opening(subscription.copy(alloc)?)),
             Sending::Correlating(message) => Ok(Sending::Correlating(message.copy(alloc)?)),
             Sending::Closing(subscription) => Ok(Sending::Closing(subscription.copy(alloc)?)),
+        }
+    }
+}
+
+/// A sending stands under the key of its definition or of its subscription.
+impl Queued for Sending {
+    ghost name_in = { key_of_sending };
+
+    fn name(&self) -> Key {
+        match self {
+            Sending::Definition(distribution) => distribution.definition,
+            Sending::Opening(opened) => opened.subscription,
+            Sending::Correlating(message) => message.subscription,
+            Sending::Closing(closing) => closing.subscription,
         }
     }
 }

@@ -8,7 +8,7 @@ use Rattle.zb_table.specs.Rows.{Ascend}
 use Rattle.zb_views.specs.declared.job.Job.{Job}
 use Rattle.zb_views.specs.Jobs.{jobs, job_at, job_told, ends_job, is_failed, job_changed, job_sort}
 use Rattle.zb_views.proofs.StandingLaws.{each_changed}
-use Rattle.zb_waits.proofs.FoundLemmas.{found_mapped}
+use Rattle.zb_pairs.proofs.FoundLemmas.{found_mapped}
 use Rattle.zb_views.proofs.JobLaws.{jobs_more}
 use Rattle.zb_views.specs.View.{greatest_among, greatest_counter, next_key}
 use Rattle.zb_tokens.specs.Board.{Board}

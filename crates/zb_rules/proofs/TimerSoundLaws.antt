@@ -8,7 +8,7 @@ use Rattle.zb_model.specs.declared.record.Event.{Event}
 use Rattle.zb_model.specs.declared.record.Event.TheVariants as events
 use Rattle.zb_table.specs.Rows.{Ascend, are_below}
 use Rattle.zb_table.proofs.Ascending.{ascend_more, finds_own, not_below}
-use Rattle.zb_waits.proofs.FoundLemmas.{ascend_kept, filter_all}
+use Rattle.zb_pairs.proofs.FoundLemmas.{ascend_kept, filter_all}
 use Rattle.zb_views.specs.declared.timer.Timer.{Timer}
 use Rattle.zb_views.specs.Timers.{timer_of, timer_told, ends_timer, timers, timers_on}
 use Rattle.zb_views.specs.Standing.{begun_by}

@@ -5,12 +5,12 @@ use Rattle.std.proofs.lemmas.List.Elements.{filter-append, All-head, All-tail}
 use Rattle.zb_exchange_records.specs.declared.message.MessagePublished.{MessagePublished}
 use Rattle.zb_model.specs.declared.record.Command.{Command}
 use Rattle.zb_model.specs.declared.record.Event.{Event}
-use Rattle.zb_table.specs.Earliest.{earliest, place_in_time, first_due, earlier_option}
+use Rattle.zb_table.specs.Earliest.{earliest, place_in_time, is_due, first_due, earlier_option}
 use Rattle.zb_table.specs.Rows.{Ascend}
 use Rattle.zb_table.proofs.Ascending.{finds_own}
 use Rattle.zb_views.specs.declared.job.Job.{Job}
 use Rattle.zb_views.specs.declared.timer.Timer.{Timer}
-use Rattle.zb_views.specs.Jobs.{jobs}
+use Rattle.zb_views.specs.Jobs.{jobs, is_activated}
 use Rattle.zb_views.specs.Messages.{buffered}
 use Rattle.zb_views.specs.Timers.{timers, timer_at}
 use Rattle.zb_jobs.proofs.EarlierLaws.{earliest_append, filter_mapped, earliest_mapped}
@@ -21,6 +21,7 @@ use Rattle.zb_rules.specs.declared.alarm.Alarm.{Alarm}
 use Rattle.zb_rules.specs.Shown.{board_of}
 use Rattle.zb_rules.specs.Trigger.{waits_for, reason_to_trigger, timer_in_wrong_state, cell_not_waiting}
 use Rattle.zb_rules.specs.Due.{alarm_of_message, alarm_of_job, alarm_of_timer, jobs_given, timers_awaited, place_of_alarm, has_come_due, due_command}
+use Rattle.zb_state.specs.Listing.{given_until}
 use Rattle.zb_state.specs.Alarms.{expiry_at, time_out_at, trigger_at}
 
 -- lists by two questions that have the same answer for each of their things
@@ -72,6 +73,29 @@ time_out_of (Some j) = refl
 trigger_of : (found : Option Timer) → option_map alarm_of_timer found ≡ option_map trigger_at (option_map place_of_timer found)
 trigger_of None = refl
 trigger_of (Some t) = refl
+
+-- until when a worker has a job, and its key
+abbrev given_place : Job → ℕ × ℕ
+given_place = place_in_time (λ j. j.key) given_until
+
+-- those that are due, by their deadlines and keys
+same_places : (now : ℕ) (js : List Job) → map given_place (filter (is_due (λ j. j.key) given_until now) js) ≡ map place_of_job (filter (λ j. nat_le j.deadline now) (filter (λ j. is_activated j.phase) js))
+same_places now [] = refl
+same_places now (j ∷ js) = by_tests (is_activated j.phase) (nat_le j.deadline now) refl refl (same_places now js)
+  where
+    by_tests : (t u : Bool) → is_activated j.phase ≡ t → nat_le j.deadline now ≡ u
+        → map given_place (filter (is_due (λ o. o.key) given_until now) js) ≡ map place_of_job (filter (λ o. nat_le o.deadline now) (filter (λ o. is_activated o.phase) js))
+        → map given_place (filter (is_due (λ o. o.key) given_until now) (j ∷ js)) ≡ map place_of_job (filter (λ o. nat_le o.deadline now) (filter (λ o. is_activated o.phase) (j ∷ js)))
+    by_tests true true has come later = rw (has, come, later) (rw has refl)
+    by_tests true false has late later = rw (has, late) later
+    by_tests false u hasnt come later = rw hasnt later
+
+-- the job that is due first
+pub first_job_place : (now : ℕ) (js : List Job) → option_map given_place (first_due (λ j. j.key) given_until now js) ≡ option_map place_of_job (due_job now js)
+first_job_place now js =
+    sym (earliest_mapped given_place (λ p. p) (filter (is_due (λ j. j.key) given_until now) js))
+    ∙ (ap (earliest (λ (p : ℕ × ℕ). p)) (same_places now js)
+    ∙ earliest_mapped place_of_job (λ p. p) (filter (λ j. nat_le j.deadline now) (filter (λ j. is_activated j.phase) js)))
 
 -- the earliest of three lists
 earliest_of_three : (now : ℕ) (xs ys zs : List Alarm) → earliest place_of_alarm (filter (has_come_due now) (xs ++ (ys ++ zs)))

@@ -4,3 +4,6 @@ pub mod KeyLemmas
 pub mod MessageLemmas
 pub mod PacketLemmas
 pub mod StateLemmas
+pub mod ListingLemmas
+pub mod NamedLemmas
+pub mod LentLemmas

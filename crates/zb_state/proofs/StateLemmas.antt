@@ -24,7 +24,7 @@ use Rattle.zb_tokens.specs.declared.board.Mover.{Mover}
 use Rattle.zb_definitions.specs.Kept.{KeepsDefinitions}
 use Rattle.zb_state.specs.declared.turn.Turn.{Turn}
 use Rattle.zb_state.specs.State.{IsStateOf, IsSameBeside, HasTaken}
-use Rattle.zb_state.specs.declared.state.State.{State}
+use Rattle.zb_state.specs.declared.facts.Facts.{Facts}
 use Rattle.zb_state.specs.declared.tables.Tables.{Tables}
 
 -- the greatest counter
@@ -33,7 +33,7 @@ counter_more p es e =
     greatest_counter_more p es (e ∷ []) ∙ ap (λ (keys : List ℕ). max (greatest_counter p es) (greatest_among p keys)) (append-nil (keys_in e))
 
 -- the state where each part has taken the event in
-pub state_more : (es : List Event) (e : Event) (old mid new : State) → IsStateOf es old → IsSameBeside old mid → IsTrue (applies old.place es e) → after_shown old.game (shown es e) ≡ Some mid.game
+pub state_more : (es : List Event) (e : Event) (old mid new : Facts) → IsStateOf es old → IsSameBeside old mid → IsTrue (applies old.place es e) → after_shown old.game (shown es e) ≡ Some mid.game
     → HasTaken e (standing_by message_sort [] e mid.messages) mid new → IsStateOf (es ++ e ∷ []) new
 state_more es e old mid new is same applied played took =
     let tables = took.tables in

@@ -1,5 +1,7 @@
 pub mod Alarms
+pub mod Listing
 pub mod Messages
+pub mod Named
 pub mod Refusal
 pub mod Shows
 pub mod Sound

@@ -2,11 +2,12 @@
 use Rattle.std.specs.Prelude.{◌≡◌, ◌++◌, ℕ, max, List, [], Some, IsTrue, IsFalse}
 use Rattle.zb_exchange_records.specs.declared.message.MessagePublished.{MessagePublished}
 use Rattle.zb_model.specs.declared.record.Event.{Event}
-use Rattle.zb_state.specs.declared.state.State.{State}
+use Rattle.zb_state.specs.declared.facts.Facts.{Facts}
 use Rattle.zb_views.specs.View.{greatest_among, greatest_counter, keys_in}
-use Rattle.zb_views.specs.Jobs.{jobs}
-use Rattle.zb_views.specs.Timers.{timers}
-use Rattle.zb_views.specs.Messages.{buffered}
+use Rattle.zb_views.specs.Jobs.{jobs, job_sort}
+use Rattle.zb_views.specs.Timers.{timers, timer_sort}
+use Rattle.zb_views.specs.Messages.{buffered, message_sort}
+use Rattle.zb_views.specs.Standing.{standing_by}
 use Rattle.zb_views.specs.Definitions.{definitions}
 use Rattle.zb_views.specs.Left.{left_told, left}
 use Rattle.zb_record.specs.Sendings.{sendings}
@@ -17,11 +18,11 @@ use Rattle.zb_rules.specs.Shown.{board_of}
 use Rattle.zb_state.specs.Tables.{HaveTaken}
 
 -- the partition that the state is of
-abbrev pub partition_of : State → ℕ
+abbrev pub partition_of : Facts → ℕ
 partition_of state = state.place
 
 -- each of these events applies to those before it, and the state is what they come to
-pub record IsStateOf (es : List Event) (state : State) : Type 0 where
+pub record IsStateOf (es : List Event) (state : Facts) : Type 0 where
   pub applied : IsTrue (all_apply state.place [] es)
   pub counter : greatest_counter state.place es ≡ state.counter
   pub messages : buffered es ≡ state.messages
@@ -33,28 +34,34 @@ pub record IsStateOf (es : List Event) (state : State) : Type 0 where
   pub game : board_of es ≡ Some state.game
 
 -- no events come to this state
-abbrev pub IsUnreached : State → Type 0
+abbrev pub IsUnreached : Facts → Type 0
 IsUnreached state = (es : List Event) → IsStateOf es state → ⊥
 
 -- of no events that come to this state all that is made of them applies
-abbrev pub CantMake : State → Making → Type 0
+abbrev pub CantMake : Facts → Making → Type 0
 CantMake state make = (es : List Event) → IsStateOf es state → IsFalse (all_apply (partition_of state) es (make es))
 
 -- what is made of the events that come to a state was put behind others, and the state has taken it in
-pub record HasPut (make : Making) (state after : State) (out out_after : List Event) : Type 0 where
+pub record HasPut (make : Making) (state after : Facts) (out out_after : List Event) : Type 0 where
   pub put : (es : List Event) → IsStateOf es state → out_after ≡ out ++ make es
   pub taken : (es : List Event) → IsStateOf es state → IsStateOf (es ++ make es) after
 
 -- two states that differ in their game alone
-pub record IsSameBeside (old new : State) : Type 0 where
+pub record IsSameBeside (old new : Facts) : Type 0 where
   pub place : new.place ≡ old.place
   pub counter : new.counter ≡ old.counter
   pub messages : new.messages ≡ old.messages
   pub tables : new.tables ≡ old.tables
   pub left : new.left ≡ old.left
 
+-- the messages, the jobs and the timers have taken an event in (own)
+pub record HasTakenRows (e : Event) (old new : Facts) : Type 0 where
+  pub messages : new.messages ≡ standing_by message_sort [] e old.messages
+  pub jobs : new.tables.jobs ≡ standing_by job_sort [] e old.tables.jobs
+  pub timers : new.tables.timers ≡ standing_by timer_sort [] e old.tables.timers
+
 -- a state that took an event in, but for its move, and has these messages
-pub record HasTaken (e : Event) (ms : List MessagePublished) (old new : State) : Type 0 where
+pub record HasTaken (e : Event) (ms : List MessagePublished) (old new : Facts) : Type 0 where
   pub place : new.place ≡ old.place
   pub counter : new.counter ≡ max old.counter (greatest_among old.place (keys_in e))
   pub messages : new.messages ≡ ms

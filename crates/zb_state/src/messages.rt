@@ -1,24 +1,24 @@
 ghost use Rattle.std.specs.Prelude.{◌≡◌, ◌==◌, ◌&&◌, ◌++◌, ◌∷◌, [], ℕ, List, nat_le, not, filter, false, is_some, Some, None, IsTrue, IfOk, IfErr, OnOk, OnErr, option_map};
 ghost use Rattle.std.specs.List.{find, list_any};
+ghost use Rattle.std.specs.Str.{bytes_eq};
 ghost use Rattle.std.specs.Option.{option_copied, option_map_or};
 ghost use Rattle.zb_model.specs.declared.record.Event.{Event};
-ghost use Rattle.zb_table.specs.Earliest.{first_due, place_in_time};
 ghost use Rattle.zb_table.specs.Rows.{Ascend, are_below};
 ghost use Rattle.zb_views.specs.Standing.{standing_by};
 ghost use Rattle.zb_views.specs.Messages.{message_told, expiry_told, message_sort, is_past_deadline};
-ghost use Rattle.zb_rules.specs.Publish.{is_same};
 ghost use Rattle.zb_state.specs.Messages.{has_place_for_message};
 
 use std::alloc::{AllocError, Global};
 use std::marker::Model;
-use zb_model::{Event, Key, MessagePublish, MessagePublished, Moment, TryCopy};
-use zb_table::{Query, Row, Timed};
-use zb_waits::Waits;
+use zb_lists::Listed;
+use zb_model::{Event, Key, MessagePublished, Moment, TryCopy};
+use zb_rows::{Kept, Rows};
+use zb_table::{Row, Timed};
 
-/// The buffered messages, in the order of their keys. They wait for their deadlines. Contracts see the list of them.
+/// The buffered messages, in the order of their keys. Contracts see the list of them.
 #[derive(Drop)]
 pub struct Messages {
-    rows: Waits<Buffered>,
+    rows: Rows<Buffered>,
 }
 
 impl Model for Messages {
@@ -31,7 +31,11 @@ impl Model for Messages {
 
     ghost coded = { coded_list published.the_row.coded };
 
+    ghost use Rattle.zb_table.specs.Rows.{Ascend};
+
     ghost view = { λ m. m.rows };
+
+    ghost invariant = { λ m. Ascend (λ x. x.key) 0 m.rows };
 }
 
 impl Messages {
@@ -40,7 +44,7 @@ impl Messages {
         ensures { result ≡ [] }
     {
         Messages {
-            rows: Waits::empty(alloc),
+            rows: Rows::empty(alloc),
         }
     }
 
@@ -54,19 +58,22 @@ impl Messages {
         deadline_among(key, &self.rows)
     }
 
-    /// Whether a message has the name, the correlation key and the id that are to be published. It goes through all.
-    pub fn holds_same(&self, command: &MessagePublish) -> bool
-        ensures { result ≡ list_any (is_same command.now) self.now }
+    /// Whether there is a message with this key, and it has this id. It takes the logarithm of how many there are.
+    pub fn has_id(&self, key: Key, id: &str) -> bool
+        ensures { result ≡ option_map_or (λ m. bytes_eq m.id id.now) (find (λ m. m.key == key) self.now) false }
     {
-        self.rows.any(command)
+        match self.rows.get(key) {
+            Some(buffered) => buffered.message.id.as_str() == id,
+            None => false,
+        }
     }
 
-    /// The deadline and the key of the message that is due first, if one is due now. It takes the logarithm of how many
-    /// there are.
-    pub fn first_due(&self, now: Moment) -> Option<(Moment, Key)>
-        ensures { result ≡ option_map (place_in_time (λ m. m.key) (λ m. Some m.deadline)) (first_due (λ m. m.key) (λ m. Some m.deadline) now self.now) }
+    /// The rows.
+    pub(crate) fn rows(&self) -> &Rows<Buffered>
+        ensures rows { result.now ≡ self.now }
+        ensures order { Ascend (λ m. m.key) 0 self.now }
     {
-        self.rows.first_due(now)
+        &self.rows
     }
 
     /// Takes in what an event says of messages. After a refusal nothing has changed. It costs a copy of the message that
@@ -115,14 +122,14 @@ impl Messages {
         ensures { self.new ≡ filter (λ m. not (option_map_or (λ k. m.key == k) key false)) self.old }
     {
         if let Some(key) = key {
-            self.rows.remove(key);
+            drop(self.rows.take(key));
         }
     }
 }
 
 /// A buffered message. Contracts see the message.
 #[derive(Drop)]
-struct Buffered {
+pub(crate) struct Buffered {
     message: MessagePublished,
 }
 
@@ -153,20 +160,27 @@ impl Timed for Buffered {
     }
 }
 
-// Whether a message has the name, the correlation key and the id that are to be published.
-impl Query<Buffered> for MessagePublish {
-    ghost passes = { is_same };
+impl Kept for Buffered {
+    ghost cell_in = { λ m. None };
 
-    fn passes(&self, buffered: &Buffered) -> bool {
-        let message = &buffered.message;
-        message.name.as_str() == self.name.as_str()
-            && message.correlation_key.as_str() == self.correlation_key.as_str()
-            && message.id.as_str() == self.id.as_str()
+    fn cell(&self) -> Option<Key> {
+        None
+    }
+}
+
+impl Listed for Buffered {
+    ghost label_in = { λ m. Some (m.name, m.correlation_key) };
+
+    fn label(&self) -> Option<(&str, &str)> {
+        Some((
+            self.message.name.as_str(),
+            self.message.correlation_key.as_str(),
+        ))
     }
 }
 
 // The deadline of the message with this key, if there is one.
-fn deadline_among(key: Key, messages: &Waits<Buffered>) -> Option<Moment>
+fn deadline_among(key: Key, messages: &Rows<Buffered>) -> Option<Moment>
     ensures deadline { result ≡ option_map (λ m. m.deadline) (find (λ m. m.key == key) messages.now) }
     ensures order { Ascend (λ m. m.key) 0 messages.now }
 {

@@ -45,9 +45,7 @@ impl Maker for Activated<'_> {
         out: &mut Out,
     ) -> Result<(), Refusal> {
         let command = self.0;
-        let keys = state
-            .jobs()
-            .first_offered(alloc, command.kind.as_str(), command.most)?;
+        let keys = state.first_activatable(alloc, command.kind.as_str(), command.most)?;
         let finder = &GivenOut(command);
         let things = keys.as_slice();
         Each { finder, things }.put(alloc, state, moment, out)?;

@@ -34,8 +34,8 @@ use zb_state::{Out, Refusal, State};
 
 /// Why a command is rejected at this moment, if there is a reason. A model costs its check, an instance or a model
 /// that another partition sends what `Definitions::definition_for` or `contains` does, an acknowledgement what
-/// `Outbox::is_sent_to` does, an expiry what `Messages::deadline_of` does, a message with an id a walk over those that
-/// are buffered, a timer what `Timers::get` and `waits_at` do, and a command to go on what `State::quiet` does.
+/// `Outbox::is_sent_to` does, an expiry what `Messages::deadline_of` does, a message with an id what
+/// `State::holds_same` does, a timer what `Timers::get` and `waits_at` do, and a command to go on what `State::quiet` does.
 pub fn reason(
     alloc: Global,
     state: &State,

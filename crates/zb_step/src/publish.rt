@@ -13,7 +13,7 @@ use zb_model::{
 use zb_state::{Out, Refusal, State};
 
 /// Why a message isn't published: one with its name, correlation key and id is buffered, and the id isn't
-/// empty. That costs a step for each buffered message, and only where the id isn't empty.
+/// empty. That costs what `State::holds_same` does, and only where the id isn't empty.
 pub fn reason(
     alloc: Global,
     state: &State,
@@ -31,7 +31,7 @@ pub fn reason(
 fn is_repeated(state: &State, command: &MessagePublish) -> bool
     ensures { (es : List Event) → IsStateOf es state.now → result ≡ is_repeated es command.now }
 {
-    !command.id.as_str().is_empty() && state.messages().holds_same(command)
+    !command.id.as_str().is_empty() && state.holds_same(command)
 }
 
 // The rejection of a message that is buffered.

@@ -1,5 +1,5 @@
 // Finding a place by its key.
-ghost use Rattle.std.specs.Prelude.{◌≡◌, ◌≤◌, IfOk, IfErr, false, [], option_map};
+ghost use Rattle.std.specs.Prelude.{◌≡◌, ◌≤◌, ◌++◌, IfOk, IfErr, OnOk, false, [], map, option_map};
 ghost use Rattle.std.specs.List.{list_any};
 ghost use Rattle.std.specs.Option.{option_map_or};
 ghost use Rattle.zb_table.specs.Rows.{first_passing, last_passing};
@@ -7,6 +7,7 @@ ghost use Rattle.zb_table.specs.Places.{held, rows_in, AreOrdered, count_below, 
 
 use crate::row::Place;
 use crate::{Query, Row};
+use std::alloc::{AllocError, Global};
 use zb_base::Key;
 
 /// How many places have lower keys. It takes one step where all have, and else the logarithm of how many places
@@ -67,6 +68,27 @@ pub fn find<R: Row>(key: Key, places: &[Place<R>]) -> Result<usize, usize>
         Some(found) if found.key == key => Ok(place),
         _ => Err(place),
     }
+}
+
+/// The keys of all rows, ascending. It takes a step for each place.
+pub fn keys<R: Row>(alloc: Global, places: &[Place<R>]) -> Result<Vec<Key>, AllocError>
+    ensures { IfOk result (λ keys. keys.items ≡ map R.key_in (rows_in places.now)) }
+{
+    let mut keys = Vec::new(alloc);
+    for place in places {
+        push_key(place, &mut keys)?;
+    }
+    Ok(keys)
+}
+
+// Puts the key of the row that is there, if there is one, behind others.
+fn push_key<R: Row>(place: &Place<R>, keys: &mut Vec<Key>) -> Result<(), AllocError>
+    ensures { OnOk result (keys.new.items ≡ keys.old.items ++ map R.key_in (held place.now.row [])) }
+{
+    if let Some(row) = &place.row {
+        keys.push(row.key())?;
+    }
+    Ok(())
 }
 
 /// Whether a row passes. It goes through all of them.

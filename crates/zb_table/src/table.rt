@@ -1,4 +1,4 @@
-ghost use Rattle.std.specs.Prelude.{◌≡◌, ◌≤◌, ◌<◌, ◌+◌, ◌^◌, ◌++◌, ◌∷◌, [], List, None, IsTrue, OnOk, OnErr, is_some, length, map, option_map};
+ghost use Rattle.std.specs.Prelude.{◌≡◌, ◌≤◌, ◌<◌, ◌+◌, ◌^◌, ◌++◌, ◌∷◌, [], List, None, IsTrue, IfOk, OnOk, OnErr, is_some, length, map, option_map};
 ghost use Rattle.std.specs.List.{insert, list_any};
 ghost use Rattle.std.specs.Option.{option_copied};
 ghost use Rattle.zb_table.specs.declared.row.Place.{Place};
@@ -67,6 +67,14 @@ impl<R: Row> Table<R> {
         ensures { result ≡ is_some (row_at R.key_in key self.now) }
     {
         self.get(key).is_some()
+    }
+
+    /// The keys of all rows, ascending. It takes a step for each place.
+    pub fn keys(&self, alloc: Global) -> Result<Vec<Key>, AllocError>
+        ensures keys { IfOk result (λ keys. keys.items ≡ map R.key_in self.now) }
+        ensures order { Ascend R.key_in 0 self.now }
+    {
+        search::keys(alloc, &self.places)
     }
 
     /// Whether a row passes. It goes through all of them.

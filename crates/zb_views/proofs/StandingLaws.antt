@@ -8,7 +8,7 @@ use Rattle.std.proofs.lemmas.Bool.{not-true}
 use Rattle.std.proofs.lemmas.List.Elements.{filter-append, filter_agree, All-map, All-filter, All-contains_itself, filter_passes}
 use Rattle.zb_table.specs.Rows.{Ascend, are_below}
 use Rattle.zb_table.proofs.Growing.{below_more}
-use Rattle.zb_waits.proofs.FoundLemmas.{map_same, filter_all, ascend_kept, ascend_mapped}
+use Rattle.zb_pairs.proofs.FoundLemmas.{map_same, filter_all, ascend_kept, ascend_mapped}
 use Rattle.zb_model.specs.declared.record.Event.{Event}
 use Rattle.zb_views.specs.Standing.{Sort, lasting, standing_behind, standing, left_by, begun_by, standing_by}
 

@@ -8,7 +8,7 @@ use Rattle.zb_model.specs.declared.record.Event.{Event}
 use Rattle.zb_table.specs.Rows.{Ascend, are_below}
 use Rattle.zb_table.proofs.Ascending.{ascend_more}
 use Rattle.zb_table.proofs.Growing.{below_more}
-use Rattle.zb_waits.proofs.FoundLemmas.{ascend_kept}
+use Rattle.zb_pairs.proofs.FoundLemmas.{ascend_kept}
 use Rattle.zb_views.specs.declared.timer.Timer.{Timer}
 use Rattle.zb_views.specs.Timers.{timer_told, timer_ended, ends_timer, timers, timer_at, timers_made, makes_timer, times_timer_made, times_timer_ended, makes_later_timer, ends_timer_there, fits_timers, all_fit_timers}
 use Rattle.zb_views.specs.Standing.{begun_by}

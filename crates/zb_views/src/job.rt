@@ -1,7 +1,9 @@
-ghost use Rattle.std.specs.Prelude.{◌≡◌, Some, None, if◌then◌else◌};
-ghost use Rattle.zb_views.specs.Jobs.{is_activated, is_given_out};
+ghost use Rattle.std.specs.Prelude.{◌≡◌, [], Some, None, if◌then◌else◌};
+ghost use Rattle.zb_views.specs.Jobs.{is_activatable, is_activated, is_given_out};
 
+use zb_lists::Listed;
 use zb_model::{Key, Moment, Text};
+use zb_rows::Kept;
 use zb_table::{Row, Timed};
 
 /// Where a job is in its life.
@@ -56,6 +58,25 @@ impl Timed for Job {
         match self.phase {
             JobPhase::Activated => Some(self.deadline),
             JobPhase::Created | JobPhase::TimedOut | JobPhase::Failed => None,
+        }
+    }
+}
+
+impl Kept for Job {
+    ghost cell_in = { λ j. Some j.cell };
+
+    fn cell(&self) -> Option<Key> {
+        Some(self.cell)
+    }
+}
+
+impl Listed for Job {
+    ghost label_in = { λ j. if is_activatable j.phase then Some (j.kind, []) else None };
+
+    fn label(&self) -> Option<(&str, &str)> {
+        match self.phase {
+            JobPhase::Created | JobPhase::TimedOut => Some((self.kind.as_str(), "")),
+            JobPhase::Activated | JobPhase::Failed => None,
         }
     }
 }

@@ -1,6 +1,8 @@
-ghost use Rattle.std.specs.Prelude.{Some};
+ghost use Rattle.std.specs.Prelude.{Some, None};
 
+use zb_lists::Listed;
 use zb_model::{Key, Moment, Text};
+use zb_rows::Kept;
 use zb_table::{Row, Timed};
 
 /// A timer: it is triggered once its moment has come.
@@ -28,5 +30,21 @@ impl Timed for Timer {
 
     fn moment(&self) -> Option<Moment> {
         Some(self.due)
+    }
+}
+
+impl Kept for Timer {
+    ghost cell_in = { λ t. Some t.cell };
+
+    fn cell(&self) -> Option<Key> {
+        Some(self.cell)
+    }
+}
+
+impl Listed for Timer {
+    ghost label_in = { λ t. None };
+
+    fn label(&self) -> Option<(&str, &str)> {
+        None
     }
 }

@@ -6,8 +6,8 @@ ghost use Rattle.zb_board.specs.Searches.{has_token};
 use crate::Game;
 use crate::lookups::In;
 use zb_base::Key;
+use zb_pairs::first_under;
 use zb_places::has_token_in;
-use zb_waits::first_under;
 
 impl Game {
     // Whether nothing runs in a cell, and no token is in it.

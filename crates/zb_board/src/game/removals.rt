@@ -4,7 +4,7 @@ ghost use Rattle.std.specs.BTreeSet.{IsOrdered};
 ghost use Rattle.std.specs.List.{find};
 ghost use Rattle.zb_tokens.specs.Board.{cell_at, emptied, leaves_in};
 ghost use Rattle.zb_tokens.specs.Edits.{removed, without_first};
-ghost use Rattle.zb_waits.specs.Pairs.{has_pair, keys_under, place_cmp};
+ghost use Rattle.zb_pairs.specs.Pairs.{has_pair, keys_under, place_cmp};
 ghost use Rattle.zb_board.specs.Indexed.{is_kept};
 ghost use Rattle.zb_board.specs.Searches.{leaves_at};
 
@@ -14,9 +14,9 @@ use crate::{Game, GameFault};
 use std::alloc::{AllocError, Global};
 use std::collections::BTreeSet;
 use zb_base::Key;
+use zb_pairs::{first_under, first_under_that};
 use zb_table::{Query, Table};
 use zb_tokens::Phase;
-use zb_waits::{first_under, first_under_that};
 
 impl Game {
     /// Takes away a cell. Its scope may go on then. Where tokens are in it, what is kept counts no more. `Illegal`

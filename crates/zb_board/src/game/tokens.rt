@@ -6,7 +6,7 @@ ghost use Rattle.zb_tokens.specs.Board.{spot_of};
 ghost use Rattle.zb_tokens.specs.Doom.{calls_off};
 ghost use Rattle.zb_tokens.specs.Edits.{without_first};
 ghost use Rattle.zb_tokens.specs.MoveEnter.{stands_at, without_each};
-ghost use Rattle.zb_waits.specs.Pairs.{is_number};
+ghost use Rattle.zb_pairs.specs.Pairs.{is_number};
 ghost use Rattle.zb_board.specs.Indexed.{is_kept};
 
 use crate::Game;

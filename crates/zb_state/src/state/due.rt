@@ -1,5 +1,7 @@
 // What is due first.
-ghost use Rattle.std.specs.Prelude.{◌≡◌, List, Some, option_map};
+ghost use Rattle.std.specs.Prelude.{◌≡◌, ◌==◌, List, Some, false, option_map};
+ghost use Rattle.std.specs.List.{find};
+ghost use Rattle.std.specs.Option.{option_map_or};
 ghost use Rattle.zb_model.specs.declared.record.Event.{Event};
 ghost use Rattle.zb_table.specs.Earliest.{is_earlier, earlier_of, earlier_option};
 ghost use Rattle.zb_rules.specs.Due.{place_of_alarm, due_command};
@@ -13,34 +15,41 @@ use zb_game::waits_at;
 use zb_model::{Command, Key, Moment};
 use zb_rules::Alarm;
 use zb_table::Query;
-use zb_views::Timer;
+use zb_timers::Timers;
 
 impl State {
     /// The command that is due first, if one is due now: by the moment at which it is due, and of those at one moment
-    /// by the key of what it is for. It takes the logarithm of how many messages are buffered and of how many jobs there
-    /// are, and that of how many timers there are for each that is due in front of the first whose cell waits.
+    /// by the key of what it is for. It takes constant time, and the logarithm of how many timers and cells there are for
+    /// each timer that is due up to the first whose cell waits.
     pub fn due(&self, now: Moment) -> Option<Command>
         ensures { (es : List Event) → IsStateOf es self.now → result ≡ due_command now es }
     {
-        let awaited = Awaited { game: &self.game };
-        let expiry = expiry_of(self.messages.first_due(now));
-        let time_out = time_out_of(self.tables.jobs.first_due(now));
-        let trigger = trigger_of(self.tables.timers.first_due_that(now, &awaited));
+        let awaited = Awaited {
+            game: &self.facts.game,
+            timers: &self.facts.tables.timers,
+        };
+        let expiry = expiry_of(self.listing.messages.first_due(now));
+        let time_out = time_out_of(self.listing.jobs.first_due(now));
+        let trigger = trigger_of(self.listing.timers.first_due_that(now, &awaited));
         command_of(earlier(expiry, earlier(time_out, trigger)))
     }
 }
 
-// Whether the cell of a timer waits for it.
+// Whether the cell of the timer with a key waits for it.
 #[derive(Drop)]
 struct Awaited<'a> {
     game: &'a Game,
+    timers: &'a Timers,
 }
 
-impl<'a> Query<Timer> for Awaited<'a> {
-    ghost passes = { λ awaited t. waits_for t awaited.game.now };
+impl<'a> Query<Key> for Awaited<'a> {
+    ghost passes = { λ awaited k. option_map_or (λ t. waits_for t awaited.game.now) (find (λ t. t.key == k) awaited.timers.now) false };
 
-    fn passes(&self, timer: &Timer) -> bool {
-        waits_at(self.game, timer.cell, timer.node.as_str())
+    fn passes(&self, key: &Key) -> bool {
+        match self.timers.get(*key) {
+            Some(timer) => waits_at(self.game, timer.cell, timer.node.as_str()),
+            None => false,
+        }
     }
 }
 

@@ -21,7 +21,7 @@ impl State {
             → IfOk result (λ packets. packets.items ≡ outbox_of (partition_of self.now) partitions es) }
     {
         let mut packets = Vec::new(alloc);
-        for sending in self.tables.sendings.sent() {
+        for sending in self.facts.tables.sendings.sent() {
             if let Some(packet) = self.packet_for(alloc, partitions, sending)? {
                 packets.push(packet)?;
             }
@@ -35,7 +35,7 @@ impl State {
         ensures { (es : List Event) → IsStateOf es self.now
             → IfOk result (λ packet. packet ≡ first_packet (partition_of self.now) partitions es) }
     {
-        for sending in self.tables.sendings.sent() {
+        for sending in self.facts.tables.sendings.sent() {
             if let Some(packet) = self.packet_for(alloc, partitions, sending)? {
                 return Ok(Some(packet));
             }
@@ -47,14 +47,14 @@ impl State {
     pub fn is_distributed_to(&self, definition: Key, partition: u32) -> bool
         ensures { (es : List Event) → IsStateOf es self.now → result ≡ is_distributed_to definition partition es }
     {
-        self.tables.sendings.is_sent_to(definition, partition)
+        self.facts.is_distributed_to(definition, partition)
     }
 
     /// Whether this definition is on its way to some partition. It costs what `Outbox::is_sent` does.
     pub fn is_distributed(&self, definition: Key) -> bool
         ensures { (es : List Event) → IsStateOf es self.now → result ≡ is_distributed definition es }
     {
-        self.tables.sendings.is_sent(definition)
+        self.facts.is_distributed(definition)
     }
 
     // The packet of what is sent; `None` of a definition that isn't there.
@@ -73,7 +73,11 @@ impl State {
                 self.packet_of_definition(alloc, partitions, *distribution)
             }
             Sending::Opening(_) | Sending::Correlating(_) | Sending::Closing(_) => {
-                Ok(sending.copy(alloc)?.into_packet(self.place, partitions))
+                Ok(
+                    sending
+                        .copy(alloc)?
+                        .into_packet(self.facts.place, partitions),
+                )
             }
         }
     }
@@ -90,15 +94,15 @@ impl State {
             → IfOk result (λ packet. packet ≡ packet_of_definition (partition_of self.now) partitions es distribution) }
     {
         let key = distribution.definition;
-        let Some(version) = self.tables.definitions.version_under(key) else {
+        let Some(version) = self.facts.tables.definitions.version_under(key) else {
             return Ok(None);
         };
-        let Some(graph) = self.game.model(key) else {
+        let Some(graph) = self.facts.game.model(key) else {
             return Ok(None);
         };
         Ok(Some(distribute(
             alloc,
-            self.place,
+            self.facts.place,
             partitions,
             distribution,
             version,

@@ -1,5 +1,4 @@
-use Rattle.std.proofs.Common.{◌≡◌, ◌-◌, ◌++◌, ◌∷◌, [], List, length, take, sym, ap, subst, ◌∙◌, arith, rules, length-append}
-use Rattle.zb_table.specs.declared.row.Place.{Place}
+use Rattle.std.proofs.Common.{◌≡◌, ◌++◌, ◌∷◌, [], length, take, sym, ap, subst, ◌∙◌, arith, rules, length-append}
 use Rattle.zb_table.specs.Places.{count_empty, rows_in, AreOrdered}
 use Rattle.zb_table.proofs.Changing.{ordered_front, rows_front, take_front}
 use Rattle.zb_table.proofs.Counting.{count_front}

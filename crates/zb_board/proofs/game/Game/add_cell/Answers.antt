@@ -1,7 +1,7 @@
 use Rattle.std.proofs.Common.{◌≡◌, ℕ, ◌==◌, ◌&&◌, Bool, true, cond, ap, ◌∙◌, rules}
 use Rattle.zb_table.specs.Rows.{are_below}
-use Rattle.zb_waits.specs.Pairs.{has_pair}
-use Rattle.zb_waits.proofs.PairLemmas.{same_place}
+use Rattle.zb_pairs.specs.Pairs.{has_pair}
+use Rattle.zb_pairs.proofs.PairLemmas.{same_place}
 use Rattle.zb_tokens.specs.declared.board.Cell.{Cell}
 use Rattle.zb_board.specs.Indexed.{is_kept}
 use Rattle.zb_board.proofs.IndexedLemmas.{kept_cell}

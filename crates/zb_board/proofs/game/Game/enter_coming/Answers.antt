@@ -1,8 +1,8 @@
 use Rattle.std.proofs.Common.{◌≡◌, ℕ, ◌==◌, ◌&&◌, ◌∷◌, ◌++◌, [], Bool, true, cond, refl, ap, ◌∙◌, arith, rules}
 use Rattle.std.proofs.lemmas.Bool.Decides.{nat_tests}
 use Rattle.zb_table.specs.Rows.{are_below}
-use Rattle.zb_waits.specs.Pairs.{has_pair}
-use Rattle.zb_waits.proofs.PairLemmas.{same_place}
+use Rattle.zb_pairs.specs.Pairs.{has_pair}
+use Rattle.zb_pairs.proofs.PairLemmas.{same_place}
 use Rattle.zb_tokens.specs.declared.board.Cell.{Cell}
 use Rattle.zb_tokens.specs.Board.{Board}
 use Rattle.zb_places.specs.Places.{held_tokens}

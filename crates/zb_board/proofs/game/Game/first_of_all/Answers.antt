@@ -3,7 +3,7 @@ use Rattle.std.specs.List.{find}
 use Rattle.zb_tokens.specs.Board.{Board}
 use Rattle.zb_tokens.specs.Forced.{can_enter}
 use Rattle.zb_places.proofs.HeldLemmas.{number_in}
-use Rattle.zb_waits.proofs.FoundLemmas.{first_is_found}
+use Rattle.zb_pairs.proofs.FoundLemmas.{first_is_found}
 use Rattle.zb_board.proofs.FirstLemmas.{read_first, read_none}
 use Rattle.zb_board.proofs.game.Game.first_of_all.Goals as goal
 

@@ -1,6 +1,6 @@
 use Rattle.std.proofs.Common.{◌≡◌, ℕ, ◌==◌, ◌&&◌, false, cond, sym, ap, ◌∙◌, rules}
 use Rattle.std.specs.List.{find, list_any}
-use Rattle.zb_waits.specs.Pairs.{has_pair}
+use Rattle.zb_pairs.specs.Pairs.{has_pair}
 use Rattle.zb_groups.specs.declared.held.Held.{Held}
 use Rattle.zb_tokens.specs.declared.board.Cell.{Cell}
 use Rattle.zb_tokens.specs.declared.board.Token.{Token}

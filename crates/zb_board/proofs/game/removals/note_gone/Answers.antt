@@ -1,6 +1,6 @@
 use Rattle.std.proofs.Common.{Bool, false, cond, ap, ◌∙◌}
-use Rattle.zb_waits.specs.Pairs.{has_pair}
-use Rattle.zb_waits.proofs.PairLemmas.{same_place}
+use Rattle.zb_pairs.specs.Pairs.{has_pair}
+use Rattle.zb_pairs.proofs.PairLemmas.{same_place}
 use Rattle.zb_board.proofs.game.removals.note_gone.Goals as goal
 
 pub returns-clause-fewer : goal.returns-clause-fewer

@@ -4,9 +4,9 @@ use Rattle.std.specs.List.{find}
 use Rattle.zb_table.specs.Rows.{row_at, without}
 use Rattle.zb_table.proofs.Changing.{without_absent}
 use Rattle.zb_table.proofs.Growing.{below_without}
-use Rattle.zb_waits.specs.Pairs.{has_pair, IsIndex}
-use Rattle.zb_waits.proofs.FoundLemmas.{first_is_found}
-use Rattle.zb_waits.proofs.PairLemmas.{same_place, index_without}
+use Rattle.zb_pairs.specs.Pairs.{has_pair, IsIndex}
+use Rattle.zb_pairs.proofs.FoundLemmas.{first_is_found}
+use Rattle.zb_pairs.proofs.PairLemmas.{same_place, index_without}
 use Rattle.zb_groups.specs.declared.held.Held.{Held}
 use Rattle.zb_groups.specs.Groups.{IsGrouped}
 use Rattle.zb_groups.proofs.RowLemmas.{ascend_without}

@@ -3,9 +3,9 @@ use Rattle.std.specs.BTreeSet.{BTreeSet}
 use Rattle.zb_table.specs.Rows.{Ascend, are_below}
 use Rattle.zb_table.proofs.Ascending.{ascend_more}
 use Rattle.zb_table.proofs.Growing.{with_last, below_higher, below_more}
-use Rattle.zb_waits.specs.Pairs.{has_pair, IsIndex}
-use Rattle.zb_waits.proofs.FoundLemmas.{none_below}
-use Rattle.zb_waits.proofs.PairLemmas.{same_place, index_with}
+use Rattle.zb_pairs.specs.Pairs.{has_pair, IsIndex}
+use Rattle.zb_pairs.proofs.FoundLemmas.{none_below}
+use Rattle.zb_pairs.proofs.PairLemmas.{same_place, index_with}
 use Rattle.zb_groups.specs.declared.held.Held.{Held}
 use Rattle.zb_groups.specs.Groups.{IsGrouped}
 use Rattle.zb_groups.proofs.groups.Groups.with.Goals as goal

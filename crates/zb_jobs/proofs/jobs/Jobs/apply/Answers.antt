@@ -1,4 +1,4 @@
-use Rattle.std.proofs.Common.{◌==◌, refl, sym, ap, ◌∙◌}
+use Rattle.std.proofs.Common.{◌==◌, inl, inr, refl, sym, ap, ◌∙◌}
 use Rattle.std.proofs.lemmas.Result.{on_ok_weaker}
 use Rattle.zb_model.specs.declared.record.Event.TheVariants as events
 use Rattle.zb_views.specs.Standing.{standing_by}
@@ -15,26 +15,6 @@ returns-in-JobCreated c = λ before.
     let js = c.args.self.now in
     let e = c.in-JobCreated.e in
     on_ok_weaker c.add.result (λ is. is ∙ sym (ap (λ x. standing_by job_sort before x js) c.in-JobCreated.is ∙ one_more job_sort before (events.JobCreated e) js (new_job e) refl (λ j. refl) (λ j. refl))) c.add.ensures
-
-pub returns-in-JobCompleted : goal.returns-in-JobCompleted
-returns-in-JobCompleted c = λ before.
-    let js = c.args.self.now in
-    on_ok_weaker c.end.result (λ is. is ∙ sym (ap (λ e. standing_by job_sort before e js) c.in-JobCompleted.is ∙ some_gone job_sort before (events.JobCompleted c.in-JobCompleted.key) js (λ j. j.key == c.in-JobCompleted.key) refl (λ j. refl) (λ j. refl))) c.end.ensures
-
-pub returns-in-JobCanceled : goal.returns-in-JobCanceled
-returns-in-JobCanceled c = λ before.
-    let js = c.args.self.now in
-    on_ok_weaker c.end-in-JobCanceled.result (λ is. is ∙ sym (ap (λ e. standing_by job_sort before e js) c.in-JobCanceled.is ∙ some_gone job_sort before (events.JobCanceled c.in-JobCanceled.key) js (λ j. j.key == c.in-JobCanceled.key) refl (λ j. refl) (λ j. refl))) c.end-in-JobCanceled.ensures
-
-pub returns-in-JobErrorThrown : goal.returns-in-JobErrorThrown
-returns-in-JobErrorThrown c = λ before.
-    let js = c.args.self.now in
-    on_ok_weaker c.end-in-JobErrorThrown.result (λ is. is ∙ sym (ap (λ e. standing_by job_sort before e js) c.in-JobErrorThrown.is ∙ some_gone job_sort before (events.JobErrorThrown c.in-JobErrorThrown.e) js (λ j. j.key == c.in-JobErrorThrown.e.key) refl (λ j. refl) (λ j. refl))) c.end-in-JobErrorThrown.ensures
-
-pub returns-in-ElementTerminating : goal.returns-in-ElementTerminating
-returns-in-ElementTerminating c = λ before.
-    let js = c.args.self.now in
-    on_ok_weaker c.end_on.result (λ is. is ∙ sym (ap (λ e. standing_by job_sort before e js) c.in-ElementTerminating.is ∙ some_gone job_sort before (events.ElementTerminating c.in-ElementTerminating.cell) js (λ j. j.cell == c.in-ElementTerminating.cell) refl (λ j. refl) (λ j. refl))) c.end_on.ensures
 
 pub returns-in-JobActivated : goal.returns-in-JobActivated
 returns-in-JobActivated c = λ before.
@@ -55,3 +35,25 @@ returns-in-JobRetriesUpdated c = λ before.
 pub returns-in-IncidentResolved : goal.returns-in-IncidentResolved
 returns-in-IncidentResolved c = λ before.
     on_ok_weaker c.change-in-IncidentResolved.result (λ is. is ∙ sym (each_changed job_sort before c.args.event.now c.args.self.now (rw c.in-IncidentResolved.is refl) (λ j. rw c.in-IncidentResolved.is refl))) c.change-in-IncidentResolved.ensures
+
+pub returns-in-JobCompleted : goal.returns-in-JobCompleted
+returns-in-JobCompleted c = λ before.
+    let js = c.args.self.now in
+    let key = c.in-JobCompleted.key in
+    let left = c.end-in-JobCompleted.ensures.left in
+    elim c.in-JobCompleted.is [
+      | inl is ↦ left ∙ sym (ap (λ x. standing_by job_sort before x js) is ∙ some_gone job_sort before (events.JobCompleted key) js (λ j. j.key == key) refl (λ j. refl) (λ j. refl))
+      | inr is ↦ left ∙ sym (ap (λ x. standing_by job_sort before x js) is ∙ some_gone job_sort before (events.JobCanceled key) js (λ j. j.key == key) refl (λ j. refl) (λ j. refl))
+    ]
+
+pub returns-in-JobErrorThrown : goal.returns-in-JobErrorThrown
+returns-in-JobErrorThrown c = λ before.
+    let js = c.args.self.now in
+    let e = c.in-JobErrorThrown.e in
+    c.end.ensures.left ∙ sym (ap (λ x. standing_by job_sort before x js) c.in-JobErrorThrown.is ∙ some_gone job_sort before (events.JobErrorThrown e) js (λ j. j.key == e.key) refl (λ j. refl) (λ j. refl))
+
+pub returns-in-ElementTerminating : goal.returns-in-ElementTerminating
+returns-in-ElementTerminating c = λ before.
+    let js = c.args.self.now in
+    let cell = c.in-ElementTerminating.cell in
+    c.end_on.ensures ∙ sym (ap (λ x. standing_by job_sort before x js) c.in-ElementTerminating.is ∙ some_gone job_sort before (events.ElementTerminating cell) js (λ j. j.cell == cell) refl (λ j. refl) (λ j. refl))

@@ -1,11 +1,9 @@
-use Rattle.std.proofs.Common.{◌≡◌, ℕ, ◌==◌, List, filter, not, Option, Some, None, refl, sym, ap, subst, ◌∙◌}
+use Rattle.std.proofs.Common.{◌≡◌, ℕ, ◌==◌, List, filter, not, Option, Some, None, refl, sym, ap, ◌∙◌}
 use Rattle.std.specs.Option.{option_map}
-use Rattle.std.proofs.lemmas.Result.{on_ok_weaker}
-use Rattle.zb_table.specs.Rows.{without}
+use Rattle.zb_table.specs.Rows.{Ascend, without}
 use Rattle.zb_views.specs.declared.job.Job.{Job}
+use Rattle.zb_pairs.proofs.FoundLemmas.{all_stay}
 use Rattle.zb_jobs.specs.Table.{job_of_cell, HaveOwnCells}
-use Rattle.zb_table.specs.Rows.{Ascend}
-use Rattle.zb_waits.proofs.FoundLemmas.{all_stay}
 use Rattle.zb_jobs.proofs.RowLemmas.{cell_gone}
 use Rattle.zb_jobs.proofs.jobs.Jobs.end_on.Goals as goal
 
@@ -24,10 +22,9 @@ absent (Some j) is = absurd (cc)
 pub returns-in-Some : goal.returns-in-Some
 returns-in-Some c =
     let js = c.args.self.now in
-    let both : Ascend (λ j. j.key) 0 js × HaveOwnCells js = subst (λ (l : List Job). Ascend (λ j. j.key) 0 l × HaveOwnCells l) c.self.view_is (c.self.invariant.ascend, c.self.invariant.own) in
-    on_ok_weaker c.end.result (λ is. is ∙ gone c.args.cell c.in-Some.key js (job_of_cell c.args.cell js) refl c.in-Some.ensures both.0 both.1) c.end.ensures
+    c.end.ensures.left ∙ gone c.args.cell c.in-Some.key js (job_of_cell c.args.cell js) refl c.in-Some.ensures c.end.ensures.order c.end.ensures.cells
 
-pub returns-in-None : goal.returns-in-None
-returns-in-None c =
+pub returns-in_default : goal.returns-in_default
+returns-in_default c =
     let js = c.args.self.now in
-    sym (all_stay (λ (j : Job). j.cell == c.args.cell) js (absent (job_of_cell c.args.cell js) c.in-None.ensures))
+    sym (all_stay (λ (j : Job). j.cell == c.args.cell) js (absent (job_of_cell c.args.cell js) c.in_default.ensures))

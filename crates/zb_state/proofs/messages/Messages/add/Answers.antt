@@ -2,7 +2,8 @@ use Rattle.std.proofs.Common.{List, [], ◌∷◌, ◌++◌, ap, ◌∙◌}
 use Rattle.std.proofs.lemmas.Result.{on_ok_weaker}
 use Rattle.zb_exchange_records.specs.declared.message.MessagePublished.{MessagePublished}
 use Rattle.zb_table.proofs.Growing.{with_last}
-use Rattle.zb_waits.proofs.FoundLemmas.{none_below}
+use Rattle.zb_pairs.proofs.FoundLemmas.{none_below}
+use Rattle.zb_state.proofs.MessageLemmas.{ascend_with}
 use Rattle.zb_state.proofs.messages.Messages.add.Goals as goal
 
 pub add-requires : goal.add-requires
@@ -13,3 +14,6 @@ returns-clause-ok c =
     on_ok_weaker c.add.result
     (λ is. is ∙ (with_last (λ (m : MessagePublished). m.key) c.args.message c.self.inside.rows (rw c.self.view_is c.requires) ∙ ap (λ (ms : List MessagePublished). ms ++ c.args.message ∷ []) c.self.view_is))
     c.add.ensures.ok
+
+pub invariant_of-self : goal.invariant_of-self
+invariant_of-self c = ascend_with c.self.inside.rows c.add.new.self c.args.message c.add.result c.self.invariant (rw c.self.view_is c.requires) c.add.ensures.ok c.add.ensures.err

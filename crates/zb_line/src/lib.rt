@@ -1,0 +1,10 @@
+//! Members in their order, each once, and keys under pairs of texts.
+#![tactic(auto)]
+
+mod labels;
+mod line;
+mod place;
+mod seconds;
+
+pub use labels::Labels;
+pub use line::Line;
