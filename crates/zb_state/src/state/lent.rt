@@ -19,8 +19,7 @@ use std::alloc::{AllocError, Global};
 use zb_model::{Key, List, MessagePublish, Moment};
 
 impl State {
-    /// The keys of the jobs of a type that a worker may be given, ascending. It takes the logarithm of how many types
-    /// there are.
+    /// The keys of the jobs of a type that a worker may be given, ascending. It takes constant time on average.
     pub fn activatable(&self, kind: &str) -> &[Key]
         ensures { (es : List Event) → IsStateOf es self.now → result.now ≡ map (λ j. j.key) (filter (is_offered kind.now) (jobs es)) }
     {
@@ -61,8 +60,8 @@ impl State {
         self.listing.messages.in_time()
     }
 
-    /// The keys of the buffered messages with this name and this correlation key, ascending. It takes the logarithm of
-    /// how many names and correlation keys there are.
+    /// The keys of the buffered messages with this name and this correlation key, ascending. It takes constant time on
+    /// average.
     pub fn messages_of(&self, name: &str, correlation_key: &str) -> &[Key]
         ensures { (es : List Event) → IsStateOf es self.now → result.now ≡ map (λ m. m.key) (filter (is_addressed name.now correlation_key.now) (buffered es)) }
     {
