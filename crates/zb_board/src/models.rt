@@ -15,6 +15,7 @@ use zb_tokens::Deployed;
 #[derive(Drop)]
 pub struct Compiled {
     key: Key,
+    version: u32,
     graph: Graph,
 }
 
@@ -26,7 +27,7 @@ impl Model for Compiled {
 
     ghost coded = { deployed.the_row.coded };
 
-    ghost view = { λ c. record { key = c.key; model = c.graph } };
+    ghost view = { λ c. record { key = c.key; version = c.version; model = c.graph } };
 }
 
 /// Models in the order in which they came, whatever their keys are. Contracts see the list of them.
@@ -90,21 +91,29 @@ impl Models {
         ensures added { OnOk result (self.new ≡ self.old ++ deployed ∷ []) }
         ensures kept { OnErr result (self.new ≡ self.old) }
     {
-        let Deployed { key, model } = deployed;
+        let Deployed {
+            key,
+            version,
+            model,
+        } = deployed;
         match compile(alloc, model.into_model()) {
-            Ok(graph) => self.add(key, graph),
+            Ok(graph) => self.add(key, version, graph),
             Err(AllocError) => Err(AllocError),
         }
     }
 
     // Adds a graph under a key behind the others.
-    fn add(&mut self, key: Key, graph: Graph) -> Result<(), AllocError>
-        ensures added { OnOk result (self.new ≡ self.old ++ record { key = key; model = graph } ∷ []) }
+    fn add(&mut self, key: Key, version: u32, graph: Graph) -> Result<(), AllocError>
+        ensures added { OnOk result (self.new ≡ self.old ++ record { key = key; version = version; model = graph } ∷ []) }
         ensures kept { OnErr result (self.new ≡ self.old) }
     {
         match make_room(&mut self.list, &mut self.places, key) {
             Ok(()) => {
-                self.list.push_reserved(Compiled { key, graph });
+                self.list.push_reserved(Compiled {
+                    key,
+                    version,
+                    graph,
+                });
                 Ok(())
             }
             Err(AllocError) => {

@@ -79,14 +79,14 @@ module _ (p : ℕ) (es : List Event) (b : Board) (is : board_of es ≡ Some b) (
       let one : HasKeys p es 1 = omega arith in
       let formed = formed_by m (first_fault m) refl none in
       let new = none_there p es b knows one in
-      let first : IsTrue (applies p es e) = applied_from p es b e (moves.Stand (record { key = key; model = m })) is formed refl (rw new refl) in
+      let first : IsTrue (applies p es e) = applied_from p es b e (moves.Stand (record { key = key; version = version_behind (greatest_version m.process (definitions es)); model = m })) is formed refl (rw new refl) in
       let counted : counter_at p key ≡ greatest_counter p es + 1 = next_counted p es one in
       let more : HasKeys p (es ++ e ∷ []) 1 = one_more p es e 1 (omega (arith, keys)) (omega (arith, counted)) in
       let same : (key == key) ≡ true = grind (arith, nat_tests) in
       let there : IsTrue (has_definition key (es ++ e ∷ [])) = rw (definitions_more es e, list_any-append (λ d. d.key == key) (definitions es), same) (or_true (list_any (λ d. d.key == key) (definitions es))) in
       let fresh = fresh_from p (es ++ e ∷ []) more in
       let made = events.DeploymentCreated (record { key = next_key p (es ++ e ∷ []); definition = key }) in
-      let after : Board = record b { models = b.models ++ record { key = key; model = m } ∷ [] } in
+      let after : Board = record b { models = b.models ++ record { key = key; version = version_behind (greatest_version m.process (definitions es)); model = m } ∷ [] } in
       let after_is : board_of (es ++ e ∷ []) ≡ Some after = board_after es b after e is refl in
       let second : IsTrue (applies p (es ++ e ∷ []) made) = silent_applies p (es ++ e ∷ []) after made after_is (rw (fresh, there) refl) refl in
       let sent = sent_apply p key (range_with_len 2 (n - 1)) ((es ++ e ∷ []) ++ made ∷ []) after (board_after (es ++ e ∷ []) after after made after_is refl) (still_defined key (es ++ e ∷ []) made there) in
@@ -116,7 +116,7 @@ distribute_applies p es b c is apply none =
     let undefined : has_definition c.key es ≡ false = untested (has_definition c.key es) _ reasons.1 in
     let new : model_under b c.key ≡ None = missing (model_under b c.key) (is_there_where_defined p es b c.key apply is ∙ undefined) in
     let e = events.ProcessCreated c in
-    let first : IsTrue (applies p es e) = applied_from p es b e (moves.Stand (record { key = c.key; model = c.model })) is (formed_by c.model (first_fault c.model) refl reasons.0) refl (rw new refl) in
+    let first : IsTrue (applies p es e) = applied_from p es b e (moves.Stand (record { key = c.key; version = c.version; model = c.model })) is (formed_by c.model (first_fault c.model) refl reasons.0) refl (rw new refl) in
     rw first refl
 
 -- each definition that is on its way is there

@@ -11,7 +11,8 @@ use Rattle.zb_process.specs.declared.model.Model.{Model}
 use Rattle.zb_model.specs.declared.record.Event.{Event}
 use Rattle.zb_model.specs.declared.record.Event.TheVariants as events
 use Rattle.zb_views.specs.declared.definition.Definition.{Definition}
-use Rattle.zb_views.specs.Jobs.{job_at}
+use Rattle.zb_views.specs.declared.job.Job.{Job}
+use Rattle.zb_views.specs.Jobs.{jobs}
 use Rattle.zb_views.specs.View.{counter_at, greatest_counter}
 use Rattle.zb_views.proofs.ViewLaws.{greatest_counter_more, definitions_more}
 use Rattle.zb_views.specs.Definitions.{definition_told, definitions}
@@ -23,13 +24,12 @@ use Rattle.zb_tokens.specs.MoveLeave.{leaving, ends_scope, scope_ended}
 use Rattle.zb_tokens.specs.MoveTake.{rest_of}
 use Rattle.zb_tokens.specs.Game.{empty_board}
 use Rattle.zb_tokens.proofs.LeaveLaws.{same_bytes}
-use Rattle.zb_rules.specs.Shown.{shown, after_shown, board_of}
+use Rattle.zb_rules.specs.Shown.{shown, shown_by, after_shown, board_of, definitions_on}
 use Rattle.zb_faults.specs.Faults.{is_well_formed}
 use Rattle.zb_tokens.proofs.GameLaws.{found_holds}
 use Rattle.zb_tokens.proofs.EffectLaws.{mapped_from}
 use Rattle.zb_rules.specs.Applies.{all_apply, has_definition, holds_own, is_process_of}
 use Rattle.zb_rules.proofs.MadeLaws.{HoldsMade, left_holds, made_holds}
-use Rattle.zb_rules.proofs.GrowthLaws.{job_shows}
 use Rattle.zb_rules.proofs.AppliedLaws.{Advances, holds_of_all}
 use Rattle.zb_rules.proofs.KeysLaws.{first_named}
 
@@ -75,22 +75,26 @@ module _ (b : Board) where
 
 -- the model that an event puts on the board
 abbrev pub models_told : Event → List Deployed
-models_told (events.ProcessCreated e) = record { key = e.key; model = e.model } ∷ []
+models_told (events.ProcessCreated e) = record { key = e.key; version = e.version; model = e.model } ∷ []
 models_told _ = []
 
 either_none : (t : Bool) (a b : Move) → models_made a ≡ [] → models_made b ≡ [] → option_map_or models_made (if t then Some a else Some b) [] ≡ []
 either_none true a b none other = none
 either_none false a b none other = other
 
-told_made : (before : List Event) (e : Event) → option_map_or models_made (shown before e) [] ≡ models_told e
-told_made before (events.ElementActivating a) = either_none (a.scope == 0) (moves.Start (record { key = a.key; definition = a.definition })) (moves.Enter (record { key = a.key; scope = a.scope; node = a.node; via = a.via })) refl refl
-told_made before (events.JobCompleted key) = job_shows (λ (m : Option Move). option_map_or models_made m [] ≡ []) (λ j. moves.Done j.cell) (job_at key before) refl (λ j. refl)
-told_made before (events.JobErrorThrown t) = job_shows (λ (m : Option Move). option_map_or models_made m [] ≡ []) (λ j. moves.Throw (record { cell = j.cell; code = t.code })) (job_at t.key before) refl (λ j. refl)
-told_made before e = refl
+found_none : {A : Type 0} (move : A → Move) (found : Option A) → ((x : A) → models_made (move x) ≡ []) → option_map_or models_made (option_map move found) [] ≡ []
+found_none move None none = refl
+found_none move (Some x) none = none x
+
+told_made : (js : List Job) (e : Event) → option_map_or models_made (shown_by js e) [] ≡ models_told e
+told_made js (events.ElementActivating a) = either_none (a.scope == 0) (moves.Start (record { key = a.key; definition = a.definition })) (moves.Enter (record { key = a.key; scope = a.scope; node = a.node; via = a.via })) refl refl
+told_made js (events.JobCompleted key) = found_none (λ (j : Job). moves.Done j.cell) (find (λ (j : Job). j.key == key) js) (λ j. refl)
+told_made js (events.JobErrorThrown t) = found_none (λ (j : Job). moves.Throw (record { cell = j.cell; code = t.code })) (find (λ (j : Job). j.key == t.key) js) (λ j. refl)
+told_made js e = refl
 
 -- the models behind an event that applies
 pub models_more : (p : ℕ) (before : List Event) (b : Board) (e : Event) (after : Board) → Advances p before b e after → after.models ≡ b.models ++ models_told e
-models_more p before b e after h = models_shown b after (shown before e) h.leads ∙ ap (λ (ms : List Deployed). b.models ++ ms) (told_made before e)
+models_more p before b e after h = models_shown b after (shown before e) h.leads ∙ ap (λ (ms : List Deployed). b.models ++ ms) (told_made (jobs before) e)
 
 -- the model under a key among some
 abbrev pub model_among : List Deployed → ℕ → Option Model
@@ -126,14 +130,14 @@ pub record Knows (p : ℕ) (es : List Event) (b : Board) : Type 0 where
 told_counted : (p : ℕ) (before : List Event) (e : Event) → All (λ (d : Deployed). counter_at p d.key ≤ greatest_counter p (before ++ e ∷ [])) (models_told e)
 told_counted p before (events.ProcessCreated e) =
     let named = first_named p e.key [] in
-    All-cons (λ (d : Deployed). counter_at p d.key ≤ greatest_counter p (before ++ events.ProcessCreated e ∷ [])) (record { key = e.key; model = e.model }) []
+    All-cons (λ (d : Deployed). counter_at p d.key ≤ greatest_counter p (before ++ events.ProcessCreated e ∷ [])) (record { key = e.key; version = e.version; model = e.model }) []
     (omega (arith, named, greatest_counter_more p before (events.ProcessCreated e ∷ []))) (All-nil _)
 told_counted p before e = All-nil (λ (d : Deployed). counter_at p d.key ≤ greatest_counter p (before ++ e ∷ []))
 
 told_defined : (p : ℕ) (before : List Event) (b : Board) (e : Event) (after : Board) → Advances p before b e after → All (λ (d : Definition). IsTrue (is_process_among d.key d.process (b.models ++ models_told e))) (definition_told e)
 told_defined p before b (events.ProcessCreated e) after h =
-    All-cons (λ (d : Definition). IsTrue (is_process_among d.key d.process (b.models ++ record { key = e.key; model = e.model } ∷ []))) (record { key = e.key; version = e.version; process = e.model.process }) []
-    (among_new (record { key = e.key; model = e.model }) b.models (none_under (find (λ (x : Deployed). x.key == e.key) b.models) h.fit)) (All-nil _)
+    All-cons (λ (d : Definition). IsTrue (is_process_among d.key d.process (b.models ++ record { key = e.key; version = e.version; model = e.model } ∷ []))) (record { key = e.key; version = e.version; process = e.model.process }) []
+    (among_new (record { key = e.key; version = e.version; model = e.model }) b.models (none_under (find (λ (x : Deployed). x.key == e.key) b.models) h.fit)) (All-nil _)
 told_defined p before b e after h = All-nil (λ (d : Definition). IsTrue (is_process_among d.key d.process (b.models ++ models_told e)))
 
 knows_on : (p : ℕ) (before : List Event) (b : Board) (e : Event) (after : Board) → Advances p before b e after → Knows p before b → Knows p (before ++ e ∷ []) after
@@ -167,7 +171,7 @@ abbrev pub HasFormedModels : Board → Type 0
 HasFormedModels b = All (λ (d : Deployed). IsTrue (is_well_formed d.model)) b.models
 
 told_formed : (p : ℕ) (before : List Event) (e : Event) → IsTrue (holds_own p before e) → All (λ (d : Deployed). IsTrue (is_well_formed d.model)) (models_told e)
-told_formed p before (events.ProcessCreated e) own = All-cons (λ (d : Deployed). IsTrue (is_well_formed d.model)) (record { key = e.key; model = e.model }) [] own (All-nil (λ (d : Deployed). IsTrue (is_well_formed d.model)))
+told_formed p before (events.ProcessCreated e) own = All-cons (λ (d : Deployed). IsTrue (is_well_formed d.model)) (record { key = e.key; version = e.version; model = e.model }) [] own (All-nil (λ (d : Deployed). IsTrue (is_well_formed d.model)))
 told_formed p before e own = All-nil (λ (d : Deployed). IsTrue (is_well_formed d.model))
 
 -- an event that applies keeps them so
@@ -182,26 +186,35 @@ formed_under b key m formed is =
     let r = mapped_from (λ (d : Deployed). d.model) (find (λ (d : Deployed). d.key == key) b.models) m is in
     subst (λ (x : Model). IsTrue (is_well_formed x)) r.2 (found_holds (λ (d : Deployed). d.key == key) (λ (d : Deployed). IsTrue (is_well_formed d.model)) b.models r.0 formed r.1).0
 
--- the models stand under the keys of the definitions, in their order
-abbrev HasSameKeys : List Event → Board → Type 0
-HasSameKeys es b = map (λ (d : Deployed). d.key) b.models ≡ map (λ (d : Definition). d.key) (definitions es)
+-- the definition of a model that stands
+abbrev defined_by : Deployed → Definition
+defined_by d = record { key = d.key; version = d.version; process = d.model.process }
 
-told_same : (e : Event) → map (λ (d : Deployed). d.key) (models_told e) ≡ map (λ (d : Definition). d.key) (definition_told e)
-told_same (events.ProcessCreated e) = refl
-told_same e = refl
+-- the models that stand are those of the definitions, in their order
+abbrev AreDefined : List Event → Board → Type 0
+AreDefined es b = definitions_on b ≡ definitions es
 
-same_on : (p : ℕ) (before : List Event) (b : Board) (e : Event) (after : Board) → Advances p before b e after → HasSameKeys before b → HasSameKeys (before ++ e ∷ []) after
-same_on p before b e after h same =
-    ap (map (λ (d : Deployed). d.key)) (models_more p before b e after h)
-    ∙ (map-append (λ (d : Deployed). d.key) b.models (models_told e)
-    ∙ (ap (λ (keys : List ℕ). keys ++ map (λ (d : Deployed). d.key) (models_told e)) same
-    ∙ (ap (λ (keys : List ℕ). map (λ (d : Definition). d.key) (definitions before) ++ keys) (told_same e)
-    ∙ (sym (map-append (λ (d : Definition). d.key) (definitions before) (definition_told e)) ∙ sym (ap (map (λ (d : Definition). d.key)) (definitions_more before e))))))
+told_defines : (e : Event) → map defined_by (models_told e) ≡ definition_told e
+told_defines (events.ProcessCreated e) = refl
+told_defines e = refl
 
--- a key among those of some things
-any_of_keys : {A : Type 0} (key_in : A → ℕ) (key : ℕ) (xs : List A) → list_any (λ x. key_in x == key) xs ≡ list_any (λ k. k == key) (map key_in xs)
-any_of_keys key_in key [] = refl
-any_of_keys key_in key (x ∷ xs) = ap (λ (t : Bool). (key_in x == key) || t) (any_of_keys key_in key xs)
+-- so an event leaves them, whatever jobs are there
+pub defined_shown : (js : List Job) (b : Board) (e : Event) (after : Board) → after_shown b (shown_by js e) ≡ Some after → definitions_on after ≡ definitions_on b ++ definition_told e
+defined_shown js b e after leads =
+    ap (map defined_by) (models_shown b after (shown_by js e) leads ∙ ap (λ (ms : List Deployed). b.models ++ ms) (told_made js e))
+    ∙ (map-append defined_by b.models (models_told e) ∙ ap (λ (ds : List Definition). definitions_on b ++ ds) (told_defines e))
+
+defined_on : (p : ℕ) (before : List Event) (b : Board) (e : Event) (after : Board) → Advances p before b e after → AreDefined before b → AreDefined (before ++ e ∷ []) after
+defined_on p before b e after h same =
+    defined_shown (jobs before) b e after h.leads ∙ (ap (λ (ds : List Definition). ds ++ definition_told e) same ∙ sym (definitions_more before e))
+
+-- the definitions of a log whose events apply are those whose models stand on its board
+pub defined_there : (p : ℕ) (es : List Event) (b : Board) → IsTrue (all_apply p [] es) → board_of es ≡ Some b → definitions_on b ≡ definitions es
+defined_there p es b apply is = holds_of_all p AreDefined (defined_on p) es b refl apply is
+
+any_defined : (key : ℕ) (models : List Deployed) → list_any (λ (d : Deployed). d.key == key) models ≡ list_any (λ (d : Definition). d.key == key) (map defined_by models)
+any_defined key [] = refl
+any_defined key (d ∷ models) = ap (λ (t : Bool). (d.key == key) || t) (any_defined key models)
 
 found_among : (key : ℕ) (models : List Deployed) → is_some (option_map (λ (d : Deployed). d.model) (find (λ (d : Deployed). d.key == key) models)) ≡ list_any (λ (d : Deployed). d.key == key) models
 found_among key [] = refl
@@ -215,7 +228,4 @@ found_among key (d ∷ models) = by_test (d.key == key) (found_among key models)
 -- a model is on the board of a log whose events apply exactly where its definition is there
 pub is_there_where_defined : (p : ℕ) (es : List Event) (b : Board) (key : ℕ) → IsTrue (all_apply p [] es) → board_of es ≡ Some b → is_some (model_under b key) ≡ has_definition key es
 is_there_where_defined p es b key apply is =
-    let same : HasSameKeys es b = holds_of_all p HasSameKeys (same_on p) es b refl apply is in
-    found_among key b.models
-    ∙ (any_of_keys (λ (d : Deployed). d.key) key b.models
-    ∙ (ap (list_any (λ k. k == key)) same ∙ sym (any_of_keys (λ (d : Definition). d.key) key (definitions es))))
+    found_among key b.models ∙ (any_defined key b.models ∙ ap (list_any (λ (d : Definition). d.key == key)) (defined_there p es b apply is))

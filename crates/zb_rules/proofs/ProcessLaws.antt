@@ -36,7 +36,7 @@ as_definition c = record { key = c.key; version = c.version; process = c.model.p
 
 -- the deployment that a process is of, with its model
 abbrev pub deployed_by : ProcessDefinition → Deployed
-deployed_by c = record { key = c.key; model = c.model }
+deployed_by c = record { key = c.key; version = c.version; model = c.model }
 
 -- it has this key
 abbrev pub has_key : ℕ → ProcessDefinition → Bool

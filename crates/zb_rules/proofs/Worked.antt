@@ -343,7 +343,7 @@ joining_rests = refl
 -- what is left on the board: the root, and a token on the flow to the join
 abbrev joining_end : Board
 joining_end = record {
-  models = record { key = key 1; model = joining } ∷ [];
+  models = record { key = key 1; version = 1; model = joining } ∷ [];
   cells = in_phase phases.Active [] (new_cell (key 3) 0 (key 1) (codes "p") false) ∷ [];
   tokens = record { scope = key 3; spot = spots.OnFlow (codes "d") } ∷ [];
   incidents = [];

@@ -1,34 +1,42 @@
 -- Which moves events show, and the game of a log.
-use Rattle.std.specs.Prelude.{◌==◌, List, [], ◌∷◌, ◌++◌, Bool, false, if◌then◌else◌, Option, Some, None, option_map, option_and_then}
+use Rattle.std.specs.Prelude.{◌==◌, List, [], ◌∷◌, ◌++◌, Bool, false, if◌then◌else◌, Option, Some, None, map, option_map, option_and_then}
+use Rattle.std.specs.List.{find}
 use Rattle.std.specs.Option.{option_map_or}
 use Rattle.zb_instance_records.specs.declared.instance.Role.TheVariants as roles
 use Rattle.zb_model.specs.declared.record.Event.{Event}
 use Rattle.zb_model.specs.declared.record.Event.TheVariants as events
 use Rattle.zb_tokens.specs.declared.board.Move.{Move}
 use Rattle.zb_tokens.specs.declared.board.Move.TheVariants as moves
-use Rattle.zb_views.specs.Jobs.{job_at}
+use Rattle.zb_views.specs.declared.job.Job.{Job}
+use Rattle.zb_views.specs.Jobs.{jobs}
+use Rattle.zb_views.specs.declared.definition.Definition.{Definition}
+use Rattle.zb_tokens.specs.declared.board.Deployed.{Deployed}
 use Rattle.zb_tokens.specs.Board.{Board, cell_at}
 use Rattle.zb_tokens.specs.Game.{empty_board, played}
 
--- the move that an event shows behind those before it, which say whose job it names; others show none
-abbrev pub shown : List Event → Event → Option Move
-shown before (events.ProcessCreated e) = Some (moves.Stand (record { key = e.key; model = e.model }))
-shown before (events.ElementActivating e) = if e.scope == 0 then Some (moves.Start (record { key = e.key; definition = e.definition }))
+-- the move that an event shows, these being the jobs that are there, which say whose job it names; others show none
+abbrev pub shown_by : List Job → Event → Option Move
+shown_by js (events.ProcessCreated e) = Some (moves.Stand (record { key = e.key; version = e.version; model = e.model }))
+shown_by js (events.ElementActivating e) = if e.scope == 0 then Some (moves.Start (record { key = e.key; definition = e.definition }))
     else Some (moves.Enter (record { key = e.key; scope = e.scope; node = e.node; via = e.via }))
-shown before (events.ElementActivated e) = Some (moves.Open e.key)
-shown before (events.ElementCompleting key) = Some (moves.Finish key)
-shown before (events.ElementCompleted e) = Some (moves.Leave (record { key = e.key; owed = e.owed }))
-shown before (events.ElementTerminating key) = Some (moves.Halt key)
-shown before (events.ElementTerminated key) = Some (moves.Gone key)
-shown before (events.SequenceFlowTaken e) = Some (moves.Take (record { key = e.key; flow = e.flow }))
-shown before (events.VariableCreated e) = Some (moves.Assign (record { scope = e.scope; name = e.name; value = e.value }))
-shown before (events.VariableUpdated e) = Some (moves.Update (record { scope = e.scope; name = e.name; value = e.value }))
-shown before (events.JobCompleted key) = option_map (λ j. moves.Done j.cell) (job_at key before)
-shown before (events.JobErrorThrown e) = option_map (λ j. moves.Throw (record { cell = j.cell; code = e.code })) (job_at e.key before)
-shown before (events.ProcessEventTriggered e) = Some (moves.Trigger (record { cell = e.cell; node = e.node }))
-shown before (events.IncidentCreated e) = Some (moves.Incident (record { key = e.key; kind = e.kind; cell = e.cell; job = e.job; text = e.text }))
-shown before (events.IncidentResolved e) = Some (moves.Repair e.key)
-shown before _ = None
+shown_by js (events.ElementActivated e) = Some (moves.Open e.key)
+shown_by js (events.ElementCompleting key) = Some (moves.Finish key)
+shown_by js (events.ElementCompleted e) = Some (moves.Leave (record { key = e.key; owed = e.owed }))
+shown_by js (events.ElementTerminating key) = Some (moves.Halt key)
+shown_by js (events.ElementTerminated key) = Some (moves.Gone key)
+shown_by js (events.SequenceFlowTaken e) = Some (moves.Take (record { key = e.key; flow = e.flow }))
+shown_by js (events.VariableCreated e) = Some (moves.Assign (record { scope = e.scope; name = e.name; value = e.value }))
+shown_by js (events.VariableUpdated e) = Some (moves.Update (record { scope = e.scope; name = e.name; value = e.value }))
+shown_by js (events.JobCompleted key) = option_map (λ j. moves.Done j.cell) (find (λ j. j.key == key) js)
+shown_by js (events.JobErrorThrown e) = option_map (λ j. moves.Throw (record { cell = j.cell; code = e.code })) (find (λ j. j.key == e.key) js)
+shown_by js (events.ProcessEventTriggered e) = Some (moves.Trigger (record { cell = e.cell; node = e.node }))
+shown_by js (events.IncidentCreated e) = Some (moves.Incident (record { key = e.key; kind = e.kind; cell = e.cell; job = e.job; text = e.text }))
+shown_by js (events.IncidentResolved e) = Some (moves.Repair e.key)
+shown_by js _ = None
+
+-- the move that an event shows behind those before it
+abbrev pub shown : List Event → Event → Option Move
+shown before e = shown_by (jobs before) e
 
 -- the board after the move that an event shows, if it shows one
 abbrev pub after_shown : Board → Option Move → Option Board
@@ -66,3 +74,7 @@ event_of b (moves.Throw t) = None
 event_of b (moves.Trigger t) = Some (events.ProcessEventTriggered (record { cell = t.cell; node = t.node }))
 event_of b (moves.Incident i) = Some (events.IncidentCreated (record { key = i.key; kind = i.kind; cell = i.cell; job = i.job; text = i.text }))
 event_of b (moves.Repair key) = None
+
+-- the definitions whose models stand on a board (own)
+abbrev pub definitions_on : Board → List Definition
+definitions_on b = map (λ (d : Deployed). record { key = d.key; version = d.version; process = d.model.process }) b.models

@@ -1,31 +1,40 @@
 -- A state with an event more.
-use Rattle.std.proofs.Common.{◌≡◌, ℕ, max, Option, Some, None, is_none, option_map, Bool, true, false, List, [], ◌∷◌, ◌++◌, IsTrue, not, refl, sym, ap, subst, ◌∙◌, append-nil}
+use Rattle.std.proofs.Common.{◌≡◌, ℕ, ◌+◌, ◌<◌, ◌^◌, max, Option, Some, None, option_map, true, List, [], ◌∷◌, ◌++◌, IsTrue, refl, sym, ap, subst, ◌∙◌, append-nil}
 use Rattle.std.specs.Cmp.Derive.{both_true}
+use Rattle.std.proofs.Math.Bool.{Bool-set}
+use Rattle.std.proofs.Math.Bridge.{le_prop}
+use Rattle.zb_base.specs.Key.{key_of}
+use Rattle.zb_exchange_records.specs.declared.message.MessagePublished.{MessagePublished}
+use Rattle.zb_views.specs.declared.left.Left.{Left}
 use Rattle.zb_model.specs.declared.record.Event.{Event}
 use Rattle.zb_views.specs.View.{keys_in, greatest_among, greatest_counter, next_key}
 use Rattle.zb_views.specs.Messages.{message_sort}
 use Rattle.zb_views.specs.Jobs.{job_sort}
 use Rattle.zb_views.specs.Timers.{timer_sort}
 use Rattle.zb_record.specs.Sendings.{sending_sort}
-use Rattle.zb_views.specs.Definitions.{definitions}
 use Rattle.zb_views.specs.Standing.{standing_by}
 use Rattle.zb_views.proofs.StandingLaws.{standing_more}
-use Rattle.zb_views.proofs.ViewLaws.{definitions_more, left_more, greatest_counter_more}
+use Rattle.zb_views.proofs.ViewLaws.{left_more, greatest_counter_more}
 use Rattle.zb_rules.proofs.GrowthLaws.{board_of_more}
 use Rattle.zb_rules.proofs.StepLaws.{all_apply_more}
 use Rattle.zb_rules.specs.Applies.{applies, holds_own, may_fit}
 use Rattle.zb_rules.specs.Settling.{in_events, turn_of, turn_with}
-use Rattle.zb_rules.specs.Shown.{shown, after_shown, board_of, event_of}
+use Rattle.zb_rules.specs.Shown.{shown, after_shown, board_of, definitions_on, event_of}
+use Rattle.zb_rules.proofs.ModelsLaws.{defined_there}
 use Rattle.zb_tokens.specs.Board.{Board}
 use Rattle.zb_tokens.specs.Mappings.{assignments_of}
 use Rattle.zb_tokens.specs.Forced.{next_mover, move_of}
 use Rattle.zb_tokens.specs.declared.board.Move.{Move}
 use Rattle.zb_tokens.specs.declared.board.Mover.{Mover}
+use Rattle.zb_views.specs.Definitions.{definitions}
+use Rattle.zb_views.specs.declared.definition.Definition.{Definition}
 use Rattle.zb_definitions.specs.Kept.{KeepsDefinitions}
+use Rattle.zb_definitions.specs.declared.definitions.Definitions.{Definitions}
 use Rattle.zb_state.specs.declared.turn.Turn.{Turn}
 use Rattle.zb_state.specs.State.{IsStateOf, IsSameBeside, HasTaken}
 use Rattle.zb_state.specs.declared.facts.Facts.{Facts}
 use Rattle.zb_state.specs.declared.tables.Tables.{Tables}
+use Rattle.zb_state.specs.Tables.{are_all_below}
 
 -- the greatest counter
 pub counter_more : (p : ℕ) (es : List Event) (e : Event) → greatest_counter p (es ++ e ∷ []) ≡ max (greatest_counter p es) (greatest_among p (keys_in e))
@@ -42,9 +51,6 @@ state_more es e old mid new is same applied played took =
       applied = rw (took.place, same.place, all_apply_more old.place [] es e) (both_true is.applied applied);
       counter = rw (took.place, same.place, counter_more old.place es e, is.counter) (sym (rw (same.counter, same.place) at took.counter));
       messages = standing_more message_sort es e ∙ (ap (standing_by message_sort [] e) (is.messages ∙ sym same.messages) ∙ sym took.messages);
-      definitions =
-          let were : KeepsDefinitions (definitions es) mid.tables.definitions = subst (λ (t : Tables). KeepsDefinitions (definitions es) t.definitions) (sym same.tables) is.definitions in
-          rw (definitions_more es e) (tables.definitions (definitions es) were);
       sendings = standing_more sending_sort es e ∙ (ap (standing_by sending_sort [] e) (is.sendings ∙ ap (λ (t : Tables). t.sendings) (sym same.tables)) ∙ sym tables.sendings);
       jobs = standing_more job_sort es e ∙ (ap (standing_by job_sort [] e) jobs_were ∙ sym tables.jobs);
       timers = standing_more timer_sort es e ∙ (ap (standing_by timer_sort [] e) (is.timers ∙ ap (λ (t : Tables). t.timers) (sym same.tables)) ∙ sym tables.timers);
@@ -80,7 +86,41 @@ no_turn_told p moment es b game mover key same drawn is_move =
     let told : move_of game moment (next_key p es) mover ≡ None = subst (λ (k : ℕ). move_of game moment k mover ≡ None) drawn (sym is_move) in
     rw (same, told) refl
 
--- where nobody was forced, and the game is as it was, nobody is forced
-pub still_rests : (old new : Board) (shows : Bool) → IsTrue (is_none (next_mover old)) → (shows ≡ false → new ≡ old) → IsTrue (not shows) → IsTrue (is_none (next_mover new))
-still_rests old new true rests same silent = absurd (cc)
-still_rests old new false rests same silent = subst (λ (b : Board). IsTrue (is_none (next_mover b))) (sym (same refl)) rests
+-- what is kept of the definitions whose models stand is kept of those that the events made
+pub keeps_told : (es : List Event) (s : Facts) (kept : Definitions) → IsStateOf es s → KeepsDefinitions (definitions_on s.game) kept → KeepsDefinitions (definitions es) kept
+keeps_told es s kept is keeps = subst (λ (ds : List Definition). KeepsDefinitions ds kept) (defined_there s.place es s.game is.applied is.game) keeps
+
+-- the parts of a state
+abbrev Parts : Type 0
+Parts = ℕ × (ℕ × (List MessagePublished × (Tables × (Left × Board))))
+
+abbrev AreDrawn : Parts → Type 0
+AreDrawn x = x.1.0 < 2 ^ 51
+
+abbrev AreBelow : Parts → Type 0
+AreBelow x = IsTrue (are_all_below (key_of x.0 (x.1.0 + 1)) x.1.1.0 x.1.1.1.0.jobs x.1.1.1.0.timers)
+
+abbrev put_together : (x : Parts) → AreDrawn x → AreBelow x → Facts
+put_together x drawn below = record { place = x.0; counter = x.1.0; messages = x.1.1.0; tables = x.1.1.1.0; left = x.1.1.1.1.0; game = x.1.1.1.1.1; drawn = drawn; in_order = below }
+
+abbrev parts_of : Facts → Parts
+parts_of f = (f.place, (f.counter, (f.messages, (f.tables, (f.left, f.game)))))
+
+same_parts : (x y : Parts) → x ≡ y → (d : AreDrawn x) (o : AreBelow x) (d' : AreDrawn y) (o' : AreBelow y) → put_together x d o ≡ put_together y d' o'
+same_parts x y same d o =
+    subst (λ (y : Parts). (d' : AreDrawn y) (o' : AreBelow y) → put_together x d o ≡ put_together y d' o') same
+    (λ d' o'. ap (λ (t : AreDrawn x). put_together x t o) (le_prop d d') ∙ ap (λ (t : AreBelow x). put_together x d' t) (Bool-set _ true o o'))
+
+-- two states of one list of events and one partition are equal
+pub same_state : (es : List Event) (a b : Facts) → IsStateOf es a → IsStateOf es b → a.place ≡ b.place → a ≡ b
+same_state es a b one other place =
+    let counter : a.counter ≡ b.counter = sym one.counter ∙ (ap (λ (p : ℕ). greatest_counter p es) place ∙ other.counter) in
+    let messages : a.messages ≡ b.messages = sym one.messages ∙ other.messages in
+    let sendings : a.tables.sendings ≡ b.tables.sendings = sym one.sendings ∙ other.sendings in
+    let jobs : a.tables.jobs ≡ b.tables.jobs = sym one.jobs ∙ other.jobs in
+    let timers : a.tables.timers ≡ b.tables.timers = sym one.timers ∙ other.timers in
+    let left : a.left ≡ b.left = sym one.left ∙ other.left in
+    let game : a.game ≡ b.game = same_board (board_of es) a.game b.game one.game other.game in
+    let tables : a.tables ≡ b.tables = rw (sendings, jobs, timers) refl in
+    let same : parts_of a ≡ parts_of b = rw (place, counter, messages, tables, left, game) refl in
+    same_parts (parts_of a) (parts_of b) same a.drawn a.in_order b.drawn b.in_order

@@ -1,4 +1,5 @@
 pub mod Alarms
+pub mod Course
 pub mod Listing
 pub mod Messages
 pub mod Named

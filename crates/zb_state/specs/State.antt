@@ -8,10 +8,8 @@ use Rattle.zb_views.specs.Jobs.{jobs, job_sort}
 use Rattle.zb_views.specs.Timers.{timers, timer_sort}
 use Rattle.zb_views.specs.Messages.{buffered, message_sort}
 use Rattle.zb_views.specs.Standing.{standing_by}
-use Rattle.zb_views.specs.Definitions.{definitions}
 use Rattle.zb_views.specs.Left.{left_told, left}
 use Rattle.zb_record.specs.Sendings.{sendings}
-use Rattle.zb_definitions.specs.Kept.{KeepsDefinitions}
 use Rattle.zb_rules.specs.Applies.{all_apply}
 use Rattle.zb_rules.specs.Making.{Making}
 use Rattle.zb_rules.specs.Shown.{board_of}
@@ -26,7 +24,6 @@ pub record IsStateOf (es : List Event) (state : Facts) : Type 0 where
   pub applied : IsTrue (all_apply state.place [] es)
   pub counter : greatest_counter state.place es ≡ state.counter
   pub messages : buffered es ≡ state.messages
-  pub definitions : KeepsDefinitions (definitions es) state.tables.definitions
   pub sendings : sendings es ≡ state.tables.sendings
   pub jobs : jobs es ≡ state.tables.jobs
   pub timers : timers es ≡ state.tables.timers

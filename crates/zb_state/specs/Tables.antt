@@ -9,16 +9,13 @@ use Rattle.zb_table.specs.Rows.{are_below}
 use Rattle.zb_views.specs.declared.job.Job.{Job}
 use Rattle.zb_views.specs.declared.timer.Timer.{Timer}
 use Rattle.zb_views.specs.Standing.{standing_by}
-use Rattle.zb_views.specs.Definitions.{definition_told}
 use Rattle.zb_views.specs.Jobs.{job_sort}
 use Rattle.zb_views.specs.Timers.{timer_sort}
 use Rattle.zb_record.specs.Sendings.{sending_sort}
-use Rattle.zb_definitions.specs.Kept.{KeepsMoreDefinitions}
 use Rattle.zb_state.specs.declared.tables.Tables.{Tables}
 
 -- each table has taken an event in (own)
 pub record HaveTaken (e : Event) (old new : Tables) : Type 0 where
-  pub definitions : KeepsMoreDefinitions (definition_told e) old.definitions new.definitions
   pub sendings : new.sendings ≡ standing_by sending_sort [] e old.sendings
   pub jobs : new.jobs ≡ standing_by job_sort [] e old.jobs
   pub timers : new.timers ≡ standing_by timer_sort [] e old.timers

@@ -27,14 +27,12 @@ ghost use Rattle.zb_state.specs.Tables.{IsNext, Draws, are_all_below};
 mod jobs;
 mod timers;
 
+use crate::course::Course;
 use crate::keys::greatest_counter_of;
 use crate::messages::Messages;
-use crate::moves::{may_show, play};
 use crate::tables::Tables;
 use std::alloc::{AllocError, Global};
-use zb_board::Game;
 use zb_check::{ModelFault, check};
-use zb_game::next_mover;
 use zb_jobs::Jobs;
 use zb_model::{
     ElementActivating, Event, IncidentCreated, Key, MessagePublished, Model as ProcessModel,
@@ -55,12 +53,9 @@ pub struct Facts {
     pub(crate) tables: Tables,
     // What the last event left to be said.
     pub(crate) left: Left,
-    pub(crate) game: Game,
-    // Whether it is known that nobody is forced to move.
-    pub(crate) rests: bool,
+    pub(crate) game: Course,
     ghost drawn: { counter < 2 ^ 51 },
     ghost in_order: { IsTrue (are_all_below (key_of place (counter + 1)) messages tables.jobs tables.timers) },
-    ghost resting: { IsTrue rests → IsTrue (is_none (next_mover game)) },
 }
 
 impl Facts {
@@ -77,8 +72,7 @@ impl Facts {
             messages: Messages::empty(alloc),
             tables: Tables::empty(alloc),
             left: Left::Nothing,
-            game: Game::empty(alloc),
-            rests: false,
+            game: Course::empty(alloc),
         }
     }
 
@@ -147,15 +141,9 @@ impl Facts {
     /// was forced when it was last asked and no move was made since.
     pub(crate) fn next_mover(&mut self, alloc: Global) -> Result<Option<Mover>, AllocError>
         ensures mover { (es : List Event) (b : Board) → IsStateOf es self.new → board_of es ≡ Some b → IfOk result (λ mover. mover ≡ next_mover b) }
-        ensures state { (es : List Event) → IsStateOf es self.old → IsStateOf es self.new }
-        ensures beside { IsSameBeside self.old self.new }
+        ensures kept { self.new ≡ self.old }
     {
-        if self.rests {
-            return Ok(None);
-        }
-        let mover = next_mover(&self.game, alloc)?;
-        self.rests = mover.is_none();
-        Ok(mover)
+        self.game.next_mover(alloc)
     }
 
     // Whether the key is the next one that the partition draws, and there is one.
@@ -170,14 +158,14 @@ impl Facts {
     fn has_cell(&self, key: Key) -> bool
         ensures { (es : List Event) → IsStateOf es self.now → result ≡ holds_of_game (has_cell key) es }
     {
-        phase_of(&self.game, key).is_some()
+        phase_of(self.game.board(), key).is_some()
     }
 
     // Whether a definition has this key.
     fn has_definition(&self, key: Key) -> bool
         ensures { (es : List Event) → IsStateOf es self.now → result ≡ has_definition key es }
     {
-        self.tables.definitions.contains(key)
+        self.game.definitions().contains(key)
     }
 
     // Whether a message comes under the next key. The names of its variables ascend, as those of all `Vars` do.
@@ -296,6 +284,7 @@ impl Facts {
         self.left.leaves_root(element.key, element.definition)
             && self
                 .game
+                .board()
                 .is_process_of(element.definition, element.node.as_str())
             && element.via.as_str().is_empty()
     }
@@ -311,7 +300,7 @@ impl Facts {
     fn is_definition_of(&self, cell: Key, definition: Key) -> bool
         ensures { result ≡ is_definition_of cell definition self.now.game }
     {
-        match self.game.definition_of(cell) {
+        match self.game.board().definition_of(cell) {
             Some(found) => found == definition,
             None => false,
         }
@@ -346,19 +335,7 @@ impl Facts {
         if !self.meets_own(alloc, event, known)? {
             return Err(TableFault::NotApplicable);
         }
-        let rests = self.rests;
-        self.rests = false;
-        match play(alloc, event, &self.tables.jobs, &mut self.game) {
-            Ok(()) => {
-                self.rests = rests && !may_show(event);
-                Ok(())
-            }
-            Err(TableFault::NotApplicable) => {
-                self.rests = rests;
-                Err(TableFault::NotApplicable)
-            }
-            Err(TableFault::Memory) => Err(TableFault::Memory),
-        }
+        self.game.play(alloc, event, &self.tables.jobs)
     }
 
     // Takes in what an event says, but for its move and of messages. After a refusal the state is only dropped.

@@ -1,6 +1,7 @@
 //! The state of a partition: what its log's events come to.
 #![tactic(auto)]
 
+mod course;
 mod facts;
 mod keys;
 mod listing;

@@ -1,12 +1,11 @@
 // The moves that events show.
 ghost use Rattle.std.specs.Prelude.{◌≡◌, ◌==◌, List, [], IsTrue, IsFalse, IsErrOf, IfOk, OnOk, Some, None, false, option_map};
 ghost use Rattle.std.specs.List.{find};
-ghost use Rattle.zb_views.specs.Jobs as views;
-ghost use Rattle.zb_model.specs.declared.record.Event.{Event};
+ghost use Rattle.zb_views.specs.declared.job.Job.{Job};
 ghost use Rattle.zb_model.specs.declared.record.Event.TheVariants as events;
 ghost use Rattle.zb_rules.specs.Applies.{may_fit};
 ghost use Rattle.zb_tokens.specs.Game.{fits, played};
-ghost use Rattle.zb_rules.specs.Shown.{shown, after_shown, event_of};
+ghost use Rattle.zb_rules.specs.Shown.{shown_by, after_shown, event_of};
 ghost use Rattle.zb_tokens.specs.declared.board.Move.TheVariants as moves;
 ghost use Rattle.zb_state.specs.Shows.{may_show};
 
@@ -27,16 +26,11 @@ use zb_tokens::{
 /// nothing has changed; after `Memory` the game is only dropped. It costs a copy of the event's texts, its
 /// model, which becomes a graph, and its value, and what `zb_game::make` does.
 pub fn play(alloc: Global, event: &Event, jobs: &Jobs, game: &mut Game) -> Result<(), TableFault>
-    ensures fit { (before : List Event) → views.jobs before ≡ jobs.now → OnOk result (IsTrue (may_fit (shown before event.now) game.old)) }
-    ensures played { (before : List Event) → views.jobs before ≡ jobs.now → OnOk result (after_shown game.old (shown before event.now) ≡ Some game.new) }
-    ensures illegal { (before : List Event) → views.jobs before ≡ jobs.now
-        → IsErrOf result TableFault.NotApplicable → IsFalse (may_fit (shown before event.now) game.old) }
-    ensures silent { may_show event.now ≡ false → OnOk result (game.new ≡ game.old) }
+    ensures fit { OnOk result (IsTrue (may_fit (shown_by jobs.now event.now) game.old)) }
+    ensures played { OnOk result (after_shown game.old (shown_by jobs.now event.now) ≡ Some game.new) }
+    ensures illegal { IsErrOf result TableFault.NotApplicable → IsFalse (may_fit (shown_by jobs.now event.now) game.old) }
     ensures kept { IsErrOf result TableFault.NotApplicable → game.new ≡ game.old }
 {
-    if !may_show(event) {
-        return Ok(());
-    }
     match shown(alloc, event, jobs)? {
         Some(step) => make(alloc, step, game),
         None => Ok(()),
@@ -45,7 +39,8 @@ pub fn play(alloc: Global, event: &Event, jobs: &Jobs, game: &mut Game) -> Resul
 
 /// Whether the event may show a move.
 pub fn may_show(event: &Event) -> bool
-    ensures { result ≡ may_show event.now }
+    ensures shows { result ≡ may_show event.now }
+    ensures silent { IsFalse result → (js : List Job) → shown_by js event.now ≡ None }
 {
     matches!(
         event,
@@ -83,7 +78,7 @@ fn make(alloc: Global, shown: Move, game: &mut Game) -> Result<(), TableFault>
 
 // The move that the event shows, if it shows one.
 fn shown(alloc: Global, event: &Event, jobs: &Jobs) -> Result<Option<Move>, AllocError>
-    ensures { (before : List Event) → views.jobs before ≡ jobs.now → IfOk result (λ move. move ≡ shown before event.now) }
+    ensures { IfOk result (λ move. move ≡ shown_by jobs.now event.now) }
 {
     match event {
         Event::ProcessCreated(process) => stand_of(alloc, process),
@@ -107,11 +102,14 @@ fn shown(alloc: Global, event: &Event, jobs: &Jobs) -> Result<Option<Move>, Allo
 
 // The model of a process stands.
 fn stand_of(alloc: Global, process: &ProcessDefinition) -> Result<Option<Move>, AllocError>
-    ensures { IfOk result (λ move. move ≡ shown [] (events.ProcessCreated process.now)) }
+    ensures { IfOk result (λ move. move ≡ shown_by [] (events.ProcessCreated process.now)) }
 {
     let model = boxed_copy(alloc, &process.model)?;
-    let key = process.key;
-    Ok(Some(Move::Stand(Deployed { key, model })))
+    Ok(Some(Move::Stand(Deployed {
+        key: process.key,
+        version: process.version,
+        model,
+    })))
 }
 
 // A copy of a model, behind a pointer.
@@ -126,7 +124,7 @@ fn boxed_copy(alloc: Global, model: &Model) -> Result<BoxedModel, AllocError>
 
 // A root starts, and another cell is entered.
 fn entry_of(alloc: Global, element: &ElementActivating) -> Result<Option<Move>, AllocError>
-    ensures { IfOk result (λ move. move ≡ shown [] (events.ElementActivating element.now)) }
+    ensures { IfOk result (λ move. move ≡ shown_by [] (events.ElementActivating element.now)) }
 {
     if element.scope == Key::new(0) {
         return Ok(Some(Move::Start(Start {
@@ -143,7 +141,7 @@ fn entry_of(alloc: Global, element: &ElementActivating) -> Result<Option<Move>, 
 }
 
 fn leave_of(alloc: Global, element: &ElementCompleted) -> Result<Option<Move>, AllocError>
-    ensures { IfOk result (λ move. move ≡ shown [] (events.ElementCompleted element.now)) }
+    ensures { IfOk result (λ move. move ≡ shown_by [] (events.ElementCompleted element.now)) }
 {
     Ok(Some(Move::Leave(Leave {
         key: element.key,
@@ -152,7 +150,7 @@ fn leave_of(alloc: Global, element: &ElementCompleted) -> Result<Option<Move>, A
 }
 
 fn trigger_of(alloc: Global, told: &ProcessEventTriggered) -> Result<Option<Move>, AllocError>
-    ensures { IfOk result (λ move. move ≡ shown [] (events.ProcessEventTriggered told.now)) }
+    ensures { IfOk result (λ move. move ≡ shown_by [] (events.ProcessEventTriggered told.now)) }
 {
     Ok(Some(Move::Trigger(Triggered {
         cell: told.cell,
@@ -161,7 +159,7 @@ fn trigger_of(alloc: Global, told: &ProcessEventTriggered) -> Result<Option<Move
 }
 
 fn take_of(alloc: Global, taken: &SequenceFlowTaken) -> Result<Option<Move>, AllocError>
-    ensures { IfOk result (λ move. move ≡ shown [] (events.SequenceFlowTaken taken.now)) }
+    ensures { IfOk result (λ move. move ≡ shown_by [] (events.SequenceFlowTaken taken.now)) }
 {
     Ok(Some(Move::Take(Take {
         key: taken.key,
@@ -205,7 +203,7 @@ fn throw_of(alloc: Global, thrown: &JobError, jobs: &Jobs) -> Result<Option<Move
 }
 
 fn incident_of(alloc: Global, made: &IncidentCreated) -> Result<Option<Move>, AllocError>
-    ensures { IfOk result (λ move. move ≡ shown [] (events.IncidentCreated made.now)) }
+    ensures { IfOk result (λ move. move ≡ shown_by [] (events.IncidentCreated made.now)) }
 {
     Ok(Some(Move::Incident(Incident {
         key: made.key,

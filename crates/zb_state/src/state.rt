@@ -28,7 +28,7 @@ use std::alloc::{AllocError, Global};
 use std::marker::Model;
 use zb_board::Game;
 use zb_definitions::Definitions;
-use zb_game::{is_quiet, move_of};
+use zb_game::move_of;
 use zb_jobs::Jobs;
 use zb_model::{Event, Key, Moment, PartitionId, TableFault};
 use zb_timers::Timers;
@@ -145,7 +145,7 @@ impl State {
     pub fn game(&self) -> &Game
         ensures { (es : List Event) → IsStateOf es self.now → board_of es ≡ Some result.now }
     {
-        &self.facts.game
+        self.facts.game.board()
     }
 
     /// The buffered messages.
@@ -159,7 +159,7 @@ impl State {
     pub fn definitions(&self) -> &Definitions
         ensures { (es : List Event) → IsStateOf es self.now → KeepsDefinitions (definitions es) result.now }
     {
-        &self.facts.tables.definitions
+        self.facts.game.definitions()
     }
 
     /// The jobs that are there.
@@ -180,8 +180,7 @@ impl State {
     /// was forced when it was last asked and no move was made since.
     pub fn next_mover(&mut self, alloc: Global) -> Result<Option<Mover>, AllocError>
         ensures mover { (es : List Event) (b : Board) → IsStateOf es self.new → board_of es ≡ Some b → IfOk result (λ mover. mover ≡ next_mover b) }
-        ensures state { (es : List Event) → IsStateOf es self.old → IsStateOf es self.new }
-        ensures place { partition_of self.new ≡ partition_of self.old }
+        ensures kept { self.new ≡ self.old }
     {
         self.facts.next_mover(alloc)
     }
@@ -191,7 +190,7 @@ impl State {
         ensures game { (es : List Event) → IsStateOf es self.now → IsTrue result ↔ HasQuietGame es }
         ensures told { (es : List Event) → IsStateOf es self.now → result ≡ is_quiet es }
     {
-        self.facts.rests || is_quiet(&self.facts.game)
+        self.facts.game.is_quiet()
     }
 
     /// What a mover does at a moment, if it does anything: the event of its move, and the variables that are set in front of that;
@@ -206,8 +205,9 @@ impl State {
             → IfOk result (λ turn. turn_of (partition_of self.now) moment es b mover
             ≡ option_map (λ t. turn_with (partition_of self.now) moment t.assignments t.event es) turn) }
     {
-        match move_of(&self.facts.game, alloc, moment, self.next_key(), mover)? {
-            Some(made) => turn_by(alloc, made, &self.facts.game),
+        let game = self.game();
+        match move_of(game, alloc, moment, self.next_key(), mover)? {
+            Some(made) => turn_by(alloc, made, game),
             None => Ok(None),
         }
     }

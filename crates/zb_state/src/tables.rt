@@ -4,7 +4,6 @@ ghost use Rattle.zb_jobs.specs.Table.{has_place_for};
 ghost use Rattle.zb_timers.specs.Table.{has_place_for_timer};
 
 use std::alloc::{AllocError, Global};
-use zb_definitions::Definitions;
 use zb_jobs::Jobs;
 use zb_model::Event;
 use zb_outbox::Outbox;
@@ -13,8 +12,6 @@ use zb_timers::Timers;
 /// What a state keeps beside the messages and the game.
 #[derive(Drop)]
 pub struct Tables {
-    /// The definitions that were made.
-    pub definitions: Definitions,
     /// What is sent and no event has ended.
     pub sendings: Outbox,
     /// The jobs that are there.
@@ -25,17 +22,14 @@ pub struct Tables {
 
 impl Tables {
     ghost use Rattle.zb_state.specs.Tables.{HaveTaken};
-    ghost use Rattle.zb_definitions.specs.Kept.{KeepsDefinitions};
 
     /// The tables of no events. They take no memory.
     pub fn empty(alloc: Global) -> Tables
-        ensures definitions { KeepsDefinitions [] result.definitions }
         ensures sendings { result.sendings ≡ [] }
         ensures jobs { result.jobs ≡ [] }
         ensures timers { result.timers ≡ [] }
     {
         Tables {
-            definitions: Definitions::empty(alloc),
             sendings: Outbox::empty(alloc),
             jobs: Jobs::empty(alloc),
             timers: Timers::empty(alloc),
@@ -63,7 +57,6 @@ impl Tables {
         requires timers { IsTrue (has_place_for_timer self.old.timers event.now) }
         ensures { OnOk result (HaveTaken event.now self.old self.new) }
     {
-        self.definitions.apply(alloc, event)?;
         self.sendings.apply(alloc, event)?;
         self.jobs.apply(alloc, event)?;
         self.timers.apply(alloc, event)?;

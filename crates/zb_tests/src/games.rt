@@ -21,6 +21,7 @@ fn started(rt: &impl Abort, alloc: Global) -> Game {
     let definition = Key::new(1);
     let stand = Move::Stand(Deployed {
         key: definition,
+        version: 1,
         model: boxed(rt, alloc),
     });
     assert!(rt; make(&mut game, alloc, stand) == Ok(()));

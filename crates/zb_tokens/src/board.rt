@@ -84,6 +84,8 @@ pub struct Incident {
 #[derive(Drop)]
 pub struct Deployed {
     pub key: Key,
+    /// Which version of its process it is.
+    pub version: u32,
     pub model: BoxedModel,
 }
 

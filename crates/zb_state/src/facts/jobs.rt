@@ -40,7 +40,7 @@ impl Facts {
         ensures first { IsTrue result → IsTrue (is_none (find (λ j. j.cell == cell) self.now.tables.jobs)) }
         ensures begins { (es : List Event) → IsStateOf es self.now → result ≡ begins_job cell es }
     {
-        may_have_job(&self.game, cell) && self.tables.jobs.on(cell).is_none()
+        may_have_job(self.game.board(), cell) && self.tables.jobs.on(cell).is_none()
     }
 
     // Whether a worker may be given this.
@@ -50,7 +50,12 @@ impl Facts {
         match self.tables.jobs.get(given.key) {
             Some(job) => {
                 matches!(job.phase, JobPhase::Created | JobPhase::TimedOut)
-                    && is_work_in(&self.game, job.cell, given.instance, given.node.as_str())
+                    && is_work_in(
+                        self.game.board(),
+                        job.cell,
+                        given.instance,
+                        given.node.as_str(),
+                    )
             }
             None => false,
         }
@@ -108,7 +113,7 @@ impl Facts {
     pub(super) fn is_cause_of(&self, job: Key, incident: Key) -> bool
         ensures { (es : List Event) → IsStateOf es self.now → result ≡ holds_of_game (is_cause_of job incident) es }
     {
-        match self.game.incident(incident) {
+        match self.game.board().incident(incident) {
             Some(found) => found.job == job,
             None => false,
         }

@@ -18,7 +18,7 @@ impl Facts {
         ensures own { (es : List Event) → IsStateOf es self.now
             → result ≡ (is_fresh (partition_of self.now) es made.now.key && holds_of_game (may_open made.now) es) }
     {
-        self.is_fresh(made.key) && may_open(&self.game, made.cell, made.node.as_str())
+        self.is_fresh(made.key) && may_open(self.game.board(), made.cell, made.node.as_str())
     }
 
     // Whether the timer with this key is there.

@@ -24,8 +24,9 @@ impl State {
     pub fn due(&self, now: Moment) -> Option<Command>
         ensures { (es : List Event) → IsStateOf es self.now → result ≡ due_command now es }
     {
+        let game = self.facts.game.board();
         let awaited = Awaited {
-            game: &self.facts.game,
+            game,
             timers: &self.facts.tables.timers,
         };
         let expiry = expiry_of(self.listing.messages.first_due(now));

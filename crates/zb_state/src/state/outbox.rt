@@ -94,10 +94,10 @@ impl State {
             → IfOk result (λ packet. packet ≡ packet_of_definition (partition_of self.now) partitions es distribution) }
     {
         let key = distribution.definition;
-        let Some(version) = self.facts.tables.definitions.version_under(key) else {
+        let Some(version) = self.facts.game.definitions().version_under(key) else {
             return Ok(None);
         };
-        let Some(graph) = self.facts.game.model(key) else {
+        let Some(graph) = self.facts.game.board().model(key) else {
             return Ok(None);
         };
         Ok(Some(distribute(

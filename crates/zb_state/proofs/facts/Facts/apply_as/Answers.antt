@@ -23,7 +23,6 @@ invariant_of-self c =
       in_order = rw took.place
           (messages_below mid.place mid.counter s.counter s.messages c.apply.new.self mid.tables.jobs s.tables.jobs s.tables.timers c.args.event.now c.apply.result
           took.counter c.in_ok-admit.ensures.draws (rw took.place at s.in_order) (c.apply.ensures.ok []) c.apply.ensures.err);
-      resting = s.resting;
     }
 
 pub returns-clause-state : goal.returns-clause-state

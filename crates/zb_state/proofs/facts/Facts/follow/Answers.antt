@@ -17,5 +17,4 @@ invariant_of-self c =
       in_order =
           tables_below s.place s.counter c.max-self.result s.messages s.tables c.apply.new.self c.args.event.now c.apply.result raised c.requires s.in_order
           c.apply.ensures.taken c.apply.ensures.no_jobs c.apply.ensures.no_timers;
-      resting = s.resting;
     }

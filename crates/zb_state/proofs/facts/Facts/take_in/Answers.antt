@@ -20,7 +20,6 @@ invariant_of-self c =
       in_order = rw took.place
           (messages_below mid.place mid.counter s.counter s.messages c.take.new.self mid.tables.jobs s.tables.jobs s.tables.timers c.args.event c.take.result
           took.counter c.in-Ok.ensures.draws (rw took.place at s.in_order) (c.take.ensures.ok []) c.take.ensures.err);
-      resting = s.resting;
     }
 
 pub returns-clause-state : goal.returns-clause-state

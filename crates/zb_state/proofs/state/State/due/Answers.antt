@@ -28,7 +28,7 @@ returns c = λ es its.
     let awaited : Timer → Bool = λ t. waits_for t s.game in
     let expiry = c.first_due.ensures.first ∙ first_listed (λ (m : MessagePublished). m.key) (λ m. Some m.deadline) now s.messages right.ascend listed.messages.moments c.first_due.ensures.order right.rows.messages_listed.in_time in
     let time_out = c.first_due-2.ensures.first ∙ (first_listed (λ (j : Job). j.key) given_until now s.tables.jobs jobs_up listed.jobs.moments c.first_due-2.ensures.order right.rows.jobs_listed.in_time ∙ first_job_place now s.tables.jobs) in
-    let trigger = c.first_due_that.ensures.first
+    let trigger = (rw c.board-game.ensures at c.first_due_that.ensures.first)
     ∙ due_listed (λ (t : Timer). t.key) (λ t. Some t.due) now s.tables.timers timers_up listed.timers.moments c.first_due_that.ensures.order right.rows.timers_listed.in_time awaited
     (λ k. option_map_or awaited (row_found (λ (t : Timer). t.key) s.tables.timers k) false) (λ k t at. rw at refl) in
     let told = rw (c.earlier-2.ensures, c.expiry_of-expiry.ensures, c.earlier.ensures, c.time_out_of-time_out.ensures, c.trigger_of-trigger.ensures) at c.command_of.ensures in

@@ -13,18 +13,16 @@ pub returns-in-Some : goal.returns-in-Some
 returns-in-Some c = λ es b is at.
     let moment = c.args.moment in
     let p = partition_of c.args.self.now in
-    let game = c.self.inside.facts.game in
-    let its = subst (λ (f : Facts). IsStateOf es f) (sym c.self.view_is) is in
+    let game = c.game-game.result.now in
     let move = c.in-Some.made in
     let Made : Option Turn → Type 0 = λ turn. turn ≡ option_map (λ e. record { assignments = assignments_of game move; event = e }) (event_of game move) in
     let Told : Option Turn → Type 0 = λ turn. turn_of p moment es b c.args.mover ≡ option_map (λ t. turn_with p moment t.assignments t.event es) turn in
-    IfOk-weaker c.turn_by.result Made Told (λ turn made. turn_told p moment es b game c.args.mover c.next_key.result move turn (same_board (board_of es) b game at its.game)
+    IfOk-weaker c.turn_by.result Made Told (λ turn made. turn_told p moment es b game c.args.mover c.next_key.result move turn (same_board (board_of es) b game at (c.game-game.ensures es is))
     (c.next_key.ensures es is) (rw c.in-Some.is at c.in_ok-made.ensures) made) c.turn_by.ensures
 
 pub returns-in-None : goal.returns-in-None
 returns-in-None c = λ es b is at.
     let moment = c.args.moment in
-    let game = c.self.inside.facts.game in
-    let its = subst (λ (f : Facts). IsStateOf es f) (sym c.self.view_is) is in
-    no_turn_told (partition_of c.args.self.now) moment es b game c.args.mover c.next_key.result (same_board (board_of es) b game at its.game)
+    let game = c.game-game.result.now in
+    no_turn_told (partition_of c.args.self.now) moment es b game c.args.mover c.next_key.result (same_board (board_of es) b game at (c.game-game.ensures es is))
     (c.next_key.ensures es is) (rw c.in-None.is at c.in_ok-made.ensures)
