@@ -21,8 +21,9 @@ const KEYS_OF_TURN: u64 = 1002;
 
 /// Makes the forced moves behind the events that a command has made so far at a moment, one after the other, until
 /// the game is quiet or the batch is full. Tells whether the game is quiet. Each move costs what
-/// `State::next_mover` and `State::take_in` do. Where the keys of a turn aren't left it is answered as want of memory.
-/// A misfit comes only where no events come to the state. After a refusal the state and the events are only dropped.
+/// `State::next_mover` does, and each of its events what `State::apply` does. Where the keys of a turn aren't left it is
+/// answered as want of memory. A misfit comes only where no events come to the state. After a refusal the state and the
+/// events are only dropped.
 pub fn settle(
     alloc: Global,
     state: &mut State,

@@ -24,9 +24,9 @@ use zb_tokens::Move;
 /// come. Where the keys of the cells and of the incidents ascend and no two incidents stand on one cell, as in every
 /// game of a log, a cell or an incident costs that too, what is in a cell the logarithm of how many scopes there are,
 /// and whether an incident stands on a cell that of how many incidents there are; elsewhere each is searched for from
-/// the front. An entry goes through the tokens in its scope up to the first that has come; at a gateway where flows
-/// join, for each of them, where so many tokens are in the scope, and through pairs of the flows. Where a cell is
-/// terminating or ended, an entry and a halt go up the scopes too. Leaving goes through the flows out of a node, and an
+/// the front. Whether a token has come costs an entry the logarithm of how many tokens there are; at a gateway where
+/// flows join, for each of them up to the first on which none is. Where a cell is terminating or ended, an entry and a
+/// halt go up the scopes too. Leaving goes through the flows out of a node, and an
 /// assignment through the variables of a cell. A node or a flow of a model is found by its id in constant time, on
 /// average.
 pub fn fits(game: &Game, m: &Move) -> bool

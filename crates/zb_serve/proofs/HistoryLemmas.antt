@@ -7,7 +7,8 @@ use Rattle.std.proofs.lemmas.List.Elements.{All-nil, All-cons}
 use Rattle.zb_model.specs.declared.record.Batch.{Batch}
 use Rattle.zb_store.specs.Stands.{Stands}
 use Rattle.zb_partition.specs.Log.{bodies_of}
-use Rattle.zb_world.specs.Entries.{IsPartitionOf, is_of, part_of, parts_of, AtMostOne}
+use Rattle.zb_once.specs.Once.{AtMostOne}
+use Rattle.zb_world.specs.Entries.{IsPartitionOf, is_of, part_of, parts_of}
 use Rattle.zb_world.specs.declared.entry.Entry.{Entry}
 use Rattle.zb_world.proofs.EntryLaws.{part_of_joined, part_of_its, part_of_other}
 use Rattle.zb_world.specs.History.{IsEntryOf, IsHistory, IsCutAt}

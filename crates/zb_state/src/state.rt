@@ -81,7 +81,7 @@ impl State {
     }
 
     /// Takes in an event that applies to those before it. At `NotApplicable`, exactly where it doesn't,
-    /// nothing has changed; after `Memory` the state is only dropped. It costs what `Facts::apply` does; a message, a job
+    /// nothing has changed; after `Memory` the state is only dropped. It costs what `Facts::apply_as` does; a message, a job
     /// or a timer that it makes, changes or ends costs what `Lists::join` and `Lists::leave` do beside.
     pub fn apply(&mut self, alloc: Global, event: &Event) -> Result<(), TableFault>
         ensures place { partition_of self.new ≡ partition_of self.old }

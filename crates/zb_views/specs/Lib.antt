@@ -8,3 +8,5 @@ pub mod Processes
 pub mod Jobs
 pub mod Left
 pub mod Timers
+pub mod Subscriptions
+pub mod Starts

@@ -8,6 +8,9 @@ mod distribution;
 mod job;
 mod laws;
 mod left;
+mod lock;
+mod started;
+mod subscription;
 mod timer;
 
 pub use begun::Begun;
@@ -16,4 +19,7 @@ pub use distribution::Distribution;
 pub use job::{Job, JobPhase};
 pub use laws::timers_end_once;
 pub use left::Left;
+pub use lock::Lock;
+pub use started::Started;
+pub use subscription::Subscription;
 pub use timer::Timer;

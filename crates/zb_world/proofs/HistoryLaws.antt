@@ -8,7 +8,8 @@ use Rattle.std.proofs.lemmas.Option.{slice_get_within, get_or_from_slice_get, sl
 use Rattle.zb_model.specs.declared.record.Batch.{Batch}
 use Rattle.zb_rules.specs.Step.{IsStep, EachOn, AreStepsOn}
 use Rattle.zb_rules.proofs.StepLaws.{are_steps_none, are_steps_more, each_on_none, each_on_more, each_on_front, each_on_all, each_on_joined, taken_at}
-use Rattle.zb_world.specs.Entries.{IsPartitionOf, is_of, part_of, places_of, as_entry, entries_of, AtMostOne}
+use Rattle.zb_once.specs.Once.{AtMostOne}
+use Rattle.zb_world.specs.Entries.{IsPartitionOf, is_of, part_of, places_of, as_entry, entries_of}
 use Rattle.zb_world.specs.declared.entry.Entry.{Entry}
 use Rattle.zb_model.specs.declared.record.Packet.{Packet}
 use Rattle.zb_world.specs.History.{IsSentAmong, WasSent, IsEntryOf, IsHistory, IsCutAt}

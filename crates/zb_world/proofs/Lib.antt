@@ -1,7 +1,12 @@
 pub mod Worked
 pub mod SentLemmas
 pub mod EntryLaws
+pub mod FreshLaws
 pub mod HistoryLaws
+pub mod MessageViewLaws
+pub mod MessageStepLaws
 pub mod OnceLaws
 pub mod PacketLaws
 pub mod SendingLaws
+pub mod SubscriptionViewLaws
+pub mod TellingLaws

@@ -1,5 +1,5 @@
 -- Entries of all partitions in one list, and what of them is a partition's.
-use Rattle.std.specs.Prelude.{◌≡◌, ◌≤◌, ℕ, ◌==◌, List, map, slice_get, Bool, IsTrue, Some}
+use Rattle.std.specs.Prelude.{◌≤◌, ℕ, ◌==◌, List, map, Bool}
 use Rattle.std.specs.List.{filter, flat_map, enumerate_from, range_with_len}
 use Rattle.zb_model.specs.declared.record.Event.{Event}
 use Rattle.zb_model.specs.declared.record.Batch.{Batch}
@@ -41,7 +41,3 @@ entries_of p log = map (as_entry p) log
 -- all events of these entries, in order (own)
 abbrev pub happenings : List Entry → List Event
 happenings h = flat_map (λ entry. events_in entry.batch.outcome) h
-
--- at most one of these passes the test: two places whose members do are one place (own)
-abbrev pub AtMostOne : {A : Type 0} → (A → Bool) → List A → Type 0
-AtMostOne {A} test xs = (i j : ℕ) (x y : A) → slice_get xs i ≡ Some x → slice_get xs j ≡ Some y → IsTrue (test x) → IsTrue (test y) → i ≡ j

@@ -4,7 +4,8 @@ use Rattle.zb_model.specs.declared.record.Batch.{Batch}
 use Rattle.zb_model.specs.declared.record.Packet.{Packet}
 use Rattle.zb_record.specs.Packets.{sent_by, is_by_packet}
 use Rattle.zb_rules.specs.Step.{IsStep, EachOn}
-use Rattle.zb_world.specs.Entries.{IsPartitionOf, is_of, part_of, AtMostOne}
+use Rattle.zb_once.specs.Once.{AtMostOne}
+use Rattle.zb_world.specs.Entries.{IsPartitionOf, is_of, part_of}
 use Rattle.zb_world.specs.declared.entry.Entry.{Entry}
 
 -- the command of a batch rests on no more places than there are members before it (own)

@@ -8,7 +8,8 @@ use Rattle.zb_views.specs.declared.definition.Definition.{Definition}
 use Rattle.zb_views.specs.Definitions.{definitions}
 use Rattle.zb_views.specs.Timers.{times_timer_ended}
 use Rattle.zb_rules.specs.JobEnds.{times_ended}
-use Rattle.zb_world.specs.Entries.{happenings, AtMostOne}
+use Rattle.zb_once.specs.Once.{AtMostOne}
+use Rattle.zb_world.specs.Entries.{happenings}
 use Rattle.zb_world.specs.declared.entry.Entry.{Entry}
 
 -- the event opens the subscription with this key for a process (Zeebe)

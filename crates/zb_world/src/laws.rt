@@ -1,13 +1,19 @@
-ghost use Rattle.std.specs.Prelude.{◌≡◌, ◌≤◌, ◌+◌, ℕ, List, [], ◌∷◌, ◌++◌, length, take, All};
+ghost use Rattle.std.specs.Prelude.{◌≡◌, ◌≤◌, ◌+◌, ℕ, List, [], ◌∷◌, ◌++◌, length, map, option_and_then, take, All, IsTrue};
 ghost use Rattle.std.specs.List.{range_with_len, AllByRecursion};
 ghost use Rattle.zb_model.specs.declared.record.Batch.{Batch};
-ghost use Rattle.zb_rules.specs.Step.{EachOn, AreStepsOn};
+ghost use Rattle.zb_model.specs.declared.record.Event.{Event};
+ghost use Rattle.zb_once.specs.May.{IsMessageStep};
+ghost use Rattle.zb_once.specs.Views.{still_buffered, is_locked, is_there, task_of};
+ghost use Rattle.zb_rules.specs.Step.{IsStep, EachOn, AreStepsOn};
 ghost use Rattle.zb_world.specs.Entries.{IsPartitionOf, part_of, places_of, entries_of};
 ghost use Rattle.zb_world.specs.declared.entry.Entry.{Entry};
-ghost use Rattle.zb_views.specs.View.{events_of};
+ghost use Rattle.zb_views.specs.Messages.{is_buffered};
+ghost use Rattle.zb_views.specs.Subscriptions.{is_locked_for, is_subscribed, subscription_at, all_open_new};
+ghost use Rattle.zb_views.specs.View.{events_in, events_of};
 ghost use Rattle.zb_record.specs.Packets.{outbox_of};
 ghost use Rattle.zb_world.specs.History.{IsSentAmong, IsEntryOf, IsHistory, IsCutAt};
 ghost use Rattle.zb_world.specs.Once.{HappensOnce};
+ghost use Rattle.zb_world.specs.Tellings.{tells, asks, refusal_by};
 
 /// What a partition has of a history is a log of its steps. Of two lists of entries, one behind the other, it has what
 /// it has of the first, and then what it has of the second, at places that go on.
@@ -40,7 +46,29 @@ pub fn cuts_are_histories()
     ensures whole { (n : ℕ) (h : List Entry) → IsCutAt n (length h) h h }
 {}
 
-/// In a history a message is correlated with a process at most once, and a job is over at most once.
+/// A step of one of n partitions does to messages what a step may: each of its events tells what may be told behind those
+/// before it, by what its command asks, and the command is replied to as these say.
+pub fn steps_are_message_steps()
+    ensures { (n p : ℕ) (log : List Batch) (batch : Batch) → IsPartitionOf n p → IsStep p n log batch
+        → IsMessageStep n p (map tells (events_of log)) (asks batch.command)
+        (refusal_by batch.command batch.outcome) (map tells (events_in batch.outcome)) }
+{}
+
+/// What a log says of messages and subscriptions is what its events tell of them: whether a message is buffered, and for
+/// which processes it is locked; and where no subscription is opened that is there, whether one is there, and which
+/// message it is correlating.
+pub fn views_are_as_told()
+    ensures buffered { (message : ℕ) (es : List Event) → still_buffered message (map tells es) ≡ is_buffered message es }
+    ensures locked { (message : ℕ) (process : List ℕ) (es : List Event) → is_locked message process (map tells es)
+        ≡ is_locked_for message process es }
+    ensures there { (subscription : ℕ) (es : List Event) → IsTrue (all_open_new [] es)
+        → is_there subscription (map tells es) ≡ is_subscribed subscription es }
+    ensures task { (subscription : ℕ) (es : List Event) → IsTrue (all_open_new [] es)
+        → task_of subscription (map tells es) ≡ option_and_then (λ s. s.correlating) (subscription_at subscription es) }
+{}
+
+/// In a history a message is correlated with a process at most once, a job is over at most once, and a timer ends at most
+/// once.
 pub fn once_in_a_history()
     ensures { (n : ℕ) (h : List Entry) → IsHistory n h → HappensOnce h }
 {}

@@ -8,6 +8,7 @@ mod sent;
 pub use entry::{Entry, partition_at};
 pub use laws::{
     cuts_are_histories, entries_are_pinned, histories_go_on, logs_have_entries, once_in_a_history,
-    packets_in_outboxes_were_sent, parts_are_logs_of_steps,
+    packets_in_outboxes_were_sent, parts_are_logs_of_steps, steps_are_message_steps,
+    views_are_as_told,
 };
 pub use sent::sent_in;
