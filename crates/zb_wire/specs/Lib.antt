@@ -7,3 +7,4 @@ pub mod Ops
 pub mod Asked
 pub mod Request
 pub mod Reading
+pub mod Listed

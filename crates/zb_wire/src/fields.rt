@@ -1,14 +1,15 @@
 ghost use Rattle.std.specs.Prelude.{◌≡◌, None, IfOk, option_map, map};
 ghost use Rattle.std.specs.Option.{option_or};
-ghost use Rattle.serde_json.specs.View.{view, members_view};
 ghost use Rattle.zb_wire.specs.Fields as spec;
 ghost use Rattle.zb_wire.specs.First.{first_told};
+ghost use Rattle.zb_wire.specs.Listed.{members_listed, object_of};
 ghost use Rattle.zb_wire.specs.Reading.{field_of, data_of, range_of};
 
 use crate::faults::{field_fault, range_fault};
 use crate::kind::Kind;
+use crate::members::{Member, value_at};
 use crate::{Given, LineFault};
-use serde_json::{Map, Value as Json};
+use serde_json::Value as Json;
 use std::alloc::{AllocError, Global};
 
 /// A field of a request beside `op`: its name, and what its value may be.
@@ -68,20 +69,19 @@ struct Judged {
     outside: Option<&'static str>,
 }
 
-/// What is wrong with a value that has no such fields, these being its members. It takes time in proportion
-/// to the value.
+/// What is wrong with an object that has no such fields, these being its members. It takes time in proportion
+/// to the object.
 #[tactic(auto, unfolding(crate::specs::Fields::fault_in))]
 pub fn fault_in(
     alloc: Global,
     given: Given,
     fields: &[Field],
-    members: &Map<String, Json>,
-    value: &Json,
+    members: &[Member],
 ) -> Result<Option<LineFault>, AllocError>
     ensures { IfOk result (λ fault. fault ≡ spec.fault_in given (map field_of fields.now)
-        (members_view members.now.entries) (view value.now)) }
+        (members_listed members.now) (object_of members.now)) }
 {
-    let Judged { wrong, outside } = judge(alloc, given, fields, value)?;
+    let Judged { wrong, outside } = judge(alloc, given, fields, members)?;
     if let Some(fault) = wrong {
         return Ok(Some(fault));
     }
@@ -95,15 +95,20 @@ pub fn fault_in(
 }
 
 // What is wrong with the fields of a line.
-fn judge(alloc: Global, given: Given, fields: &[Field], value: &Json) -> Result<Judged, AllocError>
+fn judge(
+    alloc: Global,
+    given: Given,
+    fields: &[Field],
+    members: &[Member],
+) -> Result<Judged, AllocError>
     ensures wrong { IfOk result (λ judged. judged.wrong
-        ≡ first_told (spec.wrong_field (view value.now)) (map field_of fields.now)) }
+        ≡ first_told (spec.wrong_field (object_of members.now)) (map field_of fields.now)) }
     ensures outside { IfOk result (λ judged. judged.wrong ≡ None → range_of judged.outside
-        ≡ first_told (spec.field_outside given (view value.now)) (map field_of fields.now)) }
+        ≡ first_told (spec.field_outside given (object_of members.now)) (map field_of fields.now)) }
 {
     let mut outside = None;
     for field in fields {
-        let found = value.get(field.name());
+        let found = value_at(members, field.name());
         if let Some(fault) = field.wrong(alloc, found)? {
             return Ok(Judged {
                 wrong: Some(fault),
@@ -136,13 +141,13 @@ fn first_outside(
 }
 
 // The first member, in byte order, that is neither `op` nor one of the fields.
-fn first_unknown<'m>(fields: &[Field], members: &'m Map<String, Json>) -> Option<&'m str>
+fn first_unknown<'m>(fields: &[Field], members: &[Member<'m>]) -> Option<&'m str>
     ensures { option_map (λ s. s.now) result
-        ≡ spec.first_unknown (map field_of fields.now) (members_view members.now.entries) }
+        ≡ spec.first_unknown (map field_of fields.now) (members_listed members.now) }
 {
-    for (name, _) in members.iter() {
-        if !is_known(fields, name.as_str()) {
-            return Some(name.as_str());
+    for member in members {
+        if !is_known(fields, member.name) {
+            return Some(member.name);
         }
     }
     None

@@ -7,6 +7,7 @@ mod fields;
 mod given;
 mod kind;
 mod making;
+mod members;
 mod ops;
 mod reading;
 mod request;

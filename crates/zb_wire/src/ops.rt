@@ -1,5 +1,5 @@
 ghost use Rattle.std.specs.Prelude.{◌≡◌, IfOk, option_map, map};
-ghost use Rattle.serde_json.specs.View.{view};
+ghost use Rattle.zb_wire.specs.Listed.{object_of};
 ghost use Rattle.zb_wire.specs.Ops.{op_named, op_of};
 ghost use Rattle.zb_wire.specs.Reading.{field_of};
 
@@ -9,10 +9,10 @@ use crate::making::{
     activation_in, completion_in, creation_in, failure_in, message_in, partition_in, retries_in,
     thrown_in, update_in,
 };
+use crate::members::Member;
 use crate::values::{count_at, key_at, model_at};
 use crate::variables::{LONGEST_NAME, LONGEST_TEXT};
 use crate::{Given, Request};
-use serde_json::Value as Json;
 use std::alloc::{AllocError, Global};
 
 // The longest time, in milliseconds.
@@ -152,30 +152,35 @@ impl OpName {
         }
     }
 
-    /// The request that a value with such fields is.
-    pub fn make(self, alloc: Global, given: Given, value: &Json) -> Result<Request, AllocError>
-        ensures { IfOk result (λ request. request ≡ (op_of self).request given (view value.now)) }
+    /// The request that an object with such fields is, these being its members.
+    pub fn make(
+        self,
+        alloc: Global,
+        given: Given,
+        members: &[Member],
+    ) -> Result<Request, AllocError>
+        ensures { IfOk result (λ request. request ≡ (op_of self).request given (object_of members.now)) }
     {
         match self {
-            OpName::Deploy => Ok(Request::Deploy(model_at(alloc, value, "model")?)),
+            OpName::Deploy => Ok(Request::Deploy(model_at(alloc, members, "model")?)),
             OpName::Create => Ok(Request::Create {
-                partition: partition_in(given, value),
-                creation: creation_in(alloc, value)?,
+                partition: partition_in(given, members),
+                creation: creation_in(alloc, members)?,
             }),
-            OpName::Cancel => Ok(Request::Cancel(key_at(value, "key"))),
-            OpName::Variables => Ok(Request::Variables(update_in(alloc, value)?)),
+            OpName::Cancel => Ok(Request::Cancel(key_at(members, "key"))),
+            OpName::Variables => Ok(Request::Variables(update_in(alloc, members)?)),
             OpName::Activate => Ok(Request::Activate {
-                partition: partition_in(given, value),
-                activation: activation_in(alloc, value)?,
+                partition: partition_in(given, members),
+                activation: activation_in(alloc, members)?,
             }),
-            OpName::Complete => Ok(Request::Complete(completion_in(alloc, value)?)),
-            OpName::Fail => Ok(Request::Fail(failure_in(alloc, value)?)),
-            OpName::Throw => Ok(Request::Throw(thrown_in(alloc, value)?)),
-            OpName::Retries => Ok(Request::Retries(retries_in(value))),
-            OpName::Publish => Ok(Request::Publish(message_in(alloc, value)?)),
-            OpName::Resolve => Ok(Request::Resolve(key_at(value, "key"))),
+            OpName::Complete => Ok(Request::Complete(completion_in(alloc, members)?)),
+            OpName::Fail => Ok(Request::Fail(failure_in(alloc, members)?)),
+            OpName::Throw => Ok(Request::Throw(thrown_in(alloc, members)?)),
+            OpName::Retries => Ok(Request::Retries(retries_in(members))),
+            OpName::Publish => Ok(Request::Publish(message_in(alloc, members)?)),
+            OpName::Resolve => Ok(Request::Resolve(key_at(members, "key"))),
             OpName::Tick => Ok(Request::Tick),
-            OpName::Advance => Ok(Request::Advance(count_at(value, "ms"))),
+            OpName::Advance => Ok(Request::Advance(count_at(members, "ms"))),
             OpName::Settle => Ok(Request::Settle),
         }
     }

@@ -1,15 +1,17 @@
 ghost use Rattle.std.specs.Prelude.{◌≡◌, ◌+◌, ℕ, List, take};
-ghost use Rattle.serde_json.specs.View.{view, members_view};
+ghost use Rattle.serde_json.specs.View.{view};
 ghost use Rattle.zb_wire.specs.declared.given.Given.{Given};
+ghost use Rattle.zb_wire.specs.Listed.{members_listed, object_of};
 ghost use Rattle.zb_wire.specs.Op.{request_with};
 ghost use Rattle.zb_wire.specs.Ops.{op_of};
 ghost use Rattle.zb_wire.specs.Reading.{ReadsValue, Blames};
 ghost use Rattle.zb_wire.specs.Request.{longest_line, value_in, request_in, request_of, GivesRequest};
 
 use crate::fields::fault_in;
+use crate::members::{Member, list_members, value_at};
 use crate::ops::OpName;
 use crate::{Given, LineFault, Request};
-use serde_json::{Category, Error, Map, Value as Json};
+use serde_json::{Category, Error, Value as Json};
 use std::alloc::{AllocError, Global};
 
 /// A line has at most so many bytes, without its newline.
@@ -62,39 +64,49 @@ fn fault_of(error: &Error) -> LineFault
 }
 
 // The request that a value is.
+#[tactic(auto, using(crate::proofs::ListedLemmas::object_by))]
 fn request_in(alloc: Global, value: &Json, given: Given) -> Result<Request, LineFault>
     ensures { GivesRequest result (request_in given (view value.now)) }
 {
     let Some(members) = value.as_object() else {
         return Err(LineFault::NotObject);
     };
-    let Some(name) = value.get("op").and_then(Json::as_str) else {
+    match list_members(alloc, members) {
+        Ok(members) => request_of(alloc, given, members.as_slice()),
+        Err(AllocError) => Err(LineFault::Memory),
+    }
+}
+
+// The request that an object is, these being its members.
+fn request_of(alloc: Global, given: Given, members: &[Member]) -> Result<Request, LineFault>
+    ensures { GivesRequest result (request_in given (object_of members.now)) }
+{
+    let Some(name) = value_at(members, "op").and_then(Json::as_str) else {
         return Err(LineFault::NoOp);
     };
     match OpName::named(name, given) {
-        Some(op) => request_with(alloc, given, op, members, value),
+        Some(op) => request_with(alloc, given, op, members),
         None => Err(LineFault::UnknownOp),
     }
 }
 
-// The request of this op that a value is, these being its members.
+// The request of this op that an object is, these being its members.
 #[tactic(auto, using(crate::proofs::FaultLemmas::tells_same))]
 fn request_with(
     alloc: Global,
     given: Given,
     op: OpName,
-    members: &Map<String, Json>,
-    value: &Json,
+    members: &[Member],
 ) -> Result<Request, LineFault>
     ensures { GivesRequest result
-        (request_with given (op_of op) (members_view members.now.entries) (view value.now)) }
+        (request_with given (op_of op) (members_listed members.now) (object_of members.now)) }
 {
-    match fault_in(alloc, given, op.fields(), members, value) {
+    match fault_in(alloc, given, op.fields(), members) {
         Ok(None) => {}
         Ok(Some(fault)) => return Err(fault),
         Err(AllocError) => return Err(LineFault::Memory),
     }
-    match op.make(alloc, given, value) {
+    match op.make(alloc, given, members) {
         Ok(request) => Ok(request),
         Err(AllocError) => Err(LineFault::Memory),
     }
