@@ -1,0 +1,43 @@
+# prints the excerpts of the log
+def ended(first, last):
+    """Tasks are called off with their jobs, from the newest on; these are the keys of the first one and the last one."""
+    for key in range(first, last - 1, -2):
+        print(f"EVENT PROCESS_INSTANCE ELEMENT_TERMINATING element=#{key}")
+        print(f"EVENT JOB CANCELED job=#{key + 1}")
+        print(f"EVENT PROCESS_INSTANCE ELEMENT_TERMINATED element=#{key}")
+
+
+print("""\
+# the batch of the first one is full before it is caught
+COMMAND JOB THROW_ERROR at=1000 begin=7 accepted=1024 job=#11 code=E
+EVENT JOB ERROR_THROWN job=#11 code=E
+EVENT PROCESS_INSTANCE ELEMENT_TERMINATED element=#1292""")
+ended(1290, 612)
+print("""\
+EVENT PROCESS_INSTANCE ELEMENT_TERMINATING element=#610
+EVENT JOB CANCELED job=#611
+
+# the second one is caught, and ends the task of the first one
+COMMAND JOB THROW_ERROR at=1000 begin=8 accepted=914 job=#13 code=F
+EVENT JOB ERROR_THROWN job=#13 code=F
+EVENT PROCESS_INSTANCE ELEMENT_TERMINATED element=#610""")
+ended(608, 14)
+print("""\
+EVENT PROCESS_EVENT TRIGGERED element=#5 node=gf
+EVENT PROCESS_INSTANCE ELEMENT_TERMINATING element=#5
+EVENT PROCESS_INSTANCE ELEMENT_TERMINATING element=#12
+EVENT PROCESS_INSTANCE ELEMENT_TERMINATED element=#12
+EVENT PROCESS_INSTANCE ELEMENT_TERMINATING element=#10
+EVENT PROCESS_INSTANCE ELEMENT_TERMINATED element=#10
+EVENT PROCESS_INSTANCE ELEMENT_TERMINATED element=#6
+EVENT PROCESS_INSTANCE ELEMENT_TERMINATED element=#5
+EVENT PROCESS_INSTANCE ELEMENT_ACTIVATING element=#1975 scope=#3 definition=#1 node=bu flow=
+EVENT PROCESS_INSTANCE ELEMENT_ACTIVATED element=#1975
+EVENT PROCESS_INSTANCE ELEMENT_COMPLETING element=#1975
+EVENT PROCESS_INSTANCE ELEMENT_COMPLETED element=#1975 flows=[]
+EVENT PROCESS_INSTANCE ELEMENT_ACTIVATING element=#1976 scope=#3 definition=#1 node=gf flow=
+EVENT PROCESS_INSTANCE ELEMENT_ACTIVATED element=#1976
+EVENT PROCESS_INSTANCE ELEMENT_COMPLETING element=#1976
+EVENT PROCESS_INSTANCE ELEMENT_COMPLETED element=#1976 flows=[]
+EVENT PROCESS_INSTANCE ELEMENT_COMPLETING element=#3
+EVENT PROCESS_INSTANCE ELEMENT_COMPLETED element=#3 flows=[]""")
