@@ -8,8 +8,6 @@ mod crashes;
 #[cfg(test)]
 mod disks;
 #[cfg(test)]
-mod games;
-#[cfg(test)]
 mod histories;
 #[cfg(test)]
 mod logs;
