@@ -1,31 +1,10 @@
 // What a crash leaves of the logs behind a call that fails.
-use crate::script::{Ended, PLAIN, Script, THREE, disk_of, output, served, served_behind};
+use crate::script::{Ended, Script, THREE, output, served, served_behind};
 use std::alloc::Global;
-use std::mem::forget;
 use std::process::Abort;
 use std::sync::Wait;
 use std::thread::Threads;
-use zb_disk::MemDisk;
 use zb_serve::Cause;
-use zb_store::GateLog;
-
-// A message that expires when the clock is moved by a millisecond, and the request that goes on with it.
-const LINES: &str =
-    "{\"op\":\"publish\",\"name\":\"paid\",\"correlationKey\":\"o-1\",\"timeToLive\":1}\n{\"op\":\"advance\",\"ms\":1}\n{\"op\":\"tick\"}\n";
-
-// How many of the first replies to these lines have a batch.
-const ACKNOWLEDGED: [u64; 4] = [0, 1, 1, 2];
-
-// How many frames a crash at the end, with this fill, leaves of the log.
-fn frames_left(rt: &impl Abort, alloc: Global, log: &MemDisk, fill: &[u8]) -> u64 {
-    let image = log.image(alloc, log.moment(), fill).expect(rt, "memory");
-    let Ok(log) = GateLog::open(alloc, disk_of(rt, alloc, &image, &[]), 4096) else {
-        panic!(rt; "a log that can't be opened");
-    };
-    let frames = log.count();
-    forget(log);
-    frames
-}
 
 // How many lines a text has.
 fn lines_in(text: &[u8]) -> usize {
@@ -36,44 +15,6 @@ fn lines_in(text: &[u8]) -> usize {
         }
     }
     lines
-}
-
-// Whether a crash at the end leaves of the log each batch that was acknowledged by these replies, and at most one more.
-fn is_kept(rt: &impl Abort, alloc: Global, log: &MemDisk, replies: &[u8]) -> bool {
-    let lines = lines_in(replies);
-    assert!(rt; lines < 4);
-    let acknowledged = ACKNOWLEDGED[lines];
-    let mut kept = true;
-    for fill in [b"" as &[u8], &[1], &[255]] {
-        let frames = frames_left(rt, alloc, log, fill);
-        kept = kept && (frames == acknowledged || frames.saturating_sub(1) == acknowledged);
-    }
-    kept
-}
-
-// Whether the run ended by its disk's fault and left what was acknowledged.
-fn keeps(rt: &impl Abort, alloc: Global, ended: &Ended) -> bool {
-    match (ended.volumes.as_slice(), ended.sessions.as_slice()) {
-        ([volume], [session]) => {
-            ended.status == 4 && is_kept(rt, alloc, &volume.log, session.sink.bytes())
-        }
-        _ => false,
-    }
-}
-
-#[test]
-fn a_call_may_fail_and_what_was_acknowledged_stays(rt: HostRuntime) {
-    // Opening takes five calls, and each of the two batches four.
-    for call in 0..13 {
-        let script = Script {
-            input: LINES,
-            calls: &[call],
-            ..PLAIN
-        };
-        let ended = served(&rt, rt.alloc(), &script);
-        assert!(rt; keeps(&rt, rt.alloc(), &ended), "call {call}");
-        drop(ended.into_devices());
-    }
 }
 
 // A deploy, which goes to three partitions, two messages at the second one, the first of them with an id, and one at the

@@ -83,8 +83,8 @@ fn sessions_of(
     sessions
 }
 
-/// A disk with these bytes whose calls with these numbers fail.
-pub fn disk_of(rt: &impl Abort, alloc: Global, bytes: &[u8], calls: &[u64]) -> MemDisk {
+// A disk with these bytes whose calls with these numbers fail.
+fn disk_of(rt: &impl Abort, alloc: Global, bytes: &[u8], calls: &[u64]) -> MemDisk {
     assert!(rt; bytes.len() <= 4096, "a log of at most 4,096 bytes");
     let bytes = bytes.to_vec(alloc).expect(rt, "memory");
     match MemDisk::new(alloc, bytes, numbers_of(rt, alloc, calls)) {
