@@ -13,7 +13,7 @@ use crate::Solo;
 use std::alloc::{AllocError, Global};
 use zb_disk::Disk;
 use zb_model::{Command, Moment, Packet, PartitionId, Stop};
-use zb_record::{answer_packet, delivery_of};
+use zb_packets::{answer_packet, delivery_of};
 
 /// Does units of work at a reading of the clock, at most so many as behind a request, and tells how many. The answers that a
 /// unit sends are taken before anything else is sent again. After an `Err` the engine has stopped.

@@ -2,5 +2,4 @@ pub mod KeptLaws
 pub mod SendingLaws
 pub mod AnswerLaws
 pub mod TextLemmas
-pub mod ToldLemmas
 mod Worked

@@ -10,3 +10,4 @@ pub mod PacketLaws
 pub mod SendingLaws
 pub mod SubscriptionViewLaws
 pub mod TellingLaws
+pub mod ToldLemmas

@@ -3,6 +3,7 @@
 
 mod entry;
 mod laws;
+mod packets;
 mod sent;
 
 pub use entry::{Entry, partition_at};

@@ -4,9 +4,9 @@ ghost use Rattle.zb_record.specs.Packets.{sent_by};
 ghost use Rattle.zb_world.specs.History.{IsSentAmong};
 
 use crate::Entry;
+use crate::packets::packets_of;
 use std::alloc::{AllocError, Global};
 use zb_model::Packet;
-use zb_record::packets_of;
 use zb_same::is_among;
 
 /// Whether one of these entries of so many partitions sends the packet. It makes the packets of each entry in turn, until

@@ -2,8 +2,8 @@ use Rattle.std.proofs.Common.{◌≡◌, ◌-◌, ◌∙◌, ℕ, None, ap, sym,
 use Rattle.std.specs.Option.{option_copied}
 use Rattle.zb_views.specs.Told.{last_told}
 use Rattle.zb_views.specs.Processes.{process_told}
-use Rattle.zb_record.proofs.ToldLemmas.{told_last}
-use Rattle.zb_record.proofs.packets.process_in.Goals as goal
+use Rattle.zb_world.proofs.ToldLemmas.{told_last}
+use Rattle.zb_world.proofs.packets.process_in.Goals as goal
 
 pub returns-in-Some : goal.returns-in-Some
 returns-in-Some c =

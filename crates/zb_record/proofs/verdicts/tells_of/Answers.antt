@@ -3,7 +3,7 @@ use Rattle.std.specs.Fmt.{decimal}
 use Rattle.std.proofs.lemmas.Bool.Decides.{Decides-eqb}
 use Rattle.std.proofs.lemmas.Slice.Eq.{strip_prefix_is}
 use Rattle.zb_record.proofs.TextLemmas.{behind_front, other_front}
-use Rattle.zb_record.proofs.answers.tells_of.Goals as goal
+use Rattle.zb_record.proofs.verdicts.tells_of.Goals as goal
 
 pub returns-in_default : goal.returns-in_default
 returns-in_default c =

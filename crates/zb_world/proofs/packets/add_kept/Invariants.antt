@@ -1,6 +1,6 @@
 use Rattle.std.proofs.Common.{◌≡◌, ◌++◌, take}
 use Rattle.zb_record.specs.Packets.{kept_by}
-use Rattle.zb_record.proofs.packets.add_kept.Given as goal
+use Rattle.zb_world.proofs.packets.add_kept.Given as goal
 
 -- the packets of the events so far were added
 abbrev pub invariant-loop-place : goal.invariant-loop-place

@@ -2,8 +2,8 @@ use Rattle.std.proofs.Common.{[], ◌∷◌, ◌++◌, List, take, sym, ap, appe
 use Rattle.zb_model.specs.declared.record.Packet.{Packet}
 use Rattle.zb_record.specs.Packets.{kept_by}
 use Rattle.zb_record.proofs.KeptLaws.{kept_so_far}
-use Rattle.zb_record.proofs.packets.add_kept.Goals as goal
-use Rattle.zb_record.proofs.packets.add_kept.Goals.{in-Some+in_ok-push, in_default}
+use Rattle.zb_world.proofs.packets.add_kept.Goals as goal
+use Rattle.zb_world.proofs.packets.add_kept.Goals.{in-Some+in_ok-push, in_default}
 
 pub loop-place-preserved : goal.loop-place-preserved
 loop-place-preserved c =

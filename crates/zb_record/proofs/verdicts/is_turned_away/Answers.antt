@@ -2,7 +2,7 @@ use Rattle.std.proofs.Common.{◌≡◌, ℕ, ◌++◌, List, false, codes, sym,
 use Rattle.std.specs.Fmt.{decimal}
 use Rattle.std.specs.Str.{bytes_eq}
 use Rattle.zb_record.specs.Answers.{no_subscription}
-use Rattle.zb_record.proofs.answers.is_turned_away.Goals as goal
+use Rattle.zb_record.proofs.verdicts.is_turned_away.Goals as goal
 
 pub returns-else-tells_of : goal.returns-else-tells_of
 returns-else-tells_of c =
