@@ -7,7 +7,8 @@ A record is a line: a COMMAND with the moment and the begin of its batch and its
 Behind the last one stands END, the closed gate. Which byte is which record, and which fields it has in which order, is
 read from the page. A key is written as #6, the sixth of partition 1, or 2#6, of partition 2, and as - where it is 0. A
 text stands as it is, or as JSON has it where blanks or signs are in it; values, variables and models stand as in
-requests, and expressions with all their parentheses. Bytes that aren't spelled as the page says are refused.
+requests, and expressions with all their parentheses. With which correlation key an instance was started is shown where
+there is one. Bytes that aren't spelled as the page says are refused.
 """
 import json
 import os
@@ -29,7 +30,7 @@ the name and the correlation key, texts = name text, correlationKey text; the id
 the name, the correlation key and the id, texts = name text, correlationKey text, id text
 the time to live, a duration = timeToLive long; the deadline, a timestamp = deadline long; when it is due, a timestamp = due long
 the partition that has it, a number = partition number; the other partition, a number = partition number
-four bytes 0 = nothing zeros; the byte 0 = nothing zero; an empty text = nothing zeros; a byte for its kind = kind incident
+four bytes 0 = nothing zeros; the byte 0 = nothing zero; a byte for its kind = kind incident
 the flows to take, a list of their ids, texts = flows texts; the jobs, a list of their keys = jobs keys
 the key of the element that is left = element key; the flow's id, a text = flow text; the key of its element = element key
 its type, a text = type text; the worker, a text = worker text; all variables that its element sees = variables variables
@@ -41,10 +42,12 @@ the key of the job that is its cause, 0 where it is of another kind than 3 = job
 the key of the job that was its cause, or 0 = job key; the element, its key = element key; the definition, its key = definition key
 its scope, its key, 0 at the process itself = scope key; the node, its id, a text = node text
 the flow by which the token came, its id, a text = flow text
+the correlation key of the message that started the instance, a text = started filled
 """
 # the kinds of nodes, as the page tells them: in a request, the definition of the event, and the field in that
 NODES = {
     "a start event": ("startEvent",), "an end event": ("endEvent",), "a service task": ("serviceTask",), "a subprocess": ("subProcess",),
+    "a start event with a message": ("startEvent", "messageEventDefinition", "name"),
     "an end event that terminates": ("endEvent", "terminateEventDefinition"), "an intermediate throw event": ("intermediateThrowEvent",),
     "an exclusive gateway": ("exclusiveGateway",), "a parallel gateway": ("parallelGateway",), "an event gateway": ("eventBasedGateway",),
     "a catch event with a date": ("intermediateCatchEvent", "timerEventDefinition", "timeDate"),
@@ -188,12 +191,13 @@ class Reader:
         kind, *event = NODES[self.of(LAYOUT["kind of node"], "kind of node")]
         node["kind"] = kind
         host, task, error, timer = kind == "boundaryEvent", kind == "serviceTask", "errorCode" in event, "timerEventDefinition" in event
+        message = "messageEventDefinition" in event
         parent, attached, interrupts, default, named = self.plain(), self.plain(), self.truth(), self.plain(), self.plain()
         self.wants(host == bool(attached) and interrupts <= host, f"an activity at {node}")
         self.wants(not default or kind == "exclusiveGateway", f"a default flow at {node}")
-        self.wants(task or error or not named, f"a type or a code at {node}")
+        self.wants(task or error or message or not named, f"a type, a code or a name at {node}")
         self.wants(self.truth() == timer, f"a time at {node}")
-        about = {event[1]: self.source()} if timer else {"errorCode": named} if error and named else {}
+        about = {event[1]: self.source()} if timer else {event[1]: named} if message or (error and named) else {}
         retries = self.unsigned(4)
         self.wants(task or retries == 0, f"retries at {node}")
         self.wants(self.take(2) == b"\0\0", f"fields of no kind at {node}")
@@ -235,6 +239,10 @@ class Reader:
 
     def text(self):
         return word(self.plain())
+
+    def filled(self):
+        """A text that is shown where it isn't empty."""
+        return self.text() or None
 
     def texts(self):
         return f"[{','.join(self.members(self.text))}]"

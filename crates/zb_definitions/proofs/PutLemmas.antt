@@ -1,9 +1,6 @@
--- What stands under a key, where a row is put, and under a name, where one gets another value.
-use Rattle.std.proofs.Common.{◌≡◌, ℕ, ◌==◌, List, Bool, true, false, ◌&&◌, cond, if◌then◌else◌, is_some, Option, Some, None, refl, sym, ap, subst, ◌∙◌, option_map, arith}
-use Rattle.std.specs.Map.{update}
+-- What stands under a key, where a row is put.
+use Rattle.std.proofs.Common.{◌≡◌, ℕ, ◌==◌, List, Bool, true, false, ◌&&◌, if◌then◌else◌, is_some, Option, Some, None, refl, sym, ap, subst, ◌∙◌, option_map, arith}
 use Rattle.std.specs.Option.{option_or, option_map_or}
-use Rattle.std.specs.Str.{bytes_eq}
-use Rattle.std.specs.Cmp.Lexicographic.{bytes_decides}
 use Rattle.std.proofs.lemmas.Bool.Decides.{nat_tests}
 use Rattle.zb_table.specs.Rows.{row_at, with_row}
 use Rattle.zb_table.proofs.Reading.{read_put}
@@ -25,20 +22,6 @@ row_put {A} key new k rows = sym (whole (row_at key k (with_row key new rows))) 
 pub read_where : {A V : Type 0} (read : A → V) (t : Bool) (new : A) (found : Option A) → option_map read (if t then Some new else found) ≡ (if t then Some (read new) else option_map read found)
 read_where read true new found = refl
 read_where read false new found = refl
-
--- what stands under a name, where one gets a value
-pub put_under : {X V : Type 0} (read : Option X → V) (f g : List ℕ → Option X) (name other : List ℕ) (w : X) (v : V → V) → g other ≡ update bytes_eq f name (Some w) other → read (Some w) ≡ v (read (f name))
-    → read (g other) ≡ (if bytes_eq name other then v (read (f other)) else read (f other))
-put_under {X} {V} read f g name other w v updates put = by_test (bytes_eq name other) refl
-  where
-    by_test : (t : Bool) → bytes_eq name other ≡ t → read (g other) ≡ (if t then v (read (f other)) else read (f other))
-    by_test true same =
-        let is : name ≡ other = (bytes_decides name other).0 same in
-        let now : g other ≡ Some w = updates ∙ ap (λ (t : Bool). cond t (Some w) (f other)) same in
-        ap read now ∙ (put ∙ ap (λ (n : List ℕ). v (read (f n))) is)
-    by_test false apart =
-        let now : g other ≡ f other = updates ∙ ap (λ (t : Bool). cond t (Some w) (f other)) apart in
-        ap read now
 
 -- two tests, one behind the other
 pub if_both : {A : Type 0} (t u : Bool) (a b : A) → (if t then (if u then a else b) else b) ≡ (if t && u then a else b)

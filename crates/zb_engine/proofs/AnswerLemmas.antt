@@ -44,10 +44,10 @@ own_tells tell made own rest told is =
     subst (λ (es : List Event). IsSome (first_told tell (es ++ rest))) same told
 
 -- where there is no reason against an instance its definition is there
-definition_there : (latest asked : Option Definition) (c : ProcessInstanceCreationCreate) → reason_by latest asked c ≡ None → IsTrue (is_some asked)
-definition_there None asked c none = absurd (cc)
-definition_there (Some latest) None c none = absurd (cc)
-definition_there (Some latest) (Some asked) c none = refl
+definition_there : (latest asked : Option Definition) (c : ProcessInstanceCreationCreate) (before : List Event) → reason_by latest asked c before ≡ None → IsTrue (is_some asked)
+definition_there None asked c before none = absurd (cc)
+definition_there (Some latest) None c before none = absurd (cc)
+definition_there (Some latest) (Some asked) c before none = refl
 
 -- the own events of an instance, of the definition that was found
 created_tells : (key : ℕ) (c : ProcessInstanceCreationCreate) (found : Option Definition) (own rest : List Event) → IsTrue (is_some found) → ◌≡◌ {A = Option (List Event)} (Some (option_map_or (λ d. instance_under key d.key c) found [])) (Some own) → IsSome (first_told create_answer (own ++ rest))
@@ -63,7 +63,7 @@ module _ (p n moment : ℕ) (before own rest : List Event) where
   asked_tells (requests.Deploy m) command asked =
       asked_has Tells (commands.DeploymentCreate m) command (λ none. own_tells deploy_answer (deployed p n m before) own rest refl) asked
   asked_tells (requests.Create partition c) command asked =
-      asked_has Tells (commands.ProcessInstanceCreationCreate c) command (λ none. created_tells (next_key p before) c (definition_for c.process c.version before) own rest (definition_there (definition_for c.process 0 before) (definition_for c.process c.version before) c none)) asked
+      asked_has Tells (commands.ProcessInstanceCreationCreate c) command (λ none. created_tells (next_key p before) c (definition_for c.process c.version before) own rest (definition_there (definition_for c.process 0 before) (definition_for c.process c.version before) c before none)) asked
   asked_tells (requests.Publish c) command asked =
       asked_has Tells (commands.MessagePublish c) command (λ none. own_tells publish_answer (published p moment c before) own rest refl) asked
   asked_tells requests.Tick command asked = absurd (cc)

@@ -1,3 +1,4 @@
 pub mod ForcedLemmas
 pub mod MakerLemmas
 pub mod TurnLemmas
+mod StartingLemmas

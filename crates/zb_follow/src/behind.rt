@@ -2,10 +2,12 @@
 ghost use Rattle.std.specs.Prelude.{◌≡◌, ℕ, List, IfOk};
 ghost use Rattle.zb_model.specs.declared.record.Event.{Event};
 ghost use Rattle.zb_rules.specs.Behind.{repair_event, job_made_on, resolved_on, ended_on, halted_on, interrupted_on, events_behind, with_events_behind};
+ghost use Rattle.zb_rules.specs.Starts.{started_behind};
 ghost use Rattle.zb_state.specs.State.{partition_of, IsStateOf};
-ghost use Rattle.zb_follow.specs.Behind.{made_behind, job_canceled, ended_with};
+ghost use Rattle.zb_follow.specs.Behind.{made_behind, job_canceled, ended_with, restarted};
 
 use crate::making::{Find, Found, Maker};
+use crate::starting::{Restarted, copied};
 use crate::timers::{ClosedTimers, OpenedTimers};
 use std::alloc::{AllocError, Global};
 use zb_game::is_interrupting;
@@ -13,11 +15,12 @@ use zb_model::{Event, IncidentResolved, JobCreated, Key, Moment, TryCopy};
 use zb_state::{Out, Refusal, State};
 use zb_tokens::{Incident, Triggered};
 use zb_values::work_at;
+use zb_views::Started;
 
 /// An event, and those behind it. It costs what `Out::put` does for each; where a cell becomes active what
 /// `work_at` and `openings_at` do, where it begins to complete what `Timers::on` does, and where it begins to
 /// terminate what that, `Jobs::on` and `Game::incident_on` do; where a node's event has come about what
-/// `is_interrupting` does too.
+/// `is_interrupting` does too, and where an instance ends what `State::started` and `Restarted` do.
 #[derive(Drop)]
 pub struct WithBehind(pub Event);
 
@@ -56,6 +59,8 @@ pub enum Behind {
     End(Ended),
     /// The event of a node has come about for a cell, which it may interrupt.
     Interrupt(Triggered),
+    /// An instance has ended that a message with a correlation key had started.
+    Restart(Started),
 }
 
 // What comes behind this event, which is to be put.
@@ -71,7 +76,21 @@ fn behind_of(alloc: Global, state: &State, event: &Event) -> Result<Behind, Allo
             cell: told.cell,
             node: told.node.copy(alloc)?,
         })),
+        Event::ElementCompleted(element) => restart_of(alloc, state, element.key),
+        Event::ElementTerminated(cell) => restart_of(alloc, state, *cell),
         _ => Ok(Behind::Nothing),
+    }
+}
+
+// What comes behind the end of a cell, which is to be put: where it is an instance that a message with a correlation key
+// has started, the next one may start.
+fn restart_of(alloc: Global, state: &State, cell: Key) -> Result<Behind, AllocError>
+    ensures { IfOk result (λ behind. (p moment : ℕ) (seen es : List Event) → IsStateOf seen state.now
+        → started_behind p seen cell es ≡ made_behind p moment behind es) }
+{
+    match state.started(cell) {
+        Some(started) => Ok(Behind::Restart(copied(alloc, started)?)),
+        None => Ok(Behind::Nothing),
     }
 }
 
@@ -93,6 +112,7 @@ impl Maker for Behind {
             Behind::Close(cell) => ClosedTimers(cell).put(alloc, state, moment, out),
             Behind::End(waiting) => waiting.put(alloc, state, moment, out),
             Behind::Interrupt(told) => Interrupted(told).put(alloc, state, moment, out),
+            Behind::Restart(started) => Restarted(started).put(alloc, state, moment, out),
         }
     }
 }

@@ -39,6 +39,7 @@ use Rattle.zb_process.specs.declared.model.Node.{Node}
 use Rattle.zb_rules.specs.JobEvents.{begins_job}
 use Rattle.zb_rules.specs.Shown.{board_of}
 use Rattle.zb_rules.specs.Applies.{is_fresh, holds_own, holds_of_game, applies, all_apply}
+use Rattle.zb_rules.proofs.StartLaws.{restart_applies}
 use Rattle.zb_rules.proofs.StepLaws.{all_apply_on}
 use Rattle.zb_rules.proofs.OwnLaws.{fresh_from, next_counted, one_more, silent_applies, board_after}
 use Rattle.zb_rules.specs.Making.{and_then, each_made}
@@ -100,11 +101,16 @@ pub record MayInterrupt (p : ℕ) (es : List Event) (b : Board) (cell : ℕ) (no
   pub timed : HasSoundTimers p es
 
 -- what the events behind an event ask of those before them, and of their board
+abbrev pub MayRestart : ℕ → List Event → Type 0
+MayRestart p es = IsTrue (all_apply p [] es) × HasKeys p es 1
+
 abbrev pub MayFollow : ℕ → List Event → Board → Event → Type 0
 MayFollow p es b (events.ElementActivated e) = MayHaveWork p es b e.key
 MayFollow p es b (events.ElementCompleting key) = HasSoundTimers p es
 MayFollow p es b (events.ElementTerminating key) = AllPairs StandApart b.incidents × HasSoundTimers p es
 MayFollow p es b (events.ProcessEventTriggered e) = MayInterrupt p es b e.cell e.node
+MayFollow p es b (events.ElementCompleted e) = MayRestart p es
+MayFollow p es b (events.ElementTerminated key) = MayRestart p es
 MayFollow p es b e = Unit {0}
 
 module _ (p : ℕ) (es : List Event) (b : Board) (is : board_of es ≡ Some b) where
@@ -257,4 +263,6 @@ behind_apply p moment seen (events.ProcessEventTriggered e) b is may =
     let es = seen ++ events.ProcessEventTriggered e ∷ [] in
     let same : holds_of_game (is_interrupting e.cell e.node) es ≡ is_interrupting e.cell e.node b = ap (λ (o : Option Board). option_map_or (is_interrupting e.cell e.node) o false) is in
     subst (λ (t : Bool). IsTrue (all_apply p es (if t then halted_on e.cell es else []))) (sym same) (interrupted_by p es b is (is_interrupting e.cell e.node b) e.cell e.node refl may)
+behind_apply p moment seen (events.ElementCompleted e) b is may = restart_applies p seen (seen ++ events.ElementCompleted e ∷ []) e.key may.0 may.1
+behind_apply p moment seen (events.ElementTerminated key) b is may = restart_applies p seen (seen ++ events.ElementTerminated key ∷ []) key may.0 may.1
 behind_apply p moment seen e b is may = refl

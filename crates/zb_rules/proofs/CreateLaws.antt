@@ -21,6 +21,8 @@ use Rattle.zb_model.specs.declared.record.Event.{Event}
 use Rattle.zb_model.specs.declared.record.Event.TheVariants as events
 use Rattle.zb_views.specs.declared.definition.Definition.{Definition}
 use Rattle.zb_views.specs.View.{next_key}
+use Rattle.zb_views.specs.Left.{left_told}
+use Rattle.zb_views.specs.declared.left.Left.TheVariants as lefts
 use Rattle.zb_views.proofs.ViewLaws.{left_more}
 use Rattle.zb_views.specs.Definitions.{definitions, newer_definition, version_of, greatest_version, definition_for}
 use Rattle.zb_tokens.specs.declared.board.Cell.{Cell}
@@ -29,8 +31,8 @@ use Rattle.zb_tokens.specs.Edits.{edited}
 use Rattle.zb_tokens.specs.Board.{Board, cell_at, model_under, new_cell}
 use Rattle.zb_tokens.specs.MoveAssign.{with_variable}
 use Rattle.zb_tokens.proofs.GameLaws.{holds_some, both_left, both_right}
-use Rattle.zb_rules.specs.Shown.{board_of}
-use Rattle.zb_rules.specs.Applies.{has_definition, holds_own, holds_of_game, applies, all_apply, is_process_of}
+use Rattle.zb_rules.specs.Shown.{shown, board_of}
+use Rattle.zb_rules.specs.Applies.{starts_with, has_definition, holds_own, holds_of_game, applies, all_apply, is_process_of}
 use Rattle.zb_rules.specs.Sound.{HasKeys}
 use Rattle.zb_rules.specs.Create.{variable_event, instance_under, created}
 use Rattle.zb_rules.proofs.MadeLaws.{made_of_any, mapped_holds}
@@ -38,6 +40,7 @@ use Rattle.zb_rules.proofs.CellsLaws.{Between}
 use Rattle.zb_rules.proofs.AppliedLaws.{some_of, game_holds_from, applied_from, applied_board, board_behind}
 use Rattle.zb_rules.proofs.KeysLaws.{HasOrderedCells}
 use Rattle.zb_rules.proofs.ScopesLaws.{edited_found}
+use Rattle.zb_tokens.proofs.LeaveLaws.{same_bytes}
 use Rattle.zb_rules.proofs.ModelsLaws.{Knows}
 use Rattle.zb_rules.proofs.OwnLaws.{fresh_from, silent_applies, board_after}
 
@@ -106,10 +109,10 @@ module _ (Q : Definition → Type 0) where
       version_by (bytes_eq d.process process && (d.version == version)) d (version_of process version ds) r
       (λ both. All-head P d ds all (both_left (bytes_eq d.process process) (d.version == version) both)) (λ x found. version_holds process version ds x (All-tail P d ds all) found) is
 
-abbrev IsOf : List Event → List ℕ → Definition → Type 0
+abbrev pub IsOf : List Event → List ℕ → Definition → Type 0
 IsOf es process d = Contains (definitions es) d × IsTrue (bytes_eq d.process process)
 
-found_of : (process : List ℕ) (version : ℕ) (es : List Event) (d : Definition) → definition_for process version es ≡ Some d → IsOf es process d
+pub found_of : (process : List ℕ) (version : ℕ) (es : List Event) (d : Definition) → definition_for process version es ≡ Some d → IsOf es process d
 found_of process version es d is =
     let ds = definitions es in
     version_holds (IsOf es process) process (if version == 0 then greatest_version process ds else version) ds d
@@ -128,26 +131,34 @@ module _ (p : ℕ) (es : List Event) (b : Board) (is : board_of es ≡ Some b) (
       let same : (next_key p es == next_key p es) ≡ true = grind (arith, nat_tests) in
       rw (find-append (λ (c : Cell). c.key == next_key p es) b.cells, none_between 1 (next_key p es) b.cells stands.between, same) refl
 
+  -- the root of an instance and its variables apply, behind an event that draws its key and leaves it to be said
+  pub root_applies : (e : Event) (message : Option ℕ) (started process : List ℕ) (vs : List Variable) (d : ℕ) (m : Model) → IsTrue (applies p es e) → shown es e ≡ None → left_told es e ≡ lefts.Root (record { key = next_key p es; definition = d; message = message })
+      → starts_with (lefts.Root (record { key = next_key p es; definition = d; message = message })) (es ++ e ∷ []) ≡ started → IsTrue (is_ascending vs) → IsTrue (is_process_of d process b) → model_under b d ≡ Some m
+      → IsTrue (all_apply p (es ++ e ∷ []) (events.ElementActivating (record { key = next_key p es; scope = 0; definition = d; node = process; role = roles.Plain; via = []; started = started }) ∷ map (variable_event (next_key p es)) vs))
+  root_applies e message started process vs d m first silent leaves starts up its found =
+      let key = next_key p es in
+      let root = events.ElementActivating (record { key = key; scope = 0; definition = d; node = process; role = roles.Plain; via = []; started = started }) in
+      let same : (d == d) ≡ true = grind (arith, nat_tests) in
+      let same_key : (key == key) ≡ true = grind (arith, nat_tests) in
+      let still : board_of (es ++ e ∷ []) ≡ Some b = board_after es b b e is (rw silent refl) in
+      let there : IsTrue (holds_of_game (is_process_of d process) (es ++ e ∷ [])) = game_holds_from (is_process_of d process) (es ++ e ∷ []) b still its in
+      let own : IsTrue (holds_own p (es ++ e ∷ []) root) = rw (left_more es e, leaves, same_key, same, there, starts) (same_bytes started) in
+      let second : IsTrue (applies p (es ++ e ∷ []) root) = applied_from p (es ++ e ∷ []) b root (moves.Start (record { key = key; definition = d })) still own refl (rw found refl) in
+      let begun : board_of ((es ++ e ∷ []) ++ root ∷ []) ≡ Some (record b { cells = b.cells ++ new_cell key 0 d m.process false ∷ [] }) = board_after (es ++ e ∷ []) b _ root still (rw found refl) in
+      let set = assign_all p key vs ((es ++ e ∷ []) ++ root ∷ []) (record b { cells = b.cells ++ new_cell key 0 d m.process false ∷ [] }) (new_cell key 0 d m.process false) begun (root_found d m.process) (λ k d within. refl) up in
+      rw (second, set) refl
+
   instance_applies : (c : ProcessInstanceCreationCreate) (d : Definition) (m : Model) → HasKeys p es 1 → IsTrue (is_ascending c.variables) → Contains (definitions es) d → IsTrue (is_process_of d.key c.process b) → model_under b d.key ≡ Some m
       → IsTrue (all_apply p es (instance_under (next_key p es) d.key c))
   instance_applies c d m keys up has its found =
-      let key = next_key p es in
-      let e = events.ProcessInstanceCreationCreated (record { key = key; definition = d.key }) in
-      let root = events.ElementActivating (record { key = key; scope = 0; definition = d.key; node = c.process; role = roles.Plain; via = []; started = [] }) in
+      let e = events.ProcessInstanceCreationCreated (record { key = next_key p es; definition = d.key }) in
       let same : (d.key == d.key) ≡ true = grind (arith, nat_tests) in
-      let same_key : (key == key) ≡ true = grind (arith, nat_tests) in
       let defined : IsTrue (has_definition d.key es) = any_of (λ (x : Definition). x.key == d.key) (definitions es) d has same in
       let first : IsTrue (applies p es e) = silent_applies p es b e is (rw (fresh_from p es keys, defined) refl) refl in
-      let still : board_of (es ++ e ∷ []) ≡ Some b = board_after es b b e is refl in
-      let there : IsTrue (holds_of_game (is_process_of d.key c.process) (es ++ e ∷ [])) = game_holds_from (is_process_of d.key c.process) (es ++ e ∷ []) b still its in
-      let own : IsTrue (holds_own p (es ++ e ∷ []) root) = rw (left_more es e, same_key, same, there) refl in
-      let second : IsTrue (applies p (es ++ e ∷ []) root) = applied_from p (es ++ e ∷ []) b root (moves.Start (record { key = key; definition = d.key })) still own refl (rw found refl) in
-      let begun : board_of ((es ++ e ∷ []) ++ root ∷ []) ≡ Some (record b { cells = b.cells ++ new_cell key 0 d.key m.process false ∷ [] }) = board_after (es ++ e ∷ []) b _ root still (rw found refl) in
-      let set = assign_all p key c.variables ((es ++ e ∷ []) ++ root ∷ []) (record b { cells = b.cells ++ new_cell key 0 d.key m.process false ∷ [] }) (new_cell key 0 d.key m.process false) begun (root_found d.key m.process)
-      (λ k d within. refl) up in
-      rw (first, second, set) refl
+      let rest = root_applies e None [] c.process c.variables d.key m first refl refl refl up its found in
+      rw (first, rest) refl
 
-  of_process : (d : Definition) (process : List ℕ) → IsOf es process d → IsTrue (is_process_of d.key process b)
+  pub of_process : (d : Definition) (process : List ℕ) → IsOf es process d → IsTrue (is_process_of d.key process b)
   of_process d process of =
       let its = All-contains (λ (x : Definition). IsTrue (is_process_of x.key x.process b)) (definitions es) d knows.defined of.0 in
       subst (λ (id : List ℕ). IsTrue (is_process_of d.key id b)) ((bytes_eq-Decides d.process process).0 of.1) its

@@ -1,7 +1,6 @@
 -- Laws of the keys of a log whose events apply: those of cells ascend, and lie below the next key.
-use Rattle.std.proofs.Common.{◌≡◌, ℕ, ◌+◌, ◌^◌, ◌<◌, ◌≤◌, ◌==◌, List, [], ◌∷◌, ◌++◌, Bool, true, false, ◌&&◌, if◌then◌else◌, IsTrue, Option, Some, None, option_and_then, refl, sym, ap, ◌∙◌, subst, arith}
+use Rattle.std.proofs.Common.{◌≡◌, ℕ, ◌+◌, ◌^◌, ◌<◌, ◌≤◌, ◌==◌, List, [], ◌∷◌, ◌++◌, Bool, true, false, if◌then◌else◌, IsTrue, Option, Some, None, option_and_then, refl, sym, ap, ◌∙◌, subst, arith}
 use Rattle.std.specs.Option.{option_map_or, IfSome}
-use Rattle.std.specs.Str.{bytes_eq}
 use Rattle.std.proofs.lemmas.Bool.Decides.{nat_tests}
 use Rattle.zb_instance_records.specs.declared.instance.ElementActivating.{ElementActivating}
 use Rattle.zb_model.specs.declared.record.Event.{Event}
@@ -47,6 +46,9 @@ fresh_below p before e key fresh named =
 pub first_named : (p key : ℕ) (keys : List ℕ) → counter_at p key ≤ greatest_among p (key ∷ keys)
 first_named p key keys = omega arith
 
+last_named : (p first second key : ℕ) → counter_at p key ≤ greatest_among p (first ∷ second ∷ key ∷ [])
+last_named p first second key = omega arith
+
 -- the keys of the cells of a board of a log ascend, and lie below the next key; those before an instance that begins, below its key
 pub record HasOrderedCells (p : ℕ) (es : List Event) (b : Board) : Type 0 where
   pub between : Between 1 (next_key p es) b.cells
@@ -68,12 +70,12 @@ module _ (p : ℕ) (before : List Event) (b after : Board) (a : ElementActivatin
       → after_shown b (if t then Some (moves.Start (record { key = a.key; definition = a.definition })) else Some (moves.Enter (record { key = a.key; scope = a.scope; node = a.node; via = a.via }))) ≡ Some after
       → Between 1 (next_key p (before ++ events.ElementActivating a ∷ [])) after.cells
   activating_by true begins made =
-      let r = begun_is a.key a.definition (left before) (both_left (leaves_root a.key a.definition (left before)) _ (both_left _ _ begins)) in
+      let r = begun_is a.key a.definition (left before) (both_left (leaves_root a.key a.definition (left before)) _ (both_left _ _ (both_left _ _ begins))) in
       let k = s.begins r.0 r.1 in
       let more = next_key_more p before (events.ElementActivating a) in
       between_played 1 r.0.key b k.0 after (moves.Start (record { key = a.key; definition = a.definition })) (next_key p (before ++ events.ElementActivating a ∷ [])) (omega (arith, k.1, more)) (omega (arith, r.2), omega (arith, r.2, k.1, more)) made
   activating_by false begins made =
-      let fresh = both_left (is_fresh p before a.key) _ begins in
+      let fresh = both_left (is_fresh p before a.key) _ (both_left _ _ begins) in
       let f = fresh_is p before a.key fresh in
       let below = fresh_below p before (events.ElementActivating a) a.key fresh (first_named p a.key (a.scope ∷ a.definition ∷ [])) in
       between_played 1 (next_key p before) b s.between after (moves.Enter (record { key = a.key; scope = a.scope; node = a.node; via = a.via })) (next_key p (before ++ events.ElementActivating a ∷ []))
@@ -81,7 +83,7 @@ module _ (p : ℕ) (before : List Event) (b after : Board) (a : ElementActivatin
 
 -- what a cell that begins well meets: a root comes behind its instance, another cell in a scope
 pub begins_by : (p : ℕ) (before : List Event) (a : ElementActivating) → IsTrue (begins_well p before a) → IsTrue (if a.scope == 0 then begins_instance before a else begins_cell p before a)
-begins_by p before a h = both_right (is_plain a.role && bytes_eq a.started []) _ h
+begins_by p before a h = both_right (is_plain a.role) _ h
 
 keys_between : (p : ℕ) (before : List Event) (b : Board) (e : Event) (after : Board) → Advances p before b e after → HasOrderedCells p before b → Between 1 (next_key p (before ++ e ∷ [])) after.cells
 keys_between p before b (events.ElementActivating a) after h s = activating_by p before b after a s (a.scope == 0) (begins_by p before a h.own) h.leads
@@ -109,6 +111,13 @@ keys_begin p before b (events.ProcessInstanceCreationCreated c) after h s i is =
     let below = fresh_below p before (events.ProcessInstanceCreationCreated c) c.key fresh (first_named p c.key (c.definition ∷ [])) in
     let same : b ≡ after = (let led : Some b ≡ Some after = h.leads in cc) in
     let its : c.key ≡ i.key = ap root_key is in
+    (subst (λ (x : Board). Between 1 i.key x.cells) same (subst (λ (k : ℕ). Between 1 k b.cells) (sym f.1 ∙ its) s.between), omega (arith, below, its))
+keys_begin p before b (events.MessageStartEventSubscriptionCorrelated c) after h s i is =
+    let fresh = both_left (is_fresh p before c.instance) _ h.own in
+    let f = fresh_is p before c.instance fresh in
+    let below = fresh_below p before (events.MessageStartEventSubscriptionCorrelated c) c.instance fresh (last_named p c.message c.definition c.instance) in
+    let same : b ≡ after = (let led : Some b ≡ Some after = h.leads in cc) in
+    let its : c.instance ≡ i.key = ap root_key is in
     (subst (λ (x : Board). Between 1 i.key x.cells) same (subst (λ (k : ℕ). Between 1 k b.cells) (sym f.1 ∙ its) s.between), omega (arith, below, its))
 keys_begin p before b (events.ElementTerminating key) after h s i is = absurd (no_root (job_on key before) i is)
 keys_begin p before b e after h s i is = absurd (cc)

@@ -1,7 +1,7 @@
 -- Each event of a step is of a kind to which its command leads, or of one that may follow: one walk over commands, turns and what stands beside the events of moves.
 use Rattle.std.proofs.Common.{◌≡◌, ℕ, ◌-◌, ◌==◌, List, [], ◌∷◌, ◌++◌, map, Bool, true, false, ◌||◌, if◌then◌else◌, IsTrue, Option, Some, None, refl, sym, ap, ◌∙◌, subst, arith}
 use Rattle.std.specs.Option.{IfSome, option_map_or}
-use Rattle.std.specs.List.{AllByRecursion, list_any, range_with_len}
+use Rattle.std.specs.List.{AllByRecursion, find, list_any, range_with_len}
 use Rattle.std.proofs.lemmas.Bool.{or_left}
 use Rattle.zb_base.specs.declared.vars.Variable.{Variable}
 use Rattle.zb_exchange_records.specs.declared.job.JobBatchActivate.{JobBatchActivate}
@@ -34,7 +34,11 @@ use Rattle.zb_rules.specs.Activate.{job_given, given_out, each_given_out, batch_
 use Rattle.zb_rules.specs.Applies.{holds_of_game}
 use Rattle.zb_rules.specs.Behind.{repair_event, job_canceled_on, job_of, job_made_on, timer_opened, timers_made_on, timers_canceled_on, resolved_on, ended_on, halted_on, events_behind, with_events_behind}
 use Rattle.zb_rules.specs.Complete.{results}
+use Rattle.zb_exchange_records.specs.declared.message.MessagePublished.{MessagePublished}
+use Rattle.zb_views.specs.Starts.{started_instances}
 use Rattle.zb_rules.specs.Create.{variable_event, instance_under}
+use Rattle.zb_rules.specs.Publish.{message_under, expiry_of}
+use Rattle.zb_rules.specs.Starts.{may_start, starting_definition, instance_started, started_of, starts_of, starters, next_starter, started_behind}
 use Rattle.zb_rules.specs.Deploy.{sent_to}
 use Rattle.zb_rules.specs.Fail.{failure_told, stopped}
 use Rattle.zb_rules.specs.InFront.{set_all, assigning, events_in_front}
@@ -122,6 +126,17 @@ ended_makes : (seen : List Event) (cell : ℕ) → Makes comes_beside (ended_on 
 ended_makes seen cell = then_makes comes_beside (job_canceled_on seen cell) (and_then (timers_canceled_on cell) (resolved_on cell)) (λ before. some_are comes_beside (λ job. events.JobCanceled job.key ∷ []) (λ job. (refl, tt)) (job_on cell seen))
     (then_makes comes_beside (timers_canceled_on cell) (resolved_on cell) (closed_makes cell) (λ before. some_are comes_beside (λ i. repair_event i ∷ []) (λ i. (refl, tt)) _))
 
+-- those by which a message starts an instance
+start_makes : (p : ℕ) (m : MessagePublished) (process : List ℕ) → Makes comes_beside (started_of p m process)
+start_makes p m process before = some_are comes_beside (λ d. if may_start m process before then instance_started (next_key p before) d m else [])
+    (λ d. tested_are comes_beside (may_start m process before) (instance_started (next_key p before) d m) [] (refl, (refl, mapped_are comes_beside (variable_event (next_key p before)) (λ v. refl) m.variables)) tt)
+    (starting_definition m.name process before)
+
+restarted_makes : (p : ℕ) (seen : List Event) (instance : ℕ) → Makes comes_beside (started_behind p seen instance)
+restarted_makes p seen instance before = some_are comes_beside (λ s. option_map_or (λ m. started_of p m s.process before) (next_starter s before) [])
+    (λ s. some_are comes_beside (λ m. started_of p m s.process before) (λ m. start_makes p m s.process before) (next_starter s before))
+    (find (λ s. s.instance == instance) (started_instances seen))
+
 -- and so may those behind it
 pub behind_beside : (p moment : ℕ) (seen : List Event) (e : Event) → Makes comes_beside (events_behind p moment seen e)
 behind_beside p moment seen (events.ElementActivated e) = then_makes comes_beside (job_made_on p e.key) (timers_made_on p moment e.key)
@@ -130,6 +145,8 @@ behind_beside p moment seen (events.ElementCompleting key) = closed_makes key
 behind_beside p moment seen (events.ElementTerminating key) = ended_makes seen key
 behind_beside p moment seen (events.ProcessEventTriggered e) = λ before. tested_are comes_beside (holds_of_game (is_interrupting e.cell e.node) before) (halted_on e.cell before) []
     (refl, ended_makes before e.cell (before ++ events.ElementTerminating e.cell ∷ [])) tt
+behind_beside p moment seen (events.ElementCompleted e) = restarted_makes p seen e.key
+behind_beside p moment seen (events.ElementTerminated key) = restarted_makes p seen key
 behind_beside p moment seen e = λ before. tt
 
 or_follows : (e : Event) → (comes_beside e || may_follow e) ≡ may_follow e
@@ -205,7 +222,13 @@ own_makes p n moment (commands.TimerTrigger key) = let command = commands.TimerT
       with_behind (own_kind command) (beside_own command) p moment (event_of_timer t) refl (before ++ events.TimerTriggered t.key ∷ []),
     ))
 own_makes p n moment (commands.IncidentResolve key) = λ before. some_are (own_kind (commands.IncidentResolve key)) (λ i. repair_event i ∷ []) (λ i. (refl, tt)) (incident_in key before)
-own_makes p n moment (commands.MessagePublish c) = λ before. (refl, tested_are (own_kind (commands.MessagePublish c)) (c.time_to_live == 0) (events.MessageExpired (next_key p before) ∷ []) [] (refl, tt) tt)
+own_makes p n moment (commands.MessagePublish c) = λ before.
+    let kind = own_kind (commands.MessagePublish c) in
+    let m = message_under (next_key p before) moment c in
+    then_makes kind (just (events.MessagePublished m)) (and_then (starts_of p m) (λ before. expiry_of m.key c)) (λ before. (refl, tt))
+    (then_makes kind (starts_of p m) (λ before. expiry_of m.key c)
+    (λ later. each_makes kind (started_of p m) (λ process earlier. all_weaker _ _ (λ e is. beside_own (commands.MessagePublish c) e is) (started_of p m process earlier) (start_makes p m process earlier)) (starters m.name later) later)
+    (λ later. tested_are kind (c.time_to_live == 0) (events.MessageExpired m.key ∷ []) [] (refl, tt) tt)) before
 own_makes p n moment command = search
 
 -- an event of this kind may stand in a step of the command

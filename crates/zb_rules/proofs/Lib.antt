@@ -46,3 +46,8 @@ pub mod FoundJobLaws
 pub mod WorkerLaws
 pub mod ActivateLaws
 pub mod ProgressLaws
+pub mod WorkedStarts
+pub mod MessageSoundLaws
+pub mod StartLaws
+pub mod StarterLaws
+pub mod LeftLaws

@@ -24,7 +24,7 @@ use Rattle.zb_tokens.specs.MoveLeave.{leaving, ends_scope, scope_ended}
 use Rattle.zb_tokens.specs.MoveTake.{rest_of}
 use Rattle.zb_tokens.specs.Game.{empty_board}
 use Rattle.zb_tokens.proofs.LeaveLaws.{same_bytes}
-use Rattle.zb_rules.specs.Shown.{shown, shown_by, after_shown, board_of, definitions_on}
+use Rattle.zb_rules.specs.Shown.{shown, shown_by, after_shown, board_of, definition_of_model, definitions_on, models_told}
 use Rattle.zb_faults.specs.Faults.{is_well_formed}
 use Rattle.zb_tokens.proofs.GameLaws.{found_holds}
 use Rattle.zb_tokens.proofs.EffectLaws.{mapped_from}
@@ -73,11 +73,6 @@ module _ (b : Board) where
   models_shown after None made = ap (λ (x : Board). x.models) (sym (let same : b ≡ after = cc in same)) ∙ none_more
   models_shown after (Some move) made = made_holds b (λ x. x.models ≡ b.models ++ models_made move) after move (by_move move) made
 
--- the model that an event puts on the board
-abbrev pub models_told : Event → List Deployed
-models_told (events.ProcessCreated e) = record { key = e.key; version = e.version; model = e.model } ∷ []
-models_told _ = []
-
 either_none : (t : Bool) (a b : Move) → models_made a ≡ [] → models_made b ≡ [] → option_map_or models_made (if t then Some a else Some b) [] ≡ []
 either_none true a b none other = none
 either_none false a b none other = other
@@ -92,9 +87,13 @@ told_made js (events.JobCompleted key) = found_none (λ (j : Job). moves.Done j.
 told_made js (events.JobErrorThrown t) = found_none (λ (j : Job). moves.Throw (record { cell = j.cell; code = t.code })) (find (λ (j : Job). j.key == t.key) js) (λ j. refl)
 told_made js e = refl
 
+-- the models behind an event, whatever jobs are there
+pub models_by : (js : List Job) (b : Board) (e : Event) (after : Board) → after_shown b (shown_by js e) ≡ Some after → after.models ≡ b.models ++ models_told e
+models_by js b e after leads = models_shown b after (shown_by js e) leads ∙ ap (λ (ms : List Deployed). b.models ++ ms) (told_made js e)
+
 -- the models behind an event that applies
 pub models_more : (p : ℕ) (before : List Event) (b : Board) (e : Event) (after : Board) → Advances p before b e after → after.models ≡ b.models ++ models_told e
-models_more p before b e after h = models_shown b after (shown before e) h.leads ∙ ap (λ (ms : List Deployed). b.models ++ ms) (told_made (jobs before) e)
+models_more p before b e after h = models_by (jobs before) b e after h.leads
 
 -- the model under a key among some
 abbrev pub model_among : List Deployed → ℕ → Option Model
@@ -186,23 +185,19 @@ formed_under b key m formed is =
     let r = mapped_from (λ (d : Deployed). d.model) (find (λ (d : Deployed). d.key == key) b.models) m is in
     subst (λ (x : Model). IsTrue (is_well_formed x)) r.2 (found_holds (λ (d : Deployed). d.key == key) (λ (d : Deployed). IsTrue (is_well_formed d.model)) b.models r.0 formed r.1).0
 
--- the definition of a model that stands
-abbrev defined_by : Deployed → Definition
-defined_by d = record { key = d.key; version = d.version; process = d.model.process }
-
 -- the models that stand are those of the definitions, in their order
 abbrev AreDefined : List Event → Board → Type 0
 AreDefined es b = definitions_on b ≡ definitions es
 
-told_defines : (e : Event) → map defined_by (models_told e) ≡ definition_told e
+told_defines : (e : Event) → map definition_of_model (models_told e) ≡ definition_told e
 told_defines (events.ProcessCreated e) = refl
 told_defines e = refl
 
 -- so an event leaves them, whatever jobs are there
 pub defined_shown : (js : List Job) (b : Board) (e : Event) (after : Board) → after_shown b (shown_by js e) ≡ Some after → definitions_on after ≡ definitions_on b ++ definition_told e
 defined_shown js b e after leads =
-    ap (map defined_by) (models_shown b after (shown_by js e) leads ∙ ap (λ (ms : List Deployed). b.models ++ ms) (told_made js e))
-    ∙ (map-append defined_by b.models (models_told e) ∙ ap (λ (ds : List Definition). definitions_on b ++ ds) (told_defines e))
+    ap (map definition_of_model) (models_by js b e after leads)
+    ∙ (map-append definition_of_model b.models (models_told e) ∙ ap (λ (ds : List Definition). definitions_on b ++ ds) (told_defines e))
 
 defined_on : (p : ℕ) (before : List Event) (b : Board) (e : Event) (after : Board) → Advances p before b e after → AreDefined before b → AreDefined (before ++ e ∷ []) after
 defined_on p before b e after h same =
@@ -212,7 +207,7 @@ defined_on p before b e after h same =
 pub defined_there : (p : ℕ) (es : List Event) (b : Board) → IsTrue (all_apply p [] es) → board_of es ≡ Some b → definitions_on b ≡ definitions es
 defined_there p es b apply is = holds_of_all p AreDefined (defined_on p) es b refl apply is
 
-any_defined : (key : ℕ) (models : List Deployed) → list_any (λ (d : Deployed). d.key == key) models ≡ list_any (λ (d : Definition). d.key == key) (map defined_by models)
+any_defined : (key : ℕ) (models : List Deployed) → list_any (λ (d : Deployed). d.key == key) models ≡ list_any (λ (d : Definition). d.key == key) (map definition_of_model models)
 any_defined key [] = refl
 any_defined key (d ∷ models) = ap (λ (t : Bool). (d.key == key) || t) (any_defined key models)
 

@@ -16,6 +16,7 @@ use Rattle.zb_views.specs.View.{keys_in, greatest_among, greatest_counter, next_
 use Rattle.zb_tokens.specs.declared.board.Assigned.{Assigned}
 use Rattle.zb_tokens.specs.declared.board.Cell.{Cell}
 use Rattle.zb_tokens.specs.declared.board.Incident.{Incident}
+use Rattle.zb_tokens.specs.declared.board.Leave.{Leave}
 use Rattle.zb_tokens.specs.declared.board.Move.{Move}
 use Rattle.zb_tokens.specs.declared.board.Move.TheVariants as moves
 use Rattle.zb_tokens.specs.declared.board.Mover.{Mover}
@@ -54,7 +55,7 @@ use Rattle.zb_rules.proofs.PlacedLaws.{key_found}
 use Rattle.zb_rules.proofs.SoundLaws.{BoardKeeps, keeps_on}
 use Rattle.zb_rules.proofs.NamedLaws.{counted_below, keys_left, found_below}
 use Rattle.zb_rules.proofs.TimerSoundLaws.{HasSoundTimers}
-use Rattle.zb_rules.proofs.BehindLaws.{MayHaveWork, MayInterrupt, MayFollow}
+use Rattle.zb_rules.proofs.BehindLaws.{MayHaveWork, MayInterrupt, MayRestart, MayFollow}
 
 -- behind events that set variables and apply as many keys are left, and the incidents are as they were
 pub record IsSetBehind (p : ℕ) (es : List Event) (b : Board) (made : List Event) : Type 0 where
@@ -241,21 +242,22 @@ module _ (p : ℕ) (es : List Event) (b : Board) (is : board_of es ≡ Some b) (
 -- what the event of a move asks of those before it, and of their board, where one of each kind may follow
 pub follows_by : (p : ℕ) (es : List Event) (b : Board) (before : Board) (move : Move) (e : Event) → event_of before move ≡ Some e
     → ((key : ℕ) → move ≡ moves.Open key → MayFollow p es b (events.ElementActivated (record { key = key; items = [] })))
-    → ((key : ℕ) → MayFollow p es b (events.ElementTerminating key)) → ((t : Triggered) → move ≡ moves.Trigger t → MayInterrupt p es b t.cell t.node) → HasSoundTimers p es → MayFollow p es b e
-follows_by p es b before (moves.Stand d) e told opens ends tells timed = absurd (cc)
-follows_by p es b before (moves.Start s) e told opens ends tells timed = absurd (cc)
-follows_by p es b before (moves.Enter x) e told opens ends tells timed = mapped_holds (MayFollow p es b) _ (cell_at before x.scope) e (λ c found. tt) told
-follows_by p es b before (moves.Open key) e told opens ends tells timed = subst (MayFollow p es b) (let same : events.ElementActivated (record { key = key; items = [] }) ≡ e = cc in same) (opens key refl)
-follows_by p es b before (moves.Finish key) e told opens ends tells timed = subst (MayFollow p es b) (let same : events.ElementCompleting key ≡ e = cc in same) timed
-follows_by p es b before (moves.Leave l) e told opens ends tells timed = subst (MayFollow p es b) (let same : events.ElementCompleted (record { key = l.key; owed = l.owed }) ≡ e = cc in same) tt
-follows_by p es b before (moves.Take t) e told opens ends tells timed = subst (MayFollow p es b) (let same : events.SequenceFlowTaken (record { key = t.key; flow = t.flow }) ≡ e = cc in same) tt
-follows_by p es b before (moves.Halt key) e told opens ends tells timed = subst (MayFollow p es b) (let same : events.ElementTerminating key ≡ e = cc in same) (ends key)
-follows_by p es b before (moves.Gone key) e told opens ends tells timed = subst (MayFollow p es b) (let same : events.ElementTerminated key ≡ e = cc in same) tt
-follows_by p es b before (moves.Assign a) e told opens ends tells timed = absurd (cc)
-follows_by p es b before (moves.Update a) e told opens ends tells timed = absurd (cc)
-follows_by p es b before (moves.Done key) e told opens ends tells timed = absurd (cc)
-follows_by p es b before (moves.Throw t) e told opens ends tells timed = absurd (cc)
-follows_by p es b before (moves.Trigger t) e told opens ends tells timed = subst (MayFollow p es b) (let same : events.ProcessEventTriggered (record { cell = t.cell; node = t.node }) ≡ e = cc in same) (tells t refl)
-follows_by p es b before (moves.Incident i) e told opens ends tells timed =
+    → ((key : ℕ) → MayFollow p es b (events.ElementTerminating key)) → ((t : Triggered) → move ≡ moves.Trigger t → MayInterrupt p es b t.cell t.node) → HasSoundTimers p es
+    → ((l : Leave) → move ≡ moves.Leave l → MayRestart p es) → ((key : ℕ) → move ≡ moves.Gone key → MayRestart p es) → MayFollow p es b e
+follows_by p es b before (moves.Stand d) e told opens ends tells timed leaves goes = absurd (cc)
+follows_by p es b before (moves.Start s) e told opens ends tells timed leaves goes = absurd (cc)
+follows_by p es b before (moves.Enter x) e told opens ends tells timed leaves goes = mapped_holds (MayFollow p es b) _ (cell_at before x.scope) e (λ c found. tt) told
+follows_by p es b before (moves.Open key) e told opens ends tells timed leaves goes = subst (MayFollow p es b) (let same : events.ElementActivated (record { key = key; items = [] }) ≡ e = cc in same) (opens key refl)
+follows_by p es b before (moves.Finish key) e told opens ends tells timed leaves goes = subst (MayFollow p es b) (let same : events.ElementCompleting key ≡ e = cc in same) timed
+follows_by p es b before (moves.Leave l) e told opens ends tells timed leaves goes = subst (MayFollow p es b) (let same : events.ElementCompleted (record { key = l.key; owed = l.owed }) ≡ e = cc in same) (leaves l refl)
+follows_by p es b before (moves.Take t) e told opens ends tells timed leaves goes = subst (MayFollow p es b) (let same : events.SequenceFlowTaken (record { key = t.key; flow = t.flow }) ≡ e = cc in same) tt
+follows_by p es b before (moves.Halt key) e told opens ends tells timed leaves goes = subst (MayFollow p es b) (let same : events.ElementTerminating key ≡ e = cc in same) (ends key)
+follows_by p es b before (moves.Gone key) e told opens ends tells timed leaves goes = subst (MayFollow p es b) (let same : events.ElementTerminated key ≡ e = cc in same) (goes key refl)
+follows_by p es b before (moves.Assign a) e told opens ends tells timed leaves goes = absurd (cc)
+follows_by p es b before (moves.Update a) e told opens ends tells timed leaves goes = absurd (cc)
+follows_by p es b before (moves.Done key) e told opens ends tells timed leaves goes = absurd (cc)
+follows_by p es b before (moves.Throw t) e told opens ends tells timed leaves goes = absurd (cc)
+follows_by p es b before (moves.Trigger t) e told opens ends tells timed leaves goes = subst (MayFollow p es b) (let same : events.ProcessEventTriggered (record { cell = t.cell; node = t.node }) ≡ e = cc in same) (tells t refl)
+follows_by p es b before (moves.Incident i) e told opens ends tells timed leaves goes =
     subst (MayFollow p es b) (let same : events.IncidentCreated (record { key = i.key; kind = i.kind; cell = i.cell; job = i.job; text = i.text }) ≡ e = cc in same) tt
-follows_by p es b before (moves.Repair key) e told opens ends tells timed = absurd (cc)
+follows_by p es b before (moves.Repair key) e told opens ends tells timed leaves goes = absurd (cc)

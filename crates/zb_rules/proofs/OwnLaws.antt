@@ -1,13 +1,10 @@
 -- The own events of each command apply, where there is no reason against it.
 use Rattle.std.proofs.Common.{◌≡◌, ℕ, ◌+◌, ◌≤◌, ◌==◌, List, [], ◌∷◌, ◌++◌, Bool, true, false, ◌||◌, if◌then◌else◌, IsTrue, not, Some, None, option_and_then, refl, sym, ap, ◌∙◌, subst, arith}
 use Rattle.std.specs.List.{list_any}
-use Rattle.std.proofs.lemmas.Bool.{and_from}
 use Rattle.std.proofs.lemmas.Bool.Decides.{nat_tests}
 use Rattle.std.proofs.lemmas.List.Folds.{list_any-append}
-use Rattle.zb_base.specs.Vars.{is_ascending}
 use Rattle.zb_model.specs.declared.record.Event.{Event}
 use Rattle.zb_model.specs.declared.record.Event.TheVariants as events
-use Rattle.zb_exchange_records.specs.declared.message.MessagePublish.{MessagePublish}
 use Rattle.zb_exchange_records.specs.declared.message.MessagePublished.{MessagePublished}
 use Rattle.zb_views.specs.View.{counter_at, greatest_counter, next_key}
 use Rattle.zb_views.proofs.ViewLaws.{greatest_counter_more}
@@ -18,7 +15,6 @@ use Rattle.zb_tokens.specs.Board.{Board}
 use Rattle.zb_rules.specs.Shown.{shown, after_shown, board_of}
 use Rattle.zb_rules.specs.Applies.{is_fresh, holds_own, holds_of_game, may_fit, applies, all_apply}
 use Rattle.zb_rules.specs.Sound.{HasKeys}
-use Rattle.zb_rules.specs.Publish.{message_under, published}
 use Rattle.zb_rules.specs.Expire.{reason_to_expire, expired, is_due_at}
 use Rattle.zb_rules.proofs.GrowthLaws.{board_of_more}
 use Rattle.zb_rules.proofs.AppliedLaws.{game_holds_from}
@@ -54,7 +50,7 @@ one_more p es e n keys named = omega (arith, greatest_counter_more p es (e ∷ [
 
 module _ (p : ℕ) (es : List Event) (b : Board) (is : board_of es ≡ Some b) (knows : Knows p es b) where
   -- a message
-  expires_by : (t : Bool) (m : MessagePublished) → IsTrue (all_apply p (es ++ events.MessagePublished m ∷ []) (if t then events.MessageExpired m.key ∷ [] else []))
+  pub expires_by : (t : Bool) (m : MessagePublished) → IsTrue (all_apply p (es ++ events.MessagePublished m ∷ []) (if t then events.MessageExpired m.key ∷ [] else []))
   expires_by false m = refl
   expires_by true m =
       let same : (m.key == m.key) ≡ true = grind (arith, nat_tests) in
@@ -62,15 +58,6 @@ module _ (p : ℕ) (es : List Event) (b : Board) (is : board_of es ≡ Some b) (
       let second : IsTrue (applies p (es ++ events.MessagePublished m ∷ []) (events.MessageExpired m.key)) =
       silent_applies p (es ++ events.MessagePublished m ∷ []) b (events.MessageExpired m.key) (board_after es b b (events.MessagePublished m) is refl) waits refl in
       rw second refl
-
-  -- the own events of a message apply
-  pub publish_applies : (moment : ℕ) (c : MessagePublish) → HasKeys p es 1 → IsTrue (is_ascending c.variables) → IsTrue (all_apply p es (published p moment c es))
-  publish_applies moment c keys ordered =
-      let one : HasKeys p es 1 = omega arith in
-      let m = message_under (next_key p es) moment c in
-      let own : IsTrue (holds_own p es (events.MessagePublished m)) = and_from (is_fresh p es (next_key p es)) (is_ascending c.variables) (fresh_from p es one) ordered in
-      let first : IsTrue (applies p es (events.MessagePublished m)) = silent_applies p es b (events.MessagePublished m) is own refl in
-      rw (first, expires_by (c.time_to_live == 0) m) refl
 
   -- an expiry
   expiry_by : (key : ℕ) (waits due : Bool) (a z : Rejection) → (if not waits then Some a else if not due then Some z else None) ≡ None → IsTrue waits

@@ -15,10 +15,10 @@ use Rattle.zb_views.specs.Definitions.{definition_told, definitions}
 use Rattle.zb_views.specs.Processes.{process_told, process_in, processes_told, processes}
 use Rattle.zb_tokens.specs.declared.board.Deployed.{Deployed}
 use Rattle.zb_tokens.specs.Board.{Board, model_under}
-use Rattle.zb_rules.specs.Shown.{board_of}
+use Rattle.zb_rules.specs.Shown.{board_of, models_told}
 use Rattle.zb_rules.specs.Applies.{all_apply}
 use Rattle.zb_rules.proofs.AppliedLaws.{Advances, holds_of_all}
-use Rattle.zb_rules.proofs.ModelsLaws.{models_told, models_more}
+use Rattle.zb_rules.proofs.ModelsLaws.{models_more}
 
 -- the first of some things that passes, where each is made of another
 pub found_of_made : {A B : Type 0} (make : A → B) (passes : B → Bool) (xs : List A) → find passes (map make xs) ≡ option_map make (find (λ x. passes (make x)) xs)
@@ -55,7 +55,7 @@ definitions_are (e ∷ es) =
     ∙ (ap (λ (ds : List Definition). map as_definition (processes_told e) ++ ds) (definitions_are es)
     ∙ sym (map-append as_definition (processes_told e) (processes es)))
 
-processes_more : (es : List Event) (e : Event) → processes (es ++ e ∷ []) ≡ processes es ++ processes_told e
+pub processes_more : (es : List Event) (e : Event) → processes (es ++ e ∷ []) ≡ processes es ++ processes_told e
 processes_more es e = flat_map-append processes_told es (e ∷ []) ∙ ap (λ (l : List ProcessDefinition). processes es ++ l) (append-nil (processes_told e))
 
 -- and so are the models; the last process with a key is the only one
@@ -112,3 +112,15 @@ recorded_on p before b e after h r = record {
 -- so it is behind a log whose events apply
 pub are_recorded : (p : ℕ) (es : List Event) (b : Board) → board_of es ≡ Some b → IsTrue (all_apply p [] es) → AreRecorded es b
 are_recorded p es b is apply = holds_of_all p AreRecorded (recorded_on p) es b (record { models = refl; alone = λ key. refl }) apply is
+
+-- the model on the board under a key is that of the process with the key
+pub model_there : (p : ℕ) (es : List Event) (b : Board) (key : ℕ) → board_of es ≡ Some b → IsTrue (all_apply p [] es) → model_under b key ≡ option_map (λ c. c.model) (process_in key es)
+model_there p es b key is apply =
+    let r = are_recorded p es b is apply in
+    let among : find (λ (d : Deployed). d.key == key) b.models ≡ option_map deployed_by (process_in key es) =
+    ap (find (λ (d : Deployed). d.key == key)) r.models ∙ (found_of_made deployed_by (λ (d : Deployed). d.key == key) (processes es) ∙ ap (option_map deployed_by) (sym (r.alone key))) in
+    ap (option_map (λ (d : Deployed). d.model)) among ∙ its_model (process_in key es)
+  where
+    its_model : (found : Option ProcessDefinition) → option_map (λ (d : Deployed). d.model) (option_map deployed_by found) ≡ option_map (λ c. c.model) found
+    its_model None = refl
+    its_model (Some c) = refl

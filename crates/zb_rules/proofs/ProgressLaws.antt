@@ -1,5 +1,5 @@
 -- Who is forced has an event that applies; where nobody is, the game is quiet.
-use Rattle.std.proofs.Common.{◌≡◌, ℕ, ◌==◌, List, [], ◌∷◌, ◌++◌, true, false, IsTrue, is_some, Option, Some, None, ◌↔◌, refl, sym, ap, ◌∙◌, subst, append-nil, append_assoc, arith}
+use Rattle.std.proofs.Common.{◌≤◌, ◌≡◌, ℕ, ◌==◌, List, [], ◌∷◌, ◌++◌, true, false, IsTrue, is_some, Option, Some, None, ◌↔◌, refl, sym, ap, ◌∙◌, subst, append-nil, append_assoc, arith}
 use Rattle.std.specs.List.{find}
 use Rattle.std.proofs.lemmas.Bool.Decides.{nat_tests}
 use Rattle.zb_instance_records.specs.declared.instance.Role.TheVariants as roles
@@ -7,7 +7,7 @@ use Rattle.zb_model.specs.declared.record.Command.{Command}
 use Rattle.zb_model.specs.declared.record.Command.TheVariants as commands
 use Rattle.zb_model.specs.declared.record.Event.{Event}
 use Rattle.zb_model.specs.declared.record.Event.TheVariants as events
-use Rattle.zb_views.specs.View.{next_key}
+use Rattle.zb_views.specs.View.{keys_in, greatest_among, greatest_counter, next_key}
 use Rattle.zb_tokens.specs.declared.board.Cell.{Cell}
 use Rattle.zb_tokens.specs.declared.board.Enter.{Enter}
 use Rattle.zb_tokens.specs.declared.board.Move.{Move}
@@ -48,11 +48,13 @@ use Rattle.zb_rules.proofs.KindsLaws.{front_are, front_beside, behind_beside, ow
 use Rattle.zb_rules.proofs.LegalLaws.{made_legally, own_never, beside_never, legal_by, each_legal_by}
 use Rattle.zb_rules.proofs.StepLaws.{all_apply_on, all_legal_on}
 use Rattle.zb_rules.proofs.FrontLaws.{begins_end, front_begins_no_end, in_front}
-use Rattle.zb_rules.proofs.BehindLaws.{MayHaveWork, MayFollow, resolve_applies, canceled_apply, behind_apply, sound_over}
+use Rattle.zb_rules.proofs.StartLaws.{publish_applies}
+use Rattle.zb_rules.proofs.BehindLaws.{MayHaveWork, MayRestart, MayFollow, resolve_applies, canceled_apply, behind_apply, sound_over}
 use Rattle.zb_rules.proofs.CellsLaws.{ascend_between}
-use Rattle.zb_rules.proofs.OpenedLaws.{IsSetBehind, set_behind, opens_free, opened_may_work, follows_by}
+use Rattle.zb_rules.proofs.OpenedLaws.{IsSetBehind, cell_counted, set_behind, opens_free, opened_may_work, follows_by}
 use Rattle.zb_rules.proofs.ModelsLaws.{Knows, board_knows}
-use Rattle.zb_rules.proofs.OwnLaws.{publish_applies, expire_applies}
+use Rattle.zb_rules.proofs.OwnLaws.{expire_applies}
+use Rattle.zb_rules.proofs.NamedLaws.{keys_left}
 use Rattle.zb_rules.proofs.DeployLaws.{deploy_applies, distribute_applies, acknowledge_applies}
 use Rattle.zb_rules.proofs.CreateLaws.{create_applies}
 use Rattle.zb_rules.proofs.CancelLaws.{cancel_applies}
@@ -161,7 +163,7 @@ no_turn_is_quiet p moment es apply =
     (quiet_by p moment es found.0 (next_mover found.0) found.1 refl (from_none found.0.cells (cells_ascend p es found.0 apply found.1)), no_turn p moment es)
 
 -- a forced event, those in front of it and those behind it apply, and each of their moves is legal
-module _ (p moment : ℕ) (es : List Event) (b : Board) (mover : Mover) (is : board_of es ≡ Some b) (k : BoardKeeps p es b) (keys : HasKeys p es keys_of_turn) (next : next_mover b ≡ Some mover) (f : IsForcedEvent p moment es b mover) where
+module _ (p moment : ℕ) (es : List Event) (b : Board) (mover : Mover) (is : board_of es ≡ Some b) (k : BoardKeeps p es b) (keys : HasKeys p es keys_of_turn) (next : next_mover b ≡ Some mover) (f : IsForcedEvent p moment es b mover) (apply : IsTrue (all_apply p [] es)) where
   abbrev front : List Event
   front = events_in_front b f.move es
 
@@ -184,6 +186,18 @@ module _ (p moment : ℕ) (es : List Event) (b : Board) (mover : Mover) (is : bo
       let still : incident_on s.after key ≡ None = ap (find (λ i. i.cell == key)) s.incidents ∙ free in
       opened_may_work p (es ++ front) s.after s.is s.keeps s.keys key still after (subst (λ (x : Event). Advances p (es ++ front) s.after x after) (sym told) h)
 
+  -- behind an event that names a cell that is there and draws no key a message may start an instance
+  restarts : (key : ℕ) → keys_in f.event ≡ key ∷ [] → IsTrue (is_some (cell_at set_in_front.after key)) → MayRestart p ((es ++ front) ++ f.event ∷ [])
+  restarts key named there =
+      let s = set_in_front in
+      let counted : greatest_among p (keys_in f.event) ≤ greatest_counter p (es ++ front) = rw named (cell_counted p key (es ++ front) s.after s.keeps (let keys = s.keys in omega (arith, keys)) there) in
+      let left = keys_left p keys_of_turn (es ++ front) f.event s.keys counted in
+      let ahead = f.in_front in
+      let first = f.applied in (
+        rw (all_apply_on p [] (es ++ front) (f.event ∷ []), all_apply_on p [] es front, apply, ahead, first) refl,
+        omega (arith, left),
+      )
+
   forced_apply : IsTrue (all_apply p es (front ++ f.event ∷ behind)) × AllLegal moment es es (front ++ f.event ∷ behind)
   forced_apply =
       let first = f.applied in
@@ -201,7 +215,17 @@ module _ (p moment : ℕ) (es : List Event) (b : Board) (mover : Mover) (is : bo
       let shows : shown (es ++ front) f.event ≡ Some (moves.Trigger t) = f.shows ∙ ap Some its in
       let fit : IsTrue (fits s.after (moves.Trigger t)) = (let h = r.1.fit in rw shows at h) in
       let led : played s.after (moves.Trigger t) ≡ Some r.0 = (let h = r.1.leads in rw shows at h) in
-      record { halts = told_halts p (es ++ front) s.after r.0 t s.keeps fit led; apart = keeps.incidents.apart; timed = keeps.timers }) keeps.timers in
+      record { halts = told_halts p (es ++ front) s.after r.0 t s.keeps fit led; apart = keeps.incidents.apart; timed = keeps.timers }) keeps.timers
+      (λ l its.
+      let told : events.ElementCompleted (record { key = l.key; owed = l.owed }) ≡ f.event = (let e : event_of b (moves.Leave l) ≡ Some f.event = subst (λ (m : Move). event_of b m ≡ Some f.event) its f.is_event in cc) in
+      let shows : shown (es ++ front) f.event ≡ Some (moves.Leave l) = f.shows ∙ ap Some its in
+      let fit : IsTrue (fits s.after (moves.Leave l)) = (let h = r.1.fit in rw shows at h) in
+      restarts l.key (ap keys_in (sym told)) (holds_some _ (cell_at s.after l.key) fit))
+      (λ key its.
+      let told : events.ElementTerminated key ≡ f.event = (let e : event_of b (moves.Gone key) ≡ Some f.event = subst (λ (m : Move). event_of b m ≡ Some f.event) its f.is_event in cc) in
+      let shows : shown (es ++ front) f.event ≡ Some (moves.Gone key) = f.shows ∙ ap Some its in
+      let fit : IsTrue (fits s.after (moves.Gone key)) = (let h = r.1.fit in rw shows at h) in
+      restarts key (ap keys_in (sym told)) (holds_some _ (cell_at s.after key) fit)) in
       let second = behind_apply p moment (es ++ front) f.event r.0 after_is may in (
         rw (all_apply_on p es front (f.event ∷ behind), ahead, first) second,
         all_legal_on moment es es front (f.event ∷ behind) (legal_by p moment es b is es front (beside_never front (front_beside b f.move es)) ahead)
@@ -216,8 +240,8 @@ turn_by p moment es b (Some mover) made apply keys is next told =
     let f = forced_event p moment es b mover apply (omega (arith, keys)) is next in
     let its : turn_of p moment es b mover ≡ Some made = rw (is, next) at told in
     let k = board_keeps p es b apply is in
-    let same : front p moment es b mover is k keys next f ++ f.event ∷ behind p moment es b mover is k keys next f ≡ made = (let e = sym (turn_made p moment es b mover f.move f.event f.is_move f.is_event) ∙ its in cc) in
-    subst (λ (x : List Event). IsTrue (all_apply p es x) × AllLegal moment es es x) same (forced_apply p moment es b mover is k keys next f)
+    let same : front p moment es b mover is k keys next f apply ++ f.event ∷ behind p moment es b mover is k keys next f apply ≡ made = (let e = sym (turn_made p moment es b mover f.move f.event f.is_move f.is_event) ∙ its in cc) in
+    subst (λ (x : List Event). IsTrue (all_apply p es x) × AllLegal moment es es x) same (forced_apply p moment es b mover is k keys next f apply)
 
 -- each event of a turn applies, where there are keys for it
 pub turn_applies : (p moment : ℕ) (es made : List Event) → IsTrue (all_apply p [] es) → HasKeys p es keys_of_turn → turn p moment es ≡ Some made → IsTrue (all_apply p es made)
@@ -301,7 +325,7 @@ pub own_legal : (p n : ℕ) (es : List Event) (moment : ℕ) (command : Command)
 own_legal p n es moment command own apply is = each_legal_by p moment es own (own_never command own (own_kinds p n moment es command own is)) apply
 
 -- the own events of a command without a reason apply
-own_apply_by : (p n : ℕ) (es : List Event) (b : Board) (moment : ℕ) (command : Command) (own : List Event) → board_of es ≡ Some b → IsTrue (all_apply p [] es) → BoardKeeps p es b → Knows p es b → HasKeys p es (keys_for command) → HasOrderedNames command
+own_apply_by : (p n : ℕ) (es : List Event) (b : Board) (moment : ℕ) (command : Command) (own : List Event) → board_of es ≡ Some b → IsTrue (all_apply p [] es) → BoardKeeps p es b → Knows p es b → HasKeys p es (keys_for es command) → HasOrderedNames command
     → IsSupported command → reason_for es moment command ≡ None → own_events p n es moment command ≡ Some own → IsTrue (all_apply p es own)
 own_apply_by p n es b moment (commands.DeploymentCreate m) own is apply k knows keys ordered supported none made =
     subst (λ (x : List Event). IsTrue (all_apply p es x)) (let same : deployed p n m es ≡ own = cc in same) (deploy_applies p es b is knows n m keys none)
@@ -328,7 +352,7 @@ own_apply_by p n es b moment (commands.TimerTrigger key) own is apply k knows ke
 own_apply_by p n es b moment (commands.IncidentResolve key) own is apply k knows keys ordered supported none made =
     subst (λ (x : List Event). IsTrue (all_apply p es x)) (let same : resolved key es ≡ own = cc in same) (resolve_applies p es b is key none)
 own_apply_by p n es b moment (commands.MessagePublish c) own is apply k knows keys ordered supported none made =
-    subst (λ (x : List Event). IsTrue (all_apply p es x)) (let same : published p moment c es ≡ own = cc in same) (publish_applies p es b is knows moment c keys ordered)
+    subst (λ (x : List Event). IsTrue (all_apply p es x)) (let same : published p moment c es ≡ own = cc in same) (publish_applies p es b is knows apply moment c keys ordered)
 own_apply_by p n es b moment (commands.MessageExpire key) own is apply k knows keys ordered supported none made =
     subst (λ (x : List Event). IsTrue (all_apply p es x)) (let same : expired key es ≡ own = cc in same) (expire_applies p es b is knows key moment none)
 own_apply_by p n es b moment commands.ProcessInstanceBatchContinue own is apply k knows keys ordered supported none made =
@@ -340,7 +364,7 @@ own_apply_by p n es b moment (commands.CommandDistributionAcknowledge c) own is 
 own_apply_by p n es b moment _ own is apply k knows keys ordered supported none made = absurd supported
 
 -- behind any log whose events apply
-pub own_apply : (p n : ℕ) (es : List Event) (moment : ℕ) (command : Command) (own : List Event) → IsTrue (all_apply p [] es) → HasKeys p es (keys_for command) → HasOrderedNames command
+pub own_apply : (p n : ℕ) (es : List Event) (moment : ℕ) (command : Command) (own : List Event) → IsTrue (all_apply p [] es) → HasKeys p es (keys_for es command) → HasOrderedNames command
     → IsSupported command → reason_for es moment command ≡ None → own_events p n es moment command ≡ Some own → IsTrue (all_apply p es own)
 own_apply p n es moment command own apply keys ordered supported none made =
     let found = some_of (board_of es) (board_is_there p es apply) in

@@ -44,7 +44,7 @@ new_by : (p : ℕ) (before : List Event) (b : Board) (a : ElementActivating) (t 
     → IfSome (if t then Some (moves.Start (record { key = a.key; definition = a.definition })) else Some (moves.Enter (record { key = a.key; scope = a.scope; node = a.node; via = a.via }))) (IsNewIn b)
 new_by p before b a true stands begins = tt
 new_by p before b a false stands begins =
-    let f = fresh_is p before a.key (both_left (is_fresh p before a.key) _ begins) in
+    let f = fresh_is p before a.key (both_left (is_fresh p before a.key) _ (both_left _ _ begins)) in
     subst (λ (k : ℕ). Between 1 k b.cells) (sym f.1) stands.between
 
 shown_new : (p : ℕ) (before : List Event) (b : Board) (e : Event) (after : Board) → Advances p before b e after → HasOrderedCells p before b → IfSome (shown before e) (IsNewIn b)

@@ -1,6 +1,6 @@
 -- Which events a log may have.
 use Rattle.std.specs.Prelude.{ℕ, ◌+◌, ◌^◌, ◌==◌, nat_lt, List, [], ◌∷◌, ◌++◌, Bool, true, false, ◌&&◌, not, is_some, if◌then◌else◌, Option, Some, None}
-use Rattle.std.specs.Option.{option_map_or}
+use Rattle.std.specs.Option.{option_map_or, option_and_then}
 use Rattle.std.specs.List.{list_any}
 use Rattle.std.specs.Str.{bytes_eq}
 use Rattle.zb_base.specs.Vars.{is_ascending}
@@ -9,7 +9,13 @@ use Rattle.zb_instance_records.specs.declared.instance.Role.{Role}
 use Rattle.zb_instance_records.specs.declared.instance.Role.TheVariants as roles
 use Rattle.zb_model.specs.declared.record.Event.{Event}
 use Rattle.zb_model.specs.declared.record.Event.TheVariants as events
-use Rattle.zb_views.specs.Messages.{is_buffered}
+use Rattle.zb_exchange_records.specs.declared.subscription.MessageStartEventSubscriptionCorrelated.{MessageStartEventSubscriptionCorrelated}
+use Rattle.zb_views.specs.Messages.{is_buffered, message_at}
+use Rattle.zb_views.specs.Processes.{process_in}
+use Rattle.zb_views.specs.Starts.{published_in}
+use Rattle.zb_views.specs.declared.left.Left.{Left}
+use Rattle.zb_views.specs.declared.left.Left.TheVariants as lefts
+use Rattle.zb_rules.specs.Starts.{may_start}
 use Rattle.zb_views.specs.View.{greatest_counter, next_key}
 use Rattle.zb_tokens.specs.declared.board.Move.{Move}
 use Rattle.zb_tokens.specs.Board.{Board, cell_at, model_under}
@@ -51,18 +57,27 @@ is_definition_of cell definition b = option_map_or (λ c. c.definition == defini
 abbrev pub has_cell : ℕ → Board → Bool
 has_cell key b = is_some (cell_at b key)
 
--- a root comes where it is left to be said, with the process id as its node, and by no flow
+-- the correlation key with which the root starts that is left to be said: that of the message which starts it; empty where none does
+abbrev pub starts_with : Left → List Event → List ℕ
+starts_with (lefts.Root begun) es = option_map_or (λ m. m.correlation_key) (option_and_then (λ message. published_in message es) begun.message) []
+starts_with what es = []
+
+-- a root comes where it is left to be said, with the process id as its node, by no flow, and with the correlation key of the message that starts it
 abbrev pub begins_instance : List Event → ElementActivating → Bool
 begins_instance before e = leaves_root e.key e.definition (left before)
-    && holds_of_game (is_process_of e.definition e.node) before && bytes_eq e.via []
+    && holds_of_game (is_process_of e.definition e.node) before && bytes_eq e.via [] && bytes_eq e.started (starts_with (left before) before)
 
--- another cell has a fresh key, and the definition of its scope
+-- another cell has a fresh key and the definition of its scope, and no message starts it
 abbrev pub begins_cell : ℕ → List Event → ElementActivating → Bool
-begins_cell p before e = is_fresh p before e.key && holds_of_game (is_definition_of e.scope e.definition) before
+begins_cell p before e = is_fresh p before e.key && holds_of_game (is_definition_of e.scope e.definition) before && bytes_eq e.started []
 
--- a cell that begins is plain, and no message started it
+-- a cell that begins is plain
 abbrev pub begins_well : ℕ → List Event → ElementActivating → Bool
-begins_well p before e = is_plain e.role && bytes_eq e.started [] && (if e.scope == 0 then begins_instance before e else begins_cell p before e)
+begins_well p before e = is_plain e.role && (if e.scope == 0 then begins_instance before e else begins_cell p before e)
+
+-- a message starts an instance of a definition: both are there, and it may start one of the process
+abbrev pub begins_start : MessageStartEventSubscriptionCorrelated → List Event → Bool
+begins_start e before = option_map_or (λ m. option_map_or (λ d. may_start m d.model.process before) (process_in e.definition before) false) (message_at e.message before) false
 
 -- what holds of an event that applies, beside the move that it shows; one that no command makes so far doesn't apply
 abbrev pub holds_own : ℕ → List Event → Event → Bool
@@ -84,6 +99,7 @@ holds_own p before (events.VariableUpdated e) = true
 holds_own p before (events.VariableDocumentUpdated key) = holds_of_game (has_cell key) before
 holds_own p before (events.MessagePublished m) = is_fresh p before m.key && is_ascending m.variables
 holds_own p before (events.MessageExpired key) = is_buffered key before
+holds_own p before (events.MessageStartEventSubscriptionCorrelated e) = is_fresh p before e.instance && begins_start e before
 holds_own p before (events.JobCreated e) = is_fresh p before e.key && begins_job e.cell before
 holds_own p before (events.JobActivated e) = hands_out e before
 holds_own p before (events.JobTimedOut key) = is_job_in is_activated key before

@@ -12,6 +12,7 @@ use Rattle.zb_tokens.specs.declared.board.Opening.{Opening}
 use Rattle.zb_tokens.specs.Catches.{openings_at}
 use Rattle.zb_tokens.specs.Incidents.{incident_on}
 use Rattle.zb_tokens.specs.Work.{work_at}
+use Rattle.zb_rules.specs.Starts.{started_behind}
 use Rattle.zb_rules.specs.Making.{Making, just, and_then, each_made}
 use Rattle.zb_tokens.specs.MoveTrigger.{is_interrupting}
 use Rattle.zb_rules.specs.Shown.{board_of, holds_of_game}
@@ -67,6 +68,8 @@ events_behind p moment seen (events.ElementActivated e) before = and_then (job_m
 events_behind p moment seen (events.ElementCompleting key) before = timers_canceled_on key before
 events_behind p moment seen (events.ElementTerminating key) before = ended_on seen key before
 events_behind p moment seen (events.ProcessEventTriggered e) before = interrupted_on e.cell e.node before
+events_behind p moment seen (events.ElementCompleted e) before = started_behind p seen e.key before
+events_behind p moment seen (events.ElementTerminated key) before = started_behind p seen key before
 events_behind p moment seen e before = []
 
 -- an event, and those behind it (Zeebe, the records)

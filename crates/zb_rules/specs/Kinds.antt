@@ -16,6 +16,8 @@ comes_beside (events.TimerCreated e) = true
 comes_beside (events.TimerCanceled key) = true
 comes_beside (events.IncidentResolved e) = true
 comes_beside (events.ElementTerminating key) = true
+comes_beside (events.MessageStartEventSubscriptionCorrelated e) = true
+comes_beside (events.ElementActivating e) = true
 comes_beside e = false
 
 -- an event of this kind may come of what is forced: it is that of a move, or stands beside one (BPMN 2.0.2, 13; Zeebe, the records)

@@ -32,3 +32,4 @@ pub mod Legal
 pub mod Settling
 pub mod Step
 pub mod Sound
+pub mod Starts

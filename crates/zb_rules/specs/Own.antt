@@ -1,5 +1,5 @@
 -- What each command makes of the events before it. Each command's own rule stands in a module of its name.
-use Rattle.std.specs.Prelude.{ℕ, List, [], Option, Some, None, option_map}
+use Rattle.std.specs.Prelude.{ℕ, ◌+◌, List, [], length, Option, Some, None, option_map}
 use Rattle.zb_model.specs.declared.record.Command.{Command}
 use Rattle.zb_model.specs.declared.record.Command.TheVariants as commands
 use Rattle.zb_model.specs.declared.record.Event.{Event}
@@ -20,6 +20,7 @@ use Rattle.zb_rules.specs.Cancel.{cancelled}
 use Rattle.zb_rules.specs.Update.{updated}
 use Rattle.zb_rules.specs.Resolve.{resolved}
 use Rattle.zb_rules.specs.Expire.{expired}
+use Rattle.zb_rules.specs.Starts.{starters}
 
 -- a command that is run so far
 abbrev pub IsSupported : Command → Type 0
@@ -67,11 +68,11 @@ own p n moment _ = None
 abbrev pub own_events : (p n : ℕ) → List Event → ℕ → Command → Option (List Event)
 own_events p n before moment command = option_map (λ make. make before) (own p n moment command)
 
--- how many keys a command draws at most for its own events
-abbrev pub keys_for : Command → ℕ
-keys_for (commands.DeploymentCreate m) = 2
-keys_for (commands.ProcessInstanceCreationCreate c) = 1
-keys_for (commands.JobBatchActivate c) = 1
-keys_for (commands.JobFail c) = 1
-keys_for (commands.MessagePublish c) = 1
-keys_for _ = 0
+-- how many keys a command draws at most for its own events, behind these: a publish one for each process that its message may start, too
+abbrev pub keys_for : List Event → Command → ℕ
+keys_for before (commands.DeploymentCreate m) = 2
+keys_for before (commands.ProcessInstanceCreationCreate c) = 1
+keys_for before (commands.JobBatchActivate c) = 1
+keys_for before (commands.JobFail c) = 1
+keys_for before (commands.MessagePublish c) = 1 + length (starters c.name before)
+keys_for before _ = 0

@@ -11,7 +11,8 @@ use Rattle.zb_model.specs.declared.record.Rejection.{Rejection}
 use Rattle.zb_model.specs.declared.record.RejectionKind.TheVariants as kinds
 use Rattle.zb_views.specs.Messages.{buffered}
 use Rattle.zb_views.specs.View.{next_key}
-use Rattle.zb_rules.specs.Making.{Making}
+use Rattle.zb_rules.specs.Starts.{starts_of}
+use Rattle.zb_rules.specs.Making.{Making, just, and_then}
 
 -- the message has the name, the correlation key and the id that are to be published
 abbrev pub is_same : MessagePublish → MessagePublished → Bool
@@ -44,10 +45,10 @@ message_under key moment c = record {
 abbrev pub expiry_of : ℕ → MessagePublish → List Event
 expiry_of key c = if c.time_to_live == 0 then events.MessageExpired key ∷ [] else []
 
--- the message is published under this key (Zeebe)
-abbrev pub published_under : ℕ → ℕ → MessagePublish → List Event
-published_under key moment c = events.MessagePublished (message_under key moment c) ∷ expiry_of key c
+-- a message is published, then it starts an instance of each process that it may, and without time to live it expires then (Zeebe)
+abbrev pub published_as : ℕ → MessagePublished → MessagePublish → Making
+published_as p m c = and_then (just (events.MessagePublished m)) (and_then (starts_of p m) (λ before. expiry_of m.key c))
 
 -- the message is published under a fresh key (Zeebe)
 abbrev pub published : (p moment : ℕ) → MessagePublish → Making
-published p moment c before = published_under (next_key p before) moment c
+published p moment c before = published_as p (message_under (next_key p before) moment c) c before

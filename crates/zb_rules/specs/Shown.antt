@@ -75,6 +75,15 @@ event_of b (moves.Trigger t) = Some (events.ProcessEventTriggered (record { cell
 event_of b (moves.Incident i) = Some (events.IncidentCreated (record { key = i.key; kind = i.kind; cell = i.cell; job = i.job; text = i.text }))
 event_of b (moves.Repair key) = None
 
+-- the definition that a model on a board is of (own)
+abbrev pub definition_of_model : Deployed → Definition
+definition_of_model d = record { key = d.key; version = d.version; process = d.model.process }
+
 -- the definitions whose models stand on a board (own)
 abbrev pub definitions_on : Board → List Definition
-definitions_on b = map (λ (d : Deployed). record { key = d.key; version = d.version; process = d.model.process }) b.models
+definitions_on b = map definition_of_model b.models
+
+-- the model that an event puts on the board, if it does
+abbrev pub models_told : Event → List Deployed
+models_told (events.ProcessCreated e) = record { key = e.key; version = e.version; model = e.model } ∷ []
+models_told _ = []

@@ -22,6 +22,7 @@ use Rattle.zb_timers.specs.Table.{has_place_for_timer}
 use Rattle.zb_state.specs.Messages.{has_place_for_message}
 use Rattle.zb_state.specs.Tables.{HaveTaken, IsNext, Draws, are_all_below}
 use Rattle.zb_state.specs.declared.tables.Tables.{Tables}
+use Rattle.zb_starts.specs.declared.change.Change.{Change}
 
 abbrev message_key : MessagePublished → ℕ
 message_key m = m.key
@@ -100,17 +101,17 @@ each_kept p n n' ms js ts e raised below =
     }
 
 -- once the tables take it in, which are empty where there was no memory
-pub tables_below : (p n n' : ℕ) (ms : List MessagePublished) (old new : Tables) (e : Event) (result : Result ⊤ AllocError)
+pub tables_below : (p n n' : ℕ) (ms : List MessagePublished) (old new : Tables) (e : Event) (change : Change) (result : Result ⊤ AllocError)
     → n' ≡ max n (greatest_among p (keys_in e)) → Draws p n old.jobs e → IsTrue (are_all_below (key_of p (n + 1)) ms old.jobs old.timers)
-    → OnOk result (HaveTaken e old new) → OnErr result (new.jobs ≡ []) → OnErr result (new.timers ≡ [])
+    → OnOk result (HaveTaken e change old new) → OnErr result (new.jobs ≡ []) → OnErr result (new.timers ≡ [])
     → IsTrue (are_all_below (key_of p (n' + 1)) ms new.jobs new.timers)
-tables_below p n n' ms old new e (Ok done) raised draws below took no_jobs no_timers =
+tables_below p n n' ms old new e change (Ok done) raised draws below took no_jobs no_timers =
     let high = key_of p (n' + 1) in
     let kept = each_kept p n n' ms old.jobs old.timers e raised below in
     let jobs_are = below_by job_sort job_key high [] e old.jobs (λ j. refl) (job_below p n n' old.jobs e raised draws) kept.jobs in
     let timers_are = below_by timer_sort timer_key high [] e old.timers (λ t. refl) (timer_below p n n' old.jobs e raised draws) kept.timers in
     rw (took.jobs, took.timers, kept.messages, jobs_are, timers_are) refl
-tables_below p n n' ms old new e (Err fault) raised draws below took no_jobs no_timers = rw (no_jobs, no_timers, (each_kept p n n' ms old.jobs old.timers e raised below).messages) refl
+tables_below p n n' ms old new e change (Err fault) raised draws below took no_jobs no_timers = rw (no_jobs, no_timers, (each_kept p n n' ms old.jobs old.timers e raised below).messages) refl
 
 -- and with its message, whether or not there was memory for that
 pub messages_below : (p n n' : ℕ) (ms ms' : List MessagePublished) (js' js : List Job) (ts : List Timer) (e : Event) (result : Result ⊤ AllocError)

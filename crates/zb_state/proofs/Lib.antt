@@ -7,3 +7,5 @@ pub mod StateLemmas
 pub mod ListingLemmas
 pub mod NamedLemmas
 pub mod LentLemmas
+pub mod StartLemmas
+pub mod StarterLemmas

@@ -11,6 +11,8 @@ use Rattle.zb_views.specs.View.{keys_in, greatest_among, greatest_counter, next_
 use Rattle.zb_views.specs.Messages.{message_sort}
 use Rattle.zb_views.specs.Jobs.{job_sort}
 use Rattle.zb_views.specs.Timers.{timer_sort}
+use Rattle.zb_views.specs.Starts.{started_sort}
+use Rattle.zb_views.specs.Subscriptions.{lock_sort}
 use Rattle.zb_record.specs.Sendings.{sending_sort}
 use Rattle.zb_views.specs.Standing.{standing_by}
 use Rattle.zb_views.proofs.StandingLaws.{standing_more}
@@ -23,7 +25,7 @@ use Rattle.zb_rules.specs.Shown.{shown, after_shown, board_of, definitions_on, e
 use Rattle.zb_rules.proofs.ModelsLaws.{defined_there}
 use Rattle.zb_tokens.specs.Board.{Board}
 use Rattle.zb_tokens.specs.Mappings.{assignments_of}
-use Rattle.zb_tokens.specs.Forced.{next_mover, move_of}
+use Rattle.zb_tokens.specs.Forced.{move_of}
 use Rattle.zb_tokens.specs.declared.board.Move.{Move}
 use Rattle.zb_tokens.specs.declared.board.Mover.{Mover}
 use Rattle.zb_views.specs.Definitions.{definitions}
@@ -34,7 +36,9 @@ use Rattle.zb_state.specs.declared.turn.Turn.{Turn}
 use Rattle.zb_state.specs.State.{IsStateOf, IsSameBeside, HasTaken}
 use Rattle.zb_state.specs.declared.facts.Facts.{Facts}
 use Rattle.zb_state.specs.declared.tables.Tables.{Tables}
+use Rattle.zb_state.specs.Starts.{IsChangeOf, are_starts_below}
 use Rattle.zb_state.specs.Tables.{are_all_below}
+use Rattle.zb_starts.specs.declared.change.Change.{Change}
 
 -- the greatest counter
 pub counter_more : (p : ℕ) (es : List Event) (e : Event) → greatest_counter p (es ++ e ∷ []) ≡ max (greatest_counter p es) (greatest_among p (keys_in e))
@@ -42,9 +46,9 @@ counter_more p es e =
     greatest_counter_more p es (e ∷ []) ∙ ap (λ (keys : List ℕ). max (greatest_counter p es) (greatest_among p keys)) (append-nil (keys_in e))
 
 -- the state where each part has taken the event in
-pub state_more : (es : List Event) (e : Event) (old mid new : Facts) → IsStateOf es old → IsSameBeside old mid → IsTrue (applies old.place es e) → after_shown old.game (shown es e) ≡ Some mid.game
-    → HasTaken e (standing_by message_sort [] e mid.messages) mid new → IsStateOf (es ++ e ∷ []) new
-state_more es e old mid new is same applied played took =
+pub state_more : (es : List Event) (e : Event) (change : Change) (old mid new : Facts) → IsStateOf es old → IsSameBeside old mid → IsTrue (applies old.place es e) → after_shown old.game (shown es e) ≡ Some mid.game
+    → IsChangeOf es e change → HasTaken e change (standing_by message_sort [] e mid.messages) mid new → IsStateOf (es ++ e ∷ []) new
+state_more es e change old mid new is same applied played changed took =
     let tables = took.tables in
     let jobs_were = is.jobs ∙ ap (λ (t : Tables). t.jobs) (sym same.tables) in
     record {
@@ -54,6 +58,8 @@ state_more es e old mid new is same applied played took =
       sendings = standing_more sending_sort es e ∙ (ap (standing_by sending_sort [] e) (is.sendings ∙ ap (λ (t : Tables). t.sendings) (sym same.tables)) ∙ sym tables.sendings);
       jobs = standing_more job_sort es e ∙ (ap (standing_by job_sort [] e) jobs_were ∙ sym tables.jobs);
       timers = standing_more timer_sort es e ∙ (ap (standing_by timer_sort [] e) (is.timers ∙ ap (λ (t : Tables). t.timers) (sym same.tables)) ∙ sym tables.timers);
+      locks = standing_more lock_sort es e ∙ (ap (standing_by lock_sort es e) (is.locks ∙ ap (λ (t : Tables). t.starts.locks) (sym same.tables)) ∙ (changed.locks mid.tables.starts.locks ∙ sym tables.locks));
+      starts = standing_more started_sort es e ∙ (ap (standing_by started_sort es e) (is.starts ∙ ap (λ (t : Tables). t.starts.starts) (sym same.tables)) ∙ (changed.starts mid.tables.starts.starts ∙ sym tables.starts));
       left = left_more es e ∙ sym (took.left es jobs_were);
       game = rw (board_of_more es e, is.game) (played ∙ ap (λ (b : Board). Some b) (sym took.game));
     }
@@ -100,16 +106,19 @@ AreDrawn x = x.1.0 < 2 ^ 51
 abbrev AreBelow : Parts → Type 0
 AreBelow x = IsTrue (are_all_below (key_of x.0 (x.1.0 + 1)) x.1.1.0 x.1.1.1.0.jobs x.1.1.1.0.timers)
 
-abbrev put_together : (x : Parts) → AreDrawn x → AreBelow x → Facts
-put_together x drawn below = record { place = x.0; counter = x.1.0; messages = x.1.1.0; tables = x.1.1.1.0; left = x.1.1.1.1.0; game = x.1.1.1.1.1; drawn = drawn; in_order = below }
+abbrev AreBegun : Parts → Type 0
+AreBegun x = IsTrue (are_starts_below (key_of x.0 (x.1.0 + 1)) x.1.1.1.1.0 x.1.1.1.0.starts.starts)
+
+abbrev put_together : (x : Parts) → AreDrawn x → AreBelow x → AreBegun x → Facts
+put_together x drawn below begun = record { place = x.0; counter = x.1.0; messages = x.1.1.0; tables = x.1.1.1.0; left = x.1.1.1.1.0; game = x.1.1.1.1.1; drawn = drawn; in_order = below; begun = begun }
 
 abbrev parts_of : Facts → Parts
 parts_of f = (f.place, (f.counter, (f.messages, (f.tables, (f.left, f.game)))))
 
-same_parts : (x y : Parts) → x ≡ y → (d : AreDrawn x) (o : AreBelow x) (d' : AreDrawn y) (o' : AreBelow y) → put_together x d o ≡ put_together y d' o'
-same_parts x y same d o =
-    subst (λ (y : Parts). (d' : AreDrawn y) (o' : AreBelow y) → put_together x d o ≡ put_together y d' o') same
-    (λ d' o'. ap (λ (t : AreDrawn x). put_together x t o) (le_prop d d') ∙ ap (λ (t : AreBelow x). put_together x d' t) (Bool-set _ true o o'))
+same_parts : (x y : Parts) → x ≡ y → (d : AreDrawn x) (o : AreBelow x) (b : AreBegun x) (d' : AreDrawn y) (o' : AreBelow y) (b' : AreBegun y) → put_together x d o b ≡ put_together y d' o' b'
+same_parts x y same d o b =
+    subst (λ (y : Parts). (d' : AreDrawn y) (o' : AreBelow y) (b' : AreBegun y) → put_together x d o b ≡ put_together y d' o' b') same
+    (λ d' o' b'. ap (λ (t : AreDrawn x). put_together x t o b) (le_prop d d') ∙ (ap (λ (t : AreBelow x). put_together x d' t b) (Bool-set _ true o o') ∙ ap (λ (t : AreBegun x). put_together x d' o' t) (Bool-set _ true b b')))
 
 -- two states of one list of events and one partition are equal
 pub same_state : (es : List Event) (a b : Facts) → IsStateOf es a → IsStateOf es b → a.place ≡ b.place → a ≡ b
@@ -119,8 +128,10 @@ same_state es a b one other place =
     let sendings : a.tables.sendings ≡ b.tables.sendings = sym one.sendings ∙ other.sendings in
     let jobs : a.tables.jobs ≡ b.tables.jobs = sym one.jobs ∙ other.jobs in
     let timers : a.tables.timers ≡ b.tables.timers = sym one.timers ∙ other.timers in
+    let locks : a.tables.starts.locks ≡ b.tables.starts.locks = sym one.locks ∙ other.locks in
+    let starts : a.tables.starts.starts ≡ b.tables.starts.starts = sym one.starts ∙ other.starts in
     let left : a.left ≡ b.left = sym one.left ∙ other.left in
     let game : a.game ≡ b.game = same_board (board_of es) a.game b.game one.game other.game in
-    let tables : a.tables ≡ b.tables = rw (sendings, jobs, timers) refl in
+    let tables : a.tables ≡ b.tables = rw (sendings, jobs, timers, locks, starts) refl in
     let same : parts_of a ≡ parts_of b = rw (place, counter, messages, tables, left, game) refl in
-    same_parts (parts_of a) (parts_of b) same a.drawn a.in_order b.drawn b.in_order
+    same_parts (parts_of a) (parts_of b) same a.drawn a.in_order a.begun b.drawn b.in_order b.begun

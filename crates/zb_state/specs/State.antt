@@ -9,6 +9,9 @@ use Rattle.zb_views.specs.Timers.{timers, timer_sort}
 use Rattle.zb_views.specs.Messages.{buffered, message_sort}
 use Rattle.zb_views.specs.Standing.{standing_by}
 use Rattle.zb_views.specs.Left.{left_told, left}
+use Rattle.zb_views.specs.Starts.{started_instances}
+use Rattle.zb_views.specs.Subscriptions.{locks}
+use Rattle.zb_starts.specs.declared.change.Change.{Change}
 use Rattle.zb_record.specs.Sendings.{sendings}
 use Rattle.zb_rules.specs.Applies.{all_apply}
 use Rattle.zb_rules.specs.Making.{Making}
@@ -27,6 +30,8 @@ pub record IsStateOf (es : List Event) (state : Facts) : Type 0 where
   pub sendings : sendings es ≡ state.tables.sendings
   pub jobs : jobs es ≡ state.tables.jobs
   pub timers : timers es ≡ state.tables.timers
+  pub locks : locks es ≡ state.tables.starts.locks
+  pub starts : started_instances es ≡ state.tables.starts.starts
   pub left : left es ≡ state.left
   pub game : board_of es ≡ Some state.game
 
@@ -57,11 +62,11 @@ pub record HasTakenRows (e : Event) (old new : Facts) : Type 0 where
   pub jobs : new.tables.jobs ≡ standing_by job_sort [] e old.tables.jobs
   pub timers : new.tables.timers ≡ standing_by timer_sort [] e old.tables.timers
 
--- a state that took an event in, but for its move, and has these messages
-pub record HasTaken (e : Event) (ms : List MessagePublished) (old new : Facts) : Type 0 where
+-- a state that took an event in, with this change, but for its move, and has these messages
+pub record HasTaken (e : Event) (change : Change) (ms : List MessagePublished) (old new : Facts) : Type 0 where
   pub place : new.place ≡ old.place
   pub counter : new.counter ≡ max old.counter (greatest_among old.place (keys_in e))
   pub messages : new.messages ≡ ms
-  pub tables : HaveTaken e old.tables new.tables
+  pub tables : HaveTaken e change old.tables new.tables
   pub left : (before : List Event) → jobs before ≡ old.tables.jobs → new.left ≡ left_told before e
   pub game : new.game ≡ old.game

@@ -12,13 +12,17 @@ use Rattle.zb_views.specs.Standing.{standing_by}
 use Rattle.zb_views.specs.Jobs.{job_sort}
 use Rattle.zb_views.specs.Timers.{timer_sort}
 use Rattle.zb_record.specs.Sendings.{sending_sort}
+use Rattle.zb_starts.specs.Change.{locks_by, instances_by}
+use Rattle.zb_starts.specs.declared.change.Change.{Change}
 use Rattle.zb_state.specs.declared.tables.Tables.{Tables}
 
--- each table has taken an event in (own)
-pub record HaveTaken (e : Event) (old new : Tables) : Type 0 where
+-- each table has taken an event in, which changes this of locks and of instances that messages have started (own)
+pub record HaveTaken (e : Event) (change : Change) (old new : Tables) : Type 0 where
   pub sendings : new.sendings ≡ standing_by sending_sort [] e old.sendings
   pub jobs : new.jobs ≡ standing_by job_sort [] e old.jobs
   pub timers : new.timers ≡ standing_by timer_sort [] e old.timers
+  pub locks : new.starts.locks ≡ locks_by change old.starts.locks
+  pub starts : new.starts.starts ≡ instances_by change old.starts.starts
 
 -- the key is the next one behind a counter of partition p, and there is one (own)
 abbrev pub IsNext : (p counter : ℕ) → ℕ → Type 0
@@ -26,6 +30,8 @@ IsNext p counter key = (counter + 1 < 2 ^ 51) × (key ≡ key_of p (counter + 1)
 
 -- what an event begins has the next key behind a counter, and a job is the first of its cell (own)
 abbrev pub Draws : (p counter : ℕ) → List Job → Event → Type 0
+Draws p counter js (events.ProcessInstanceCreationCreated e) = IsNext p counter e.key
+Draws p counter js (events.MessageStartEventSubscriptionCorrelated e) = IsNext p counter e.instance
 Draws p counter js (events.MessagePublished m) = IsNext p counter m.key
 Draws p counter js (events.JobCreated e) = IsNext p counter e.key × IsTrue (is_none (find (λ j. j.cell == e.cell) js))
 Draws p counter js (events.TimerCreated e) = IsNext p counter e.key

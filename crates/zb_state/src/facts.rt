@@ -1,4 +1,4 @@
-ghost use Rattle.std.specs.Prelude.{◌≡◌, ◌↔◌, ◌==◌, ◌&&◌, ◌<◌, ◌+◌, ◌^◌, not, ℕ, List, [], ◌∷◌, ◌++◌, IsTrue, IsFalse, IsErrOf, IfOk, OnOk, Some, is_none, option_map};
+ghost use Rattle.std.specs.Prelude.{◌≡◌, ◌↔◌, ◌==◌, ◌&&◌, ◌<◌, ◌+◌, ◌^◌, not, ℕ, List, [], ◌∷◌, ◌++◌, IsTrue, IsFalse, IsErrOf, IfOk, OnOk, Some, None, is_none, option_map};
 ghost use Rattle.std.specs.Option.{option_map_or};
 ghost use Rattle.zb_base.specs.Key.{key_of};
 ghost use Rattle.zb_model.specs.declared.record.Event.{Event};
@@ -23,21 +23,24 @@ ghost use Rattle.zb_tokens.specs.Forced.{next_mover};
 ghost use Rattle.zb_rules.specs.Shown.{shown, after_shown, board_of};
 ghost use Rattle.zb_state.specs.Sound.{HasSoundModel};
 ghost use Rattle.zb_state.specs.Tables.{IsNext, Draws, are_all_below};
+ghost use Rattle.zb_state.specs.Starts.{BeginsRoot, IsChangeOf, root_left, root_told, are_starts_below};
 
 mod jobs;
+mod starts;
 mod timers;
 
-use crate::course::Course;
 use crate::keys::greatest_counter_of;
 use crate::messages::Messages;
 use crate::tables::Tables;
 use std::alloc::{AllocError, Global};
 use zb_check::{ModelFault, check};
+use zb_course::Course;
 use zb_jobs::Jobs;
 use zb_model::{
     ElementActivating, Event, IncidentCreated, Key, MessagePublished, Model as ProcessModel,
     PartitionId, Role, TableFault,
 };
+use zb_starts::Change;
 use zb_tokens::Mover;
 use zb_values::phase_of;
 use zb_views::{Begun, Left};
@@ -56,6 +59,7 @@ pub struct Facts {
     pub(crate) game: Course,
     ghost drawn: { counter < 2 ^ 51 },
     ghost in_order: { IsTrue (are_all_below (key_of place (counter + 1)) messages tables.jobs tables.timers) },
+    ghost begun: { IsTrue (are_starts_below (key_of place (counter + 1)) left tables.starts.starts) },
 }
 
 impl Facts {
@@ -96,8 +100,8 @@ impl Facts {
         ensures kept { IsErrOf result TableFault.NotApplicable → self.new ≡ self.old }
         ensures rows { OnOk result (HasTakenRows event.now self.old self.new) }
     {
-        self.admit(alloc, event, known)?;
-        self.follow(alloc, event)?;
+        let change = self.admit(alloc, event, known)?;
+        self.follow(alloc, event, change)?;
         self.messages.apply(alloc, event)?;
         Ok(())
     }
@@ -111,14 +115,14 @@ impl Facts {
             → IsErrOf result TableFault.NotApplicable → IsFalse (applies (partition_of self.old) es event) }
         ensures kept { IsErrOf result TableFault.NotApplicable → self.new ≡ self.old }
     {
-        match self.admit(alloc, &event, false) {
-            Ok(()) => {}
+        let change = match self.admit(alloc, &event, false) {
+            Ok(change) => change,
             Err(fault) => {
                 drop(event);
                 return Err(fault);
             }
-        }
-        match self.follow(alloc, &event) {
+        };
+        match self.follow(alloc, &event, change) {
             Ok(()) => {}
             Err(AllocError) => {
                 drop(event);
@@ -190,6 +194,7 @@ impl Facts {
             Event::DeploymentCreated(made) | Event::ProcessInstanceCreationCreated(made) => {
                 Ok(self.names_definition(made.key, made.definition))
             }
+            Event::MessageStartEventSubscriptionCorrelated(start) => Ok(self.starts(start)),
             Event::ElementActivating(element) => Ok(self.begins_well(element)),
             Event::ElementActivated(element) => Ok(element.items.as_slice().is_empty()),
             Event::ElementCompleting(_)
@@ -225,7 +230,6 @@ impl Facts {
             Event::CommandDistributionFinished(key) => Ok(self.has_arrived(*key)),
             Event::ElementMigrated(_)
             | Event::ProcessInstanceMigrationMigrated(_)
-            | Event::MessageStartEventSubscriptionCorrelated(_)
             | Event::MessageSubscriptionCreated(_)
             | Event::MessageSubscriptionCorrelating(_)
             | Event::MessageSubscriptionCorrelated(_)
@@ -241,8 +245,9 @@ impl Facts {
 
     // Whether the key is fresh, and the definition is there.
     fn names_definition(&self, key: Key, definition: Key) -> bool
-        ensures { (es : List Event) → IsStateOf es self.now
+        ensures own { (es : List Event) → IsStateOf es self.now
             → result ≡ (is_fresh (partition_of self.now) es key && has_definition definition es) }
+        ensures next { IsTrue result → IsNext (partition_of self.now) self.now.counter key }
     {
         self.is_fresh(key) && self.has_definition(definition)
     }
@@ -259,7 +264,7 @@ impl Facts {
     fn begins_well(&self, element: &ElementActivating) -> bool
         ensures { (es : List Event) → IsStateOf es self.now → result ≡ begins_well (partition_of self.now) es element.now }
     {
-        if element.role != Role::Plain || !element.started.as_str().is_empty() {
+        if element.role != Role::Plain {
             return false;
         }
         if element.scope == Key::new(0) {
@@ -277,7 +282,7 @@ impl Facts {
         self.is_fresh(incident.key) && self.has_cause(incident)
     }
 
-    // Whether the root is that of the instance that the last event made.
+    // Whether the root is that of the instance that the last event began or a message starts.
     fn begins_instance(&self, element: &ElementActivating) -> bool
         ensures { (es : List Event) → IsStateOf es self.now → result ≡ begins_instance es element.now }
     {
@@ -287,13 +292,16 @@ impl Facts {
                 .board()
                 .is_process_of(element.definition, element.node.as_str())
             && element.via.as_str().is_empty()
+            && self.starts_with(element.started.as_str())
     }
 
-    // Whether the cell has a fresh key, and the definition of its scope.
+    // Whether the cell has a fresh key and the definition of its scope, and no message starts it.
     fn begins_cell(&self, element: &ElementActivating) -> bool
         ensures { (es : List Event) → IsStateOf es self.now → result ≡ begins_cell (partition_of self.now) es element.now }
     {
-        self.is_fresh(element.key) && self.is_definition_of(element.scope, element.definition)
+        self.is_fresh(element.key)
+            && self.is_definition_of(element.scope, element.definition)
+            && element.started.as_str().is_empty()
     }
 
     // Whether the cell is there, and of this definition.
@@ -320,9 +328,33 @@ impl Facts {
         self.tables.sendings.is_sent(definition)
     }
 
+    // What an event that applies changes of locks and of instances that messages have started; its move is made. At
+    // `NotApplicable`, exactly where it doesn't apply, nothing has changed; after `Memory` the state is only dropped.
+    fn admit(&mut self, alloc: Global, event: &Event, known: bool) -> Result<Change, TableFault>
+        requires { IsTrue known → HasSoundModel event.now }
+        ensures beside { IsSameBeside self.old self.new }
+        ensures applied { (es : List Event) → IsStateOf es self.old → OnOk result (IsTrue (applies (partition_of self.old) es event.now)) }
+        ensures played { (es : List Event) → IsStateOf es self.old → OnOk result (after_shown self.old.game (shown es event.now) ≡ Some self.new.game) }
+        ensures draws { OnOk result (Draws (partition_of self.new) self.new.counter self.new.tables.jobs event.now) }
+        ensures begins { IfOk result (λ change. BeginsRoot self.new.left change) }
+        ensures changes { (es : List Event) → IsStateOf es self.old → IfOk result (IsChangeOf es event.now) }
+        ensures refused { (es : List Event) → IsStateOf es self.old
+            → IsErrOf result TableFault.NotApplicable → IsFalse (applies (partition_of self.old) es event.now) }
+        ensures kept { IsErrOf result TableFault.NotApplicable → self.new ≡ self.old }
+    {
+        let change = self.change_of(alloc, event)?;
+        match self.play(alloc, event, known) {
+            Ok(()) => Ok(change),
+            Err(fault) => {
+                drop(change);
+                Err(fault)
+            }
+        }
+    }
+
     // Makes the move of an event that applies. At `NotApplicable`, exactly where it doesn't, nothing has
     // changed; after `Memory` the state is only dropped.
-    fn admit(&mut self, alloc: Global, event: &Event, known: bool) -> Result<(), TableFault>
+    fn play(&mut self, alloc: Global, event: &Event, known: bool) -> Result<(), TableFault>
         requires { IsTrue known → HasSoundModel event.now }
         ensures beside { IsSameBeside self.old self.new }
         ensures applied { (es : List Event) → IsStateOf es self.old → OnOk result (IsTrue (applies (partition_of self.old) es event.now)) }
@@ -339,25 +371,33 @@ impl Facts {
     }
 
     // Takes in what an event says, but for its move and of messages. After a refusal the state is only dropped.
-    fn follow(&mut self, alloc: Global, event: &Event) -> Result<(), AllocError>
-        requires { Draws (partition_of self.old) self.old.counter self.old.tables.jobs event.now }
+    fn follow(&mut self, alloc: Global, event: &Event, change: Change) -> Result<(), AllocError>
+        requires draws { Draws (partition_of self.old) self.old.counter self.old.tables.jobs event.now }
+        requires begins { BeginsRoot self.old.left change }
         ensures place { partition_of self.new ≡ partition_of self.old }
-        ensures taken { OnOk result (HasTaken event.now self.old.messages self.old self.new) }
+        ensures taken { OnOk result (HasTaken event.now change self.old.messages self.old self.new) }
     {
         self.left = left_behind(&self.tables.jobs, event);
         self.counter = self.counter.max(greatest_counter_of(self.place, event));
-        self.tables.apply(alloc, event)
+        self.tables.apply(alloc, event, change)
     }
 }
 
 // What an event leaves to be said behind those by which these jobs are there.
 fn left_behind(jobs: &Jobs, event: &Event) -> Left
-    ensures { (before : List Event) → views.jobs before ≡ jobs.now → result ≡ left_told before event.now }
+    ensures told { (before : List Event) → views.jobs before ≡ jobs.now → result ≡ left_told before event.now }
+    ensures root { root_left result ≡ root_told event.now }
 {
     match event {
         Event::ProcessInstanceCreationCreated(instance) => Left::Root(Begun {
             key: instance.key,
             definition: instance.definition,
+            message: None,
+        }),
+        Event::MessageStartEventSubscriptionCorrelated(start) => Left::Root(Begun {
+            key: start.instance,
+            definition: start.definition,
+            message: Some(start.message),
         }),
         Event::ElementTerminating(cell) => cancels(jobs.on(*cell)),
         _ => Left::Nothing,
@@ -366,7 +406,8 @@ fn left_behind(jobs: &Jobs, event: &Event) -> Left
 
 // That a job is canceled is left to be said, if there is one.
 fn cancels(job: Option<Key>) -> Left
-    ensures { result ≡ option_map_or (λ key. lefts.Cancels key) job lefts.Nothing }
+    ensures told { result ≡ option_map_or (λ key. lefts.Cancels key) job lefts.Nothing }
+    ensures root { root_left result ≡ None }
 {
     match job {
         Some(job) => Left::Cancels(job),

@@ -1,12 +1,10 @@
 //! The state of a partition: what its log's events come to.
 #![tactic(auto)]
 
-mod course;
 mod facts;
 mod keys;
 mod listing;
 mod messages;
-mod moves;
 mod named;
 mod out;
 mod refusal;

@@ -48,6 +48,17 @@ impl Messages {
         }
     }
 
+    /// The message with this key, if there is one. It takes the logarithm of how many there are.
+    pub fn get(&self, key: Key) -> Option<&MessagePublished>
+        ensures message { option_copied result ≡ find (λ m. m.key == key) self.now }
+        ensures order { Ascend (λ m. m.key) 0 self.now }
+    {
+        match self.rows.get(key) {
+            Some(buffered) => Some(&buffered.message),
+            None => None,
+        }
+    }
+
     /// The deadline of the message with this key, if there is one. It takes the logarithm of how many there are.
     pub fn deadline_of(&self, key: Key) -> Option<Moment>
         ensures deadline { result ≡ option_map (λ m. m.deadline) (find (λ m. m.key == key) self.now) }

@@ -18,6 +18,7 @@ ghost use Rattle.zb_state.specs.Sound.{HasSoundModel};
 mod due;
 mod lent;
 mod outbox;
+mod starts;
 
 use crate::facts::Facts;
 use crate::listing::{Listing, clear, relist};

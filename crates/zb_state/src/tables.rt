@@ -2,11 +2,13 @@ ghost use Rattle.std.specs.Prelude.{◌≡◌, [], IsTrue, OnOk, OnErr};
 ghost use Rattle.zb_model.specs.declared.record.Event.{Event};
 ghost use Rattle.zb_jobs.specs.Table.{has_place_for};
 ghost use Rattle.zb_timers.specs.Table.{has_place_for_timer};
+ghost use Rattle.zb_starts.specs.Change.{begins_last};
 
 use std::alloc::{AllocError, Global};
 use zb_jobs::Jobs;
 use zb_model::Event;
 use zb_outbox::Outbox;
+use zb_starts::{Change, MessageStarts};
 use zb_timers::Timers;
 
 /// What a state keeps beside the messages and the game.
@@ -18,6 +20,8 @@ pub struct Tables {
     pub jobs: Jobs,
     /// The timers that are there.
     pub timers: Timers,
+    /// The locks of messages, and the instances that messages have started.
+    pub starts: MessageStarts,
 }
 
 impl Tables {
@@ -28,23 +32,29 @@ impl Tables {
         ensures sendings { result.sendings ≡ [] }
         ensures jobs { result.jobs ≡ [] }
         ensures timers { result.timers ≡ [] }
+        ensures locks { result.starts.locks ≡ [] }
+        ensures starts { result.starts.starts ≡ [] }
     {
         Tables {
             sendings: Outbox::empty(alloc),
             jobs: Jobs::empty(alloc),
             timers: Timers::empty(alloc),
+            starts: MessageStarts::empty(alloc),
         }
     }
 
-    /// Takes an event in. It costs what `apply` of each table does. After a refusal the tables are those of no events.
-    pub fn apply(&mut self, alloc: Global, event: &Event) -> Result<(), AllocError>
+    /// Takes an event in, and what it changes of locks and of instances that messages have started. It costs what `apply` of
+    /// each table does. After a refusal the tables are those of no events.
+    pub fn apply(&mut self, alloc: Global, event: &Event, change: Change) -> Result<(), AllocError>
         requires jobs { IsTrue (has_place_for self.old.jobs event.now) }
         requires timers { IsTrue (has_place_for_timer self.old.timers event.now) }
-        ensures taken { OnOk result (HaveTaken event.now self.old self.new) }
+        requires starts { IsTrue (begins_last change self.old.starts.starts) }
+        ensures taken { OnOk result (HaveTaken event.now change self.old self.new) }
         ensures no_jobs { OnErr result (self.new.jobs ≡ []) }
         ensures no_timers { OnErr result (self.new.timers ≡ []) }
+        ensures no_starts { OnErr result (self.new.starts.starts ≡ []) }
     {
-        let taken = self.take_in(alloc, event);
+        let taken = self.take_in(alloc, event, change);
         if taken.is_err() {
             self.clear(alloc);
         }
@@ -52,11 +62,13 @@ impl Tables {
     }
 
     // Has each table take an event in. After a refusal the tables are only dropped.
-    fn take_in(&mut self, alloc: Global, event: &Event) -> Result<(), AllocError>
+    fn take_in(&mut self, alloc: Global, event: &Event, change: Change) -> Result<(), AllocError>
         requires jobs { IsTrue (has_place_for self.old.jobs event.now) }
         requires timers { IsTrue (has_place_for_timer self.old.timers event.now) }
-        ensures { OnOk result (HaveTaken event.now self.old self.new) }
+        requires starts { IsTrue (begins_last change self.old.starts.starts) }
+        ensures { OnOk result (HaveTaken event.now change self.old self.new) }
     {
+        self.starts.apply(alloc, change)?;
         self.sendings.apply(alloc, event)?;
         self.jobs.apply(alloc, event)?;
         self.timers.apply(alloc, event)?;
@@ -67,6 +79,7 @@ impl Tables {
     fn clear(&mut self, alloc: Global)
         ensures jobs { self.new.jobs ≡ [] }
         ensures timers { self.new.timers ≡ [] }
+        ensures starts { self.new.starts.starts ≡ [] }
     {
         *self = Tables::empty(alloc);
     }

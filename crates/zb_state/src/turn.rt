@@ -3,9 +3,9 @@ ghost use Rattle.std.specs.Prelude.{◌≡◌, IfOk, option_map};
 ghost use Rattle.zb_tokens.specs.Mappings.{assignments_of};
 ghost use Rattle.zb_rules.specs.Shown.{event_of};
 
-use crate::moves::event_of;
 use std::alloc::{AllocError, Global};
 use zb_board::Game;
+use zb_course::event_of;
 use zb_model::Event;
 use zb_tokens::{Assignments, Move};
 use zb_values::assignments_of;

@@ -1,9 +1,10 @@
 // What each command leads to: why it is rejected, or what it makes of the events before it.
 ghost use Rattle.std.specs.Option.{option_map_or};
-ghost use Rattle.std.specs.Prelude.{◌≡◌, List, [], None, IsTrue, IfOk};
+ghost use Rattle.std.specs.Prelude.{◌≡◌, ◌<◌, ◌^◌, List, [], length, None, IsTrue, IfOk};
 ghost use Rattle.zb_model.specs.declared.record.Event.{Event};
 ghost use Rattle.zb_rules.specs.Own.{keys_for, own};
 ghost use Rattle.zb_rules.specs.Reason.{reason_for};
+ghost use Rattle.zb_rules.specs.Starts.{starters};
 ghost use Rattle.zb_state.specs.State.{IsStateOf};
 ghost use Rattle.zb_step.specs.Sound.{has_no_fault};
 
@@ -126,15 +127,26 @@ impl Maker for Own<'_> {
 }
 
 /// How many keys a command draws at most for its own events.
-pub fn keys_for(command: &Command) -> u64
-    ensures { result ≡ keys_for command.now }
+pub fn keys_for(state: &State, command: &Command) -> u64
+    ensures { (es : List Event) → IsStateOf es state.now → result ≡ keys_for es command.now }
 {
     match command {
         Command::DeploymentCreate(_) => 2,
         Command::ProcessInstanceCreationCreate(_)
         | Command::JobBatchActivate(_)
-        | Command::JobFail(_)
-        | Command::MessagePublish(_) => 1,
+        | Command::JobFail(_) => 1,
+        Command::MessagePublish(message) => 1 + starter_count(state, message.name.as_str()),
         _ => 0,
+    }
+}
+
+// Of how many processes a version starts by messages of this name.
+fn starter_count(state: &State, name: &str) -> u64
+    ensures count { (es : List Event) → IsStateOf es state.now → result ≡ length (starters name.now es) }
+    ensures small { result < 2 ^ 63 }
+{
+    match state.starters(name) {
+        Some(ids) => ids.len() as u64,
+        None => 0,
     }
 }

@@ -1,21 +1,19 @@
 // Making an instance of a process.
-ghost use Rattle.std.specs.Prelude.{◌≡◌, List, [], IfOk, string_bytes, Some};
+ghost use Rattle.std.specs.Prelude.{◌≡◌, List, IfOk, string_bytes, Some};
 ghost use Rattle.zb_model.specs.declared.record.Event.{Event};
-ghost use Rattle.zb_rules.specs.Create.{reason_to_create, no_process, no_version, variable_event, created};
-ghost use Rattle.zb_rules.specs.Making.{just};
+ghost use Rattle.zb_rules.specs.Create.{reason_to_create, no_process, no_version, starts_by_message, created};
 ghost use Rattle.zb_state.specs.State.{IsStateOf};
 
 use crate::rejection::rejection;
 use std::alloc::{AllocError, Global};
-use zb_follow::{Each, FindEach, Maker};
+use zb_follow::{Beginning, Maker, root};
 use zb_model::{
-    DefinitionLink, ElementActivating, Event, Key, Moment, ProcessInstanceCreationCreate,
-    Rejection, RejectionKind, Role, ScopeVariable, Text, TryCopy, Variable,
+    DefinitionLink, Event, Moment, ProcessInstanceCreationCreate, Rejection, RejectionKind,
 };
 use zb_state::{Out, Refusal, State};
 
-/// Why an instance isn't made: there is no such process, or no such version of it. It costs what
-/// `Definitions::definition_for` does.
+/// Why an instance isn't made: there is no such process, or no such version of it, or that starts by a message. It costs
+/// what `Definitions::definition_for` and `State::has_message_start` do.
 pub fn reason(
     alloc: Global,
     state: &State,
@@ -28,11 +26,11 @@ pub fn reason(
     if definitions.definition_for(process, 0).is_none() {
         return unknown_process(alloc, process);
     }
-    if definitions
-        .definition_for(process, command.version)
-        .is_none()
-    {
+    let Some(asked) = definitions.definition_for(process, command.version) else {
         return unknown_version(alloc, process, command.version);
+    };
+    if state.has_message_start(asked) {
+        return message_started(alloc, process);
     }
     Ok(None)
 }
@@ -68,6 +66,16 @@ fn text_of_version(alloc: Global, process: &str, version: u32) -> Result<String,
     Ok(text)
 }
 
+// The rejection where it starts by a message.
+fn message_started(alloc: Global, process: &str) -> Result<Option<Rejection>, AllocError>
+    ensures { IfOk result (λ rejection. rejection ≡ Some (record { kind = RejectionKind.InvalidState; reason = starts_by_message process.now })) }
+{
+    let mut text = String::from_str(alloc, "process ")?;
+    text.push_str(process)?;
+    text.push_str(" starts by a message")?;
+    rejection(alloc, RejectionKind::InvalidState, text.as_str())
+}
+
 /// An instance is made, where its definition is there: its root is activated, and it has its variables.
 #[derive(Drop)]
 pub struct Created<'a>(pub &'a ProcessInstanceCreationCreate);
@@ -88,57 +96,13 @@ impl Maker for Created<'_> {
             return Ok(());
         };
         let key = state.next_key();
-        let root = root(alloc, key, definition, process)?;
+        let root = root(alloc, key, definition, process, "")?;
         let made = DefinitionLink { key, definition };
-        let made = Event::ProcessInstanceCreationCreated(made);
-        let finder = &FirstIn(key);
-        let things = command.variables.as_slice();
-        (
-            made,
-            (Event::ElementActivating(root), Each { finder, things }),
-        )
-            .put(alloc, state, moment, out)
-    }
-}
-
-// The root of an instance of this definition.
-fn root(
-    alloc: Global,
-    key: Key,
-    definition: Key,
-    process: &str,
-) -> Result<ElementActivating, AllocError>
-    ensures { IfOk result (λ root. root ≡ record { key = key; scope = 0; definition = definition; node = process.now; role = Role.Plain; via = []; started = [] }) }
-{
-    Ok(ElementActivating {
-        key,
-        scope: Key::new(0),
-        definition,
-        node: Text::of(alloc, process)?,
-        role: Role::Plain,
-        via: Text::empty(alloc),
-        started: Text::empty(alloc),
-    })
-}
-
-// A variable of the instance with a key gets its first value.
-#[derive(Clone, Copy)]
-struct FirstIn(Key);
-
-impl FindEach<Variable> for FirstIn {
-    ghost finds = { λ it v p moment. just (variable_event it.0 v) };
-
-    fn find(
-        &self,
-        alloc: Global,
-        _state: &State,
-        _moment: Moment,
-        variable: &Variable,
-    ) -> Result<Option<Event>, AllocError> {
-        Ok(Some(Event::VariableCreated(ScopeVariable {
-            scope: self.0,
-            name: variable.name.copy(alloc)?,
-            value: variable.value.copy(alloc)?,
-        })))
+        Beginning {
+            told: Event::ProcessInstanceCreationCreated(made),
+            root,
+            variables: command.variables.as_slice(),
+        }
+        .put(alloc, state, moment, out)
     }
 }

@@ -31,7 +31,7 @@ pub fn emit(
     ensures place { partition_of state.new ≡ partition_of state.old }
     ensures misfit { IsErrOf result Misfit → IsUnreached state.old }
 {
-    if !state.has_keys(keys_for(own.command)) {
+    if !state.has_keys(keys_for(state, own.command)) {
         return Err(Refusal::Memory);
     }
     see_names(own.command);

@@ -1,7 +1,7 @@
 // Why a worker can't end a job.
 ghost use Rattle.std.specs.Prelude.{◌≡◌, List, IfOk};
 ghost use Rattle.zb_model.specs.declared.record.Event.{Event};
-ghost use Rattle.zb_rules.specs.JobReasons.{reason_to_end};
+ghost use Rattle.zb_rules.specs.JobReasons.{reason_in, reason_to_end};
 ghost use Rattle.zb_state.specs.State.{IsStateOf};
 
 use crate::rejection::{no_such, wrong_state};
@@ -15,11 +15,18 @@ pub fn reason(alloc: Global, state: &State, key: Key) -> Result<Option<Rejection
     ensures { (es : List Event) → IsStateOf es state.now → IfOk result (λ rejection. rejection ≡ reason_to_end es key) }
 {
     match state.jobs().get(key) {
+        Some(job) => reason_in(alloc, key, job.phase),
         None => no_such(alloc, "no job ", key),
-        Some(job) if job.phase.is_given_out() => Ok(None),
-        Some(job) if matches!(job.phase, JobPhase::Failed) => {
-            wrong_state(alloc, "job ", key, " has no retries")
-        }
-        Some(_) => wrong_state(alloc, "job ", key, " isn't activated"),
+    }
+}
+
+// Why a worker can't end a job in a phase.
+fn reason_in(alloc: Global, key: Key, phase: JobPhase) -> Result<Option<Rejection>, AllocError>
+    ensures { IfOk result (λ rejection. rejection ≡ reason_in key phase) }
+{
+    match phase {
+        JobPhase::Failed => wrong_state(alloc, "job ", key, " has no retries"),
+        JobPhase::Created => wrong_state(alloc, "job ", key, " isn't activated"),
+        JobPhase::Activated | JobPhase::TimedOut => Ok(None),
     }
 }

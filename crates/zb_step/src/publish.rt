@@ -1,12 +1,15 @@
 // Publishing a message.
-ghost use Rattle.std.specs.Prelude.{◌≡◌, List, IfOk, string_bytes, Some};
+ghost use Rattle.std.specs.Option.{option_map_or};
+ghost use Rattle.std.specs.Prelude.{◌≡◌, List, [], ◌∷◌, IfOk, string_bytes, Some};
 ghost use Rattle.zb_model.specs.declared.record.Event.{Event};
-ghost use Rattle.zb_rules.specs.Publish.{reason_to_publish, is_repeated, buffered_text, message_under, published};
+ghost use Rattle.zb_rules.specs.Publish.{reason_to_publish, is_repeated, buffered_text, message_under, expiry_of, published};
+ghost use Rattle.zb_rules.specs.Starts.{starters};
 ghost use Rattle.zb_state.specs.State.{IsStateOf};
+ghost use Rattle.zb_step.specs.Starting.{starting_as};
 
 use crate::rejection::rejection;
 use std::alloc::{AllocError, Global};
-use zb_follow::Maker;
+use zb_follow::{EachStarting, Maker};
 use zb_model::{
     Event, Key, MessagePublish, MessagePublished, Moment, Rejection, RejectionKind, TryCopy,
 };
@@ -56,7 +59,8 @@ fn text_of_repeated(alloc: Global, command: &MessagePublish) -> Result<String, A
     Ok(text)
 }
 
-/// The message is published under a fresh key, and expires at once where it has no time to live.
+/// The message is published under a fresh key, starts an instance of each process that it may, and expires then where it
+/// has no time to live.
 #[derive(Drop)]
 pub struct Published<'a>(pub &'a MessagePublish);
 
@@ -72,12 +76,26 @@ impl Maker for Published<'_> {
     ) -> Result<(), Refusal> {
         let command = self.0;
         let key = state.next_key();
-        let message = Event::MessagePublished(message(alloc, key, moment, command)?);
-        let expiry = match command.time_to_live {
-            0 => Some(Event::MessageExpired(key)),
-            _ => None,
+        let message = message(alloc, key, moment, command)?;
+        let starting = match starting(alloc, state, &message) {
+            Ok(starting) => starting,
+            Err(AllocError) => {
+                drop(message);
+                return Err(Refusal::Memory);
+            }
         };
-        (message, expiry).put(alloc, state, moment, out)
+        let expiry = expiry(key, command);
+        (Event::MessagePublished(message), (starting, expiry)).put(alloc, state, moment, out)
+    }
+}
+
+// A message without time to live expires at once.
+fn expiry(key: Key, command: &MessagePublish) -> Option<Event>
+    ensures { option_map_or (λ e. e ∷ []) result [] ≡ expiry_of key command.now }
+{
+    match command.time_to_live {
+        0 => Some(Event::MessageExpired(key)),
+        _ => None,
     }
 }
 
@@ -98,4 +116,21 @@ fn message(
         deadline: moment.plus(command.time_to_live),
         variables: command.variables.copy(alloc)?,
     })
+}
+
+// The processes of which the message may start instances, if there are any; it is copied then.
+fn starting(
+    alloc: Global,
+    state: &State,
+    message: &MessagePublished,
+) -> Result<Option<EachStarting>, AllocError>
+    ensures { (es : List Event) → IsStateOf es state.now → IfOk result (λ starting. starting_as starting message.now (starters message.now.name es)) }
+{
+    match state.starters(message.name.as_str()) {
+        Some(ids) => Ok(Some(EachStarting {
+            message: message.copy(alloc)?,
+            processes: ids.copied(alloc)?,
+        })),
+        None => Ok(None),
+    }
 }

@@ -6,3 +6,4 @@ pub mod TimerEndsLaws
 pub mod TimerLaws
 pub mod ToldLaws
 pub mod ViewLaws
+pub mod NamedLaws

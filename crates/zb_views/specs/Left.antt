@@ -1,5 +1,5 @@
 -- What the last event of a log leaves to be said: a query over the events.
-use Rattle.std.specs.Prelude.{ℕ, ◌==◌, List, get_or, Bool, true, false, ◌&&◌, Some}
+use Rattle.std.specs.Prelude.{ℕ, ◌==◌, List, get_or, Bool, true, false, ◌&&◌, Some, None}
 use Rattle.std.specs.Option.{option_map_or}
 use Rattle.zb_model.specs.declared.record.Event.{Event}
 use Rattle.zb_model.specs.declared.record.Event.TheVariants as events
@@ -8,9 +8,10 @@ use Rattle.zb_views.specs.Standing.{Sort, standing}
 use Rattle.zb_views.specs.declared.left.Left.{Left}
 use Rattle.zb_views.specs.declared.left.Left.TheVariants as lefts
 
--- what an event behind others leaves to be said: the root of the instance that it begins, or that the job is canceled of the cell that it begins to terminate (Zeebe, the records)
+-- what an event behind others leaves to be said: the root of the instance that it begins or that a message starts, or that the job is canceled of the cell that it begins to terminate (Zeebe, the records)
 abbrev pub left_told : List Event → Event → Left
-left_told before (events.ProcessInstanceCreationCreated e) = lefts.Root (record { key = e.key; definition = e.definition })
+left_told before (events.ProcessInstanceCreationCreated e) = lefts.Root (record { key = e.key; definition = e.definition; message = None })
+left_told before (events.MessageStartEventSubscriptionCorrelated e) = lefts.Root (record { key = e.instance; definition = e.definition; message = Some e.message })
 left_told before (events.ElementTerminating cell) = option_map_or (λ j. lefts.Cancels j.key) (job_on cell before) lefts.Nothing
 left_told before e = lefts.Nothing
 

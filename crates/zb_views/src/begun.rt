@@ -5,4 +5,6 @@ use zb_model::Key;
 pub struct Begun {
     pub key: Key,
     pub definition: Key,
+    /// The message that starts it, if one does.
+    pub message: Option<Key>,
 }

@@ -12,6 +12,7 @@ use Rattle.zb_reader.specs.Layout.{flag_in}
 -- the kinds of nodes that are built (own)
 abbrev pub is_built_kind : Option NodeKind → Bool
 is_built_kind (Some kinds.StartEvent) = true
+is_built_kind (Some kinds.MessageStartEvent) = true
 is_built_kind (Some kinds.EndEvent) = true
 is_built_kind (Some kinds.TerminateEndEvent) = true
 is_built_kind (Some kinds.ServiceTask) = true

@@ -52,6 +52,7 @@ fn is_built_kind(kind: Option<NodeKind>) -> bool
         kind,
         Some(
             NodeKind::StartEvent
+                | NodeKind::MessageStartEvent
                 | NodeKind::EndEvent
                 | NodeKind::TerminateEndEvent
                 | NodeKind::ServiceTask

@@ -1,13 +1,15 @@
 -- A step is a message step: so far a command may define a process, publish a message or have one expire, and no event of a subscription applies.
-use Rattle.std.proofs.Common.{◌≡◌, ◌≤◌, ◌<◌, ◌⊎◌, ℕ, ◌+◌, ◌-◌, ◌^◌, ◌==◌, List, [], ◌∷◌, ◌++◌, map, Bool, true, false, ◌||◌, if◌then◌else◌, IsTrue, Contains, Option, Some, None, refl, inl, inr, ap, sym, ◌∙◌, subst, arith}
-use Rattle.std.specs.List.{list_any, range_with_len}
-use Rattle.std.specs.Option.{option_or}
+use Rattle.std.proofs.Common.{◌≡◌, ◌≤◌, ◌<◌, ◌⊎◌, ℕ, ◌+◌, ◌-◌, ◌^◌, ◌==◌, List, [], ◌∷◌, ◌++◌, map, ◌&&◌, not, option_map, Bool, true, false, ◌||◌, if◌then◌else◌, IsTrue, Contains, Option, Some, None, refl, inl, inr, ap, sym, ◌∙◌, subst, arith}
+use Rattle.std.specs.List.{find, list_any, range_with_len}
+use Rattle.std.specs.Option.{option_or, option_map_or}
 use Rattle.std.proofs.lemmas.Bool.{and_parts, or_from}
 use Rattle.std.proofs.lemmas.Bool.Decides.{nat_tests}
 use Rattle.std.proofs.lemmas.List.{map-append}
 use Rattle.std.proofs.lemmas.List.Folds.{list_any-append}
 use Rattle.zb_process.specs.declared.model.Model.{Model}
 use Rattle.zb_instance_records.specs.declared.deployment.ProcessDefinition.{ProcessDefinition}
+use Rattle.zb_exchange_records.specs.declared.message.MessagePublished.{MessagePublished}
+use Rattle.zb_exchange_records.specs.declared.subscription.MessageStartEventSubscriptionCorrelated.{MessageStartEventSubscriptionCorrelated}
 use Rattle.zb_model.specs.declared.record.Batch.{Batch}
 use Rattle.zb_model.specs.declared.record.Command.{Command}
 use Rattle.zb_model.specs.declared.record.Command.TheVariants as commands
@@ -19,7 +21,11 @@ use Rattle.zb_views.specs.View.{events_in, events_of, keys_in, greatest_counter,
 use Rattle.zb_views.proofs.ViewLaws.{greatest_counter_more}
 use Rattle.zb_views.specs.declared.definition.Definition.{Definition}
 use Rattle.zb_views.specs.Definitions.{definitions, definition_told, greatest_version}
-use Rattle.zb_rules.specs.Applies.{is_fresh, has_definition, holds_own, holds_of_game, may_fit, applies, all_apply}
+use Rattle.zb_views.specs.Messages.{buffered, is_buffered, message_at}
+use Rattle.zb_views.specs.Processes.{process_in}
+use Rattle.zb_views.specs.Subscriptions.{is_locked_for}
+use Rattle.zb_rules.specs.Starts.{may_start}
+use Rattle.zb_rules.specs.Applies.{is_fresh, begins_start, has_definition, holds_own, holds_of_game, may_fit, applies, all_apply}
 use Rattle.zb_rules.specs.Shown.{shown}
 use Rattle.zb_rules.specs.Deploy.{reason_to_deploy, sent_to, deployed, version_behind}
 use Rattle.zb_rules.specs.Distribute.{reason_to_turn_back, reason_to_distribute, distributed}
@@ -32,6 +38,9 @@ use Rattle.zb_once.proofs.ListLemmas.{nothing_in, first_or_later, map_out}
 use Rattle.zb_once.specs.Tellings.{Telling, Asking, home}
 use Rattle.zb_once.specs.Tellings.Telling.{Defined, Published}
 use Rattle.zb_once.specs.Tellings.Asking.{Distribute}
+use Rattle.zb_once.specs.Views.{defined_process, still_buffered, is_locked}
+use Rattle.zb_world.proofs.MessageViewLaws.{process_of, process_same, locks_same}
+use Rattle.zb_tokens.proofs.GameLaws.{both_right}
 use Rattle.zb_once.specs.May.{May, EachMay, replies_to, IsMessageStep}
 use Rattle.zb_world.specs.Entries.{IsPartitionOf}
 use Rattle.zb_world.specs.Tellings.{tells, asks, refusal_by}
@@ -87,6 +96,52 @@ defined_named : (key : ℕ) (process : List ℕ) (e : Event) → tells e ≡ Def
 defined_named key process (events.ProcessCreated d) is = let same : d.key ≡ key = cc in (0, omega arith, same)
 defined_named key process _ is = absurd (cc)
 
+-- the message that is found has the key, and one with it is there
+keyed : (key : ℕ) (ms : List MessagePublished) (m : MessagePublished) → find (λ (x : MessagePublished). x.key == key) ms ≡ Some m → m.key ≡ key
+keyed key [] m is = absurd (cc)
+keyed key (x ∷ ms) m is = by_test (x.key == key) refl (keyed key ms m) is
+  where
+    by_test : (t : Bool) → (x.key == key) ≡ t → (find (λ (y : MessagePublished). y.key == key) ms ≡ Some m → m.key ≡ key) → (if t then Some x else find (λ (y : MessagePublished). y.key == key) ms) ≡ Some m → m.key ≡ key
+    by_test true same later is = let one : x ≡ m = cc in let its : x.key ≡ key = grind (arith, nat_tests, same) in ap (λ (y : MessagePublished). y.key) (sym one) ∙ its
+    by_test false other later is = later is
+
+any_found : (key : ℕ) (ms : List MessagePublished) (m : MessagePublished) → find (λ (x : MessagePublished). x.key == key) ms ≡ Some m → list_any (λ (x : MessagePublished). x.key == key) ms ≡ true
+any_found key [] m is = absurd (cc)
+any_found key (x ∷ ms) m is = by_test (x.key == key) (any_found key ms m) is
+  where
+    by_test : (t : Bool) → (find (λ (y : MessagePublished). y.key == key) ms ≡ Some m → list_any (λ (y : MessagePublished). y.key == key) ms ≡ true) → (if t then Some x else find (λ (y : MessagePublished). y.key == key) ms) ≡ Some m → (t || list_any (λ (y : MessagePublished). y.key == key) ms) ≡ true
+    by_test true later is = refl
+    by_test false later is = later is
+
+-- an instance that a message starts, as its event tells
+abbrev MayBe : List Event → MessageStartEventSubscriptionCorrelated → Type 0
+MayBe before e = (process : List ℕ) × (defined_process e.definition (map tells before) ≡ Some process) × (still_buffered e.message (map tells before) ≡ true) × (is_locked e.message process (map tells before) ≡ false)
+
+start_may : (before : List Event) (e : MessageStartEventSubscriptionCorrelated) → IsTrue (begins_start e before) → MayBe before e
+start_may before e begins = by_message (message_at e.message before) refl begins
+  where
+    not_locked : (t : Bool) (rest : Bool) → IsTrue (not t && rest) → t ≡ false
+    not_locked false rest is = refl
+    not_locked true rest is = absurd (cc)
+
+    by_process : (m : MessagePublished) → message_at e.message before ≡ Some m → (found : Option ProcessDefinition) → process_in e.definition before ≡ found
+        → IsTrue (option_map_or (λ d. may_start m d.model.process before) found false) → MayBe before e
+    by_process m at None made may = absurd (cc)
+    by_process m at (Some d) made may =
+        let process = d.model.process in
+        let key : m.key ≡ e.message = keyed e.message (buffered before) m at in
+        let there : is_buffered e.message before ≡ true = any_found e.message (buffered before) m at in
+        let free : is_locked_for m.key process before ≡ false = not_locked (is_locked_for m.key process before) _ may in (
+          process,
+          process_same e.definition before ∙ ap (option_map process_of) made,
+          buffered_same e.message before ∙ there,
+          locks_same e.message process before ∙ subst (λ (k : ℕ). is_locked_for k process before ≡ false) key free,
+        )
+
+    by_message : (found : Option MessagePublished) → message_at e.message before ≡ found → IsTrue (option_map_or (λ m. option_map_or (λ d. may_start m d.model.process before) (process_in e.definition before) false) found false) → MayBe before e
+    by_message None at may = absurd (cc)
+    by_message (Some m) at may = by_process m at (process_in e.definition before) refl may
+
 module _ (n p : ℕ) (low : 1 ≤ p) (high : p ≤ n) where
   -- what an event that applies and makes no definition tells may be told
   quiet_may : (before : List Event) (asked : Asking) (e : Event) → holds_own p before e ≡ true → makes e ≡ false → May n p (map tells before) asked (tells e)
@@ -99,7 +154,7 @@ module _ (n p : ℕ) (low : 1 ≤ p) (high : p ≤ n) where
             unnamed p before r.0 f.0 r.1 (subst (Contains (keys_in r.0)) f.1 (published_named m.key r.0 (sym r.2))),
       )
   quiet_may before asked (events.MessageExpired key) own quiet = buffered_same key before ∙ own
-  quiet_may before asked (events.MessageStartEventSubscriptionCorrelated e) own quiet = absurd (cc)
+  quiet_may before asked (events.MessageStartEventSubscriptionCorrelated e) own quiet = start_may before e (both_right (is_fresh p before e.instance) (begins_start e before) own)
   quiet_may before asked (events.MessageSubscriptionCreated e) own quiet = absurd (cc)
   quiet_may before asked (events.MessageSubscriptionCorrelating e) own quiet = absurd (cc)
   quiet_may before asked (events.MessageSubscriptionCorrelated e) own quiet = absurd (cc)

@@ -53,10 +53,10 @@ terms_same s es = said_same (terms_told s) (opened_told s) terms_from by_event e
     by_event _ = refl
 
 -- the process of a definition
-abbrev process_of : ProcessDefinition → List ℕ
+abbrev pub process_of : ProcessDefinition → List ℕ
 process_of d = d.model.process
 
-process_same : (d : ℕ) (es : List Event) → defined_process d (map tells es) ≡ option_map process_of (process_in d es)
+pub process_same : (d : ℕ) (es : List Event) → defined_process d (map tells es) ≡ option_map process_of (process_in d es)
 process_same d es = said_same (defined_told d) (process_told d) process_of by_event es
   where
     by_event : (e : Event) → defined_told d (tells e) ≡ option_map process_of (process_told d e)

@@ -4,7 +4,7 @@ ghost use Rattle.std.specs.List.{find, list_any};
 ghost use Rattle.std.specs.Option.{option_map_or};
 ghost use Rattle.zb_model.specs.declared.record.Event.{Event};
 ghost use Rattle.zb_model.specs.declared.record.Event.TheVariants as events;
-ghost use Rattle.zb_views.specs.Jobs.{job_at, is_activated, is_given_out, is_failed};
+ghost use Rattle.zb_views.specs.Jobs.{job_at, is_activatable, is_activated, is_given_out, is_failed};
 ghost use Rattle.zb_tokens.specs.Work.{is_cause_of};
 ghost use Rattle.zb_rules.specs.Applies.{is_fresh};
 ghost use Rattle.zb_rules.specs.Shown.{holds_of_game};
@@ -49,7 +49,7 @@ impl Facts {
     {
         match self.tables.jobs.get(given.key) {
             Some(job) => {
-                matches!(job.phase, JobPhase::Created | JobPhase::TimedOut)
+                is_activatable(job.phase)
                     && is_work_in(
                         self.game.board(),
                         job.cell,
@@ -118,6 +118,13 @@ impl Facts {
             None => false,
         }
     }
+}
+
+// Whether a job in this phase may be given to a worker.
+fn is_activatable(phase: JobPhase) -> bool
+    ensures { result ≡ is_activatable phase }
+{
+    matches!(phase, JobPhase::Created | JobPhase::TimedOut)
 }
 
 // Whether one of these jobs isn't there.

@@ -7,7 +7,8 @@ use Rattle.std.proofs.lemmas.Map.Text.{hash_map_updates_text}
 use Rattle.indexmap.specs.IndexMap.{get_by_text}
 use Rattle.zb_definitions.specs.Versions.{counting_key, greater_key}
 use Rattle.zb_definitions.specs.declared.process.Process.{Process}
-use Rattle.zb_definitions.proofs.PutLemmas.{put_under, if_both}
+use Rattle.zb_views.proofs.NamedLaws.{put_under}
+use Rattle.zb_definitions.proofs.PutLemmas.{if_both}
 use Rattle.zb_definitions.proofs.definitions.Definitions.begin.Goals as goal
 
 pub returns-clause-latest : goal.returns-clause-latest

@@ -11,7 +11,7 @@ use Rattle.zb_state.proofs.facts.Facts.apply_as.Goals as goal
 pub apply-requires : goal.apply-requires
 apply-requires c =
     let mid = c.admit.new.self in
-    rw c.in_ok-follow.ensures.taken.messages (has_place_in_messages mid.place mid.counter mid.messages mid.tables.jobs mid.tables.timers mid.in_order mid.tables.jobs c.args.event.now c.in_ok-admit.ensures.draws)
+    rw c.in_ok-follow.ensures.taken.messages (has_place_in_messages mid.place mid.counter mid.messages mid.tables.jobs mid.tables.timers mid.in_order mid.tables.jobs c.args.event.now c.in_ok-change.ensures.draws)
 
 pub invariant_of-self : goal.invariant_of-self
 invariant_of-self c =
@@ -20,15 +20,16 @@ invariant_of-self c =
     let took = c.in_ok-follow.ensures.taken in
     record {
       drawn = s.drawn;
+      begun = s.begun;
       in_order = rw took.place
           (messages_below mid.place mid.counter s.counter s.messages c.apply.new.self mid.tables.jobs s.tables.jobs s.tables.timers c.args.event.now c.apply.result
-          took.counter c.in_ok-admit.ensures.draws (rw took.place at s.in_order) (c.apply.ensures.ok []) c.apply.ensures.err);
+          took.counter c.in_ok-change.ensures.draws (rw took.place at s.in_order) (c.apply.ensures.ok []) c.apply.ensures.err);
     }
 
 pub returns-clause-state : goal.returns-clause-state
 returns-clause-state c = λ es is.
     let took = c.in_ok-follow.ensures.taken in
-    state_more es c.args.event.now c.args.self.now c.admit.new.self _ is c.admit.ensures.beside (c.in_ok-admit.ensures.applied es is) (c.in_ok-admit.ensures.played es is)
+    state_more es c.args.event.now c.in_ok-change.change c.args.self.now c.admit.new.self _ is c.admit.ensures.beside (c.in_ok-change.ensures.applied es is) (c.in_ok-change.ensures.played es is) (c.in_ok-change.ensures.changes es is)
     (record {
       place = took.place;
       counter = took.counter;

@@ -1,4 +1,4 @@
-use Rattle.std.proofs.Common.{◌==◌, List, ap, ◌∙◌}
+use Rattle.std.proofs.Common.{◌==◌, ap, ◌∙◌}
 use Rattle.std.specs.List.{list_any}
 use Rattle.zb_views.specs.declared.definition.Definition.{Definition}
 use Rattle.zb_rules.specs.Shown.{definitions_on}

@@ -17,6 +17,7 @@ invariant_of-self c =
     let took = c.in-Ok-follow.ensures.taken in
     record {
       drawn = s.drawn;
+      begun = s.begun;
       in_order = rw took.place
           (messages_below mid.place mid.counter s.counter s.messages c.take.new.self mid.tables.jobs s.tables.jobs s.tables.timers c.args.event c.take.result
           took.counter c.in-Ok.ensures.draws (rw took.place at s.in_order) (c.take.ensures.ok []) c.take.ensures.err);
@@ -25,7 +26,7 @@ invariant_of-self c =
 pub returns-clause-state : goal.returns-clause-state
 returns-clause-state c = λ es is.
     let took = c.in-Ok-follow.ensures.taken in
-    state_more es c.args.event c.args.self.now c.admit.new.self _ is c.admit.ensures.beside (c.in-Ok.ensures.applied es is) (c.in-Ok.ensures.played es is)
+    state_more es c.args.event c.in-Ok.change c.args.self.now c.admit.new.self _ is c.admit.ensures.beside (c.in-Ok.ensures.applied es is) (c.in-Ok.ensures.played es is) (c.in-Ok.ensures.changes es is)
     (record {
       place = took.place;
       counter = took.counter;

@@ -1,10 +1,9 @@
-use Rattle.std.proofs.Common.{◌≡◌, Option, option_map, sym, subst}
+use Rattle.std.proofs.Common.{◌≡◌, Option, option_map}
 use Rattle.std.proofs.lemmas.Result.{IfOk-weaker}
 use Rattle.zb_tokens.specs.Mappings.{assignments_of}
 use Rattle.zb_rules.specs.Shown.{board_of, event_of}
 use Rattle.zb_rules.specs.Settling.{turn_of, turn_with}
-use Rattle.zb_state.specs.State.{partition_of, IsStateOf}
-use Rattle.zb_state.specs.declared.facts.Facts.{Facts}
+use Rattle.zb_state.specs.State.{partition_of}
 use Rattle.zb_state.specs.declared.turn.Turn.{Turn}
 use Rattle.zb_state.proofs.StateLemmas.{same_board, turn_told, no_turn_told}
 use Rattle.zb_state.proofs.state.State.turn_of.Goals as goal

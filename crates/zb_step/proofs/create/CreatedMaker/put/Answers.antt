@@ -13,13 +13,13 @@ use Rattle.zb_step.proofs.create.CreatedMaker.put.Goals as goal
 module _ (c : goal.After-put) where
   abbrev made : Making
   made = and_then (just (events.ProcessInstanceCreationCreated (record { key = c.next_key-key.result; definition = c.in-Some.definition })))
-      (and_then (just (events.ElementActivating c.in_ok-root.root)) (each_made (λ v. just (variable_event c.next_key-key.result v)) c.as_slice-things.result.now))
+      (and_then (just (events.ElementActivating c.in_ok-root.root)) (each_made (λ v. just (variable_event c.in_ok-root.root.key v)) c.as_slice.result.now))
 
   is_created : (es : List Event) → IsStateOf es c.args.state.now → made es ≡ created (partition_of c.args.state.now) c.args.self.0.now es
   is_created es is =
       let found = rw c.as_str-process.ensures at (rw c.in-Some.is at (c.definition_for.ensures (definitions es) (c.definitions.ensures es is))) in
       let root = rw c.as_str-process.ensures at c.in_ok-root.ensures in
-      created_as (partition_of c.args.state.now) es c.args.self.0.now c.next_key-key.result c.in-Some.definition c.in_ok-root.root c.as_slice-things.result.now found (c.next_key-key.ensures es is) root c.as_slice-things.ensures.value
+      created_as (partition_of c.args.state.now) es c.args.self.0.now c.next_key-key.result c.in-Some.definition c.in_ok-root.root c.as_slice.result.now found (c.next_key-key.ensures es is) root c.as_slice.ensures.value
 
 pub returns-clause-ok : goal.returns-clause-ok
 returns-clause-ok c =

@@ -1,6 +1,5 @@
-use Rattle.std.proofs.Common.{List, [], refl}
+use Rattle.std.proofs.Common.{[], refl}
 use Rattle.std.proofs.lemmas.Result.{on_ok_weaker}
-use Rattle.zb_model.specs.declared.record.Event.{Event}
 use Rattle.zb_rules.specs.Behind.{with_events_behind}
 use Rattle.zb_rules.specs.Making.{Making, just, and_then}
 use Rattle.zb_rules.specs.Trigger.{triggered}

@@ -1,0 +1,9 @@
+//! A game, with what is kept beside it, and the moves that events show.
+#![tactic(auto)]
+
+mod course;
+mod moves;
+mod versions;
+
+pub use course::Course;
+pub use moves::event_of;
