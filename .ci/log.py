@@ -43,6 +43,9 @@ the key of the job that was its cause, or 0 = job key; the element, its key = el
 its scope, its key, 0 at the process itself = scope key; the node, its id, a text = node text
 the flow by which the token came, its id, a text = flow text
 the correlation key of the message that started the instance, a text = started filled
+the subscription's key = subscription key; the messages that were kept, a list of their keys = messages keys
+the name, the correlation key and the id of the process, texts = name text, correlationKey text, process text
+a flag, whether it ends with the first message that was taken = cancel flag
 """
 # the kinds of nodes, as the page tells them: in a request, the definition of the event, and the field in that
 NODES = {

@@ -1,6 +1,6 @@
 -- Units of work that are done one after the other, and the answers that are in hand.
 use Rattle.std.proofs.Common.{◌≡◌, ◌<◌, ◌≤◌, ◌+◌, nat_lt, nat_le, ℕ, zero, suc, List, [], ◌∷◌, ◌++◌, length, filter, drop, slice_get, Bool, true, false, IsTrue, if◌then◌else◌, Option, Some, None, option_map, refl, sym, ap, ◌∙◌, subst, inl, inr, arith, length-append, append-nil}
-use Rattle.std.specs.List.{filter_map, AllByRecursion}
+use Rattle.std.specs.List.{AllByRecursion}
 use Rattle.std.proofs.lemmas.Bool.{cases_eq}
 use Rattle.std.proofs.lemmas.Bool.Decides.{nat_tests}
 use Rattle.std.proofs.lemmas.List.{length-map}
@@ -11,27 +11,21 @@ use Rattle.zb_model.specs.declared.record.Batch.{Batch}
 use Rattle.zb_model.specs.declared.record.Command.{Command}
 use Rattle.zb_model.specs.declared.record.Command.TheVariants as commands
 use Rattle.zb_base.specs.Key.{home_of}
-use Rattle.zb_model.specs.declared.record.Event.{Event}
-use Rattle.zb_model.specs.declared.record.Outcome.{Outcome}
 use Rattle.zb_model.specs.declared.record.Packet.{Packet}
 use Rattle.zb_model.specs.declared.stop.Stop.{Stop}
 use Rattle.zb_model.specs.declared.stop.Stop.TheVariants as stops
 use Rattle.zb_views.specs.Standing.{begun_by}
-use Rattle.zb_views.specs.View.{events_of}
-use Rattle.zb_views.specs.Distributions.{distributions}
 use Rattle.zb_record.specs.declared.sending.Sending.{Sending}
 use Rattle.zb_record.specs.declared.sending.Sending.TheVariants as sending
 use Rattle.zb_record.specs.Partitions.{partition_known, home_known}
-use Rattle.zb_record.specs.Answers.{answer_by, answer_packet, is_answer}
-use Rattle.zb_record.specs.Packets.{packet_alone, packet_for, outbox_of, delivery_of}
-use Rattle.zb_rules.specs.Applies.{all_apply}
+use Rattle.zb_record.specs.Answers.{answer_packet, is_answer}
+use Rattle.zb_record.specs.Packets.{packet_alone, delivery_of}
 use Rattle.zb_rules.specs.Own.{IsSupported}
 use Rattle.zb_world.specs.Entries.{as_entry}
 use Rattle.zb_world.specs.declared.entry.Entry.{Entry}
 use Rattle.zb_desk.specs.Asking.{IsDelivered, IsDeliveryCut}
-use Rattle.zb_world.proofs.SendingLaws.{definitions_are_sent}
-use Rattle.zb_desk.specs.Serial.{log_behind, answers_sent, answers_in_hand, first_sent, unit_in_logs, next_unit}
-use Rattle.zb_desk.proofs.UnitLaws.{AnyHas, AllHave, first_has, answers_have, all_answers_have, first_sent_in, unit_in, definitions_have, first_sent_has, unit_has}
+use Rattle.zb_desk.specs.Serial.{answers_sent, answers_in_hand, first_sent, unit_in_logs, next_unit}
+use Rattle.zb_desk.proofs.UnitLaws.{AnyHas, AllHave, first_has, all_answers_have, first_sent_has, unit_has}
 use Rattle.zb_engine.specs.Ledger.{Opening}
 use Rattle.zb_engine.specs.Solo.{Start, many_in, logs_in, basis_in, HasMade, HasEnded, IsPlaced, IsTurnedAway}
 use Rattle.zb_engine.specs.declared.solo.Solo.{Solo}
@@ -54,26 +48,26 @@ IsRun next = IsSupported next.1
 abbrev pub AreRun : List Entry → Type 0
 AreRun units = AllByRecursion (λ unit. IsSupported unit.batch.command) units
 
--- what answers a command that is run is run
-answer_run : (p n : ℕ) (command : Command) (outcome : Outcome) → IsSupported command → AllHave IsRun (begun_by (answer_by p n command outcome))
-answer_run p n (commands.DeploymentDistribute c) outcome run = (tt, tt)
-answer_run p n (commands.MessageSubscriptionCreate c) outcome run = absurd run
-answer_run p n (commands.MessageSubscriptionDelete c) outcome run = absurd run
-answer_run p n (commands.ProcessMessageSubscriptionCorrelate c) outcome run = absurd run
-answer_run p n command outcome run = tt
+-- an answer is run
+answer_run : (command : Command) → is_answer command ≡ true → IsSupported command
+answer_run (commands.CommandDistributionAcknowledge c) is = tt
+answer_run (commands.ProcessMessageSubscriptionCreate key) is = tt
+answer_run (commands.MessageSubscriptionCorrelate c) is = tt
+answer_run (commands.MessageSubscriptionReject c) is = tt
+answer_run (commands.ProcessMessageSubscriptionDelete key) is = tt
+answer_run _ is = absurd (cc)
 
--- and so is what events that apply send
-sent_is_run : (p n : ℕ) (es : List Event) → IsTrue (all_apply p [] es) → AllHave IsRun (outbox_of p n es)
-sent_is_run p n es apply =
-    subst (λ (ss : List Sending). AllHave IsRun (filter_map (packet_for p n es) ss)) (sym (definitions_are_sent p es apply)) (definitions_have IsRun n (λ q d version m. tt) p es (distributions es))
+-- and so is what is sent again
+alone_run : (p n : ℕ) (s : Sending) → AllHave IsRun (begun_by (packet_alone p n s))
+alone_run p n (sending.Definition d) = tt
+alone_run p n s = (tt, tt)
 
--- the next unit of work is run, behind logs whose events apply, where the units before it were
+-- the next unit of work is run
 pub unit_is_run : (logs : List (List Batch)) (units entries : List Entry) (next : ℕ × Command) → LogsApply logs entries → AreRun units → unit_in_logs logs units entries ≡ Some next → IsSupported next.1
 unit_is_run logs units entries next apply run is =
     let n = length logs in
-    unit_in IsRun n logs units entries refl (λ k above below. tt)
-    (first_has IsRun _ (answers_sent n units) (answers_have IsRun n (λ unit. IsSupported unit.batch.command) (λ unit its. answer_run unit.partition n unit.batch.command unit.batch.outcome its) units run))
-    (first_sent_in IsRun n 1 logs entries (λ k log at. sent_is_run (1 + k) n (events_of (log_behind (1 + k) log entries)) (apply k log at))) next is
+    unit_has IsRun n (λ p d version m. tt) (λ p s. alone_run p n s) logs units entries refl (λ k above below. tt)
+    (first_has IsRun _ (answers_sent n units) (all_answers_have IsRun n (λ key c answer. answer_run c answer) units)) next is
 
 -- at a partition that there is
 pub partition_known_within : (n q : ℕ) → 1 ≤ n → partition_known n q ≤ n

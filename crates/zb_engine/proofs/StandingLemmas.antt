@@ -12,7 +12,7 @@ use Rattle.zb_rules.specs.Continue.{is_quiet}
 use Rattle.zb_rules.specs.Due.{due_command}
 use Rattle.zb_world.specs.Entries.{part_of}
 use Rattle.zb_world.specs.declared.entry.Entry.{Entry}
-use Rattle.zb_world.proofs.OnceLaws.{steps_apply_on}
+use Rattle.zb_world.proofs.AppliedStepLaws.{steps_apply_on}
 use Rattle.zb_partition.specs.Partition.{partition_number_of, partitions_of, HasLog}
 use Rattle.zb_partition.specs.declared.partition.Partition.{Partition}
 use Rattle.zb_desk.specs.Serial.{log_behind, due_in_logs, going_on, first_sent}

@@ -118,6 +118,7 @@ same_key key other is = grind (arith, nat_tests)
 cancel_is : (key : ℕ) (found : Left) → IsTrue (leaves_cancel key found) → found ≡ lefts.Cancels key
 cancel_is key (lefts.Cancels job) is = ap (λ (q : ℕ). lefts.Cancels q) (same_key job key is)
 cancel_is key lefts.Nothing is = absurd (cc)
+cancel_is key (lefts.Deletes s) is = absurd (cc)
 cancel_is key (lefts.Root begun) is = absurd (cc)
 
 -- the job that an event says is over was not ended before, and is over

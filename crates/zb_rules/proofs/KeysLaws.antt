@@ -62,6 +62,7 @@ between_shown low high b after (Some move) top is more new made = between_played
 begun_is : (key definition : ℕ) (found : Left) → IsTrue (leaves_root key definition found) → (i : Begun) × (found ≡ lefts.Root i) × (i.key ≡ key)
 begun_is key definition lefts.Nothing is = absurd (cc)
 begun_is key definition (lefts.Cancels job) is = absurd (cc)
+begun_is key definition (lefts.Deletes s) is = absurd (cc)
 begun_is key definition (lefts.Root i) is = (i, refl, let first = both_left (i.key == key) (i.definition == definition) is in grind (arith, nat_tests))
 
 -- a cell that begins

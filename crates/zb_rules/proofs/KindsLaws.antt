@@ -1,5 +1,5 @@
 -- Each event of a step is of a kind to which its command leads, or of one that may follow: one walk over commands, turns and what stands beside the events of moves.
-use Rattle.std.proofs.Common.{◌≡◌, ℕ, ◌-◌, ◌==◌, List, [], ◌∷◌, ◌++◌, map, Bool, true, false, ◌||◌, if◌then◌else◌, IsTrue, Option, Some, None, refl, sym, ap, ◌∙◌, subst, arith}
+use Rattle.std.proofs.Common.{◌≡◌, ℕ, ◌-◌, ◌==◌, List, [], ◌∷◌, ◌++◌, map, filter, Bool, true, false, ◌||◌, if◌then◌else◌, IsTrue, Option, Some, None, refl, sym, ap, ◌∙◌, subst, arith}
 use Rattle.std.specs.Option.{IfSome, option_map_or}
 use Rattle.std.specs.List.{AllByRecursion, find, list_any, range_with_len}
 use Rattle.std.proofs.lemmas.Bool.{or_left}
@@ -19,6 +19,9 @@ use Rattle.zb_views.specs.Definitions.{definition_for}
 use Rattle.zb_views.specs.Distributions.{is_distributed}
 use Rattle.zb_views.specs.Jobs.{job_on, job_at, offered}
 use Rattle.zb_views.specs.Timers.{timer_at, timers, timers_on}
+use Rattle.zb_views.specs.Messages.{message_at}
+use Rattle.zb_views.specs.Subscriptions.{wants_messages, subscriptions, subscription_at, opened_in}
+use Rattle.zb_views.specs.declared.subscription.Subscription.{Subscription}
 use Rattle.zb_views.specs.View.{events_in, next_key}
 use Rattle.zb_tokens.specs.declared.board.Assignments.{Assignments}
 use Rattle.zb_tokens.specs.declared.board.Move.{Move}
@@ -39,6 +42,9 @@ use Rattle.zb_views.specs.Starts.{started_instances}
 use Rattle.zb_rules.specs.Create.{variable_event, instance_under}
 use Rattle.zb_rules.specs.Publish.{message_under, expiry_of}
 use Rattle.zb_rules.specs.Starts.{may_start, starting_definition, instance_started, started_of, starts_of, starters, next_starter, started_behind}
+use Rattle.zb_exchange_records.specs.declared.subscription.MessageSubscriptionDelete.{MessageSubscriptionDelete}
+use Rattle.zb_rules.specs.Correlate.{fits_message, correlating_event, correlated_by, correlated_all, next_message, next_correlated, next_subscription, passed_on}
+use Rattle.zb_rules.specs.Subscribe.{unkept_message, deleted_with}
 use Rattle.zb_rules.specs.Deploy.{sent_to}
 use Rattle.zb_rules.specs.Fail.{failure_told, stopped}
 use Rattle.zb_rules.specs.InFront.{set_all, assigning, events_in_front}
@@ -201,6 +207,22 @@ stopped_makes : (p : ℕ) (c : JobFailure) → Makes (own_kind (commands.JobFail
 stopped_makes p c before = let kind = own_kind (commands.JobFail c) in tested_are kind (c.retries == 0) _ []
     (some_are kind (λ j. events.IncidentCreated (record { key = next_key p before; kind = incident_kinds.JobNoRetries; cell = j.cell; job = c.key; text = c.text }) ∷ []) (λ j. (refl, tt)) (job_at c.key before)) tt
 
+module _ (kind : Event → Bool) (correlates : (m : MessagePublished) (s : Subscription) → IsTrue (kind (correlating_event m s))) where
+  -- what begins to correlate messages
+  correlated_makes : (m : MessagePublished) → Makes kind (correlated_all m)
+  correlated_makes m before = each_makes kind (correlated_by m)
+      (λ key earlier. some_are kind (λ s. if fits_message m s earlier then correlating_event m s ∷ [] else []) (λ s. tested_are kind (fits_message m s earlier) (correlating_event m s ∷ []) [] (correlates m s, tt) tt) (subscription_at key earlier))
+      (map (λ s. s.key) (filter (wants_messages m.name m.correlation_key) (subscriptions before))) before
+
+  next_makes : (key : ℕ) → Makes kind (next_correlated key)
+  next_makes key before = some_are kind (λ s. option_map_or (λ m. correlating_event m s ∷ []) (next_message s before) [])
+      (λ s. some_are kind (λ m. correlating_event m s ∷ []) (λ m. (correlates m s, tt)) (next_message s before)) (subscription_at key before)
+
+  passed_makes : (subscription message : ℕ) → Makes kind (passed_on subscription message)
+  passed_makes subscription message before = some_are kind (λ o. option_map_or (λ m. option_map_or (λ s. correlating_event m s ∷ []) (next_subscription m o.process before) []) (message_at message before) [])
+      (λ o. some_are kind (λ m. option_map_or (λ s. correlating_event m s ∷ []) (next_subscription m o.process before) [])
+      (λ m. some_are kind (λ s. correlating_event m s ∷ []) (λ s. (correlates m s, tt)) (next_subscription m o.process before)) (message_at message before)) (opened_in subscription before)
+
 -- each command makes itself what the table says
 own_makes : (p n moment : ℕ) (command : Command) → IfSome (own p n moment command) (Makes (own_kind command))
 own_makes p n moment (commands.DeploymentCreate m) = λ before. (refl, (refl, mapped_are (own_kind (commands.DeploymentCreate m)) (sent_to (next_key p before)) (λ q. refl) (range_with_len 2 (n - 1))))
@@ -225,10 +247,25 @@ own_makes p n moment (commands.IncidentResolve key) = λ before. some_are (own_k
 own_makes p n moment (commands.MessagePublish c) = λ before.
     let kind = own_kind (commands.MessagePublish c) in
     let m = message_under (next_key p before) moment c in
-    then_makes kind (just (events.MessagePublished m)) (and_then (starts_of p m) (λ before. expiry_of m.key c)) (λ before. (refl, tt))
+    then_makes kind (just (events.MessagePublished m)) (and_then (correlated_all m) (and_then (starts_of p m) (λ before. expiry_of m.key c))) (λ before. (refl, tt))
+    (then_makes kind (correlated_all m) (and_then (starts_of p m) (λ before. expiry_of m.key c)) (correlated_makes kind (λ x s. refl) m)
     (then_makes kind (starts_of p m) (λ before. expiry_of m.key c)
     (λ later. each_makes kind (started_of p m) (λ process earlier. all_weaker _ _ (λ e is. beside_own (commands.MessagePublish c) e is) (started_of p m process earlier) (start_makes p m process earlier)) (starters m.name later) later)
-    (λ later. tested_are kind (c.time_to_live == 0) (events.MessageExpired m.key ∷ []) [] (refl, tt) tt)) before
+    (λ later. tested_are kind (c.time_to_live == 0) (events.MessageExpired m.key ∷ []) [] (refl, tt) tt))) before
+own_makes p n moment (commands.MessageSubscriptionCreate c) = let kind = own_kind (commands.MessageSubscriptionCreate c) in
+    λ before. (refl, next_makes kind (λ x s. refl) c.subscription (before ++ events.MessageSubscriptionCreated c ∷ []))
+own_makes p n moment (commands.MessageSubscriptionCorrelate c) = let kind = own_kind (commands.MessageSubscriptionCorrelate c) in
+    λ before. (refl, next_makes kind (λ x s. refl) c.subscription (before ++ events.MessageSubscriptionCorrelated c ∷ []))
+own_makes p n moment (commands.MessageSubscriptionReject c) = let kind = own_kind (commands.MessageSubscriptionReject c) in
+    λ before. (refl, passed_makes kind (λ x s. refl) c.subscription c.message (before ++ events.MessageSubscriptionRejected c ∷ []))
+own_makes p n moment (commands.MessageSubscriptionDelete c) = let kind = own_kind (commands.MessageSubscriptionDelete c) in
+    λ before. deleted_are kind c before (unkept_message c before)
+  where
+    deleted_are : (kind : Event → Bool) (c : MessageSubscriptionDelete) (before : List Event) (found : Option ℕ) → EachOf (own_kind (commands.MessageSubscriptionDelete c)) (option_map_or (λ (m : ℕ). deleted_with c.subscription m before) found (events.MessageSubscriptionDeleted c.subscription ∷ []))
+    deleted_are kind c before None = (refl, tt)
+    deleted_are kind c before (Some m) =
+        let e = events.MessageSubscriptionRejected (record { subscription = c.subscription; message = m }) in
+        (refl, (refl, passed_makes (own_kind (commands.MessageSubscriptionDelete c)) (λ x s. refl) c.subscription m ((before ++ e ∷ []) ++ events.MessageSubscriptionDeleted c.subscription ∷ [])))
 own_makes p n moment command = search
 
 -- an event of this kind may stand in a step of the command

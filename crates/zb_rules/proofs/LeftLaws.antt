@@ -11,7 +11,6 @@ use Rattle.zb_model.specs.declared.record.Event.{Event}
 use Rattle.zb_model.specs.declared.record.Event.TheVariants as events
 use Rattle.zb_views.specs.declared.begun.Begun.{Begun}
 use Rattle.zb_views.specs.declared.job.Job.{Job}
-use Rattle.zb_views.specs.declared.left.Left.{Left}
 use Rattle.zb_views.specs.declared.left.Left.TheVariants as lefts
 use Rattle.zb_views.specs.Jobs.{job_on}
 use Rattle.zb_views.specs.Left.{left_told, left}

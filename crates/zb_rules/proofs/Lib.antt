@@ -51,3 +51,4 @@ pub mod MessageSoundLaws
 pub mod StartLaws
 pub mod StarterLaws
 pub mod LeftLaws
+pub mod CorrelateLaws

@@ -24,7 +24,7 @@ use Rattle.zb_tokens.specs.MoveLeave.{leaving, ends_scope, scope_ended}
 use Rattle.zb_tokens.specs.MoveTake.{rest_of}
 use Rattle.zb_tokens.specs.Game.{empty_board}
 use Rattle.zb_tokens.proofs.LeaveLaws.{same_bytes}
-use Rattle.zb_rules.specs.Shown.{shown, shown_by, after_shown, board_of, definition_of_model, definitions_on, models_told}
+use Rattle.zb_rules.specs.Shown.{shown_by, after_shown, board_of, definition_of_model, definitions_on, models_told}
 use Rattle.zb_faults.specs.Faults.{is_well_formed}
 use Rattle.zb_tokens.proofs.GameLaws.{found_holds}
 use Rattle.zb_tokens.proofs.EffectLaws.{mapped_from}

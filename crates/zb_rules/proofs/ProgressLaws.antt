@@ -48,6 +48,8 @@ use Rattle.zb_rules.proofs.KindsLaws.{front_are, front_beside, behind_beside, ow
 use Rattle.zb_rules.proofs.LegalLaws.{made_legally, own_never, beside_never, legal_by, each_legal_by}
 use Rattle.zb_rules.proofs.StepLaws.{all_apply_on, all_legal_on}
 use Rattle.zb_rules.proofs.FrontLaws.{begins_end, front_begins_no_end, in_front}
+use Rattle.zb_rules.specs.Subscribe.{opened, taken, turned_away, unsubscribed}
+use Rattle.zb_rules.proofs.CorrelateLaws.{open_applies, take_applies, turn_away_applies, delete_applies}
 use Rattle.zb_rules.proofs.StartLaws.{publish_applies}
 use Rattle.zb_rules.proofs.BehindLaws.{MayHaveWork, MayRestart, MayFollow, resolve_applies, canceled_apply, behind_apply, sound_over}
 use Rattle.zb_rules.proofs.CellsLaws.{ascend_between}
@@ -361,6 +363,17 @@ own_apply_by p n es b moment (commands.DeploymentDistribute c) own is apply k kn
     subst (λ (x : List Event). IsTrue (all_apply p es x)) (let same : distributed c es ≡ own = cc in same) (distribute_applies p es b c is apply none)
 own_apply_by p n es b moment (commands.CommandDistributionAcknowledge c) own is apply k knows keys ordered supported none made =
     subst (λ (x : List Event). IsTrue (all_apply p es x)) (let same : acknowledged c es ≡ own = cc in same) (acknowledge_applies p es b c is apply none)
+own_apply_by p n es b moment (commands.MessageSubscriptionCreate c) own is apply k knows keys ordered supported none made =
+    subst (λ (x : List Event). IsTrue (all_apply p es x)) (let same : opened c es ≡ own = cc in same) (open_applies p es apply c none)
+own_apply_by p n es b moment (commands.MessageSubscriptionCorrelate c) own is apply k knows keys ordered supported none made =
+    subst (λ (x : List Event). IsTrue (all_apply p es x)) (let same : taken c es ≡ own = cc in same) (take_applies p es apply c none)
+own_apply_by p n es b moment (commands.MessageSubscriptionReject c) own is apply k knows keys ordered supported none made =
+    subst (λ (x : List Event). IsTrue (all_apply p es x)) (let same : turned_away c es ≡ own = cc in same) (turn_away_applies p es apply c none)
+own_apply_by p n es b moment (commands.MessageSubscriptionDelete c) own is apply k knows keys ordered supported none made =
+    subst (λ (x : List Event). IsTrue (all_apply p es x)) (let same : unsubscribed c es ≡ own = cc in same) (delete_applies p es apply c none)
+own_apply_by p n es b moment (commands.ProcessMessageSubscriptionCreate key) own is apply k knows keys ordered supported none made = absurd (cc)
+own_apply_by p n es b moment (commands.ProcessMessageSubscriptionCorrelate c) own is apply k knows keys ordered supported none made = absurd (cc)
+own_apply_by p n es b moment (commands.ProcessMessageSubscriptionDelete key) own is apply k knows keys ordered supported none made = absurd (cc)
 own_apply_by p n es b moment _ own is apply k knows keys ordered supported none made = absurd supported
 
 -- behind any log whose events apply

@@ -35,6 +35,10 @@ use Rattle.zb_base.specs.declared.vars.Variable.{Variable}
 use Rattle.zb_instance_records.specs.declared.instance.Role.TheVariants as roles
 use Rattle.zb_views.proofs.MessageLaws.{buffered_published, buffered_kept}
 use Rattle.zb_rules.specs.Create.{variable_event}
+use Rattle.zb_views.specs.Subscriptions.{wants_messages, subscriptions}
+use Rattle.zb_views.specs.declared.subscription.Subscription.{Subscription}
+use Rattle.zb_rules.specs.Correlate.{correlated_all}
+use Rattle.zb_rules.proofs.CorrelateLaws.{each_correlated}
 use Rattle.zb_rules.specs.Publish.{message_under, expiry_of, published}
 use Rattle.zb_rules.specs.Making.{each_made}
 use Rattle.zb_rules.proofs.AppliedLaws.{some_of}
@@ -267,9 +271,15 @@ publish_applies p es b is knows apply moment c keys ordered =
     let there : IsTrue (all_apply p [] over) = rw (all_apply_on p [] es (e ∷ []), apply, first) refl in
     let among : Contains (buffered over) m = subst (λ (l : List MessagePublished). Contains l m) (sym (buffered_published es m)) (Contains-append_right (buffered es) (m ∷ []) m (0, omega arith, refl)) in
     let fewer : HasKeys p over (length (starters c.name es)) = one_more p es e (length (starters c.name es)) (omega (arith, keys)) (let named = next_counted p es one in omega (arith, named)) in
-    let same : processes over ≡ processes es = processes_more es e ∙ append-nil (processes es) in
-    let left : HasKeys p over (length (starters c.name over)) = subst (λ (made : List ProcessDefinition). HasKeys p over (length (in_byte_order [] (map (λ d. d.model.process) (filter (λ d. starts_by c.name d.model) made))))) (sym same) fewer in
-    let starts = each_starts p m (starters c.name over) over there left among in
-    let ends = starts_of p m over in
-    let last : IsTrue (all_apply p (over ++ ends) (expiry_of m.key c)) = expires_after p m c (over ++ ends) (rw (all_apply_on p [] over ends, there) starts) (each_buffered p m (starters c.name over) over among) in
-    rw (first, all_apply_on p over ends (expiry_of m.key c), starts) last
+    let drawn : counter_at p m.key ≤ greatest_counter p over = (let named = greatest_counter_more p es (e ∷ []) in omega (arith, named)) in
+    let ks = map (λ (x : Subscription). x.key) (filter (wants_messages m.name m.correlation_key) (subscriptions over)) in
+    let cs = correlated_all m over in
+    let later = over ++ cs in
+    let its = each_correlated p (length (starters c.name es)) m ks over there fewer among drawn in
+    let stands : IsTrue (all_apply p [] later) = rw (all_apply_on p [] over cs, there) its.applied in
+    let same : processes later ≡ processes es = its.same ∙ (processes_more es e ∙ append-nil (processes es)) in
+    let left : HasKeys p later (length (starters c.name later)) = subst (λ (made : List ProcessDefinition). HasKeys p later (length (in_byte_order [] (map (λ d. d.model.process) (filter (λ d. starts_by c.name d.model) made))))) (sym same) its.keys in
+    let starts = each_starts p m (starters c.name later) later stands left its.among in
+    let ends = starts_of p m later in
+    let last : IsTrue (all_apply p (later ++ ends) (expiry_of m.key c)) = expires_after p m c (later ++ ends) (rw (all_apply_on p [] later ends, stands) starts) (each_buffered p m (starters c.name later) later its.among) in
+    rw (first, all_apply_on p over cs (ends ++ expiry_of m.key c), its.applied, all_apply_on p later ends (expiry_of m.key c), starts) last

@@ -1,5 +1,5 @@
 -- Which events a log may have.
-use Rattle.std.specs.Prelude.{ℕ, ◌+◌, ◌^◌, ◌==◌, nat_lt, List, [], ◌∷◌, ◌++◌, Bool, true, false, ◌&&◌, not, is_some, if◌then◌else◌, Option, Some, None}
+use Rattle.std.specs.Prelude.{ℕ, ◌+◌, ◌^◌, ◌==◌, nat_lt, List, [], ◌∷◌, ◌++◌, Bool, true, false, ◌&&◌, ◌||◌, not, is_some, if◌then◌else◌, Option, Some, None}
 use Rattle.std.specs.Option.{option_map_or, option_and_then}
 use Rattle.std.specs.List.{list_any}
 use Rattle.std.specs.Str.{bytes_eq}
@@ -27,7 +27,9 @@ use Rattle.zb_views.specs.Jobs.{is_activated, is_given_out}
 use Rattle.zb_rules.specs.JobEvents.{has_job, is_job_in, begins_job, hands_out, are_jobs, has_cause}
 use Rattle.zb_rules.specs.TimerEvents.{may_open, has_timer}
 use Rattle.zb_tokens.specs.Work.{is_cause_of}
-use Rattle.zb_views.specs.Left.{left, leaves_root, leaves_cancel}
+use Rattle.zb_views.specs.Left.{left, leaves_root, leaves_cancel, leaves_deletion}
+use Rattle.zb_views.specs.Subscriptions.{is_subscribed}
+use Rattle.zb_rules.specs.Correlate.{begins_correlating, is_correlating}
 use Rattle.zb_views.specs.Definitions.{definitions}
 use Rattle.zb_views.specs.Distributions.{is_distributed_to, is_distributed}
 use Rattle.zb_faults.specs.Faults.{is_well_formed}
@@ -100,6 +102,11 @@ holds_own p before (events.VariableDocumentUpdated key) = holds_of_game (has_cel
 holds_own p before (events.MessagePublished m) = is_fresh p before m.key && is_ascending m.variables
 holds_own p before (events.MessageExpired key) = is_buffered key before
 holds_own p before (events.MessageStartEventSubscriptionCorrelated e) = is_fresh p before e.instance && begins_start e before
+holds_own p before (events.MessageSubscriptionCreated s) = not (is_subscribed s.subscription before)
+holds_own p before (events.MessageSubscriptionCorrelating e) = begins_correlating e before
+holds_own p before (events.MessageSubscriptionCorrelated e) = is_correlating e.subscription e.message before
+holds_own p before (events.MessageSubscriptionRejected e) = is_correlating e.subscription e.message before
+holds_own p before (events.MessageSubscriptionDeleted key) = is_subscribed key before || leaves_deletion key (left before)
 holds_own p before (events.JobCreated e) = is_fresh p before e.key && begins_job e.cell before
 holds_own p before (events.JobActivated e) = hands_out e before
 holds_own p before (events.JobTimedOut key) = is_job_in is_activated key before

@@ -53,7 +53,17 @@ may_lead_to (commands.JobUpdateRetries c) (events.JobRetriesUpdated e) = true
 may_lead_to (commands.JobTimeOut key) (events.JobTimedOut job) = true
 may_lead_to (commands.MessagePublish c) (events.MessagePublished m) = true
 may_lead_to (commands.MessagePublish c) (events.MessageExpired key) = true
+may_lead_to (commands.MessagePublish c) (events.MessageSubscriptionCorrelating e) = true
 may_lead_to (commands.MessageExpire key) (events.MessageExpired message) = true
+may_lead_to (commands.MessageSubscriptionCreate c) (events.MessageSubscriptionCreated s) = true
+may_lead_to (commands.MessageSubscriptionCreate c) (events.MessageSubscriptionCorrelating e) = true
+may_lead_to (commands.MessageSubscriptionCorrelate c) (events.MessageSubscriptionCorrelated e) = true
+may_lead_to (commands.MessageSubscriptionCorrelate c) (events.MessageSubscriptionCorrelating e) = true
+may_lead_to (commands.MessageSubscriptionReject c) (events.MessageSubscriptionRejected e) = true
+may_lead_to (commands.MessageSubscriptionReject c) (events.MessageSubscriptionCorrelating e) = true
+may_lead_to (commands.MessageSubscriptionDelete c) (events.MessageSubscriptionRejected e) = true
+may_lead_to (commands.MessageSubscriptionDelete c) (events.MessageSubscriptionDeleted key) = true
+may_lead_to (commands.MessageSubscriptionDelete c) (events.MessageSubscriptionCorrelating e) = true
 may_lead_to (commands.TimerTrigger key) (events.TimerTriggered timer) = timer == key
 may_lead_to (commands.TimerTrigger key) (events.ProcessEventTriggered e) = true
 may_lead_to command e = false

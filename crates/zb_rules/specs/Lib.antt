@@ -33,3 +33,5 @@ pub mod Settling
 pub mod Step
 pub mod Sound
 pub mod Starts
+pub mod Correlate
+pub mod Subscribe

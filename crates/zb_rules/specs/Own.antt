@@ -21,6 +21,7 @@ use Rattle.zb_rules.specs.Update.{updated}
 use Rattle.zb_rules.specs.Resolve.{resolved}
 use Rattle.zb_rules.specs.Expire.{expired}
 use Rattle.zb_rules.specs.Starts.{starters}
+use Rattle.zb_rules.specs.Subscribe.{opened, taken, turned_away, unsubscribed}
 
 -- a command that is run so far
 abbrev pub IsSupported : Command → Type 0
@@ -41,6 +42,13 @@ IsSupported (commands.MessageExpire key) = Unit {0}
 IsSupported commands.ProcessInstanceBatchContinue = Unit {0}
 IsSupported (commands.DeploymentDistribute c) = Unit {0}
 IsSupported (commands.CommandDistributionAcknowledge c) = Unit {0}
+IsSupported (commands.MessageSubscriptionCreate c) = Unit {0}
+IsSupported (commands.MessageSubscriptionCorrelate c) = Unit {0}
+IsSupported (commands.MessageSubscriptionReject c) = Unit {0}
+IsSupported (commands.MessageSubscriptionDelete c) = Unit {0}
+IsSupported (commands.ProcessMessageSubscriptionCreate key) = Unit {0}
+IsSupported (commands.ProcessMessageSubscriptionCorrelate c) = Unit {0}
+IsSupported (commands.ProcessMessageSubscriptionDelete key) = Unit {0}
 IsSupported _ = ⊥
 
 -- what a command makes of the events before it, at a moment of partition p of n; None of a command that isn't run
@@ -62,6 +70,10 @@ own p n moment (commands.MessageExpire key) = Some (expired key)
 own p n moment commands.ProcessInstanceBatchContinue = Some (λ before. [])
 own p n moment (commands.DeploymentDistribute c) = Some (distributed c)
 own p n moment (commands.CommandDistributionAcknowledge c) = Some (acknowledged c)
+own p n moment (commands.MessageSubscriptionCreate c) = Some (opened c)
+own p n moment (commands.MessageSubscriptionCorrelate c) = Some (taken c)
+own p n moment (commands.MessageSubscriptionReject c) = Some (turned_away c)
+own p n moment (commands.MessageSubscriptionDelete c) = Some (unsubscribed c)
 own p n moment _ = None
 
 -- the events that it makes of them

@@ -11,6 +11,7 @@ use Rattle.zb_model.specs.declared.record.Rejection.{Rejection}
 use Rattle.zb_model.specs.declared.record.RejectionKind.TheVariants as kinds
 use Rattle.zb_views.specs.Messages.{buffered}
 use Rattle.zb_views.specs.View.{next_key}
+use Rattle.zb_rules.specs.Correlate.{correlated_all}
 use Rattle.zb_rules.specs.Starts.{starts_of}
 use Rattle.zb_rules.specs.Making.{Making, just, and_then}
 
@@ -45,9 +46,9 @@ message_under key moment c = record {
 abbrev pub expiry_of : ℕ → MessagePublish → List Event
 expiry_of key c = if c.time_to_live == 0 then events.MessageExpired key ∷ [] else []
 
--- a message is published, then it starts an instance of each process that it may, and without time to live it expires then (Zeebe)
+-- a message is published, then subscriptions begin to correlate it, then it starts an instance of each process that it may, and without time to live it expires then (Zeebe)
 abbrev pub published_as : ℕ → MessagePublished → MessagePublish → Making
-published_as p m c = and_then (just (events.MessagePublished m)) (and_then (starts_of p m) (λ before. expiry_of m.key c))
+published_as p m c = and_then (just (events.MessagePublished m)) (and_then (correlated_all m) (and_then (starts_of p m) (λ before. expiry_of m.key c)))
 
 -- the message is published under a fresh key (Zeebe)
 abbrev pub published : (p moment : ℕ) → MessagePublish → Making

@@ -1,5 +1,5 @@
 -- Why a command is rejected. Each command's own rule stands in a module of its name.
-use Rattle.std.specs.Prelude.{ℕ, List, Option, None}
+use Rattle.std.specs.Prelude.{ℕ, List, Option, Some, None}
 use Rattle.zb_model.specs.declared.record.Command.{Command}
 use Rattle.zb_model.specs.declared.record.Command.TheVariants as commands
 use Rattle.zb_model.specs.declared.record.Event.{Event}
@@ -19,6 +19,7 @@ use Rattle.zb_rules.specs.Update.{reason_to_update}
 use Rattle.zb_rules.specs.Resolve.{reason_to_resolve}
 use Rattle.zb_rules.specs.Expire.{reason_to_expire}
 use Rattle.zb_rules.specs.Continue.{reason_to_continue}
+use Rattle.zb_rules.specs.Subscribe.{unknown_subscription, reason_to_open, reason_to_take, reason_to_delete}
 
 -- the rejection of a command by the events before it and the moment, if there is a reason for one
 abbrev pub reason_for : List Event → ℕ → Command → Option Rejection
@@ -39,4 +40,11 @@ reason_for before moment (commands.MessageExpire key) = reason_to_expire before 
 reason_for before moment commands.ProcessInstanceBatchContinue = reason_to_continue before
 reason_for before moment (commands.DeploymentDistribute c) = reason_to_distribute before c
 reason_for before moment (commands.CommandDistributionAcknowledge c) = reason_to_acknowledge before c
+reason_for before moment (commands.MessageSubscriptionCreate c) = reason_to_open before c.subscription
+reason_for before moment (commands.MessageSubscriptionCorrelate c) = reason_to_take before c
+reason_for before moment (commands.MessageSubscriptionReject c) = reason_to_take before c
+reason_for before moment (commands.MessageSubscriptionDelete c) = reason_to_delete before c.subscription
+reason_for before moment (commands.ProcessMessageSubscriptionCreate key) = Some (unknown_subscription key)
+reason_for before moment (commands.ProcessMessageSubscriptionCorrelate c) = Some (unknown_subscription c.subscription)
+reason_for before moment (commands.ProcessMessageSubscriptionDelete key) = Some (unknown_subscription key)
 reason_for before moment _ = None

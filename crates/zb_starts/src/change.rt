@@ -7,6 +7,8 @@ pub enum Change {
     Nothing,
     /// A message is locked for a process.
     Locked(Lock),
+    /// A message is locked for a process no longer.
+    Freed(Lock),
     /// A message has expired.
     Expired(Key),
     /// An instance has begun that a message starts.

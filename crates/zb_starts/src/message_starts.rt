@@ -26,7 +26,7 @@ impl MessageStarts {
         }
     }
 
-    /// Takes a change in. It costs what `Locks::set` and `Locks::end` do, or `Starts::begin` and `Starts::end`. After a
+    /// Takes a change in. It costs what `Locks::set`, `free` and `end` do, or `Starts::begin` and `Starts::end`. After a
     /// refusal both are only dropped.
     pub fn apply(&mut self, alloc: Global, change: Change) -> Result<(), AllocError>
         requires { IsTrue (begins_last change self.old.starts) }
@@ -36,6 +36,11 @@ impl MessageStarts {
         match change {
             Change::Nothing => Ok(()),
             Change::Locked(lock) => self.locks.set(alloc, lock),
+            Change::Freed(lock) => {
+                self.locks.free(lock.message, lock.process.as_str());
+                drop(lock);
+                Ok(())
+            }
             Change::Expired(message) => {
                 self.locks.end(message);
                 Ok(())

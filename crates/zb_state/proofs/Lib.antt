@@ -9,3 +9,4 @@ pub mod NamedLemmas
 pub mod LentLemmas
 pub mod StartLemmas
 pub mod StarterLemmas
+pub mod SubscriptionLemmas

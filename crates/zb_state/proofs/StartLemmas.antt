@@ -34,6 +34,7 @@ use Rattle.zb_tokens.specs.Board.{model_under}
 use Rattle.zb_tokens.proofs.GameLaws.{both_left, both_right}
 use Rattle.zb_rules.specs.Applies.{applies, is_plain, holds_of_game, is_process_of, starts_with, begins_well}
 use Rattle.zb_rules.specs.Starts.{next_starter}
+use Rattle.zb_rules.specs.Correlate.{begins_correlating, is_correlating}
 use Rattle.zb_rules.proofs.LeftLaws.{starter_left}
 use Rattle.zb_rules.proofs.ProcessLaws.{model_there}
 use Rattle.zb_starts.specs.Change.{begins_last, locks_by, instances_by}
@@ -41,7 +42,8 @@ use Rattle.zb_starts.specs.declared.change.Change.{Change}
 use Rattle.zb_starts.specs.declared.change.Change.TheVariants as changes
 use Rattle.zb_state.specs.Messages.{is_addressed}
 use Rattle.zb_state.specs.Changes.{change_by}
-use Rattle.zb_state.specs.Starts.{root_left, starter_among, locked_by, begun_with, begin_by, root_told, BeginsRoot, IsChangeOf, are_starts_below}
+use Rattle.zb_state.proofs.SubscriptionLemmas.{begun_locks, given_up_frees}
+use Rattle.zb_state.specs.Starts.{root_left, starter_among, locked_by, lock_of, begun_with, begin_by, root_told, BeginsRoot, IsChangeOf, are_starts_below}
 use Rattle.zb_state.specs.State.{IsStateOf}
 use Rattle.zb_state.specs.Tables.{HaveTaken, Draws}
 use Rattle.zb_state.specs.declared.facts.Facts.{Facts}
@@ -60,6 +62,11 @@ begun_first ms (lefts.Root begun) e = by_starter (starter_among ms (lefts.Root b
     by_starter (Some m) = refl
 begun_first ms what e = tt
 
+-- a lock that is set or freed begins none
+no_root : (kind : Lock → Change) (left : Left) (lock : Option Lock) → ((l : Lock) → BeginsRoot left (kind l)) → BeginsRoot left (option_map_or kind lock changes.Nothing)
+no_root kind left None none = tt
+no_root kind left (Some l) none = none l
+
 pub begins_root : (facts : Facts) (e : Event) → BeginsRoot facts.left (change_by facts e)
 begins_root facts (events.ElementActivating e) = by_test ((e.scope == 0) && not (bytes_eq e.started []))
   where
@@ -71,6 +78,8 @@ begins_root facts (events.MessageStartEventSubscriptionCorrelated e) = by_model 
     by_model : (found : Option Model) → BeginsRoot facts.left (option_map_or (λ (m : Model). changes.Locked (lock_for e.message m.process)) found changes.Nothing)
     by_model None = tt
     by_model (Some m) = tt
+begins_root facts (events.MessageSubscriptionCorrelating e) = no_root changes.Locked facts.left (lock_of facts.tables.subscriptions e.subscription e.message) (λ l. tt)
+begins_root facts (events.MessageSubscriptionRejected e) = no_root changes.Freed facts.left (lock_of facts.tables.subscriptions e.subscription e.message) (λ l. tt)
 begins_root facts e = tt
 
 module _ (es : List Event) (facts : Facts) (is : IsStateOf es facts) where
@@ -108,6 +117,7 @@ module _ (es : List Event) (facts : Facts) (is : IsStateOf es facts) where
         → standing_by started_sort es it ss ≡ instances_by (begun_with facts.messages what e) ss
     by_left told full lefts.Nothing at leaves same = absurd (cc)
     by_left told full (lefts.Cancels job) at leaves same = absurd (cc)
+    by_left told full (lefts.Deletes key) at leaves same = absurd (cc)
     by_left told full (lefts.Root begun) at leaves same = by_message begun.message refl
       where
         by_message : (o : Option ℕ) → begun.message ≡ o → standing_by started_sort es it ss ≡ instances_by (begun_with facts.messages (lefts.Root begun) e) ss
@@ -157,6 +167,11 @@ module _ (es : List Event) (facts : Facts) (is : IsStateOf es facts) where
       by_test true = by_left facts.left
       by_test false = refl
 
+  -- a lock that is set or freed starts no instance
+  no_start : (kind : Lock → Change) (lock : Option Lock) (ss : List Started) → ((l : Lock) → instances_by (kind l) ss ≡ ss) → ss ≡ instances_by (option_map_or kind lock changes.Nothing) ss
+  no_start kind None ss none = refl
+  no_start kind (Some l) ss none = sym (none l)
+
   -- what an event that applies changes
   pub change_told : (e : Event) → IsTrue (applies facts.place es e) → IsChangeOf es e (change_by facts e)
   change_told (events.MessageStartEventSubscriptionCorrelated e) applied = locked_told e.message e.definition e.instance
@@ -176,8 +191,16 @@ module _ (es : List Event) (facts : Facts) (is : IsStateOf es facts) where
     locks = λ ls. all_left lock_sort es (events.ElementTerminated key) ls (refl, λ l. refl, λ l. refl);
     starts = λ ss. some_gone started_sort es (events.ElementTerminated key) ss (λ s. s.instance == key) refl (λ s. refl) (λ s. refl);
   }
-  change_told (events.MessageSubscriptionCorrelating e) applied = absurd (cc)
-  change_told (events.MessageSubscriptionRejected e) applied = absurd (cc)
+  change_told (events.MessageSubscriptionCorrelating e) applied = record {
+    locks = begun_locks es facts is e (both_left (begins_correlating e es) _ applied);
+    starts = λ ss. all_left started_sort es (events.MessageSubscriptionCorrelating e) ss (refl, λ s. refl, λ s. refl)
+        ∙ no_start changes.Locked (lock_of facts.tables.subscriptions e.subscription e.message) ss (λ l. refl);
+  }
+  change_told (events.MessageSubscriptionRejected e) applied = record {
+    locks = given_up_frees es facts is e (both_left (is_correlating e.subscription e.message es) _ applied);
+    starts = λ ss. all_left started_sort es (events.MessageSubscriptionRejected e) ss (refl, λ s. refl, λ s. refl)
+        ∙ no_start changes.Freed (lock_of facts.tables.subscriptions e.subscription e.message) ss (λ l. refl);
+  }
   change_told e applied = record {
     locks = λ ls. all_left lock_sort es e ls (refl, λ l. refl, λ l. refl);
     starts = λ ss. all_left started_sort es e ss (refl, λ s. refl, λ s. refl);

@@ -102,6 +102,7 @@ module _ (es : List Event) (facts : Facts) (is : IsStateOf es facts) where
       by_left : (what : Left) → left es ≡ what → starts_with what es ≡ option_map_or (λ (m : MessagePublished). m.correlation_key) (starter_among facts.messages what) []
       by_left lefts.Nothing at = refl
       by_left (lefts.Cancels job) at = refl
+      by_left (lefts.Deletes key) at = refl
       by_left (lefts.Root begun) at = by_message begun.message refl
         where
           key_by : (ℕ → Option MessagePublished) → Option ℕ → List ℕ

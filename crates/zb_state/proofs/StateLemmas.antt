@@ -12,7 +12,7 @@ use Rattle.zb_views.specs.Messages.{message_sort}
 use Rattle.zb_views.specs.Jobs.{job_sort}
 use Rattle.zb_views.specs.Timers.{timer_sort}
 use Rattle.zb_views.specs.Starts.{started_sort}
-use Rattle.zb_views.specs.Subscriptions.{lock_sort}
+use Rattle.zb_views.specs.Subscriptions.{subscription_sort, lock_sort}
 use Rattle.zb_record.specs.Sendings.{sending_sort}
 use Rattle.zb_views.specs.Standing.{standing_by}
 use Rattle.zb_views.proofs.StandingLaws.{standing_more}
@@ -60,6 +60,7 @@ state_more es e change old mid new is same applied played changed took =
       timers = standing_more timer_sort es e ∙ (ap (standing_by timer_sort [] e) (is.timers ∙ ap (λ (t : Tables). t.timers) (sym same.tables)) ∙ sym tables.timers);
       locks = standing_more lock_sort es e ∙ (ap (standing_by lock_sort es e) (is.locks ∙ ap (λ (t : Tables). t.starts.locks) (sym same.tables)) ∙ (changed.locks mid.tables.starts.locks ∙ sym tables.locks));
       starts = standing_more started_sort es e ∙ (ap (standing_by started_sort es e) (is.starts ∙ ap (λ (t : Tables). t.starts.starts) (sym same.tables)) ∙ (changed.starts mid.tables.starts.starts ∙ sym tables.starts));
+      subscriptions = standing_more subscription_sort es e ∙ (ap (standing_by subscription_sort [] e) (is.subscriptions ∙ ap (λ (t : Tables). t.subscriptions) (sym same.tables)) ∙ sym tables.subscriptions);
       left = left_more es e ∙ sym (took.left es jobs_were);
       game = rw (board_of_more es e, is.game) (played ∙ ap (λ (b : Board). Some b) (sym took.game));
     }
@@ -130,8 +131,9 @@ same_state es a b one other place =
     let timers : a.tables.timers ≡ b.tables.timers = sym one.timers ∙ other.timers in
     let locks : a.tables.starts.locks ≡ b.tables.starts.locks = sym one.locks ∙ other.locks in
     let starts : a.tables.starts.starts ≡ b.tables.starts.starts = sym one.starts ∙ other.starts in
+    let subscriptions : a.tables.subscriptions ≡ b.tables.subscriptions = sym one.subscriptions ∙ other.subscriptions in
     let left : a.left ≡ b.left = sym one.left ∙ other.left in
     let game : a.game ≡ b.game = same_board (board_of es) a.game b.game one.game other.game in
-    let tables : a.tables ≡ b.tables = rw (sendings, jobs, timers, locks, starts) refl in
+    let tables : a.tables ≡ b.tables = rw (sendings, jobs, timers, locks, starts, subscriptions) refl in
     let same : parts_of a ≡ parts_of b = rw (place, counter, messages, tables, left, game) refl in
     same_parts (parts_of a) (parts_of b) same a.drawn a.in_order a.begun b.drawn b.in_order b.begun

@@ -1,5 +1,5 @@
 -- What an event changes of the locks of messages, and of the instances that messages have started.
-use Rattle.std.specs.Prelude.{◌≡◌, ℕ, ◌==◌, nat_lt, List, [], Bool, true, ◌&&◌, not, if◌then◌else◌, Option, Some, None, option_and_then}
+use Rattle.std.specs.Prelude.{◌≡◌, ℕ, ◌==◌, nat_lt, List, [], Bool, true, ◌&&◌, not, if◌then◌else◌, Option, Some, None, option_map, option_and_then}
 use Rattle.std.specs.List.{find}
 use Rattle.std.specs.Option.{option_map_or}
 use Rattle.std.specs.Str.{bytes_eq}
@@ -15,6 +15,7 @@ use Rattle.zb_views.specs.declared.left.Left.{Left}
 use Rattle.zb_views.specs.declared.left.Left.TheVariants as lefts
 use Rattle.zb_views.specs.declared.lock.Lock.{Lock}
 use Rattle.zb_views.specs.declared.started.Started.{Started}
+use Rattle.zb_views.specs.declared.subscription.Subscription.{Subscription}
 use Rattle.zb_views.specs.Standing.{standing_by}
 use Rattle.zb_views.specs.Starts.{started_sort}
 use Rattle.zb_views.specs.Subscriptions.{lock_for, lock_sort}
@@ -43,6 +44,10 @@ message_start_under b definition = option_and_then (λ m. option_and_then (λ n.
 -- a message is locked for the process of a definition on a board, if that is there (own)
 abbrev pub locked_by : Board → (message definition : ℕ) → Change
 locked_by b message definition = option_map_or (λ m. changes.Locked (lock_for message m.process)) (model_under b definition) changes.Nothing
+
+-- the lock of a message for the process of the subscription with a key among these, if there is one (own)
+abbrev pub lock_of : List Subscription → (subscription message : ℕ) → Option Lock
+lock_of ss subscription message = option_map (λ s. lock_for message s.process) (find (λ s. s.key == subscription) ss)
 
 -- the instance begins of the root that is left to be said, where a message among these starts it (own)
 abbrev pub begun_with : List MessagePublished → Left → ElementActivating → Change

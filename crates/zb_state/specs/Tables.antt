@@ -11,6 +11,7 @@ use Rattle.zb_views.specs.declared.timer.Timer.{Timer}
 use Rattle.zb_views.specs.Standing.{standing_by}
 use Rattle.zb_views.specs.Jobs.{job_sort}
 use Rattle.zb_views.specs.Timers.{timer_sort}
+use Rattle.zb_views.specs.Subscriptions.{subscription_sort}
 use Rattle.zb_record.specs.Sendings.{sending_sort}
 use Rattle.zb_starts.specs.Change.{locks_by, instances_by}
 use Rattle.zb_starts.specs.declared.change.Change.{Change}
@@ -23,6 +24,7 @@ pub record HaveTaken (e : Event) (change : Change) (old new : Tables) : Type 0 w
   pub timers : new.timers ≡ standing_by timer_sort [] e old.timers
   pub locks : new.starts.locks ≡ locks_by change old.starts.locks
   pub starts : new.starts.starts ≡ instances_by change old.starts.starts
+  pub subscriptions : new.subscriptions ≡ standing_by subscription_sort [] e old.subscriptions
 
 -- the key is the next one behind a counter of partition p, and there is one (own)
 abbrev pub IsNext : (p counter : ℕ) → ℕ → Type 0

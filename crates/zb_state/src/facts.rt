@@ -22,11 +22,13 @@ ghost use Rattle.zb_tokens.specs.Board.{Board};
 ghost use Rattle.zb_tokens.specs.Forced.{next_mover};
 ghost use Rattle.zb_rules.specs.Shown.{shown, after_shown, board_of};
 ghost use Rattle.zb_state.specs.Sound.{HasSoundModel};
+ghost use Rattle.zb_subscriptions.specs.Opened.{is_new};
 ghost use Rattle.zb_state.specs.Tables.{IsNext, Draws, are_all_below};
 ghost use Rattle.zb_state.specs.Starts.{BeginsRoot, IsChangeOf, root_left, root_told, are_starts_below};
 
 mod jobs;
 mod starts;
+mod subscriptions;
 mod timers;
 
 use crate::keys::greatest_counter_of;
@@ -188,6 +190,7 @@ impl Facts {
         requires { IsTrue known → HasSoundModel event.now }
         ensures own { (es : List Event) → IsStateOf es self.now → IfOk result (λ meets. meets ≡ holds_own (partition_of self.now) es event.now) }
         ensures draws { IfOk result (λ meets. IsTrue meets → Draws (partition_of self.now) self.now.counter self.now.tables.jobs event.now) }
+        ensures opens { IfOk result (λ meets. IsTrue meets → IsTrue (is_new self.now.tables.subscriptions event.now)) }
     {
         match event {
             Event::ProcessCreated(process) => is_sound(alloc, &process.model, known),
@@ -223,6 +226,15 @@ impl Facts {
             }
             Event::MessagePublished(message) => Ok(self.publishes(message)),
             Event::MessageExpired(key) => Ok(self.messages.deadline_of(*key).is_some()),
+            Event::MessageSubscriptionCreated(opened) => {
+                Ok(!self.is_subscribed(opened.subscription))
+            }
+            Event::MessageSubscriptionCorrelating(begun) => { Ok(self.begins_correlating(begun)) }
+            Event::MessageSubscriptionCorrelated(told) | Event::MessageSubscriptionRejected(told) =>
+                { Ok(self.is_correlating(told.subscription, told.message)) }
+            Event::MessageSubscriptionDeleted(key) => {
+                Ok(self.is_subscribed(*key) || self.left.leaves_deletion(*key))
+            }
             Event::CommandDistributionDistributing(sent) => Ok(self.has_definition(sent.key)),
             Event::CommandDistributionAcknowledged(told) => {
                 Ok(self.is_distributed_to(told.key, told.partition))
@@ -230,11 +242,6 @@ impl Facts {
             Event::CommandDistributionFinished(key) => Ok(self.has_arrived(*key)),
             Event::ElementMigrated(_)
             | Event::ProcessInstanceMigrationMigrated(_)
-            | Event::MessageSubscriptionCreated(_)
-            | Event::MessageSubscriptionCorrelating(_)
-            | Event::MessageSubscriptionCorrelated(_)
-            | Event::MessageSubscriptionRejected(_)
-            | Event::MessageSubscriptionDeleted(_)
             | Event::ProcessMessageSubscriptionCreating(_)
             | Event::ProcessMessageSubscriptionCreated(_)
             | Event::ProcessMessageSubscriptionCorrelated(_)
@@ -336,6 +343,7 @@ impl Facts {
         ensures applied { (es : List Event) → IsStateOf es self.old → OnOk result (IsTrue (applies (partition_of self.old) es event.now)) }
         ensures played { (es : List Event) → IsStateOf es self.old → OnOk result (after_shown self.old.game (shown es event.now) ≡ Some self.new.game) }
         ensures draws { OnOk result (Draws (partition_of self.new) self.new.counter self.new.tables.jobs event.now) }
+        ensures opens { OnOk result (IsTrue (is_new self.new.tables.subscriptions event.now)) }
         ensures begins { IfOk result (λ change. BeginsRoot self.new.left change) }
         ensures changes { (es : List Event) → IsStateOf es self.old → IfOk result (IsChangeOf es event.now) }
         ensures refused { (es : List Event) → IsStateOf es self.old
@@ -360,6 +368,7 @@ impl Facts {
         ensures applied { (es : List Event) → IsStateOf es self.old → OnOk result (IsTrue (applies (partition_of self.old) es event.now)) }
         ensures played { (es : List Event) → IsStateOf es self.old → OnOk result (after_shown self.old.game (shown es event.now) ≡ Some self.new.game) }
         ensures draws { OnOk result (Draws (partition_of self.new) self.new.counter self.new.tables.jobs event.now) }
+        ensures opens { OnOk result (IsTrue (is_new self.new.tables.subscriptions event.now)) }
         ensures refused { (es : List Event) → IsStateOf es self.old
             → IsErrOf result TableFault.NotApplicable → IsFalse (applies (partition_of self.old) es event.now) }
         ensures kept { IsErrOf result TableFault.NotApplicable → self.new ≡ self.old }
@@ -373,6 +382,7 @@ impl Facts {
     // Takes in what an event says, but for its move and of messages. After a refusal the state is only dropped.
     fn follow(&mut self, alloc: Global, event: &Event, change: Change) -> Result<(), AllocError>
         requires draws { Draws (partition_of self.old) self.old.counter self.old.tables.jobs event.now }
+        requires opens { IsTrue (is_new self.old.tables.subscriptions event.now) }
         requires begins { BeginsRoot self.old.left change }
         ensures place { partition_of self.new ≡ partition_of self.old }
         ensures taken { OnOk result (HasTaken event.now change self.old.messages self.old self.new) }
@@ -400,6 +410,7 @@ fn left_behind(jobs: &Jobs, event: &Event) -> Left
             message: Some(start.message),
         }),
         Event::ElementTerminating(cell) => cancels(jobs.on(*cell)),
+        Event::MessageSubscriptionRejected(told) => Left::Deletes(told.subscription),
         _ => Left::Nothing,
     }
 }

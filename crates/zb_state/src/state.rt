@@ -19,6 +19,7 @@ mod due;
 mod lent;
 mod outbox;
 mod starts;
+mod subscriptions;
 
 use crate::facts::Facts;
 use crate::listing::{Listing, clear, relist};

@@ -3,12 +3,14 @@ ghost use Rattle.zb_model.specs.declared.record.Event.{Event};
 ghost use Rattle.zb_jobs.specs.Table.{has_place_for};
 ghost use Rattle.zb_timers.specs.Table.{has_place_for_timer};
 ghost use Rattle.zb_starts.specs.Change.{begins_last};
+ghost use Rattle.zb_subscriptions.specs.Opened.{is_new};
 
 use std::alloc::{AllocError, Global};
 use zb_jobs::Jobs;
 use zb_model::Event;
 use zb_outbox::Outbox;
 use zb_starts::{Change, MessageStarts};
+use zb_subscriptions::Subscriptions;
 use zb_timers::Timers;
 
 /// What a state keeps beside the messages and the game.
@@ -22,6 +24,8 @@ pub struct Tables {
     pub timers: Timers,
     /// The locks of messages, and the instances that messages have started.
     pub starts: MessageStarts,
+    /// The subscriptions at the home of their messages.
+    pub subscriptions: Subscriptions,
 }
 
 impl Tables {
@@ -34,12 +38,14 @@ impl Tables {
         ensures timers { result.timers ≡ [] }
         ensures locks { result.starts.locks ≡ [] }
         ensures starts { result.starts.starts ≡ [] }
+        ensures subscriptions { result.subscriptions ≡ [] }
     {
         Tables {
             sendings: Outbox::empty(alloc),
             jobs: Jobs::empty(alloc),
             timers: Timers::empty(alloc),
             starts: MessageStarts::empty(alloc),
+            subscriptions: Subscriptions::empty(alloc),
         }
     }
 
@@ -49,6 +55,7 @@ impl Tables {
         requires jobs { IsTrue (has_place_for self.old.jobs event.now) }
         requires timers { IsTrue (has_place_for_timer self.old.timers event.now) }
         requires starts { IsTrue (begins_last change self.old.starts.starts) }
+        requires opens { IsTrue (is_new self.old.subscriptions event.now) }
         ensures taken { OnOk result (HaveTaken event.now change self.old self.new) }
         ensures no_jobs { OnErr result (self.new.jobs ≡ []) }
         ensures no_timers { OnErr result (self.new.timers ≡ []) }
@@ -66,12 +73,14 @@ impl Tables {
         requires jobs { IsTrue (has_place_for self.old.jobs event.now) }
         requires timers { IsTrue (has_place_for_timer self.old.timers event.now) }
         requires starts { IsTrue (begins_last change self.old.starts.starts) }
+        requires opens { IsTrue (is_new self.old.subscriptions event.now) }
         ensures { OnOk result (HaveTaken event.now change self.old self.new) }
     {
         self.starts.apply(alloc, change)?;
         self.sendings.apply(alloc, event)?;
         self.jobs.apply(alloc, event)?;
         self.timers.apply(alloc, event)?;
+        self.subscriptions.apply(alloc, event)?;
         Ok(())
     }
 

@@ -1,2 +1,4 @@
 pub mod Sound
 pub mod Starting
+pub mod Passing
+pub mod Correlating

@@ -20,13 +20,14 @@ use crate::fail::Failed;
 use crate::publish::Published;
 use crate::resolve::Resolved;
 use crate::retries::Retried;
+use crate::subscribe::{Opened, Taken, TurnedAway, Unsubscribed};
 use crate::throw::Thrown;
 use crate::time_out::TimedOut;
 use crate::trigger::TriggeredTimer;
 use crate::update::Updated;
 use crate::{
     acknowledge, activate, cancel, create, deploy, distribute, ending, expire, go_on, publish,
-    resolve, retries, time_out, trigger, update,
+    resolve, retries, subscribe, time_out, trigger, update,
 };
 use std::alloc::{AllocError, Global};
 use zb_follow::{Found, Maker};
@@ -64,7 +65,21 @@ pub fn reason(
         Command::ProcessInstanceBatchContinue => go_on::reason(alloc, state),
         Command::DeploymentDistribute(sent) => distribute::reason(alloc, state, sent),
         Command::CommandDistributionAcknowledge(told) => acknowledge::reason(alloc, state, told),
-        _ => Ok(None),
+        Command::MessageSubscriptionCreate(opened) => {
+            subscribe::reason_to_open(alloc, state, opened.subscription)
+        }
+        Command::MessageSubscriptionCorrelate(told) | Command::MessageSubscriptionReject(told) => {
+            subscribe::reason_to_take(alloc, state, *told)
+        }
+        Command::MessageSubscriptionDelete(closed) => {
+            subscribe::reason_to_delete(alloc, state, closed.subscription)
+        }
+        Command::ProcessMessageSubscriptionCreate(key)
+        | Command::ProcessMessageSubscriptionDelete(key) => subscribe::nowhere(alloc, *key),
+        Command::ProcessMessageSubscriptionCorrelate(message) => {
+            subscribe::nowhere(alloc, message.subscription)
+        }
+        Command::ProcessInstanceMigrationMigrate(_) => Ok(None),
     }
 }
 
@@ -113,12 +128,20 @@ impl Maker for Own<'_> {
             Command::CommandDistributionAcknowledge(told) => {
                 Acknowledged(told).put(alloc, state, moment, out)
             }
+            Command::MessageSubscriptionCreate(opened) => {
+                Opened(opened).put(alloc, state, moment, out)
+            }
+            Command::MessageSubscriptionCorrelate(told) => {
+                Taken(*told).put(alloc, state, moment, out)
+            }
+            Command::MessageSubscriptionReject(told) => {
+                TurnedAway(*told).put(alloc, state, moment, out)
+            }
+            Command::MessageSubscriptionDelete(closed) => {
+                Unsubscribed(closed).put(alloc, state, moment, out)
+            }
             Command::ProcessInstanceBatchContinue
             | Command::ProcessInstanceMigrationMigrate(_)
-            | Command::MessageSubscriptionCreate(_)
-            | Command::MessageSubscriptionCorrelate(_)
-            | Command::MessageSubscriptionReject(_)
-            | Command::MessageSubscriptionDelete(_)
             | Command::ProcessMessageSubscriptionCreate(_)
             | Command::ProcessMessageSubscriptionCorrelate(_)
             | Command::ProcessMessageSubscriptionDelete(_) => Ok(()),

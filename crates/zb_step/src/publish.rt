@@ -1,12 +1,15 @@
 // Publishing a message.
 ghost use Rattle.std.specs.Option.{option_map_or};
-ghost use Rattle.std.specs.Prelude.{◌≡◌, List, [], ◌∷◌, IfOk, string_bytes, Some};
+ghost use Rattle.std.specs.Prelude.{◌≡◌, List, [], ◌∷◌, map, filter, IfOk, string_bytes, Some};
 ghost use Rattle.zb_model.specs.declared.record.Event.{Event};
 ghost use Rattle.zb_rules.specs.Publish.{reason_to_publish, is_repeated, buffered_text, message_under, expiry_of, published};
 ghost use Rattle.zb_rules.specs.Starts.{starters};
 ghost use Rattle.zb_state.specs.State.{IsStateOf};
+ghost use Rattle.zb_views.specs.Subscriptions.{wants_messages, subscriptions};
 ghost use Rattle.zb_step.specs.Starting.{starting_as};
+ghost use Rattle.zb_step.specs.Correlating.{correlating_as};
 
+use crate::correlate::EachCorrelating;
 use crate::rejection::rejection;
 use std::alloc::{AllocError, Global};
 use zb_follow::{EachStarting, Maker};
@@ -59,8 +62,8 @@ fn text_of_repeated(alloc: Global, command: &MessagePublish) -> Result<String, A
     Ok(text)
 }
 
-/// The message is published under a fresh key, starts an instance of each process that it may, and expires then where it
-/// has no time to live.
+/// The message is published under a fresh key, begins to be correlated by subscriptions, starts an instance of each process
+/// that it may, and expires then where it has no time to live.
 #[derive(Drop)]
 pub struct Published<'a>(pub &'a MessagePublish);
 
@@ -84,8 +87,15 @@ impl Maker for Published<'_> {
                 return Err(Refusal::Memory);
             }
         };
-        let expiry = expiry(key, command);
-        (Event::MessagePublished(message), (starting, expiry)).put(alloc, state, moment, out)
+        let correlating = match correlating(alloc, state, &message) {
+            Ok(correlating) => correlating,
+            Err(AllocError) => {
+                drop((message, starting));
+                return Err(Refusal::Memory);
+            }
+        };
+        let rest = (starting, expiry(key, command));
+        (Event::MessagePublished(message), (correlating, rest)).put(alloc, state, moment, out)
     }
 }
 
@@ -116,6 +126,29 @@ fn message(
         deadline: moment.plus(command.time_to_live),
         variables: command.variables.copy(alloc)?,
     })
+}
+
+// The subscriptions that wait for the message, if there are any; it is copied then.
+fn correlating(
+    alloc: Global,
+    state: &State,
+    message: &MessagePublished,
+) -> Result<Option<EachCorrelating>, AllocError>
+    ensures { (es : List Event) → IsStateOf es state.now → IfOk result (λ correlating. correlating_as correlating message.now
+        (map (λ s. s.key) (filter (wants_messages message.now.name message.now.correlation_key) (subscriptions es)))) }
+{
+    let keys = state.subscriptions_for(
+        alloc,
+        message.name.as_str(),
+        message.correlation_key.as_str(),
+    )?;
+    if keys.is_empty() {
+        return Ok(None);
+    }
+    Ok(Some(EachCorrelating {
+        message: message.copy(alloc)?,
+        keys,
+    }))
 }
 
 // The processes of which the message may start instances, if there are any; it is copied then.

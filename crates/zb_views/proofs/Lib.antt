@@ -7,3 +7,4 @@ pub mod TimerLaws
 pub mod ToldLaws
 pub mod ViewLaws
 pub mod NamedLaws
+pub mod OwnKeyLaws

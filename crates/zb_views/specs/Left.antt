@@ -8,11 +8,12 @@ use Rattle.zb_views.specs.Standing.{Sort, standing}
 use Rattle.zb_views.specs.declared.left.Left.{Left}
 use Rattle.zb_views.specs.declared.left.Left.TheVariants as lefts
 
--- what an event behind others leaves to be said: the root of the instance that it begins or that a message starts, or that the job is canceled of the cell that it begins to terminate (Zeebe, the records)
+-- what an event behind others leaves to be said: the root of the instance that it begins or that a message starts, that the job is canceled of the cell that it begins to terminate, or that the subscription is deleted which gives up its message (Zeebe, the records)
 abbrev pub left_told : List Event → Event → Left
 left_told before (events.ProcessInstanceCreationCreated e) = lefts.Root (record { key = e.key; definition = e.definition; message = None })
 left_told before (events.MessageStartEventSubscriptionCorrelated e) = lefts.Root (record { key = e.instance; definition = e.definition; message = Some e.message })
 left_told before (events.ElementTerminating cell) = option_map_or (λ j. lefts.Cancels j.key) (job_on cell before) lefts.Nothing
+left_told before (events.MessageSubscriptionRejected e) = lefts.Deletes e.subscription
 left_told before e = lefts.Nothing
 
 -- what an event leaves to be said stands until the next one, whatever that is (own)
@@ -36,3 +37,8 @@ leaves_root instance definition left = false
 abbrev pub leaves_cancel : ℕ → Left → Bool
 leaves_cancel job (lefts.Cancels canceled) = canceled == job
 leaves_cancel job left = false
+
+-- what is left to be said is that this subscription is deleted, which has given up its message
+abbrev pub leaves_deletion : ℕ → Left → Bool
+leaves_deletion subscription (lefts.Deletes deleted) = deleted == subscription
+leaves_deletion subscription left = false

@@ -9,4 +9,5 @@ pub mod Jobs
 pub mod Left
 pub mod Timers
 pub mod Subscriptions
+pub mod OwnKeys
 pub mod Starts

@@ -103,9 +103,13 @@ is_lock message process lock = (lock.message == message) && bytes_eq lock.proces
 abbrev pub is_locked_for : ℕ → List ℕ → List Event → Bool
 is_locked_for message process es = list_any (is_lock message process) (locks es)
 
--- a subscription waits for messages of this name and correlation key, and correlates none so far (Zeebe)
+-- a subscription is for messages of this name and correlation key (Zeebe)
+abbrev pub wants_messages : (name correlation_key : List ℕ) → Subscription → Bool
+wants_messages name correlation_key s = bytes_eq s.name name && bytes_eq s.correlation_key correlation_key
+
+-- and correlates none so far
 abbrev pub is_idle_for : (name correlation_key : List ℕ) → Subscription → Bool
-is_idle_for name correlation_key s = bytes_eq s.name name && bytes_eq s.correlation_key correlation_key && not (is_some s.correlating)
+is_idle_for name correlation_key s = wants_messages name correlation_key s && not (is_some s.correlating)
 
 -- an event opens no subscription that is there (own)
 abbrev pub opens_new : List Event → Event → Bool

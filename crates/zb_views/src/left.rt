@@ -1,5 +1,5 @@
 ghost use Rattle.std.specs.Prelude.{◌≡◌};
-ghost use Rattle.zb_views.specs.Left.{leaves_root, leaves_cancel};
+ghost use Rattle.zb_views.specs.Left.{leaves_root, leaves_cancel, leaves_deletion};
 
 use crate::Begun;
 use zb_model::Key;
@@ -12,6 +12,8 @@ pub enum Left {
     Root(Begun),
     /// That this job is canceled: its cell begins to terminate.
     Cancels(Key),
+    /// That this subscription is deleted, which has given up its message; it may stand so.
+    Deletes(Key),
 }
 
 impl Left {
@@ -21,7 +23,7 @@ impl Left {
     {
         match self {
             Left::Root(begun) => begun.key == instance && begun.definition == definition,
-            Left::Nothing | Left::Cancels(_) => false,
+            Left::Nothing | Left::Cancels(_) | Left::Deletes(_) => false,
         }
     }
 
@@ -31,7 +33,17 @@ impl Left {
     {
         match self {
             Left::Cancels(canceled) => canceled == job,
-            Left::Nothing | Left::Root(_) => false,
+            Left::Nothing | Left::Root(_) | Left::Deletes(_) => false,
+        }
+    }
+
+    /// Whether it is that this subscription is deleted.
+    pub fn leaves_deletion(self, subscription: Key) -> bool
+        ensures { result ≡ leaves_deletion subscription self }
+    {
+        match self {
+            Left::Deletes(deleted) => deleted == subscription,
+            Left::Nothing | Left::Root(_) | Left::Cancels(_) => false,
         }
     }
 }

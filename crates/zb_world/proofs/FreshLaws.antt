@@ -1,6 +1,6 @@
 -- A key that is drawn freshly is of its partition, and no event before names it; and which messages are buffered.
-use Rattle.std.proofs.Common.{◌≡◌, ◌≤◌, ℕ, ◌+◌, ◌/◌, ◌<◌, ◌^◌, ◌==◌, ◌&&◌, not, nat_le, List, [], ◌∷◌, ◌++◌, map, Bool, true, false, ◌||◌, if◌then◌else◌, Contains, inl, inr, refl, ap, sym, ◌∙◌, arith}
-use Rattle.std.specs.List.{flat_map, list_any}
+use Rattle.std.proofs.Common.{◌≡◌, ◌≤◌, ℕ, ◌+◌, ◌/◌, ◌<◌, ◌^◌, ◌==◌, ◌&&◌, not, nat_le, List, [], ◌∷◌, ◌++◌, map, Bool, true, false, ◌||◌, if◌then◌else◌, Some, Contains, inl, inr, refl, ap, sym, ◌∙◌, arith}
+use Rattle.std.specs.List.{find, flat_map, list_any}
 use Rattle.std.specs.Option.{option_map_or}
 use Rattle.std.proofs.lemmas.Bool.Decides.{nat_tests}
 use Rattle.std.proofs.lemmas.List.Folds.{list_any-append}
@@ -84,3 +84,20 @@ buffered_same m es = behind [] es
             let next = before ++ events.MessagePublished x ∷ [] in
             sym (list_any-append (λ (y : MessagePublished). y.key == m) (lasting message_sort next es x) (standing_behind message_sort next es) ∙ rw (lasting_is m x next es) refl)
         by_event _ = refl
+
+-- the message that is found has the key, and one with it is there
+pub keyed : (key : ℕ) (ms : List MessagePublished) (m : MessagePublished) → find (λ (x : MessagePublished). x.key == key) ms ≡ Some m → m.key ≡ key
+keyed key [] m is = absurd (cc)
+keyed key (x ∷ ms) m is = by_test (x.key == key) refl (keyed key ms m) is
+  where
+    by_test : (t : Bool) → (x.key == key) ≡ t → (find (λ (y : MessagePublished). y.key == key) ms ≡ Some m → m.key ≡ key) → (if t then Some x else find (λ (y : MessagePublished). y.key == key) ms) ≡ Some m → m.key ≡ key
+    by_test true same later is = let one : x ≡ m = cc in let its : x.key ≡ key = grind (arith, nat_tests, same) in ap (λ (y : MessagePublished). y.key) (sym one) ∙ its
+    by_test false other later is = later is
+
+pub any_found : (key : ℕ) (ms : List MessagePublished) (m : MessagePublished) → find (λ (x : MessagePublished). x.key == key) ms ≡ Some m → list_any (λ (x : MessagePublished). x.key == key) ms ≡ true
+any_found key [] m is = absurd (cc)
+any_found key (x ∷ ms) m is = by_test (x.key == key) (any_found key ms m) is
+  where
+    by_test : (t : Bool) → (find (λ (y : MessagePublished). y.key == key) ms ≡ Some m → list_any (λ (y : MessagePublished). y.key == key) ms ≡ true) → (if t then Some x else find (λ (y : MessagePublished). y.key == key) ms) ≡ Some m → (t || list_any (λ (y : MessagePublished). y.key == key) ms) ≡ true
+    by_test true later is = refl
+    by_test false later is = later is

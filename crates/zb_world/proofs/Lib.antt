@@ -1,4 +1,5 @@
 pub mod Worked
+pub mod AppliedStepLaws
 pub mod SentLemmas
 pub mod EntryLaws
 pub mod FreshLaws
@@ -7,7 +8,7 @@ pub mod MessageViewLaws
 pub mod MessageStepLaws
 pub mod OnceLaws
 pub mod PacketLaws
-pub mod SendingLaws
+pub mod SubscriptionMayLaws
 pub mod SubscriptionViewLaws
 pub mod TellingLaws
 pub mod ToldLemmas

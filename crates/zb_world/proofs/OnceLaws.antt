@@ -1,6 +1,6 @@
 -- What is to happen at most once in a history does: a message is correlated with a process, by what steps do to messages;
 -- a job is over, and a timer ends, at most once at its partition, and at no other one.
-use Rattle.std.proofs.Common.{◌≡◌, ℕ, ◌+◌, ◌/◌, ◌^◌, ◌≤◌, List, [], ◌∷◌, ◌++◌, count_by, Bool, cond, IsTrue, refl, inl, inr, sym, ap, ◌∙◌, subst, append-nil, append_assoc, arith}
+use Rattle.std.proofs.Common.{◌≡◌, ℕ, ◌+◌, ◌/◌, ◌^◌, ◌≤◌, List, [], ◌∷◌, ◌++◌, count_by, Bool, cond, IsTrue, refl, inl, inr, sym, ap, ◌∙◌, subst, append-nil, arith}
 use Rattle.std.proofs.lemmas.Bool.{cases_eq, cases_lt}
 use Rattle.std.proofs.lemmas.Grind.{flat_map-append}
 use Rattle.std.proofs.lemmas.List.Sums.{sum_by-append}
@@ -9,10 +9,8 @@ use Rattle.zb_model.specs.declared.record.Batch.{Batch}
 use Rattle.zb_views.specs.View.{events_in, events_of}
 use Rattle.zb_views.specs.Timers.{ends_timer}
 use Rattle.zb_views.proofs.ViewLaws.{events_of_more}
-use Rattle.zb_rules.specs.Reason.{reason_for}
 use Rattle.zb_rules.specs.Applies.{all_apply}
-use Rattle.zb_rules.specs.Step.{IsStep, AreStepsOn}
-use Rattle.zb_rules.proofs.StepLaws.{each_on_all, all_apply_on}
+use Rattle.zb_rules.proofs.StepLaws.{each_on_all}
 use Rattle.zb_rules.specs.JobEnds.{is_end_of}
 use Rattle.zb_rules.proofs.JobEndsLaws.{ended_once, ended_home}
 use Rattle.zb_rules.proofs.TimerEndsLaws.{timer_ended_once, timer_ended_home}
@@ -22,22 +20,8 @@ use Rattle.zb_world.specs.History.{IsEntryOf, IsHistory}
 use Rattle.zb_world.specs.Once.{HappensOnce}
 use Rattle.zb_world.proofs.EntryLaws.{part_of_joined, part_of_its, part_of_other}
 use Rattle.zb_world.proofs.HistoryLaws.{history_more, parts_are_steps}
-use Rattle.zb_world.proofs.MessageStepLaws.{outcome_applies}
+use Rattle.zb_world.proofs.AppliedStepLaws.{steps_apply}
 use Rattle.zb_world.proofs.TellingLaws.{messages_once}
-
--- the events of steps on a log whose events apply do
-pub steps_apply_on : (p n : ℕ) (log more : List Batch) → IsTrue (all_apply p [] (events_of log)) → AreStepsOn p n log more → IsTrue (all_apply p [] (events_of (log ++ more)))
-steps_apply_on p n log more apply steps =
-    each_on_all (IsStep p n) log (λ (more : List Batch). IsTrue (all_apply p [] (events_of (log ++ more))))
-    (λ (front : List Batch) (batch : Batch) before applied step.
-    let es = events_of (log ++ front) in
-    let its = outcome_applies p n batch.moment es batch.command batch.outcome (reason_for es batch.moment batch.command) step.outcome in
-    subst (λ (l : List Batch). IsTrue (all_apply p [] (events_of l))) (append_assoc log front (batch ∷ []))
-    (rw (events_of_more (log ++ front) batch, all_apply_on p [] es (events_in batch.outcome), applied) its))
-    (subst (λ (l : List Batch). IsTrue (all_apply p [] (events_of l))) (sym (append-nil log)) apply) more steps
-
-pub steps_apply : (p n : ℕ) (log : List Batch) → AreStepsOn p n [] log → IsTrue (all_apply p [] (events_of log))
-steps_apply p n log steps = steps_apply_on p n [] log refl steps
 
 -- things that end, by their keys, each at the partition of its key
 module _ (ends : ℕ → Event → Bool) (home_of : (p : ℕ) (es : List Event) (key : ℕ) → IsTrue (all_apply p [] es) → 1 ≤ count_by (ends key) es → key / 2 ^ 51 ≡ p) where

@@ -44,7 +44,7 @@ use Rattle.zb_world.specs.declared.entry.Entry.{Entry}
 use Rattle.zb_world.specs.History.{IsSentAmong, IsEntryOf, IsHistory}
 use Rattle.zb_world.proofs.EntryLaws.{part_of_joined, part_of_its, part_of_other}
 use Rattle.zb_world.proofs.HistoryLaws.{history_more, parts_are_steps, sent_still}
-use Rattle.zb_world.proofs.OnceLaws.{steps_apply}
+use Rattle.zb_world.proofs.AppliedStepLaws.{steps_apply}
 
 -- one of several of which something holds
 at_place : {A : Type 0} (P : A → Type 0) (front : List A) (x : A) (more : List A) → AllByRecursion P (front ++ x ∷ more) → P x

@@ -1,5 +1,5 @@
 -- What a log says of a subscription is what its events tell of it.
-use Rattle.std.proofs.Common.{◌≡◌, ◌⊎◌, ℕ, ◌==◌, List, [], ◌∷◌, ◌++◌, map, filter, is_some, Bool, true, false, if◌then◌else◌, IsTrue, Option, Some, None, option_and_then, refl, inl, inr, ap, ◌∙◌, subst, append-nil, append_assoc}
+use Rattle.std.proofs.Common.{◌≡◌, ◌⊎◌, ℕ, ◌==◌, List, [], ◌∷◌, ◌++◌, map, filter, is_some, Bool, true, false, if◌then◌else◌, IsTrue, Option, Some, None, option_and_then, refl, inl, inr, sym, ap, ◌∙◌, subst, append-nil, append_assoc}
 use Rattle.std.specs.List.{find}
 use Rattle.std.specs.Option.{option_map_or}
 use Rattle.std.proofs.lemmas.Bool.{and_parts}
@@ -19,7 +19,7 @@ use Rattle.zb_world.specs.Tellings.{tells}
 use Rattle.zb_world.proofs.MessageViewLaws.{turned}
 
 -- the terms of a subscription that is there
-abbrev terms_in : Subscription → Terms
+abbrev pub terms_in : Subscription → Terms
 terms_in r = record { name = r.name; correlation_key = r.correlation_key; process = r.process; cancel = r.cancel }
 
 module _ (s : ℕ) where
@@ -64,7 +64,7 @@ module _ (s : ℕ) where
   not_more (Deleted key) c none = or_false (s == key)
   not_more _ c none = inl refl
 
-  still_out : (told : List Telling) (t : Telling) → terms_told s t ≡ None → is_there s told ≡ false → is_there s (told ++ t ∷ []) ≡ false
+  pub still_out : (told : List Telling) (t : Telling) → terms_told s t ≡ None → is_there s told ≡ false → is_there s (told ++ t ∷ []) ≡ false
   still_out told t none out = rw (said_last_more (terms_told s) told t, none, said_last_more (presence_told s (cancels s told)) told t) (elim (not_more t (cancels s told) none) [
     | inl nothing ↦ rw nothing out
     | inr gone ↦ rw gone refl
@@ -241,3 +241,11 @@ module _ (s : ℕ) where
       by_row : (row : Option Subscription) → Tells (map tells es) row → task_of s (map tells es) ≡ option_and_then (λ r. r.correlating) row
       by_row None is = rw is refl
       by_row (Some r) is = rw (is.0, is.1, is.2) refl
+
+  -- and has the terms of the one that is there
+  pub terms_there : (es : List Event) → IsTrue (all_open_new [] es) → (r : Subscription) → subscription_at s es ≡ Some r → terms_of s (map tells es) ≡ Some (terms_in r)
+  terms_there es fit r at = let f = found_in es fit in by_row f.row f.tells (sym (found_alone (subscriptions es) f.row f.alone) ∙ at)
+    where
+      by_row : (row : Option Subscription) → Tells (map tells es) row → row ≡ Some r → terms_of s (map tells es) ≡ Some (terms_in r)
+      by_row None is same = absurd (cc)
+      by_row (Some x) is same = let one : x ≡ r = cc in is.0 ∙ ap (λ (y : Subscription). Some (terms_in y)) one

@@ -38,6 +38,7 @@ use Rattle.zb_world.specs.declared.entry.Entry.{Entry}
 use Rattle.zb_world.specs.History.{IsEntryOf, IsHistory}
 use Rattle.zb_world.specs.Once.{opens_for, defines, correlates}
 use Rattle.zb_world.specs.Tellings.{tells, asks, refusal_by, deed_of}
+use Rattle.zb_world.proofs.HistoryLaws.{history_front, parts_are_steps}
 use Rattle.zb_world.proofs.MessageStepLaws.{step_of_messages}
 
 -- of mapped lists
@@ -232,9 +233,9 @@ module _ (n : ℕ) where
   by_packet _ is = absurd (cc)
 
   -- an entry that may be the next one is a deed that may be
-  deed_is_next : (before : List Entry) (entry : Entry) → IsEntryOf n before entry → IsNextDeed n (map deed_of before) (deed_of entry)
-  deed_is_next before entry is = record {
-    step = rw (tellings_are entry.partition before) (step_of_messages n entry.partition (part_of entry.partition before) entry.batch is.partition is.step);
+  deed_is_next : (before : List Entry) (entry : Entry) → IsHistory n before → IsEntryOf n before entry → IsNextDeed n (map deed_of before) (deed_of entry)
+  deed_is_next before entry history is = record {
+    step = rw (tellings_are entry.partition before) (step_of_messages n entry.partition (part_of entry.partition before) entry.batch is.partition (parts_are_steps n entry.partition before history) is.step);
     begin = rw (length_mapped deed_of before) (is.begin);
     letter = λ by.
         let was = is.packet (by_packet entry.batch.command by) in
@@ -252,7 +253,7 @@ module _ (n : ℕ) where
   pub history_of_messages : (h : List Entry) → IsHistory n h → IsMessageHistory n (map deed_of h)
   history_of_messages h is k deed at =
       let r = mapped_at deed_of h k deed at in
-      rw (take_mapped deed_of k h) (subst (IsNextDeed n (map deed_of (take k h))) r.2 (deed_is_next (take k h) r.0 (is k r.0 r.1)))
+      rw (take_mapped deed_of k h) (subst (IsNextDeed n (map deed_of (take k h))) r.2 (deed_is_next (take k h) r.0 (history_front n h k is) (is k r.0 r.1)))
 
   -- and each message is correlated with a process at most once
   pub messages_once : (h : List Entry) → IsHistory n h → (message : ℕ) (process : List ℕ) → AtMostOne (correlates (happenings h) message process) (happenings h)

@@ -46,10 +46,11 @@ pub fn cuts_are_histories()
     ensures whole { (n : ℕ) (h : List Entry) → IsCutAt n (length h) h h }
 {}
 
-/// A step of one of n partitions does to messages what a step may: each of its events tells what may be told behind those
-/// before it, by what its command asks, and the command is replied to as these say.
+/// A step of one of n partitions behind a log of steps does to messages what a step may: each of its events tells what may
+/// be told behind those before it, by what its command asks, and the command is replied to as these say.
 pub fn steps_are_message_steps()
-    ensures { (n p : ℕ) (log : List Batch) (batch : Batch) → IsPartitionOf n p → IsStep p n log batch
+    ensures { (n p : ℕ) (log : List Batch) (batch : Batch) → IsPartitionOf n p
+        → AreStepsOn p n [] log → IsStep p n log batch
         → IsMessageStep n p (map tells (events_of log)) (asks batch.command)
         (refusal_by batch.command batch.outcome) (map tells (events_in batch.outcome)) }
 {}

@@ -1,6 +1,6 @@
 // What events ask of the messages that start instances, and what they change of those.
-ghost use Rattle.std.specs.Prelude.{◌≡◌, ◌==◌, ◌&&◌, List, IsTrue, IfOk};
-ghost use Rattle.std.specs.Option.{option_copied};
+ghost use Rattle.std.specs.Prelude.{◌≡◌, ◌==◌, ◌&&◌, List, Some, IsTrue, IfOk};
+ghost use Rattle.std.specs.Option.{option_copied, option_map_or};
 ghost use Rattle.std.specs.Str.{bytes_eq};
 ghost use Rattle.zb_model.specs.declared.record.Event.{Event};
 ghost use Rattle.zb_model.specs.declared.record.Event.TheVariants as events;
@@ -9,13 +9,15 @@ ghost use Rattle.zb_rules.specs.Applies.{is_fresh, begins_start, starts_with};
 ghost use Rattle.zb_rules.specs.Starts.{may_start};
 ghost use Rattle.zb_state.specs.State.{partition_of, IsStateOf};
 ghost use Rattle.zb_state.specs.Changes.{change_by};
-ghost use Rattle.zb_state.specs.Starts.{starter_among, locked_by, begin_by};
+ghost use Rattle.zb_views.specs.Subscriptions as subscriptions;
+ghost use Rattle.zb_starts.specs.declared.change.Change.TheVariants as changes;
+ghost use Rattle.zb_state.specs.Starts.{starter_among, locked_by, lock_of, begin_by};
 ghost use Rattle.zb_state.specs.Tables.{IsNext};
 
 use crate::Facts;
 use std::alloc::{AllocError, Global};
 use zb_model::{
-    ElementActivating, Event, Key, MessagePublished, MessageStartEventSubscriptionCorrelated,
+    ElementActivating, Event, Key, MessagePublished, MessageStartEventSubscriptionCorrelated, Text,
     TryCopy,
 };
 use zb_starts::Change;
@@ -85,6 +87,12 @@ impl Facts {
             Event::MessageStartEventSubscriptionCorrelated(start) => {
                 self.locked_by(alloc, start.message, start.definition)
             }
+            Event::MessageSubscriptionCorrelating(begun) => {
+                Ok(locks(self.lock_of(alloc, begun.subscription, begun.message)?))
+            }
+            Event::MessageSubscriptionRejected(told) => {
+                Ok(frees(self.lock_of(alloc, told.subscription, told.message)?))
+            }
             Event::MessageExpired(message) => Ok(Change::Expired(*message)),
             Event::ElementActivating(element) => self.begun_by(alloc, element),
             Event::ElementCompleted(element) => Ok(Change::Ended(element.key)),
@@ -103,6 +111,21 @@ impl Facts {
                 process: graph.model().process.copy(alloc)?,
             })),
             None => Ok(Change::Nothing),
+        }
+    }
+
+    // The lock of a message for the process of a subscription, if that is there.
+    fn lock_of(
+        &self,
+        alloc: Global,
+        subscription: Key,
+        message: Key,
+    ) -> Result<Option<Lock>, AllocError>
+        ensures { IfOk result (λ lock. lock ≡ lock_of self.now.tables.subscriptions subscription message) }
+    {
+        match self.tables.subscriptions.get(subscription) {
+            Some(found) => lock_for(alloc, message, found.process.as_str()),
+            None => Ok(None),
         }
     }
 
@@ -125,5 +148,33 @@ impl Facts {
             })),
             None => Ok(Change::Nothing),
         }
+    }
+}
+
+// The lock of a message for a process.
+fn lock_for(alloc: Global, message: Key, process: &str) -> Result<Option<Lock>, AllocError>
+    ensures { IfOk result (λ lock. lock ≡ Some (subscriptions.lock_for message process.now)) }
+{
+    let process = Text::of(alloc, process)?;
+    Ok(Some(Lock { message, process }))
+}
+
+// A lock is set, if there is one.
+fn locks(lock: Option<Lock>) -> Change
+    ensures { result ≡ option_map_or (λ l. changes.Locked l) lock changes.Nothing }
+{
+    match lock {
+        Some(lock) => Change::Locked(lock),
+        None => Change::Nothing,
+    }
+}
+
+// A lock is freed, if there is one.
+fn frees(lock: Option<Lock>) -> Change
+    ensures { result ≡ option_map_or (λ l. changes.Freed l) lock changes.Nothing }
+{
+    match lock {
+        Some(lock) => Change::Freed(lock),
+        None => Change::Nothing,
     }
 }

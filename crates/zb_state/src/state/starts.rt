@@ -88,8 +88,8 @@ impl State {
     }
 }
 
-// The first of some keys under which no message is locked for a process.
-fn first_free(keys: &[Key], locks: &Locks, process: &str) -> Option<Key>
+/// The first of some keys under which no message is locked for a process.
+pub(super) fn first_free(keys: &[Key], locks: &Locks, process: &str) -> Option<Key>
     ensures { result ≡ find (λ k. not (list_any (is_lock k process.now) locks.now)) keys.now }
 {
     for key in keys {

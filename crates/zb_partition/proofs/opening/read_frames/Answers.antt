@@ -49,3 +49,8 @@ loop-known-preserved g c =
       reads = reads_then g.D.Disk (disk_of_scan c.args.scan.now) (disk_of_scan c.loop-known.scan) (disk_of_scan c.read_next.new.scan) before.reads said.reads;
       steady = λ counts. said.steady counts ∙ before.steady counts;
     }
+
+-- the frames before the fault were only read, and its own was too
+pub returns-in-Err-clause-reads : goal.returns-in-Err-clause-reads
+returns-in-Err-clause-reads g c =
+    reads_then g.D.Disk (disk_of_scan c.args.scan.now) (disk_of_scan c.loop-known.scan) (disk_of_scan c.read_next.new.scan) c.loop-known.invariant.reads c.in-Err.ensures.reads

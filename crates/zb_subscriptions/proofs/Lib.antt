@@ -1,0 +1,5 @@
+mod ListedLemmas
+pub mod FindLemmas
+mod OpenedLemmas
+mod ListingLemmas
+mod TakenLemmas
