@@ -10,6 +10,8 @@ mod disks;
 #[cfg(test)]
 mod histories;
 #[cfg(test)]
+mod homes;
+#[cfg(test)]
 mod logs;
 #[cfg(test)]
 mod models;
