@@ -1,9 +1,10 @@
 #!/usr/bin/env bash
 # Measures what a publish costs that starts an instance, of a start event, a flow and an end event. First against one
 # publish that starts none and one create of a like process. Then where few messages of other names are buffered, and
-# where many are. It is the processor time, user and system, of the built server on a file system in memory, in
-# microseconds; what the lines before take is taken off. Both sides come in turn, five times; it prints the medians and
-# what part of the one the other is. It is no test. ZBD in the environment names another server.
+# where many are. Last where few subscriptions wait for messages of that name and other correlation keys, and where many
+# do, in a log that is made by hand. It is the processor time, user and system, of the built server on a file system in
+# memory, in microseconds; what the log and the lines before take is taken off. Both sides come in turn, five times; it
+# prints the medians and what part of the one the other is. It is no test. ZBD in the environment names another server.
 # usage: bench/starts.sh [PUBLISHES] [FEW] [MANY] [DIRECTORY IN MEMORY]
 set -euo pipefail
 top=$(cd "$(dirname "$0")/.." && pwd)
@@ -38,10 +39,32 @@ lines() {
     }'
 }
 
-# spent BUFFERED STARTS PLAIN: the processor time that these lines take from an empty log on
+# subscribed OPEN: a log in which so many subscriptions of the process m are open, each for a correlation key of its own
+subscribed() {
+    python3 - "$1" <<'END'
+import struct
+import sys
+
+def text(it):
+    return struct.pack(">I", len(it)) + it.encode()
+
+def batch(number):
+    opened = struct.pack(">Q", 2**51 + number) + text("paid") + text(f"w-{number}") + text("m") + b"\1"
+    return b"\1" + struct.pack(">QQ", 0, number - 1) + b"\x13" + opened + b"\1" + struct.pack(">I", 1) + b"\x20" + opened
+
+for number in range(1, int(sys.argv[1]) + 1):
+    body = batch(number)
+    sys.stdout.buffer.write(b"\1" + struct.pack(">Q", len(body)) + body)
+sys.stdout.buffer.write(b"\0")
+END
+}
+
+# spent OPEN BUFFERED STARTS PLAIN: the processor time that these lines take from a log with so many subscriptions on
 spent() {
     rm -rf "$memory/zb"
-    lines "$@" >"$memory/lines"
+    mkdir "$memory/zb"
+    subscribed "$1" >"$memory/zb/1.log"
+    lines "${@:2}" >"$memory/lines"
     { time "$server" serve --clock manual --dir "$memory/zb" <"$memory/lines" >"$memory/replies" 2>"$memory/told"; } 2>"$memory/time"
     [ "$(grep -c '"ok"' "$memory/replies")" -eq "$(wc -l <"$memory/lines")" ] || { echo 'bench: not every line was done' >&2; exit 1; }
     awk '{ print $1 + $2 }' "$memory/time"
@@ -50,10 +73,10 @@ spent() {
 # median NUMBER..: the one in the middle
 median() { printf '%s\n' "$@" | sort -g | awk '{ n[NR] = $1 } END { print n[int((NR + 1) / 2)] }'; }
 
-# cost BUFFERED STARTS PLAIN: microseconds of one of these publishes, or of one pair, behind so many messages
+# cost OPEN BUFFERED STARTS PLAIN: microseconds of one of these publishes, or of one pair, behind so many messages
 cost() {
     local before behind
-    before=$(spent "$1" 0 0)
+    before=$(spent "$1" "$2" 0 0)
     behind=$(spent "$@")
     awk -v b="$before" -v a="$behind" -v n="$publishes" 'BEGIN { print (a - b) * 1000000 / n }'
 }
@@ -66,16 +89,19 @@ told() {
 }
 
 # each of the publishes is to start an instance
-spent 0 "$publishes" 0 >/dev/null
+spent "$few" 0 "$publishes" 0 >/dev/null
 [ "$("$server" log --dir "$memory/zb" --partition 1 | grep -c 'EVENT MESSAGE_START_EVENT_SUBSCRIPTION CORRELATED ')" -eq "$publishes" ] ||
     { echo 'bench: not every publish starts an instance' >&2; exit 1; }
 
-starting=() plain=() at_few=() at_many=()
+starting=() plain=() at_few=() at_many=() open_few=() open_many=()
 for _ in 1 2 3 4 5; do
-    starting+=("$(cost 0 "$publishes" 0)")
-    plain+=("$(cost 0 0 "$publishes")")
-    at_few+=("$(cost "$few" "$publishes" 0)")
-    at_many+=("$(cost "$many" "$publishes" 0)")
+    starting+=("$(cost 0 0 "$publishes" 0)")
+    plain+=("$(cost 0 0 0 "$publishes")")
+    at_few+=("$(cost 0 "$few" "$publishes" 0)")
+    at_many+=("$(cost 0 "$many" "$publishes" 0)")
+    open_few+=("$(cost "$few" 0 "$publishes" 0)")
+    open_many+=("$(cost "$many" 0 "$publishes" 0)")
 done
 told 'a publish that starts an instance' 1.1 "$(median "${starting[@]}")" 'a publish and a create' "$(median "${plain[@]}")"
 told "it where $many messages of other names are buffered" 1.3 "$(median "${at_many[@]}")" "where $few are" "$(median "${at_few[@]}")"
+told "it where $many subscriptions are open" 1.3 "$(median "${open_many[@]}")" "where $few are" "$(median "${open_few[@]}")"
