@@ -3,15 +3,14 @@
 ghost use Rattle.zb_rules.specs.Own.{IsSupported};
 
 use std::alloc::{AllocError, Global};
-use std::mem::forget;
 use std::process::Abort;
 use zb_disk::MemDisk;
 use zb_model::{
-    Command, Event, Key, List, MessageCorrelation, MessagePublish, MessageSubscription,
+    Batch, Command, Event, Key, List, MessageCorrelation, MessagePublish, MessageSubscription,
     MessageSubscriptionDelete, Moment, Outcome, PartitionId, RejectionKind, SubscribedMessage,
     Text, Vars,
 };
-use zb_partition::Partition;
+use zb_partition::{Partition, Stopped};
 use zb_store::Volume;
 
 // What the partition is asked, where 5, 6 and 8 are the counters of the keys that partition 2 has drawn for subscriptions,
@@ -408,10 +407,7 @@ fn home(rt: &impl Abort, alloc: Global) -> Partition<MemDisk> {
     };
     match Partition::open(alloc, volume, PartitionId::new(1), 2, 1_000_000) {
         Ok(home) => home,
-        Err(refused) => {
-            forget(refused);
-            panic!(rt; "a partition that can't be opened")
-        }
+        Err(_) => panic!(rt; "a partition that can't be opened"),
     }
 }
 
@@ -422,7 +418,7 @@ fn told(rt: &impl Abort, alloc: Global, home: &mut Partition<MemDisk>, asked: As
     match home.submit(alloc, Moment::new(0), 0, command(rt, alloc, asked)) {
         Ok(batch) => {
             put_outcome(&mut text, &batch.outcome).expect(rt, "memory");
-            forget(batch);
+            batch.discard();
         }
         Err(_) => panic!(rt; "the partition stops"),
     }
@@ -438,7 +434,9 @@ fn holds(rt: &impl Abort, alloc: Global, before: &[Asked], case: &Case) -> bool 
     }
     let is_so = told(rt, alloc, &mut home, asked).as_str() == once
         && told(rt, alloc, &mut home, asked).as_str() == again;
-    forget(home);
+    let Stopped { volume, in_writing } = home.stopped();
+    Batch::discard_any(in_writing);
+    drop(volume);
     is_so
 }
 
