@@ -45,7 +45,7 @@ the flow by which the token came, its id, a text = flow text
 the correlation key of the message that started the instance, a text = started filled
 the subscription's key = subscription key; the messages that were kept, a list of their keys = messages keys
 the name, the correlation key and the id of the process, texts = name text, correlationKey text, process text
-a flag, whether it ends with the first message that was taken = cancel flag
+a flag, whether it ends with the first message that was taken = cancel flag; the correlation key, a text = correlationKey text
 """
 # the kinds of nodes, as the page tells them: in a request, the definition of the event, and the field in that
 NODES = {
@@ -57,6 +57,8 @@ NODES = {
     "a catch event with a duration": ("intermediateCatchEvent", "timerEventDefinition", "timeDuration"),
     "a boundary event with a date": ("boundaryEvent", "timerEventDefinition", "timeDate"),
     "a boundary event with a duration": ("boundaryEvent", "timerEventDefinition", "timeDuration"),
+    "a catch event with a message": ("intermediateCatchEvent", "messageEventDefinition", "correlationKey"),
+    "a boundary event with a message": ("boundaryEvent", "messageEventDefinition", "correlationKey"),
     "a boundary event for an error": ("boundaryEvent", "errorEventDefinition", "errorCode"),
 }
 OPERATORS = ["+", "-", "*", "=", "!=", "<", "<=", ">", ">=", "and", "or"]
@@ -194,13 +196,14 @@ class Reader:
         kind, *event = NODES[self.of(LAYOUT["kind of node"], "kind of node")]
         node["kind"] = kind
         host, task, error, timer = kind == "boundaryEvent", kind == "serviceTask", "errorCode" in event, "timerEventDefinition" in event
-        message = "messageEventDefinition" in event
+        message, keyed = "messageEventDefinition" in event, "correlationKey" in event
         parent, attached, interrupts, default, named = self.plain(), self.plain(), self.truth(), self.plain(), self.plain()
         self.wants(host == bool(attached) and interrupts <= host, f"an activity at {node}")
         self.wants(not default or kind == "exclusiveGateway", f"a default flow at {node}")
         self.wants(task or error or message or not named, f"a type, a code or a name at {node}")
-        self.wants(self.truth() == timer, f"a time at {node}")
-        about = {event[1]: self.source()} if timer else {event[1]: named} if message or (error and named) else {}
+        self.wants(self.truth() == (timer or keyed), f"a time or a correlation key at {node}")
+        source = {event[1]: self.source()} if timer or keyed else {}
+        about = {"name": named, **source} if keyed else source or ({event[1]: named} if message or (error and named) else {})
         retries = self.unsigned(4)
         self.wants(task or retries == 0, f"retries at {node}")
         self.wants(self.take(2) == b"\0\0", f"fields of no kind at {node}")

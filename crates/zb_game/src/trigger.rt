@@ -14,11 +14,11 @@ use zb_base::Key;
 use zb_board::{Game, GameFault, chooses_by_event, error_of, is_unset};
 use zb_faults::is_boundary_of;
 use zb_graph::Graph;
-use zb_tokens::{Cell, Mark, Phase, Spot, Token, Triggered};
-use zb_values::{awaits_time, waits_itself_at};
+use zb_tokens::{Catch, Cell, Mark, Phase, Spot, Token, Triggered};
+use zb_values::{awaits, waits_itself_at};
 
 /// Whether a cell waits for the event of a node: it is active, not called off, was told nothing so far, or of an
-/// error, and waits for the timer of this node. That is its own one, one at its boundary, or one to which a flow
+/// error, and waits for a time or a message at this node. That is its own one, one at its boundary, or one to which a flow
 /// leads from it, where it is at an event gateway. The cell, its model and the node are found as in `fits`; at an
 /// event gateway it goes through the flows into the node. Where a cell is terminating or ended, it goes up the scopes
 /// too.
@@ -35,25 +35,26 @@ pub fn waits_at(game: &Game, cell: Key, node: &str) -> bool
 fn waits_for(game: &Game, cell: &Cell, node: &str) -> bool
     ensures { result ≡ awaits_event game.now (record { cell = cell.now.key; node = node.now }) cell.now }
 {
-    may_be_told(game, cell) && awaits_time(game, cell, node)
+    may_be_told(game, cell)
+        && (awaits(game, cell, Catch::Time, node) || awaits(game, cell, Catch::Message, node))
 }
 
-/// Whether a timer may open at a node for a cell: it is active, and waits for the timer of this node. It costs what
-/// `waits_at` does, but never goes up the scopes.
-pub fn may_open(game: &Game, cell: Key, node: &str) -> bool
-    ensures { result ≡ may_open_at cell node.now game.now }
+/// Whether a catch may open at a node for a cell: the cell is active, and waits for a time or a message at this node.
+/// It costs what `waits_at` does, but never goes up the scopes.
+pub fn may_open(game: &Game, cell: Key, catch: Catch, node: &str) -> bool
+    ensures { result ≡ may_open_at catch cell node.now game.now }
 {
     match game.cell(cell) {
-        Some(cell) => opens_at(game, cell, node),
+        Some(cell) => opens_at(game, cell, catch, node),
         None => false,
     }
 }
 
 // Whether one may for this cell.
-fn opens_at(game: &Game, cell: &Cell, node: &str) -> bool
-    ensures { result ≡ opens_at node.now game.now cell.now }
+fn opens_at(game: &Game, cell: &Cell, catch: Catch, node: &str) -> bool
+    ensures { result ≡ opens_at catch node.now game.now cell.now }
 {
-    cell.phase == Phase::Active && awaits_time(game, cell, node)
+    cell.phase == Phase::Active && awaits(game, cell, catch, node)
 }
 
 /// Whether the event of a node interrupts a cell, if it comes about there: the cell isn't told of it, and it is a

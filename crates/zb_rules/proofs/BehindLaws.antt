@@ -8,6 +8,7 @@ use Rattle.zb_model.specs.declared.record.Event.TheVariants as events
 use Rattle.zb_model.specs.declared.record.RejectionKind.TheVariants as kinds
 use Rattle.zb_tokens.specs.declared.board.Incident.{Incident}
 use Rattle.zb_tokens.specs.declared.board.Move.TheVariants as moves
+use Rattle.zb_tokens.specs.declared.board.Catch.TheVariants as catches
 use Rattle.zb_tokens.specs.declared.board.Cell.{Cell}
 use Rattle.zb_tokens.specs.declared.board.Opening.{Opening}
 use Rattle.zb_tokens.specs.declared.board.Phase.TheVariants as phases
@@ -131,7 +132,7 @@ module _ (p : ℕ) (es : List Event) (b : Board) (is : board_of es ≡ Some b) w
   openings_are moment cell = ap (λ (o : Option Board). each_made (timer_opened p cell) (option_map_or (λ x. openings_at x moment cell) o []) es) is
 
 -- timers that may open are made one after the other, where there are keys for them
-each_opened : (p cell : ℕ) (b : Board) (os : List Opening) (es : List Event) → board_of es ≡ Some b → All (λ (o : Opening). IsTrue (may_open_at cell o.node b)) os → HasKeys p es (length os)
+each_opened : (p cell : ℕ) (b : Board) (os : List Opening) (es : List Event) → board_of es ≡ Some b → All (λ (o : Opening). IsTrue (may_open_at catches.Time cell o.node b)) os → HasKeys p es (length os)
     → counter_at p cell ≤ greatest_counter p es → IsTrue (all_apply p es (each_made (timer_opened p cell) os es))
 each_opened p cell b [] es is may keys counted = refl
 each_opened p cell b (o ∷ os) es is may keys counted =
@@ -140,12 +141,12 @@ each_opened p cell b (o ∷ os) es is may keys counted =
     let e = events.TimerCreated c in
     let one : HasKeys p es 1 = omega (arith, keys) in
     let fresh : IsTrue (is_fresh p es key) = fresh_from p es one in
-    let opens : IsTrue (holds_of_game (may_open c) es) = game_holds_from (may_open c) es b is (All-head (λ (x : Opening). IsTrue (may_open_at cell x.node b)) o os may) in
+    let opens : IsTrue (holds_of_game (may_open c) es) = game_holds_from (may_open c) es b is (All-head (λ (x : Opening). IsTrue (may_open_at catches.Time cell x.node b)) o os may) in
     let first : IsTrue (applies p es e) = silent_applies p es b e is (rw (fresh, opens) refl) refl in
     let drawn : counter_at p key ≡ greatest_counter p es + 1 = next_counted p es one in
     let more = one_more p es e (length os) (omega (arith, keys)) (omega (arith, counted, drawn)) in
     let grown = greatest_counter_more p es (e ∷ []) in
-    let rest = each_opened p cell b os (es ++ e ∷ []) (board_after es b b e is refl) (All-tail (λ (x : Opening). IsTrue (may_open_at cell x.node b)) o os may) more (omega (arith, counted, grown)) in
+    let rest = each_opened p cell b os (es ++ e ∷ []) (board_after es b b e is refl) (All-tail (λ (x : Opening). IsTrue (may_open_at catches.Time cell x.node b)) o os may) more (omega (arith, counted, grown)) in
     rw first rest
 
 module _ (p : ℕ) (es : List Event) (b : Board) (is : board_of es ≡ Some b) (moment cell : ℕ) (keys : HasKeys p es (most_nodes + 1)) (counted : counter_at p cell ≤ greatest_counter p es) where

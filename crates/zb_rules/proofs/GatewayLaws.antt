@@ -29,7 +29,8 @@ use Rattle.zb_tokens.specs.MoveTrigger.{awaits_event, fits_trigger, is_gateway_c
 use Rattle.zb_process.specs.declared.model.NodeKind.{NodeKind}
 use Rattle.zb_process.specs.declared.model.NodeKind.TheVariants as kinds
 use Rattle.zb_rules.proofs.CatchLaws.{ComesAbout, waits_or_catches, caught_node}
-use Rattle.zb_tokens.specs.Catches.{awaits_time}
+use Rattle.zb_tokens.specs.declared.board.Catch.TheVariants as catches
+use Rattle.zb_tokens.specs.Catches.{awaits}
 use Rattle.zb_tokens.specs.Doom.{is_doomed}
 use Rattle.zb_tokens.specs.Marks.{error_of, has_come_about, is_unset}
 use Rattle.zb_tokens.specs.declared.board.Triggered.{Triggered}
@@ -156,7 +157,7 @@ told_once b t c found gateway come = by_test (fits_trigger b t) refl
         let apart = come_apart c.mark come in
         let unset = apart.0 in
         let error = apart.1 in
-        let none : awaits_event b t c ≡ false = rw (unset, error) (none_of_both (is_phase c.phase phases.Active && not (is_doomed b c)) (awaits_time b c t.node)) in
+        let none : awaits_event b t c ≡ false = rw (unset, error) (none_of_both (is_phase c.phase phases.Active && not (is_doomed b c)) (awaits catches.Time b c t.node || awaits catches.Message b c t.node)) in
         cc
 
     no_gateway : (kind : NodeKind) → IsTrue (is_activity kind) → is_event_gateway kind ≡ false

@@ -21,6 +21,7 @@ use Rattle.zb_views.specs.Jobs.{job_on, job_at, offered}
 use Rattle.zb_views.specs.Timers.{timer_at, timers, timers_on}
 use Rattle.zb_views.specs.Messages.{message_at}
 use Rattle.zb_views.specs.Subscriptions.{wants_messages, subscriptions, subscription_at, opened_in}
+use Rattle.zb_views.specs.ProcessSubscriptions.{process_subscription_at}
 use Rattle.zb_views.specs.declared.subscription.Subscription.{Subscription}
 use Rattle.zb_views.specs.View.{events_in, next_key}
 use Rattle.zb_tokens.specs.declared.board.Assignments.{Assignments}
@@ -56,6 +57,7 @@ use Rattle.zb_rules.specs.Resolve.{incident_in}
 use Rattle.zb_rules.specs.Settling.{in_events, turn_of, turn, AreTurns, joined}
 use Rattle.zb_rules.specs.Shown.{board_of, event_of}
 use Rattle.zb_rules.specs.Step.{IsAcceptance, IsOutcomeBy, IsOutcomeOf}
+use Rattle.zb_rules.specs.Receive.{closing_of, closed_after, brought, event_of_subscription, receive_events}
 use Rattle.zb_rules.specs.Trigger.{event_of_timer, trigger_events}
 use Rattle.zb_rules.specs.Update.{is_named_in, set_in, place_of, set_by, set_each}
 use Rattle.zb_rules.proofs.MadeLaws.{made_of_any, mapped_holds, mapped_passes, chained_holds}
@@ -79,7 +81,7 @@ abbrev pub Makes : (Event → Bool) → Making → Type 0
 Makes kind make = (before : List Event) → EachOf kind (make before)
 
 module _ (kind : Event → Bool) where
-  then_makes : (first second : Making) → Makes kind first → Makes kind second → Makes kind (and_then first second)
+  pub then_makes : (first second : Making) → Makes kind first → Makes kind second → Makes kind (and_then first second)
   then_makes first second one two before = all_joined (λ e. IsTrue (kind e)) (first before) (second (before ++ first before)) (one before) (two (before ++ first before))
 
   each_makes : {A : Type 0} (make : A → Making) → ((x : A) → Makes kind (make x)) → (xs : List A) → Makes kind (each_made make xs)
@@ -109,14 +111,14 @@ set_makes : (local : Bool) (scope : ℕ) (vs : List Variable) → Makes sets_var
 set_makes local scope vs = each_makes sets_variable (set_by local scope)
     (λ v before. some_are sets_variable (λ cell. set_in cell v before) (λ cell. tested_are sets_variable (holds_of_game (is_named_in cell v.name) before) _ _ (refl, tt) (refl, tt)) (place_of local scope v.name before)) vs
 
-assigning_makes : (assignments : Option Assignments) → Makes sets_variable (assigning assignments)
+pub assigning_makes : (assignments : Option Assignments) → Makes sets_variable (assigning assignments)
 assigning_makes assignments before = some_are sets_variable (λ s. set_all s before) (λ s. set_makes s.local s.scope s.variables before) assignments
 
 -- the events in front of that of a move set variables
 pub front_are : (b : Board) (move : Move) → Makes sets_variable (events_in_front b move)
 front_are b move = assigning_makes (assignments_of b move)
 
-variable_beside : (e : Event) → IsTrue (sets_variable e) → IsTrue (comes_beside e)
+pub variable_beside : (e : Event) → IsTrue (sets_variable e) → IsTrue (comes_beside e)
 variable_beside (events.VariableCreated e) sets = refl
 variable_beside (events.VariableUpdated e) sets = refl
 variable_beside e sets = absurd (cc)
@@ -159,11 +161,11 @@ or_follows : (e : Event) → (comes_beside e || may_follow e) ≡ may_follow e
 or_follows (events.ElementActivating e) = refl
 or_follows e = refl
 
-beside_follows : (e : Event) → IsTrue (comes_beside e) → IsTrue (may_follow e)
+pub beside_follows : (e : Event) → IsTrue (comes_beside e) → IsTrue (may_follow e)
 beside_follows e beside = sym (or_follows e) ∙ or_left (comes_beside e) (may_follow e) beside
 
 -- an event of a kind, and those behind it, where what may stand beside one is of that kind
-with_behind : (kind : Event → Bool) → ((e : Event) → IsTrue (comes_beside e) → IsTrue (kind e)) → (p moment : ℕ) (e : Event) → IsTrue (kind e) → Makes kind (with_events_behind p moment e)
+pub with_behind : (kind : Event → Bool) → ((e : Event) → IsTrue (comes_beside e) → IsTrue (kind e)) → (p moment : ℕ) (e : Event) → IsTrue (kind e) → Makes kind (with_events_behind p moment e)
 with_behind kind beside p moment e is before = (is, all_weaker _ _ beside (events_behind p moment before e (before ++ e ∷ [])) (behind_beside p moment before e (before ++ e ∷ [])))
 
 -- the event of a forced move may follow
@@ -266,6 +268,17 @@ own_makes p n moment (commands.MessageSubscriptionDelete c) = let kind = own_kin
     deleted_are kind c before (Some m) =
         let e = events.MessageSubscriptionRejected (record { subscription = c.subscription; message = m }) in
         (refl, (refl, passed_makes (own_kind (commands.MessageSubscriptionDelete c)) (λ x s. refl) c.subscription m ((before ++ e ∷ []) ++ events.MessageSubscriptionDeleted c.subscription ∷ [])))
+own_makes p n moment (commands.ProcessMessageSubscriptionCorrelate c) = let command = commands.ProcessMessageSubscriptionCorrelate c in
+    λ before. made_of_any (EachOf (own_kind command)) (λ s. receive_events p moment c s before) (process_subscription_at c.subscription before) tt (λ s found.
+    let brings = brought c.variables s before in
+    let happens = with_events_behind p moment (event_of_subscription s) in (
+      refl,
+      then_makes (own_kind command) (closed_after c.subscription) (and_then (assigning brings) happens)
+          (λ earlier. some_are (own_kind command) (λ s. if s.cancel then closing_of s ∷ [] else []) (λ s. tested_are (own_kind command) s.cancel (closing_of s ∷ []) [] (refl, tt) tt) (process_subscription_at c.subscription earlier))
+          (then_makes (own_kind command) (assigning brings) happens (set_own command (assigning brings) (assigning_makes brings))
+          (with_behind (own_kind command) (beside_own command) p moment (event_of_subscription s) refl))
+          (before ++ events.ProcessMessageSubscriptionCorrelated (record { subscription = c.subscription; message = c.message }) ∷ []),
+    ))
 own_makes p n moment command = search
 
 -- an event of this kind may stand in a step of the command

@@ -52,3 +52,5 @@ pub mod StartLaws
 pub mod StarterLaws
 pub mod LeftLaws
 pub mod CorrelateLaws
+pub mod BlindLaws
+pub mod ReceiveLaws

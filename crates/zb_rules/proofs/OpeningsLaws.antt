@@ -12,10 +12,11 @@ use Rattle.zb_process.specs.declared.model.Model.{Model}
 use Rattle.zb_process.specs.declared.model.Node.{Node}
 use Rattle.zb_duration.specs.declared.form.TimeForm.{TimeForm}
 use Rattle.zb_faults.specs.Faults.{is_well_formed, most_nodes}
+use Rattle.zb_tokens.specs.declared.board.Catch.TheVariants as catches
 use Rattle.zb_tokens.specs.declared.board.Cell.{Cell}
 use Rattle.zb_tokens.specs.declared.board.Opening.{Opening}
 use Rattle.zb_tokens.specs.Board.{Board, model_under, node_with, is_root}
-use Rattle.zb_tokens.specs.Catches.{time_form, due_by, waits_itself, waits_beside, awaited, opening_by, openings_in, openings_of, is_timed_at, awaits_time}
+use Rattle.zb_tokens.specs.Catches.{time_form, due_by, waits_itself, waits_beside, awaited, opening_by, openings_in, openings_of, is_awaited_at, awaits}
 use Rattle.zb_tokens.proofs.GameLaws.{found_passes}
 use Rattle.zb_tokens.specs.Incidents.{Hindrance}
 use Rattle.zb_tokens.proofs.LeaveLaws.{same_bytes}
@@ -67,7 +68,7 @@ fewer_kept keep (x ∷ xs) = by_test (keep x) (fewer_kept keep xs)
 -- in a model without faults, a cell at a node waits for the timer of each of the nodes whose events it waits for
 module _ (m : Model) (formed : IsTrue (is_well_formed m)) (c : Cell) (n : Node) (at : node_with m c.node ≡ Some n) where
   abbrev Timed : Node → Type 0
-  Timed x = IsTrue (is_some (time_form x.kind)) → IsTrue (is_timed_at m c n x.id)
+  Timed x = IsTrue (is_some (time_form x.kind)) → IsTrue (is_awaited_at catches.Time m c n x.id)
 
   own_timed : IsTrue (waits_itself c n) → Timed n
   own_timed itself timed =
@@ -104,7 +105,7 @@ module _ (m : Model) (formed : IsTrue (is_well_formed m)) (c : Cell) (n : Node) 
 -- the timers of a cell open at nodes for whose timer it waits, and there are few
 module _ (b : Board) (moment : ℕ) (c : Cell) (formed : (m : Model) → model_under b c.definition ≡ Some m → IsTrue (is_well_formed m)) (os : List Opening) where
   abbrev Awaited : List ℕ → Type 0
-  Awaited id = IsTrue (awaits_time b c id)
+  Awaited id = IsTrue (awaits catches.Time b c id)
 
   abbrev names : List ℕ → Option Value
   names = value_seen b c.key

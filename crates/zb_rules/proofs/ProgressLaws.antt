@@ -49,7 +49,9 @@ use Rattle.zb_rules.proofs.LegalLaws.{made_legally, own_never, beside_never, leg
 use Rattle.zb_rules.proofs.StepLaws.{all_apply_on, all_legal_on}
 use Rattle.zb_rules.proofs.FrontLaws.{begins_end, front_begins_no_end, in_front}
 use Rattle.zb_rules.specs.Subscribe.{opened, taken, turned_away, unsubscribed}
+use Rattle.zb_rules.specs.Receive.{confirmed, received, forgotten}
 use Rattle.zb_rules.proofs.CorrelateLaws.{open_applies, take_applies, turn_away_applies, delete_applies}
+use Rattle.zb_rules.proofs.ReceiveLaws.{confirm_applies, receive_applies, forget_applies}
 use Rattle.zb_rules.proofs.StartLaws.{publish_applies}
 use Rattle.zb_rules.proofs.BehindLaws.{MayHaveWork, MayRestart, MayFollow, resolve_applies, canceled_apply, behind_apply, sound_over}
 use Rattle.zb_rules.proofs.CellsLaws.{ascend_between}
@@ -371,9 +373,12 @@ own_apply_by p n es b moment (commands.MessageSubscriptionReject c) own is apply
     subst (λ (x : List Event). IsTrue (all_apply p es x)) (let same : turned_away c es ≡ own = cc in same) (turn_away_applies p es apply c none)
 own_apply_by p n es b moment (commands.MessageSubscriptionDelete c) own is apply k knows keys ordered supported none made =
     subst (λ (x : List Event). IsTrue (all_apply p es x)) (let same : unsubscribed c es ≡ own = cc in same) (delete_applies p es apply c none)
-own_apply_by p n es b moment (commands.ProcessMessageSubscriptionCreate key) own is apply k knows keys ordered supported none made = absurd (cc)
-own_apply_by p n es b moment (commands.ProcessMessageSubscriptionCorrelate c) own is apply k knows keys ordered supported none made = absurd (cc)
-own_apply_by p n es b moment (commands.ProcessMessageSubscriptionDelete key) own is apply k knows keys ordered supported none made = absurd (cc)
+own_apply_by p n es b moment (commands.ProcessMessageSubscriptionCreate key) own is apply k knows keys ordered supported none made =
+    subst (λ (x : List Event). IsTrue (all_apply p es x)) (let same : confirmed key es ≡ own = cc in same) (confirm_applies p es b is k key none)
+own_apply_by p n es b moment (commands.ProcessMessageSubscriptionCorrelate c) own is apply k knows keys ordered supported none made =
+    subst (λ (x : List Event). IsTrue (all_apply p es x)) (let same : received p moment c es ≡ own = cc in same) (receive_applies p es b is k moment c none)
+own_apply_by p n es b moment (commands.ProcessMessageSubscriptionDelete key) own is apply k knows keys ordered supported none made =
+    subst (λ (x : List Event). IsTrue (all_apply p es x)) (let same : forgotten key es ≡ own = cc in same) (forget_applies p es b is k key none)
 own_apply_by p n es b moment _ own is apply k knows keys ordered supported none made = absurd supported
 
 -- behind any log whose events apply

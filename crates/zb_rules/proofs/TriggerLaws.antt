@@ -1,4 +1,4 @@
--- The events by which a timer is triggered apply; where a boundary event interrupts its cell, that may begin to terminate.
+-- The event for which a cell waits applies, and so do those by which a timer is triggered; where a boundary event interrupts its cell, that may begin to terminate.
 use Rattle.std.proofs.Common.{◌≡◌, ℕ, ◌==◌, nat_le, List, [], ◌∷◌, ◌++◌, filter, Bool, true, false, cond, ◌&&◌, ◌||◌, not, if◌then◌else◌, IsTrue, is_some, is_none, Option, Some, None, refl, sym, ap, ◌∙◌, subst, arith}
 use Rattle.std.specs.Option.{option_map_or}
 use Rattle.std.specs.List.{find, list_any}
@@ -31,7 +31,8 @@ use Rattle.zb_tokens.specs.Marks.{with_mark}
 use Rattle.zb_tokens.specs.MoveEnter.{stands_at}
 use Rattle.zb_tokens.specs.MoveHalt.{is_alive, interrupts, is_interrupted}
 use Rattle.zb_tokens.specs.MoveTrigger.{comes_about_by, fits_trigger, is_awaited, mark_by, ends_cell, is_interrupting}
-use Rattle.zb_rules.specs.Shown.{board_of, holds_of_game}
+use Rattle.zb_rules.specs.Behind.{with_events_behind}
+use Rattle.zb_rules.specs.Shown.{shown, board_of, holds_of_game}
 use Rattle.zb_rules.specs.Applies.{applies, all_apply}
 use Rattle.zb_rules.proofs.AppliedLaws.{applied_from, applied_board, board_behind, game_holds}
 use Rattle.zb_rules.proofs.MadeLaws.{made_holds}
@@ -115,6 +116,25 @@ told_halts p es b after t k fit led = made_holds b (λ (x : Board). IsTrue (is_i
       λ at ends. cell_halts b t c found (told_runs b (ascend_between 1 (next_key p es) b.cells k.stands.between) k.placed.scopes t c found fit (awaits_active b t c)) (rw found at ends),
     )) led
 
+module _ (p : ℕ) (es : List Event) (b : Board) (is : board_of es ≡ Some b) (k : BoardKeeps p es b) where
+  -- behind an event that applies and shows no move the board is the same
+  pub board_silent : (e : Event) → IsTrue (applies p es e) → shown es e ≡ None → (board_of (es ++ e ∷ []) ≡ Some b) × BoardKeeps p (es ++ e ∷ []) b
+  board_silent e applied shows =
+      let r = applied_board p es b e is applied in
+      let same : b ≡ r.0 = (let h = rw shows at r.1.leads in cc) in
+      (subst (λ (x : Board). board_of (es ++ e ∷ []) ≡ Some x) (sym same) (board_behind p es b e r.0 r.1), subst (λ (x : Board). BoardKeeps p (es ++ e ∷ []) x) (sym same) (keeps_on p es b e r.0 r.1 k))
+
+  -- the event for which a cell waits applies, with those behind it
+  pub awaited_apply : (moment : ℕ) (t : Triggered) → IsTrue (is_awaited b t) → IsTrue (all_apply p es (with_events_behind p moment (events.ProcessEventTriggered (record { cell = t.cell; node = t.node })) es))
+  awaited_apply moment t waits =
+      let e : Event = events.ProcessEventTriggered (record { cell = t.cell; node = t.node }) in
+      let fit : IsTrue (fits_trigger b t) = or_left (is_awaited b t) (list_any (comes_about_by b t) b.cells) waits in
+      let first : IsTrue (applies p es e) = applied_from p es b e (moves.Trigger t) is refl refl fit in
+      let r = applied_board p es b e is first in
+      let keeps = keeps_on p es b e r.0 r.1 k in
+      let may : MayInterrupt p (es ++ e ∷ []) r.0 t.cell t.node = record { halts = told_halts p es b r.0 t k fit r.1.leads; apart = keeps.incidents.apart; timed = keeps.timers } in
+      rw first (behind_apply p moment es e r.0 (board_behind p es b e r.0 r.1) may)
+
 module _ (p moment : ℕ) (es : List Event) (b : Board) (is : board_of es ≡ Some b) (k : BoardKeeps p es b) where
   -- where there is no reason against it, the cell waits for the timer
   waits_by : (t : Timer) (due waits : Bool) → holds_of_game (waits_for t) es ≡ waits
@@ -126,23 +146,11 @@ module _ (p moment : ℕ) (es : List Event) (b : Board) (is : board_of es ≡ So
   told_apply : (t : Timer) → timer_at t.key es ≡ Some t → reason_to_hold es moment t ≡ None → IsTrue (all_apply p es (trigger_events p moment t es))
   told_apply t there none =
       let e : Event = events.TimerTriggered t.key in
-      let f : Event = event_of_timer t in
-      let over = es ++ e ∷ [] in
-      let told : Triggered = record { cell = t.cell; node = t.node } in
       let has : IsTrue (has_timer t.key es) = ap is_some there in
       let first : IsTrue (applies p es e) = silent_applies p es b e is has refl in
-      let r = applied_board p es b e is first in
-      let same : b ≡ r.0 = (let h = r.1.leads in cc) in
-      let over_is : board_of over ≡ Some b = subst (λ (x : Board). board_of over ≡ Some x) (sym same) (board_behind p es b e r.0 r.1) in
-      let kept : BoardKeeps p over b = subst (λ (x : Board). BoardKeeps p over x) (sym same) (keeps_on p es b e r.0 r.1 k) in
+      let over = board_silent p es b is k e first refl in
       let waits : IsTrue (waits_for t b) = game_holds (waits_for t) es b is (waits_by t (nat_le t.due moment) (holds_of_game (waits_for t) es) refl none) in
-      let fit : IsTrue (fits_trigger b told) = or_left (is_awaited b told) (list_any (comes_about_by b told) b.cells) waits in
-      let second : IsTrue (applies p over f) = applied_from p over b f (moves.Trigger told) over_is refl refl fit in
-      let s = applied_board p over b f over_is second in
-      let keeps = keeps_on p over b f s.0 s.1 kept in
-      let may : MayInterrupt p (over ++ f ∷ []) s.0 t.cell t.node = record { halts = told_halts p over b s.0 told kept fit s.1.leads; apart = keeps.incidents.apart; timed = keeps.timers } in
-      let rest = behind_apply p moment over f s.0 (board_behind p over b f s.0 s.1) may in
-      rw (first, second) rest
+      rw first (awaited_apply p (es ++ e ∷ []) b over.0 over.1 moment (record { cell = t.cell; node = t.node }) waits)
 
   found_apply : (key : ℕ) (found : Option Timer) → timer_at key es ≡ found → option_map_or (reason_to_hold es moment) found (Some (record { kind = kinds.NotFound; reason = no_timer key })) ≡ None
       → IsTrue (all_apply p es (option_map_or (λ t. trigger_events p moment t es) found []))

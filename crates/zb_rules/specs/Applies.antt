@@ -26,6 +26,8 @@ use Rattle.zb_rules.specs.Shown.{shown}
 use Rattle.zb_views.specs.Jobs.{is_activated, is_given_out}
 use Rattle.zb_rules.specs.JobEvents.{has_job, is_job_in, begins_job, hands_out, are_jobs, has_cause}
 use Rattle.zb_rules.specs.TimerEvents.{may_open, has_timer}
+use Rattle.zb_rules.specs.WaitEvents.{may_subscribe, is_waiting, is_open}
+use Rattle.zb_views.specs.ProcessSubscriptions.{is_being_created, is_being_deleted}
 use Rattle.zb_tokens.specs.Work.{is_cause_of}
 use Rattle.zb_views.specs.Left.{left, leaves_root, leaves_cancel, leaves_deletion}
 use Rattle.zb_views.specs.Subscriptions.{is_subscribed}
@@ -107,6 +109,11 @@ holds_own p before (events.MessageSubscriptionCorrelating e) = begins_correlatin
 holds_own p before (events.MessageSubscriptionCorrelated e) = is_correlating e.subscription e.message before
 holds_own p before (events.MessageSubscriptionRejected e) = is_correlating e.subscription e.message before
 holds_own p before (events.MessageSubscriptionDeleted key) = is_subscribed key before || leaves_deletion key (left before)
+holds_own p before (events.ProcessMessageSubscriptionCreating e) = is_fresh p before e.subscription && holds_of_game (may_subscribe e) before
+holds_own p before (events.ProcessMessageSubscriptionCreated key) = is_waiting is_being_created key before
+holds_own p before (events.ProcessMessageSubscriptionCorrelated e) = is_waiting is_open e.subscription before
+holds_own p before (events.ProcessMessageSubscriptionDeleted key) = is_waiting is_being_deleted key before
+holds_own p before (events.ProcessMessageSubscriptionDeleting e) = is_waiting is_open e.subscription before
 holds_own p before (events.JobCreated e) = is_fresh p before e.key && begins_job e.cell before
 holds_own p before (events.JobActivated e) = hands_out e before
 holds_own p before (events.JobTimedOut key) = is_job_in is_activated key before

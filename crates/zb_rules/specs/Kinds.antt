@@ -64,6 +64,11 @@ may_lead_to (commands.MessageSubscriptionReject c) (events.MessageSubscriptionCo
 may_lead_to (commands.MessageSubscriptionDelete c) (events.MessageSubscriptionRejected e) = true
 may_lead_to (commands.MessageSubscriptionDelete c) (events.MessageSubscriptionDeleted key) = true
 may_lead_to (commands.MessageSubscriptionDelete c) (events.MessageSubscriptionCorrelating e) = true
+may_lead_to (commands.ProcessMessageSubscriptionCreate key) (events.ProcessMessageSubscriptionCreated subscription) = true
+may_lead_to (commands.ProcessMessageSubscriptionCorrelate c) (events.ProcessMessageSubscriptionCorrelated e) = true
+may_lead_to (commands.ProcessMessageSubscriptionCorrelate c) (events.ProcessMessageSubscriptionDeleting e) = true
+may_lead_to (commands.ProcessMessageSubscriptionCorrelate c) (events.ProcessEventTriggered e) = true
+may_lead_to (commands.ProcessMessageSubscriptionDelete key) (events.ProcessMessageSubscriptionDeleted subscription) = true
 may_lead_to (commands.TimerTrigger key) (events.TimerTriggered timer) = timer == key
 may_lead_to (commands.TimerTrigger key) (events.ProcessEventTriggered e) = true
 may_lead_to command e = false

@@ -17,6 +17,7 @@ pub mod Retries
 pub mod TimeOut
 pub mod Trigger
 pub mod TimerEvents
+pub mod WaitEvents
 pub mod Resolve
 pub mod Publish
 pub mod Expire
@@ -35,3 +36,4 @@ pub mod Sound
 pub mod Starts
 pub mod Correlate
 pub mod Subscribe
+pub mod Receive

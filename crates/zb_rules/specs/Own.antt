@@ -22,6 +22,7 @@ use Rattle.zb_rules.specs.Resolve.{resolved}
 use Rattle.zb_rules.specs.Expire.{expired}
 use Rattle.zb_rules.specs.Starts.{starters}
 use Rattle.zb_rules.specs.Subscribe.{opened, taken, turned_away, unsubscribed}
+use Rattle.zb_rules.specs.Receive.{confirmed, received, forgotten}
 
 -- a command that is run so far
 abbrev pub IsSupported : Command → Type 0
@@ -74,6 +75,9 @@ own p n moment (commands.MessageSubscriptionCreate c) = Some (opened c)
 own p n moment (commands.MessageSubscriptionCorrelate c) = Some (taken c)
 own p n moment (commands.MessageSubscriptionReject c) = Some (turned_away c)
 own p n moment (commands.MessageSubscriptionDelete c) = Some (unsubscribed c)
+own p n moment (commands.ProcessMessageSubscriptionCreate key) = Some (confirmed key)
+own p n moment (commands.ProcessMessageSubscriptionCorrelate c) = Some (received p moment c)
+own p n moment (commands.ProcessMessageSubscriptionDelete key) = Some (forgotten key)
 own p n moment _ = None
 
 -- the events that it makes of them

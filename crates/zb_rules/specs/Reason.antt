@@ -19,7 +19,8 @@ use Rattle.zb_rules.specs.Update.{reason_to_update}
 use Rattle.zb_rules.specs.Resolve.{reason_to_resolve}
 use Rattle.zb_rules.specs.Expire.{reason_to_expire}
 use Rattle.zb_rules.specs.Continue.{reason_to_continue}
-use Rattle.zb_rules.specs.Subscribe.{unknown_subscription, reason_to_open, reason_to_take, reason_to_delete}
+use Rattle.zb_rules.specs.Subscribe.{reason_to_open, reason_to_take, reason_to_delete}
+use Rattle.zb_rules.specs.Receive.{reason_to_confirm, reason_to_receive, reason_to_forget}
 
 -- the rejection of a command by the events before it and the moment, if there is a reason for one
 abbrev pub reason_for : List Event → ℕ → Command → Option Rejection
@@ -44,7 +45,7 @@ reason_for before moment (commands.MessageSubscriptionCreate c) = reason_to_open
 reason_for before moment (commands.MessageSubscriptionCorrelate c) = reason_to_take before c
 reason_for before moment (commands.MessageSubscriptionReject c) = reason_to_take before c
 reason_for before moment (commands.MessageSubscriptionDelete c) = reason_to_delete before c.subscription
-reason_for before moment (commands.ProcessMessageSubscriptionCreate key) = Some (unknown_subscription key)
-reason_for before moment (commands.ProcessMessageSubscriptionCorrelate c) = Some (unknown_subscription c.subscription)
-reason_for before moment (commands.ProcessMessageSubscriptionDelete key) = Some (unknown_subscription key)
+reason_for before moment (commands.ProcessMessageSubscriptionCreate key) = reason_to_confirm before key
+reason_for before moment (commands.ProcessMessageSubscriptionCorrelate c) = reason_to_receive before c
+reason_for before moment (commands.ProcessMessageSubscriptionDelete key) = reason_to_forget before key
 reason_for before moment _ = None

@@ -5,12 +5,13 @@ use Rattle.zb_model.specs.declared.record.Event.{Event}
 use Rattle.zb_model.specs.declared.record.Event.TheVariants as events
 use Rattle.zb_views.specs.declared.timer.Timer.{Timer}
 use Rattle.zb_views.specs.Timers.{timer_at}
+use Rattle.zb_tokens.specs.declared.board.Catch.TheVariants as catches
 use Rattle.zb_tokens.specs.Board.{Board}
 use Rattle.zb_tokens.specs.Catches.{may_open_at}
 
 -- a timer opens for a cell that has become active, at a node for whose time it waits (BPMN 2.0.2, 13.5.3)
 abbrev pub may_open : TimerCreated → Board → Bool
-may_open e b = may_open_at e.cell e.node b
+may_open e b = may_open_at catches.Time e.cell e.node b
 
 -- an event triggers the timer with a key (Zeebe, timers)
 abbrev pub triggers : ℕ → Event → Bool

@@ -17,10 +17,13 @@ use Rattle.zb_views.specs.declared.job.Job.{Job}
 use Rattle.zb_views.specs.Jobs.{new_job, job_told, job_sort}
 use Rattle.zb_views.specs.declared.timer.Timer.{Timer}
 use Rattle.zb_views.specs.Timers.{timer_of, timer_told, timer_sort}
+use Rattle.zb_views.specs.declared.process_subscription.ProcessSubscription.{ProcessSubscription}
+use Rattle.zb_views.specs.ProcessSubscriptions.{process_subscription_of, process_subscription_told, process_subscription_sort}
 use Rattle.zb_jobs.specs.Table.{has_place_for}
 use Rattle.zb_timers.specs.Table.{has_place_for_timer}
+use Rattle.zb_subscriptions.specs.Waiting.{has_place_for_waiting}
 use Rattle.zb_state.specs.Messages.{has_place_for_message}
-use Rattle.zb_state.specs.Tables.{HaveTaken, IsNext, Draws, are_all_below}
+use Rattle.zb_state.specs.Tables.{HaveTaken, IsNext, Draws, are_all_below, are_waiting_below}
 use Rattle.zb_state.specs.declared.tables.Tables.{Tables}
 use Rattle.zb_starts.specs.declared.change.Change.{Change}
 
@@ -123,3 +126,25 @@ messages_below p n n' ms ms' js' js ts e (Ok done) raised draws below ok err =
     let messages_are = below_by message_sort message_key high [] e ms (λ m. refl) (message_below p n n' js' e raised draws) was.messages in
     rw (ok, messages_are, was.jobs, was.timers) refl
 messages_below p n n' ms ms' js' js ts e (Err fault) raised draws below ok err = rw err below
+
+-- a subscription of an element instance that an event opens finds its place
+pub has_place_in_waiting : (p n : ℕ) (js : List Job) (ss : List ProcessSubscription) (e : Event) → IsTrue (are_waiting_below (key_of p (n + 1)) ss) → Draws p n js e → IsTrue (has_place_for_waiting ss e)
+has_place_in_waiting p n js ss (events.ProcessMessageSubscriptionCreating x) below draws = rw draws.1 below
+has_place_in_waiting p n js ss e below draws = refl
+
+-- and they all stay below the next key
+pub waiting_below : (p n n' : ℕ) (old new : Tables) (e : Event) (change : Change) (result : Result ⊤ AllocError)
+    → n' ≡ max n (greatest_among p (keys_in e)) → Draws p n old.jobs e → IsTrue (are_waiting_below (key_of p (n + 1)) old.process_subscriptions)
+    → OnOk result (HaveTaken e change old new) → OnErr result (new.process_subscriptions ≡ []) → IsTrue (are_waiting_below (key_of p (n' + 1)) new.process_subscriptions)
+waiting_below p n n' old new e change (Ok done) raised draws below took none =
+    let key : ProcessSubscription → ℕ = λ s. s.key in
+    let high = key_of p (n' + 1) in
+    let up : key_of p (n + 1) ≤ high = omega (arith, raised) in
+    rw took.process_subscriptions (below_by process_subscription_sort key high [] e old.process_subscriptions (λ s. refl) (opened_below e raised draws) (below_higher key (key_of p (n + 1)) high old.process_subscriptions up below))
+  where
+    opened_below : (e : Event) → n' ≡ max n (greatest_among p (keys_in e)) → Draws p n old.jobs e → (s : ProcessSubscription) → process_subscription_told e ≡ Some s → s.key < key_of p (n' + 1)
+    opened_below (events.ProcessMessageSubscriptionCreating x) raised draws s is =
+        let same : process_subscription_of x ≡ s = cc in
+        subst (λ (y : ProcessSubscription). y.key < key_of p (n' + 1)) same (drawn_below p n n' x.subscription (max (counter_at p x.cell) 0) raised draws)
+    opened_below e raised draws s is = absurd (cc)
+waiting_below p n n' old new e change (Err fault) raised draws below took none = rw none refl

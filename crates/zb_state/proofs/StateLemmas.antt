@@ -12,6 +12,7 @@ use Rattle.zb_views.specs.Messages.{message_sort}
 use Rattle.zb_views.specs.Jobs.{job_sort}
 use Rattle.zb_views.specs.Timers.{timer_sort}
 use Rattle.zb_views.specs.Starts.{started_sort}
+use Rattle.zb_views.specs.ProcessSubscriptions.{process_subscription_sort}
 use Rattle.zb_views.specs.Subscriptions.{subscription_sort, lock_sort}
 use Rattle.zb_record.specs.Sendings.{sending_sort}
 use Rattle.zb_views.specs.Standing.{standing_by}
@@ -37,7 +38,7 @@ use Rattle.zb_state.specs.State.{IsStateOf, IsSameBeside, HasTaken}
 use Rattle.zb_state.specs.declared.facts.Facts.{Facts}
 use Rattle.zb_state.specs.declared.tables.Tables.{Tables}
 use Rattle.zb_state.specs.Starts.{IsChangeOf, are_starts_below}
-use Rattle.zb_state.specs.Tables.{are_all_below}
+use Rattle.zb_state.specs.Tables.{are_all_below, are_waiting_below}
 use Rattle.zb_starts.specs.declared.change.Change.{Change}
 
 -- the greatest counter
@@ -61,6 +62,8 @@ state_more es e change old mid new is same applied played changed took =
       locks = standing_more lock_sort es e ∙ (ap (standing_by lock_sort es e) (is.locks ∙ ap (λ (t : Tables). t.starts.locks) (sym same.tables)) ∙ (changed.locks mid.tables.starts.locks ∙ sym tables.locks));
       starts = standing_more started_sort es e ∙ (ap (standing_by started_sort es e) (is.starts ∙ ap (λ (t : Tables). t.starts.starts) (sym same.tables)) ∙ (changed.starts mid.tables.starts.starts ∙ sym tables.starts));
       subscriptions = standing_more subscription_sort es e ∙ (ap (standing_by subscription_sort [] e) (is.subscriptions ∙ ap (λ (t : Tables). t.subscriptions) (sym same.tables)) ∙ sym tables.subscriptions);
+      process_subscriptions = standing_more process_subscription_sort es e
+          ∙ (ap (standing_by process_subscription_sort [] e) (is.process_subscriptions ∙ ap (λ (t : Tables). t.process_subscriptions) (sym same.tables)) ∙ sym tables.process_subscriptions);
       left = left_more es e ∙ sym (took.left es jobs_were);
       game = rw (board_of_more es e, is.game) (played ∙ ap (λ (b : Board). Some b) (sym took.game));
     }
@@ -110,16 +113,21 @@ AreBelow x = IsTrue (are_all_below (key_of x.0 (x.1.0 + 1)) x.1.1.0 x.1.1.1.0.jo
 abbrev AreBegun : Parts → Type 0
 AreBegun x = IsTrue (are_starts_below (key_of x.0 (x.1.0 + 1)) x.1.1.1.1.0 x.1.1.1.0.starts.starts)
 
-abbrev put_together : (x : Parts) → AreDrawn x → AreBelow x → AreBegun x → Facts
-put_together x drawn below begun = record { place = x.0; counter = x.1.0; messages = x.1.1.0; tables = x.1.1.1.0; left = x.1.1.1.1.0; game = x.1.1.1.1.1; drawn = drawn; in_order = below; begun = begun }
+abbrev AreWaiting : Parts → Type 0
+AreWaiting x = IsTrue (are_waiting_below (key_of x.0 (x.1.0 + 1)) x.1.1.1.0.process_subscriptions)
+
+abbrev put_together : (x : Parts) → AreDrawn x → AreBelow x → AreWaiting x → AreBegun x → Facts
+put_together x drawn below waiting begun =
+    record { place = x.0; counter = x.1.0; messages = x.1.1.0; tables = x.1.1.1.0; left = x.1.1.1.1.0; game = x.1.1.1.1.1; drawn = drawn; in_order = below; waiting = waiting; begun = begun }
 
 abbrev parts_of : Facts → Parts
 parts_of f = (f.place, (f.counter, (f.messages, (f.tables, (f.left, f.game)))))
 
-same_parts : (x y : Parts) → x ≡ y → (d : AreDrawn x) (o : AreBelow x) (b : AreBegun x) (d' : AreDrawn y) (o' : AreBelow y) (b' : AreBegun y) → put_together x d o b ≡ put_together y d' o' b'
-same_parts x y same d o b =
-    subst (λ (y : Parts). (d' : AreDrawn y) (o' : AreBelow y) (b' : AreBegun y) → put_together x d o b ≡ put_together y d' o' b') same
-    (λ d' o' b'. ap (λ (t : AreDrawn x). put_together x t o b) (le_prop d d') ∙ (ap (λ (t : AreBelow x). put_together x d' t b) (Bool-set _ true o o') ∙ ap (λ (t : AreBegun x). put_together x d' o' t) (Bool-set _ true b b')))
+same_parts : (x y : Parts) → x ≡ y → (d : AreDrawn x) (o : AreBelow x) (w : AreWaiting x) (b : AreBegun x) (d' : AreDrawn y) (o' : AreBelow y) (w' : AreWaiting y) (b' : AreBegun y) → put_together x d o w b ≡ put_together y d' o' w' b'
+same_parts x y same d o w b =
+    subst (λ (y : Parts). (d' : AreDrawn y) (o' : AreBelow y) (w' : AreWaiting y) (b' : AreBegun y) → put_together x d o w b ≡ put_together y d' o' w' b') same
+    (λ d' o' w' b'. ap (λ (t : AreDrawn x). put_together x t o w b) (le_prop d d') ∙ (ap (λ (t : AreBelow x). put_together x d' t w b) (Bool-set _ true o o')
+    ∙ (ap (λ (t : AreWaiting x). put_together x d' o' t b) (Bool-set _ true w w') ∙ ap (λ (t : AreBegun x). put_together x d' o' w' t) (Bool-set _ true b b'))))
 
 -- two states of one list of events and one partition are equal
 pub same_state : (es : List Event) (a b : Facts) → IsStateOf es a → IsStateOf es b → a.place ≡ b.place → a ≡ b
@@ -134,6 +142,7 @@ same_state es a b one other place =
     let subscriptions : a.tables.subscriptions ≡ b.tables.subscriptions = sym one.subscriptions ∙ other.subscriptions in
     let left : a.left ≡ b.left = sym one.left ∙ other.left in
     let game : a.game ≡ b.game = same_board (board_of es) a.game b.game one.game other.game in
-    let tables : a.tables ≡ b.tables = rw (sendings, jobs, timers, locks, starts, subscriptions) refl in
+    let process_subscriptions : a.tables.process_subscriptions ≡ b.tables.process_subscriptions = sym one.process_subscriptions ∙ other.process_subscriptions in
+    let tables : a.tables ≡ b.tables = rw (sendings, jobs, timers, locks, starts, subscriptions, process_subscriptions) refl in
     let same : parts_of a ≡ parts_of b = rw (place, counter, messages, tables, left, game) refl in
-    same_parts (parts_of a) (parts_of b) same a.drawn a.in_order a.begun b.drawn b.in_order b.begun
+    same_parts (parts_of a) (parts_of b) same a.drawn a.in_order a.waiting a.begun b.drawn b.in_order b.waiting b.begun

@@ -10,6 +10,7 @@ use Rattle.zb_views.specs.Messages.{buffered, message_sort}
 use Rattle.zb_views.specs.Standing.{standing_by}
 use Rattle.zb_views.specs.Left.{left_told, left}
 use Rattle.zb_views.specs.Starts.{started_instances}
+use Rattle.zb_views.specs.ProcessSubscriptions.{process_subscriptions}
 use Rattle.zb_views.specs.Subscriptions.{subscriptions, locks}
 use Rattle.zb_starts.specs.declared.change.Change.{Change}
 use Rattle.zb_record.specs.Sendings.{sendings}
@@ -33,6 +34,7 @@ pub record IsStateOf (es : List Event) (state : Facts) : Type 0 where
   pub locks : locks es ≡ state.tables.starts.locks
   pub starts : started_instances es ≡ state.tables.starts.starts
   pub subscriptions : subscriptions es ≡ state.tables.subscriptions
+  pub process_subscriptions : process_subscriptions es ≡ state.tables.process_subscriptions
   pub left : left es ≡ state.left
   pub game : board_of es ≡ Some state.game
 

@@ -23,13 +23,14 @@ ghost use Rattle.zb_tokens.specs.Forced.{next_mover};
 ghost use Rattle.zb_rules.specs.Shown.{shown, after_shown, board_of};
 ghost use Rattle.zb_state.specs.Sound.{HasSoundModel};
 ghost use Rattle.zb_subscriptions.specs.Opened.{is_new};
-ghost use Rattle.zb_state.specs.Tables.{IsNext, Draws, are_all_below};
+ghost use Rattle.zb_state.specs.Tables.{IsNext, Draws, are_all_below, are_waiting_below};
 ghost use Rattle.zb_state.specs.Starts.{BeginsRoot, IsChangeOf, root_left, root_told, are_starts_below};
 
 mod jobs;
 mod starts;
 mod subscriptions;
 mod timers;
+mod waiting;
 
 use crate::keys::greatest_counter_of;
 use crate::messages::Messages;
@@ -61,6 +62,7 @@ pub struct Facts {
     pub(crate) game: Course,
     ghost drawn: { counter < 2 ^ 51 },
     ghost in_order: { IsTrue (are_all_below (key_of place (counter + 1)) messages tables.jobs tables.timers) },
+    ghost waiting: { IsTrue (are_waiting_below (key_of place (counter + 1)) tables.process_subscriptions) },
     ghost begun: { IsTrue (are_starts_below (key_of place (counter + 1)) left tables.starts.starts) },
 }
 
@@ -240,13 +242,16 @@ impl Facts {
                 Ok(self.is_distributed_to(told.key, told.partition))
             }
             Event::CommandDistributionFinished(key) => Ok(self.has_arrived(*key)),
-            Event::ElementMigrated(_)
-            | Event::ProcessInstanceMigrationMigrated(_)
-            | Event::ProcessMessageSubscriptionCreating(_)
-            | Event::ProcessMessageSubscriptionCreated(_)
-            | Event::ProcessMessageSubscriptionCorrelated(_)
-            | Event::ProcessMessageSubscriptionDeleted(_)
-            | Event::ProcessMessageSubscriptionDeleting(_) => Ok(false),
+            Event::ProcessMessageSubscriptionCreating(opened) => Ok(self.subscribes(opened)),
+            Event::ProcessMessageSubscriptionCreated(key) => Ok(self.is_being_created(*key)),
+            Event::ProcessMessageSubscriptionCorrelated(told) => {
+                Ok(self.is_open(told.subscription))
+            }
+            Event::ProcessMessageSubscriptionDeleted(key) => Ok(self.is_being_deleted(*key)),
+            Event::ProcessMessageSubscriptionDeleting(closing) => {
+                Ok(self.is_open(closing.subscription))
+            }
+            Event::ElementMigrated(_) | Event::ProcessInstanceMigrationMigrated(_) => Ok(false),
         }
     }
 

@@ -4,13 +4,14 @@ ghost use Rattle.zb_jobs.specs.Table.{has_place_for};
 ghost use Rattle.zb_timers.specs.Table.{has_place_for_timer};
 ghost use Rattle.zb_starts.specs.Change.{begins_last};
 ghost use Rattle.zb_subscriptions.specs.Opened.{is_new};
+ghost use Rattle.zb_subscriptions.specs.Waiting.{has_place_for_waiting};
 
 use std::alloc::{AllocError, Global};
 use zb_jobs::Jobs;
 use zb_model::Event;
 use zb_outbox::Outbox;
 use zb_starts::{Change, MessageStarts};
-use zb_subscriptions::Subscriptions;
+use zb_subscriptions::{ProcessSubscriptions, Subscriptions};
 use zb_timers::Timers;
 
 /// What a state keeps beside the messages and the game.
@@ -26,6 +27,8 @@ pub struct Tables {
     pub starts: MessageStarts,
     /// The subscriptions at the home of their messages.
     pub subscriptions: Subscriptions,
+    /// The subscriptions of the element instances that wait here.
+    pub process_subscriptions: ProcessSubscriptions,
 }
 
 impl Tables {
@@ -39,6 +42,7 @@ impl Tables {
         ensures locks { result.starts.locks ≡ [] }
         ensures starts { result.starts.starts ≡ [] }
         ensures subscriptions { result.subscriptions ≡ [] }
+        ensures process_subscriptions { result.process_subscriptions ≡ [] }
     {
         Tables {
             sendings: Outbox::empty(alloc),
@@ -46,6 +50,7 @@ impl Tables {
             timers: Timers::empty(alloc),
             starts: MessageStarts::empty(alloc),
             subscriptions: Subscriptions::empty(alloc),
+            process_subscriptions: ProcessSubscriptions::empty(alloc),
         }
     }
 
@@ -56,10 +61,12 @@ impl Tables {
         requires timers { IsTrue (has_place_for_timer self.old.timers event.now) }
         requires starts { IsTrue (begins_last change self.old.starts.starts) }
         requires opens { IsTrue (is_new self.old.subscriptions event.now) }
+        requires waits { IsTrue (has_place_for_waiting self.old.process_subscriptions event.now) }
         ensures taken { OnOk result (HaveTaken event.now change self.old self.new) }
         ensures no_jobs { OnErr result (self.new.jobs ≡ []) }
         ensures no_timers { OnErr result (self.new.timers ≡ []) }
         ensures no_starts { OnErr result (self.new.starts.starts ≡ []) }
+        ensures none_waits { OnErr result (self.new.process_subscriptions ≡ []) }
     {
         let taken = self.take_in(alloc, event, change);
         if taken.is_err() {
@@ -74,6 +81,7 @@ impl Tables {
         requires timers { IsTrue (has_place_for_timer self.old.timers event.now) }
         requires starts { IsTrue (begins_last change self.old.starts.starts) }
         requires opens { IsTrue (is_new self.old.subscriptions event.now) }
+        requires waits { IsTrue (has_place_for_waiting self.old.process_subscriptions event.now) }
         ensures { OnOk result (HaveTaken event.now change self.old self.new) }
     {
         self.starts.apply(alloc, change)?;
@@ -81,6 +89,7 @@ impl Tables {
         self.jobs.apply(alloc, event)?;
         self.timers.apply(alloc, event)?;
         self.subscriptions.apply(alloc, event)?;
+        self.process_subscriptions.apply(alloc, event)?;
         Ok(())
     }
 
@@ -89,6 +98,7 @@ impl Tables {
         ensures jobs { self.new.jobs ≡ [] }
         ensures timers { self.new.timers ≡ [] }
         ensures starts { self.new.starts.starts ≡ [] }
+        ensures process_subscriptions { self.new.process_subscriptions ≡ [] }
     {
         *self = Tables::empty(alloc);
     }

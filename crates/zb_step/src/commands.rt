@@ -18,6 +18,7 @@ use crate::distribute::Distributed;
 use crate::expire::Expired;
 use crate::fail::Failed;
 use crate::publish::Published;
+use crate::receive::{Confirmed, Forgotten, Received};
 use crate::resolve::Resolved;
 use crate::retries::Retried;
 use crate::subscribe::{Opened, Taken, TurnedAway, Unsubscribed};
@@ -27,7 +28,7 @@ use crate::trigger::TriggeredTimer;
 use crate::update::Updated;
 use crate::{
     acknowledge, activate, cancel, create, deploy, distribute, ending, expire, go_on, publish,
-    resolve, retries, subscribe, time_out, trigger, update,
+    receive, resolve, retries, subscribe, time_out, trigger, update,
 };
 use std::alloc::{AllocError, Global};
 use zb_follow::{Found, Maker};
@@ -74,10 +75,14 @@ pub fn reason(
         Command::MessageSubscriptionDelete(closed) => {
             subscribe::reason_to_delete(alloc, state, closed.subscription)
         }
-        Command::ProcessMessageSubscriptionCreate(key)
-        | Command::ProcessMessageSubscriptionDelete(key) => subscribe::nowhere(alloc, *key),
-        Command::ProcessMessageSubscriptionCorrelate(message) => {
-            subscribe::nowhere(alloc, message.subscription)
+        Command::ProcessMessageSubscriptionCreate(key) => {
+            receive::reason_to_confirm(alloc, state, *key)
+        }
+        Command::ProcessMessageSubscriptionCorrelate(told) => {
+            receive::reason_to_receive(alloc, state, told)
+        }
+        Command::ProcessMessageSubscriptionDelete(key) => {
+            receive::reason_to_forget(alloc, state, *key)
         }
         Command::ProcessInstanceMigrationMigrate(_) => Ok(None),
     }
@@ -140,11 +145,17 @@ impl Maker for Own<'_> {
             Command::MessageSubscriptionDelete(closed) => {
                 Unsubscribed(closed).put(alloc, state, moment, out)
             }
-            Command::ProcessInstanceBatchContinue
-            | Command::ProcessInstanceMigrationMigrate(_)
-            | Command::ProcessMessageSubscriptionCreate(_)
-            | Command::ProcessMessageSubscriptionCorrelate(_)
-            | Command::ProcessMessageSubscriptionDelete(_) => Ok(()),
+            Command::ProcessMessageSubscriptionCreate(key) => {
+                Confirmed(*key).put(alloc, state, moment, out)
+            }
+            Command::ProcessMessageSubscriptionCorrelate(told) => {
+                Received(told).put(alloc, state, moment, out)
+            }
+            Command::ProcessMessageSubscriptionDelete(key) => {
+                Forgotten(*key).put(alloc, state, moment, out)
+            }
+            Command::ProcessInstanceBatchContinue | Command::ProcessInstanceMigrationMigrate(_) =>
+                Ok(()),
         }
     }
 }

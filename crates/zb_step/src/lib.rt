@@ -17,6 +17,7 @@ mod fail;
 mod go_on;
 mod outcome;
 mod publish;
+mod receive;
 mod rejection;
 mod resolve;
 mod retries;

@@ -70,8 +70,8 @@ pub fn reason_to_delete(
     }
 }
 
-/// The rejection where no subscription has the key.
-pub fn nowhere(alloc: Global, key: Key) -> Result<Option<Rejection>, AllocError>
+// The rejection where no subscription has the key.
+fn nowhere(alloc: Global, key: Key) -> Result<Option<Rejection>, AllocError>
     ensures { IfOk result (λ rejection. rejection ≡ Some (rules.unknown_subscription key)) }
 {
     no_such(alloc, "no subscription ", key)

@@ -1,5 +1,5 @@
--- The events that cells wait for: timers at catch events, behind event gateways and at the boundary of activities, which are due by a date or a duration (BPMN 2.0.2, 10.5.4, 10.5.5, 10.6.6 and 13.5.3).
-use Rattle.std.specs.Prelude.{ℕ, List, [], ◌∷◌, ◌++◌, filter, codes, Bool, false, ◌&&◌, ◌||◌, not, is_some, if◌then◌else◌, Option, Some, None, Result, Ok, Err}
+-- The events that cells wait for, at catch events, behind event gateways and at the boundary of activities: timers, which are due by a date or a duration, and messages (BPMN 2.0.2, 10.5.4, 10.5.5, 10.6.6 and 13.5.3).
+use Rattle.std.specs.Prelude.{ℕ, List, [], ◌∷◌, ◌++◌, filter, codes, Bool, true, false, ◌&&◌, ◌||◌, not, is_some, if◌then◌else◌, Option, Some, None, Result, Ok, Err}
 use Rattle.std.specs.Option.{option_map_or, option_or}
 use Rattle.std.specs.List.{list_any}
 use Rattle.std.specs.Result.{result_map_both, result_unwrap_or}
@@ -21,6 +21,8 @@ use Rattle.zb_duration.specs.declared.fault.DueFault.{DueFault}
 use Rattle.zb_duration.specs.declared.form.TimeForm.{TimeForm}
 use Rattle.zb_duration.specs.declared.form.TimeForm.TheVariants as forms
 use Rattle.zb_instance_records.specs.declared.happening.IncidentKind.TheVariants as incidents
+use Rattle.zb_tokens.specs.declared.board.Catch.{Catch}
+use Rattle.zb_tokens.specs.declared.board.Catch.TheVariants as catches
 use Rattle.zb_tokens.specs.declared.board.Cell.{Cell}
 use Rattle.zb_tokens.specs.declared.board.Opening.{Opening}
 use Rattle.zb_tokens.specs.declared.board.Phase.TheVariants as phases
@@ -38,6 +40,17 @@ time_form kinds.DurationCatchEvent = Some forms.Duration
 time_form kinds.DateBoundaryEvent = Some forms.Date
 time_form kinds.DurationBoundaryEvent = Some forms.Duration
 time_form kind = None
+
+-- at a node of this kind a message is caught: by an event in the flow, or at the boundary of an activity (BPMN 2.0.2, 10.5.5)
+abbrev pub is_message_event : NodeKind → Bool
+is_message_event kinds.MessageCatchEvent = true
+is_message_event kinds.MessageBoundaryEvent = true
+is_message_event kind = false
+
+-- at a node of this kind a time or a message is caught (BPMN 2.0.2, 10.5.5)
+abbrev pub is_caught_at : NodeKind → Catch → Bool
+is_caught_at kind catches.Time = is_some (time_form kind)
+is_caught_at kind catches.Message = is_message_event kind
 
 -- the text that a value is; another value is of the wrong kind
 abbrev pub text_told : Value → Result (List ℕ) ValueFault
@@ -108,21 +121,21 @@ openings_of b moment c = openings_by (value_seen b c.key) b moment c
 abbrev pub openings_at : Board → (moment cell : ℕ) → List Opening
 openings_at b moment cell = option_map_or (λ c. result_unwrap_or (openings_of b moment c) []) (cell_at b cell) []
 
--- at a node a cell waits for the timer of the node with an id: it is the cell's own one, or another one for whose event it waits (BPMN 2.0.2, 13.5.3)
-abbrev pub is_timed_at : Model → Cell → Node → List ℕ → Bool
-is_timed_at m c n id = option_map_or (λ x. ((bytes_eq c.node id && waits_itself c n) || waits_beside m n x) && is_some (time_form x.kind)) (node_with m id) false
+-- at a node a cell waits for a time or a message at the node with an id: it is the cell's own one, or another one for whose event it waits (BPMN 2.0.2, 13.5.3)
+abbrev pub is_awaited_at : Catch → Model → Cell → Node → List ℕ → Bool
+is_awaited_at catch m c n id = option_map_or (λ x. ((bytes_eq c.node id && waits_itself c n) || waits_beside m n x) && is_caught_at x.kind catch) (node_with m id) false
 
--- a cell waits, or is about to, for the timer of the node with an id (BPMN 2.0.2, 13.5.3)
-abbrev pub awaits_time : Board → Cell → List ℕ → Bool
-awaits_time b c id = option_map_or (λ m. option_map_or (λ n. is_timed_at m c n id) (node_of b c) false) (model_under b c.definition) false
+-- a cell waits, or is about to, for a time or a message at the node with an id (BPMN 2.0.2, 13.5.3)
+abbrev pub awaits : Catch → Board → Cell → List ℕ → Bool
+awaits catch b c id = option_map_or (λ m. option_map_or (λ n. is_awaited_at catch m c n id) (node_of b c) false) (model_under b c.definition) false
 
--- a timer may open for a cell at the node with an id: it is active, and waits for the timer of that (BPMN 2.0.2, 13.5.3)
-abbrev pub opens_at : List ℕ → Board → Cell → Bool
-opens_at id b c = is_phase c.phase phases.Active && awaits_time b c id
+-- a catch may open for a cell at the node with an id: the cell is active, and waits for a time or a message there (BPMN 2.0.2, 13.5.3)
+abbrev pub opens_at : Catch → List ℕ → Board → Cell → Bool
+opens_at catch id b c = is_phase c.phase phases.Active && awaits catch b c id
 
 -- the same of the cell with a key
-abbrev pub may_open_at : (cell : ℕ) → List ℕ → Board → Bool
-may_open_at cell id b = option_map_or (opens_at id b) (cell_at b cell) false
+abbrev pub may_open_at : Catch → (cell : ℕ) → List ℕ → Board → Bool
+may_open_at catch cell id b = option_map_or (opens_at catch id b) (cell_at b cell) false
 
 -- a cell waits for an event: it is active, not called off, and was told nothing so far, or of an error (BPMN 2.0.2, 13.5.3)
 abbrev pub may_be_told : Board → Cell → Bool

@@ -6,22 +6,23 @@ use Rattle.std.specs.Str.{bytes_eq}
 use Rattle.zb_faults.specs.Elements.{is_boundary_of, is_event_gateway}
 use Rattle.zb_tokens.specs.Edits.{edited}
 use Rattle.zb_tokens.specs.declared.board.Triggered.{Triggered}
+use Rattle.zb_tokens.specs.declared.board.Catch.TheVariants as catches
 use Rattle.zb_tokens.specs.declared.board.Cell.{Cell}
 use Rattle.zb_tokens.specs.declared.board.Mark.{Mark}
 use Rattle.zb_tokens.specs.declared.board.Mark.TheVariants as marks
 use Rattle.zb_tokens.specs.declared.board.Phase.TheVariants as phases
 use Rattle.zb_tokens.specs.declared.board.Spot.TheVariants as spots
 use Rattle.zb_tokens.specs.Board.{Board, cell_at, model_under, node_with, is_phase, with_token}
-use Rattle.zb_tokens.specs.Catches.{may_be_told, waits_itself, awaits_time}
+use Rattle.zb_tokens.specs.Catches.{may_be_told, waits_itself, awaits}
 use Rattle.zb_tokens.specs.Doom.{is_doomed}
 use Rattle.zb_tokens.specs.Errors.{caught, is_same_event}
 use Rattle.zb_tokens.specs.Incidents.{is_stuck}
 use Rattle.zb_tokens.specs.Mappings.{node_of}
 use Rattle.zb_tokens.specs.Marks.{with_mark}
 
--- the cell waits for the event of this node (BPMN 2.0.2, 13.5.3)
+-- the cell waits for the event of this node, a time or a message (BPMN 2.0.2, 13.5.3)
 abbrev pub awaits_event : Board → Triggered → Cell → Bool
-awaits_event b t c = may_be_told b c && awaits_time b c t.node
+awaits_event b t c = may_be_told b c && (awaits catches.Time b c t.node || awaits catches.Message b c t.node)
 
 -- an error that was thrown in a cell comes about at this event: the cell isn't stuck or called off, and there it is caught (BPMN 2.0.2, 10.5.7)
 abbrev pub comes_about_by : Board → Triggered → Cell → Bool

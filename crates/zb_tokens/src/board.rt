@@ -184,6 +184,13 @@ pub struct Triggered {
     pub node: Text,
 }
 
+/// What a cell waits for at a node.
+#[derive(Clone, Copy, Debug, PartialEq, Eq)]
+pub enum Catch {
+    Time,
+    Message,
+}
+
 /// A timer that opens for a cell.
 #[derive(Drop)]
 pub struct Opening {

@@ -4,7 +4,7 @@ ghost use Rattle.std.specs.Prelude.{◌≡◌, ◌≤◌, ◌<◌, ◌^◌, ◌+
 ghost use Rattle.std.specs.Option.{option_map_or};
 ghost use Rattle.zb_process.specs.declared.model.Node.{Node};
 ghost use Rattle.zb_tokens.specs.Board.{node_with};
-ghost use Rattle.zb_tokens.specs.Catches.{awaited, awaits_time, is_timed_at, leads_from, time_form, waits_beside, waits_itself};
+ghost use Rattle.zb_tokens.specs.Catches.{awaited, awaits, is_awaited_at, is_caught_at, leads_from, time_form, waits_beside, waits_itself};
 
 use std::alloc::{AllocError, Global};
 use zb_base::{Key, List};
@@ -13,40 +13,53 @@ use zb_duration::TimeForm;
 use zb_faults::{is_boundary_of, is_catch, is_event_gateway};
 use zb_graph::Graph;
 use zb_process::{Node, NodeKind};
-use zb_tokens::Cell;
+use zb_tokens::{Catch, Cell};
 
-/// Whether a cell waits, or is about to, for the timer of the node with an id. A root waits for none. Its model is
-/// found as by `Game::model`; at an event gateway it goes through the flows into the node.
-pub fn awaits_time(game: &Game, cell: &Cell, id: &str) -> bool
-    ensures { result ≡ awaits_time game.now cell.now id.now }
+/// Whether a cell waits, or is about to, for a time or a message at the node with an id. A root waits for none. Its
+/// model is found as by `Game::model`; at an event gateway it goes through the flows into the node.
+pub fn awaits(game: &Game, cell: &Cell, catch: Catch, id: &str) -> bool
+    ensures { result ≡ awaits catch game.now cell.now id.now }
 {
     match game.model(cell.definition) {
-        Some(model) => cell.scope != Key::new(0) && awaits_time_in(model, cell, id),
+        Some(model) => cell.scope != Key::new(0) && awaits_in(model, cell, catch, id),
         None => false,
     }
 }
 
 // The same in its model, for a cell that is no root.
-fn awaits_time_in(model: &Graph, cell: &Cell, id: &str) -> bool
-    ensures { result ≡ option_map_or (λ n. is_timed_at model.now cell.now n id.now) (node_with model.now cell.now.node) false }
+fn awaits_in(model: &Graph, cell: &Cell, catch: Catch, id: &str) -> bool
+    ensures { result ≡ option_map_or (λ n. is_awaited_at catch model.now cell.now n id.now) (node_with model.now cell.now.node) false }
 {
     match model.node_with(cell.node.as_str()) {
-        Some(node) => is_timed_at(model, cell, node, id),
+        Some(node) => is_awaited_at(model, cell, node, catch, id),
         None => false,
     }
 }
 
-// Whether at a node a cell waits for the timer of the node with an id.
-fn is_timed_at(model: &Graph, cell: &Cell, node: &Node, id: &str) -> bool
-    ensures { result ≡ is_timed_at model.now cell.now node.now id.now }
+// Whether at a node a cell waits for a time or a message at the node with an id.
+fn is_awaited_at(model: &Graph, cell: &Cell, node: &Node, catch: Catch, id: &str) -> bool
+    ensures { result ≡ is_awaited_at catch model.now cell.now node.now id.now }
 {
     match model.node_with(id) {
         Some(other) => {
             (cell.node.as_str() == id && waits_itself(cell, node)
                 || waits_beside(model, node, other))
-                && time_form(other.kind).is_some()
+                && is_caught_at(other.kind, catch)
         }
         None => false,
+    }
+}
+
+// Whether at a node of this kind a time or a message is caught.
+fn is_caught_at(kind: NodeKind, catch: Catch) -> bool
+    ensures { result ≡ is_caught_at kind catch }
+{
+    match catch {
+        Catch::Time => time_form(kind).is_some(),
+        Catch::Message => matches!(
+            kind,
+            NodeKind::MessageCatchEvent | NodeKind::MessageBoundaryEvent
+        ),
     }
 }
 

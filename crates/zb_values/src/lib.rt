@@ -14,7 +14,7 @@ mod seen;
 mod unseen;
 mod work;
 
-pub use awaited::{awaits_time, waits_itself_at};
+pub use awaited::{awaits, waits_itself_at};
 pub use catches::{open_by, openings_at};
 pub use flows::{are_among_flows, flows_in};
 pub use hindrances::uncaught;

@@ -8,3 +8,4 @@ pub mod ToldLaws
 pub mod ViewLaws
 pub mod NamedLaws
 pub mod OwnKeyLaws
+pub mod ProcessSubscriptionLaws

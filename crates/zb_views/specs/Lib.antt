@@ -9,5 +9,6 @@ pub mod Jobs
 pub mod Left
 pub mod Timers
 pub mod Subscriptions
+pub mod ProcessSubscriptions
 pub mod OwnKeys
 pub mod Starts

@@ -12,3 +12,4 @@ pub mod SubscriptionMayLaws
 pub mod SubscriptionViewLaws
 pub mod TellingLaws
 pub mod ToldLemmas
+pub mod WaitViewLaws

@@ -1,10 +1,11 @@
--- A step is a message step: a command may define a process, publish a message or have one expire, open a subscription or delete it, and say of a message that it was kept or turned away. No event of a subscription at its own partition applies so far.
+-- A step is a message step: a command may define a process, publish a message or have one expire, open a subscription or delete it, and say of a message that it was kept or turned away; and at the partition of an element instance it may give it a message, and say that its subscription is there or gone.
 use Rattle.std.proofs.Common.{◌≡◌, ◌≤◌, ◌<◌, ℕ, ◌+◌, ◌-◌, ◌^◌, ◌==◌, List, [], ◌∷◌, ◌++◌, map, ◌&&◌, not, option_map, Bool, true, false, ◌||◌, if◌then◌else◌, IsTrue, Contains, Option, Some, None, refl, inl, inr, ap, sym, ◌∙◌, subst, append-nil, append_assoc, arith}
 use Rattle.std.specs.List.{list_any, range_with_len}
 use Rattle.std.specs.Option.{option_or, option_map_or}
 use Rattle.std.proofs.lemmas.Bool.{and_parts, not-true, or_from}
 use Rattle.std.proofs.lemmas.Bool.Decides.{nat_tests}
 use Rattle.std.proofs.lemmas.List.{map-append}
+use Rattle.std.proofs.lemmas.List.Elements.{Contains-append_right}
 use Rattle.std.proofs.lemmas.List.Folds.{list_any-append}
 use Rattle.zb_process.specs.declared.model.Model.{Model}
 use Rattle.zb_instance_records.specs.declared.deployment.ProcessDefinition.{ProcessDefinition}
@@ -20,6 +21,7 @@ use Rattle.zb_model.specs.declared.record.Command.TheVariants as commands
 use Rattle.zb_model.specs.declared.record.Event.{Event}
 use Rattle.zb_model.specs.declared.record.Event.TheVariants as events
 use Rattle.zb_model.specs.declared.record.Outcome.{Outcome}
+use Rattle.zb_model.specs.declared.record.Outcome.TheVariants as outcomes
 use Rattle.zb_model.specs.declared.record.Rejection.{Rejection}
 use Rattle.zb_views.specs.View.{events_in, events_of, keys_in, greatest_counter, next_key}
 use Rattle.zb_views.proofs.ViewLaws.{greatest_counter_more}
@@ -29,6 +31,10 @@ use Rattle.zb_views.specs.Messages.{buffered, is_buffered, message_at}
 use Rattle.zb_views.specs.Processes.{process_in}
 use Rattle.zb_views.specs.Subscriptions.{subscription_at, is_subscribed, opened_in, is_locked_for}
 use Rattle.zb_views.specs.declared.subscription.Subscription.{Subscription}
+use Rattle.zb_views.specs.ProcessSubscriptions.{process_subscriptions, process_subscription_at, is_being_deleted, has_kept}
+use Rattle.zb_views.specs.declared.process_subscription.ProcessSubscription.{ProcessSubscription}
+use Rattle.zb_views.specs.declared.process_subscription.WaitPhase.{WaitPhase}
+use Rattle.zb_views.specs.declared.process_subscription.WaitPhase.TheVariants as wait_phases
 use Rattle.zb_rules.specs.Starts.{may_start}
 use Rattle.zb_rules.specs.Applies.{is_fresh, begins_start, has_definition, holds_own, applies, all_apply}
 use Rattle.zb_rules.specs.Correlate.{correlating_event, next_message, next_correlated, next_subscription, passed_on}
@@ -38,27 +44,37 @@ use Rattle.zb_rules.specs.Kinds.{may_follow}
 use Rattle.zb_rules.specs.Own.{own_events}
 use Rattle.zb_rules.specs.Reason.{reason_for}
 use Rattle.zb_rules.specs.Step.{IsAcceptance, IsOutcomeBy, IsOutcomeOf, IsStep, AreStepsOn}
+use Rattle.zb_rules.specs.Behind.{with_events_behind}
+use Rattle.zb_rules.specs.InFront.{assigning}
+use Rattle.zb_rules.specs.Making.{Making, and_then}
+use Rattle.zb_rules.specs.Receive.{subscription_in_wrong_state, waits_for_message, reason_to_pass_over, reason_to_receive, forgotten, closing_of, closed_after, brought, event_of_subscription, receive_events, received}
+use Rattle.zb_rules.specs.Shown.{holds_of_game}
+use Rattle.zb_rules.specs.Trigger.{cell_not_waiting}
+use Rattle.zb_rules.specs.WaitEvents.{is_open}
 use Rattle.zb_rules.specs.Subscribe.{unknown_subscription, opened, taken, turned_away, unkept_message, deleted_with, unsubscribed}
 use Rattle.zb_rules.proofs.KeysLaws.{fresh_is}
-use Rattle.zb_rules.proofs.KindsLaws.{EachOf, step_kind, rest_follows, command_told}
+use Rattle.zb_rules.proofs.KindsLaws.{EachOf, step_kind, rest_follows, command_told, all_weaker, then_makes, assigning_makes, variable_beside, beside_follows, with_behind}
+use Rattle.zb_rules.proofs.ReceiveLaws.{none_against, tests_hold}
 use Rattle.zb_rules.proofs.MadeLaws.{made_of_any}
 use Rattle.zb_rules.proofs.StepLaws.{all_apply_more}
-use Rattle.zb_record.specs.Answers.{no_subscription}
-use Rattle.zb_once.proofs.ListLemmas.{nothing_in, the_one, first_or_later, map_out}
-use Rattle.zb_once.proofs.ViewLaws.{text_refl, deleted_out}
-use Rattle.zb_once.specs.Tellings.{Telling, Asking, Refusal, home}
-use Rattle.zb_once.specs.Tellings.Refusal.{NoSubscription}
-use Rattle.zb_once.specs.Tellings.Telling.{Defined, Published}
+use Rattle.zb_record.specs.Answers.{no_subscription, was_correlated, being_deleted}
+use Rattle.zb_once.proofs.ListLemmas.{nothing_in, the_one, here_in, first_or_later, map_out, has_passed, passing}
+use Rattle.zb_once.proofs.ViewLaws.{text_refl, deleted_out, eq_true, eq_refl}
+use Rattle.zb_once.specs.Tellings.{Terms, Telling, Asking, Refusal, home}
+use Rattle.zb_once.specs.Tellings.Refusal.{NoSubscription, WasCorrelated, BeingDeleted, AnyOther}
+use Rattle.zb_once.specs.Tellings.Telling.{Defined, Published, Opens, Kept, Closing}
 use Rattle.zb_once.specs.Tellings.Asking.{Distribute, Create, IsCreated, Correlate, WasKept, Reject, Delete, IsDeleted}
 use Rattle.zb_once.specs.Views.{defined_process, terms_told, is_there, task_of, still_buffered, is_locked}
 use Rattle.zb_world.proofs.MessageViewLaws.{process_of, process_same, locks_same}
-use Rattle.zb_tokens.proofs.GameLaws.{both_right}
+use Rattle.zb_tokens.specs.declared.board.Assignments.{Assignments}
+use Rattle.zb_tokens.proofs.GameLaws.{both_right, found_passes}
 use Rattle.zb_once.specs.May.{May, EachMay, replies_to, MayAnswer, IsMessageStep}
 use Rattle.zb_world.specs.Entries.{IsPartitionOf}
 use Rattle.zb_world.specs.Tellings.{terms_from, tells, asks, turned_away_by, refusal_by}
 use Rattle.zb_world.proofs.AppliedStepLaws.{outcome_applies, steps_apply}
 use Rattle.zb_world.proofs.FreshLaws.{unnamed, drawn_home, keyed, any_found, buffered_same}
-use Rattle.zb_world.proofs.SubscriptionMayLaws.{own_holds, given_up_unkept, none_opened, no_task, has_task, may_begin}
+use Rattle.zb_world.proofs.SubscriptionMayLaws.{own_holds, given_up_unkept, no_task, has_task, may_begin}
+use Rattle.zb_world.proofs.WaitViewLaws.{terms_with, Shows, IsToldOf, nowhere_told, waiting_told}
 use Rattle.zb_world.proofs.SubscriptionViewLaws.{still_out}
 
 -- the event makes a definition, or does to a subscription what is asked
@@ -68,6 +84,9 @@ makes (events.MessageSubscriptionCreated e) = true
 makes (events.MessageSubscriptionCorrelated e) = true
 makes (events.MessageSubscriptionRejected e) = true
 makes (events.MessageSubscriptionDeleted key) = true
+makes (events.ProcessMessageSubscriptionCorrelated e) = true
+makes (events.ProcessMessageSubscriptionDeleting e) = true
+makes (events.ProcessMessageSubscriptionDeleted key) = true
 makes e = false
 
 -- what may follow does neither
@@ -81,6 +100,9 @@ follows_make_none (e ∷ es) follows = or_from (makes e) (list_any makes es) (by
     by_event (events.MessageSubscriptionCorrelated e) follows = absurd (cc)
     by_event (events.MessageSubscriptionRejected e) follows = absurd (cc)
     by_event (events.MessageSubscriptionDeleted key) follows = absurd (cc)
+    by_event (events.ProcessMessageSubscriptionCorrelated e) follows = absurd (cc)
+    by_event (events.ProcessMessageSubscriptionDeleting e) follows = absurd (cc)
+    by_event (events.ProcessMessageSubscriptionDeleted key) follows = absurd (cc)
     by_event e follows = refl
 
 -- nor does what sends a definition out
@@ -109,6 +131,8 @@ is_maker (commands.MessageSubscriptionCreate c) = true
 is_maker (commands.MessageSubscriptionCorrelate c) = true
 is_maker (commands.MessageSubscriptionReject c) = true
 is_maker (commands.MessageSubscriptionDelete c) = true
+is_maker (commands.ProcessMessageSubscriptionCorrelate c) = true
+is_maker (commands.ProcessMessageSubscriptionDelete key) = true
 is_maker command = false
 
 maker_of : (e : Event) (command : Command) → IsTrue (step_kind command e) → IsTrue (makes e) → IsTrue (is_maker command)
@@ -118,11 +142,16 @@ maker_of e (commands.MessageSubscriptionCreate c) is made = refl
 maker_of e (commands.MessageSubscriptionCorrelate c) is made = refl
 maker_of e (commands.MessageSubscriptionReject c) is made = refl
 maker_of e (commands.MessageSubscriptionDelete c) is made = refl
+maker_of e (commands.ProcessMessageSubscriptionCorrelate c) is made = refl
+maker_of e (commands.ProcessMessageSubscriptionDelete key) is made = refl
 maker_of (events.ProcessCreated e) command is made = absurd (cc)
 maker_of (events.MessageSubscriptionCreated e) command is made = absurd (cc)
 maker_of (events.MessageSubscriptionCorrelated e) command is made = absurd (cc)
 maker_of (events.MessageSubscriptionRejected e) command is made = absurd (cc)
 maker_of (events.MessageSubscriptionDeleted key) command is made = absurd (cc)
+maker_of (events.ProcessMessageSubscriptionCorrelated e) command is made = absurd (cc)
+maker_of (events.ProcessMessageSubscriptionDeleting e) command is made = absurd (cc)
+maker_of (events.ProcessMessageSubscriptionDeleted key) command is made = absurd (cc)
 maker_of e command is made = absurd (cc)
 
 -- the events of a command that is run are its own, and then what is forced
@@ -136,10 +165,14 @@ either_fails : (a b : Bool) → (a || b) ≡ false → (a ≡ false) × (b ≡ f
 either_fails false b is = (refl, is)
 either_fails true b is = absurd (cc)
 
--- what is published or defined under a key names it
+-- what is published, opened or defined under a key names it
 published_named : (key : ℕ) (e : Event) → tells e ≡ Published key → Contains (keys_in e) key
 published_named key (events.MessagePublished m) is = let same : m.key ≡ key = cc in (0, omega arith, same)
 published_named key _ is = absurd (cc)
+
+opened_named : (key : ℕ) (terms : Terms) (e : Event) → tells e ≡ Opens key terms → Contains (keys_in e) key
+opened_named key terms (events.ProcessMessageSubscriptionCreating c) is = let same : c.subscription ≡ key = cc in (0, omega arith, same)
+opened_named key terms _ is = absurd (cc)
 
 defined_named : (key : ℕ) (process : List ℕ) (e : Event) → tells e ≡ Defined key process → Contains (keys_in e) key
 defined_named key process (events.ProcessCreated d) is = let same : d.key ≡ key = cc in (0, omega arith, same)
@@ -174,6 +207,41 @@ start_may before e begins = by_message (message_at e.message before) refl begins
     by_message None at may = absurd (cc)
     by_message (Some m) at may = by_process m at (process_in e.definition before) refl may
 
+-- what a message brings, and the event that comes about with those behind it, may follow
+brought_follow : (p moment : ℕ) (brings : Option Assignments) (e : Event) → IsTrue (may_follow e) → (before : List Event) → EachOf may_follow (and_then (assigning brings) (with_events_behind p moment e) before)
+brought_follow p moment brings e follows before =
+    then_makes may_follow (assigning brings) (with_events_behind p moment e)
+    (λ earlier. all_weaker _ _ (λ x sets. beside_follows x (variable_beside x sets)) (assigning brings earlier) (assigning_makes brings earlier))
+    (with_behind may_follow beside_follows p moment e follows) before
+
+-- the subscription that is found has the key
+keyed_so : (key : ℕ) (es : List Event) (s : ProcessSubscription) → process_subscription_at key es ≡ Some s → s.key ≡ key
+keyed_so key es s at = let its = found_passes (λ (x : ProcessSubscription). x.key == key) (process_subscriptions es) s at in grind (arith, nat_tests, its)
+
+-- one that is open doesn't close
+never_closes : (s : ℕ) (told : List Telling) (x : ProcessSubscription) → IsToldOf s told x → is_open x.phase ≡ true → (correlation_key keys : List ℕ) → Contains told (Closing s correlation_key keys) → ⊥
+never_closes s told x is stays = by_phase x.phase is.shows stays
+  where
+    by_phase : (phase : WaitPhase) → Shows s told phase → is_open phase ≡ true → (correlation_key keys : List ℕ) → Contains told (Closing s correlation_key keys) → ⊥
+    by_phase wait_phases.Deleting shows stays = absurd (cc)
+    by_phase wait_phases.Creating shows stays = shows
+    by_phase wait_phases.Created shows stays = shows
+
+-- and one that isn't does
+closes_told : (s : ℕ) (told : List Telling) (x : ProcessSubscription) → IsToldOf s told x → is_being_deleted x.phase ≡ true → (correlation_key : List ℕ) × (keys : List ℕ) × Contains told (Closing s correlation_key keys)
+closes_told s told x is closes = by_phase x.phase is.shows closes
+  where
+    by_phase : (phase : WaitPhase) → Shows s told phase → is_being_deleted phase ≡ true → (correlation_key : List ℕ) × (keys : List ℕ) × Contains told (Closing s correlation_key keys)
+    by_phase wait_phases.Deleting shows closes = shows
+    by_phase phase shows closes = absurd (cc)
+
+-- what was kept is among those that were
+unkept_so : (m : ℕ) (x : ProcessSubscription) → has_kept m x ≡ false → Contains x.kept m → ⊥
+unkept_so m x new among = let kept = has_passed (λ (key : ℕ). key == m) x.kept m among (eq_refl m) in absurd (cc (new, kept))
+
+kept_so : (m : ℕ) (x : ProcessSubscription) → has_kept m x ≡ true → Contains x.kept m
+kept_so m x has = let r = passing (λ (key : ℕ). key == m) x.kept has in subst (Contains x.kept) (eq_true r.0 m r.2) r.1
+
 -- where no event opens a subscription that isn't there, it isn't there behind them
 stays_out : (s : ℕ) (told : List Telling) (es : List Event) → list_any makes es ≡ false → is_there s told ≡ false → is_there s (told ++ map tells es) ≡ false
 stays_out s told [] quiet out = rw (append-nil told) out
@@ -203,7 +271,13 @@ module _ (n p : ℕ) (low : 1 ≤ p) (high : p ≤ n) where
   quiet_may before asked (events.MessageSubscriptionCorrelated e) there own quiet = absurd (cc)
   quiet_may before asked (events.MessageSubscriptionRejected e) there own quiet = absurd (cc)
   quiet_may before asked (events.MessageSubscriptionDeleted key) there own quiet = absurd (cc)
-  quiet_may before asked (events.ProcessMessageSubscriptionCreating e) there own quiet = absurd (cc)
+  quiet_may before asked (events.ProcessMessageSubscriptionCreating c) there own quiet =
+      let f = fresh_is p before c.subscription (and_parts (is_fresh p before c.subscription) _ own).0 in (
+        subst (λ (key : ℕ). home n key ≡ p) (sym f.1) (drawn_home n p before low high f.0),
+        λ terms stands.
+            let r = map_out tells before (Opens c.subscription terms) stands in
+            unnamed p before r.0 f.0 r.1 (subst (Contains (keys_in r.0)) f.1 (opened_named c.subscription terms r.0 (sym r.2))),
+      )
   quiet_may before asked (events.ProcessMessageSubscriptionCorrelated e) there own quiet = absurd (cc)
   quiet_may before asked (events.ProcessMessageSubscriptionDeleted key) there own quiet = absurd (cc)
   quiet_may before asked (events.ProcessMessageSubscriptionDeleting e) there own quiet = absurd (cc)
@@ -365,6 +439,65 @@ module _ (n p : ℕ) (low : 1 ≤ p) (high : p ≤ n) where
             (told_first over asked d (next ++ rest) (c.keys, refl)
             (each_quiet (over ++ d ∷ []) asked (next ++ rest) second.over second.rest (both_quiet next rest (passed_make_none c.subscription m (over ++ d ∷ [])) follows)))
 
+    -- a message is kept where its subscription is open and hasn't kept it; where that ends with it, it closes with those that it has kept
+    received_may : (c : MessageCorrelation) (rest : List Event) → reason_to_receive es c ≡ None → IsTrue (all_apply p es (received p moment c es ++ rest)) → EachOf may_follow rest
+        → EachMay n p (map tells es) (Correlate c.subscription c.message) (map tells (received p moment c es ++ rest))
+    received_may c rest none apply follows =
+        let r = none_against es c.subscription (reason_to_pass_over es c.message) none in
+        let x = r.0 in
+        let at = r.1 in
+        let made : received p moment c es ≡ receive_events p moment c x es = rw at refl in
+        rw made (given_may x at (tests_hold (has_kept c.message x) (is_being_deleted x.phase) (holds_of_game (waits_for_message x) es) _ _ _ r.2).0 (subst (λ (l : List Event). IsTrue (all_apply p es (l ++ rest))) made apply))
+      where
+        asked : Asking
+        asked = Correlate c.subscription c.message
+
+        e : Event
+        e = events.ProcessMessageSubscriptionCorrelated (record { subscription = c.subscription; message = c.message })
+
+        over : List Event
+        over = es ++ e ∷ []
+
+        later : ProcessSubscription → Making
+        later x = and_then (assigning (brought c.variables x es)) (with_events_behind p moment (event_of_subscription x))
+
+        quiet : (x : ProcessSubscription) (before : List Event) → list_any makes (later x before ++ rest) ≡ false
+        quiet x before = both_quiet (later x before) rest (follows_make_none (later x before) (brought_follow p moment (brought c.variables x es) (event_of_subscription x) refl before)) follows
+
+        -- behind it, it closes or not
+        closed_may : (x : ProcessSubscription) (found : Option ProcessSubscription) → process_subscription_at c.subscription over ≡ found → IsTrue (all_apply p [] over)
+            → IsTrue (all_apply p over (and_then (λ before. option_map_or (λ s. if s.cancel then closing_of s ∷ [] else []) found []) (later x) over ++ rest))
+            → EachMay n p (map tells over) asked (map tells (and_then (λ before. option_map_or (λ s. if s.cancel then closing_of s ∷ [] else []) found []) (later x) over ++ rest))
+        closed_may x None found over_there apply = each_quiet over asked (later x (over ++ []) ++ rest) over_there apply (quiet x (over ++ []))
+        closed_may x (Some s) found over_there apply = by_cancel s.cancel apply
+          where
+            by_cancel : (cancel : Bool) → IsTrue (all_apply p over (and_then (λ before. if cancel then closing_of s ∷ [] else []) (later x) over ++ rest))
+                → EachMay n p (map tells over) asked (map tells (and_then (λ before. if cancel then closing_of s ∷ [] else []) (later x) over ++ rest))
+            by_cancel false apply = each_quiet over asked (later x (over ++ []) ++ rest) over_there apply (quiet x (over ++ []))
+            by_cancel true apply =
+                let first = split over (closing_of s) (later x (over ++ closing_of s ∷ []) ++ rest) over_there apply in
+                let key = keyed_so c.subscription over s found in
+                let told = waiting_told p s.key over over_there s (subst (λ (k : ℕ). process_subscription_at k over ≡ Some s) (sym key) found) in
+                told_first over asked (closing_of s) (later x (over ++ closing_of s ∷ []) ++ rest) (terms_with s, told.opens, refl, told.kept)
+                (each_quiet (over ++ closing_of s ∷ []) asked (later x (over ++ closing_of s ∷ []) ++ rest) first.over first.rest (quiet x (over ++ closing_of s ∷ [])))
+
+        given_may : (x : ProcessSubscription) → process_subscription_at c.subscription es ≡ Some x → has_kept c.message x ≡ false → IsTrue (all_apply p es (receive_events p moment c x es ++ rest))
+            → EachMay n p (map tells es) asked (map tells (receive_events p moment c x es ++ rest))
+        given_may x at new apply =
+            let first = split es e (and_then (closed_after c.subscription) (later x) over ++ rest) there apply in
+            let told = waiting_told p c.subscription es there x at in
+            let stays : is_open x.phase ≡ true = rw at at first.own in
+            told_first es asked e (and_then (closed_after c.subscription) (later x) over ++ rest)
+            (refl, never_closes c.subscription (map tells es) x told stays, λ stands. unkept_so c.message x new ((told.kept c.message).1 stands))
+            (closed_may x (process_subscription_at c.subscription over) refl first.over first.rest)
+
+    -- a subscription that is gone is the one that is asked
+    gone_may : (key : ℕ) (rest : List Event) → IsTrue (all_apply p es (forgotten key es ++ rest)) → EachOf may_follow rest → EachMay n p (map tells es) (IsDeleted key) (map tells (forgotten key es ++ rest))
+    gone_may key rest apply follows =
+        let e = events.ProcessMessageSubscriptionDeleted key in
+        let first = split es e rest there apply in
+        told_first es (IsDeleted key) e rest refl (each_quiet (es ++ e ∷ []) (IsDeleted key) rest first.over first.rest (follows_make_none rest follows))
+
     -- what is run tells what its own events do, and then what is forced
     of_made : (command : Command) (outcome : Outcome) (a : IsAcceptance p n moment es command outcome) (made : List Event) → own_events p n es moment command ≡ Some made
         → (IsTrue (all_apply p es (made ++ a.rest)) → EachOf may_follow a.rest → EachMay n p (map tells es) (asks command) (map tells (made ++ a.rest))) → EachMay n p (map tells es) (asks command) (map tells (events_in outcome))
@@ -381,6 +514,8 @@ module _ (n p : ℕ) (low : 1 ≤ p) (high : p ≤ n) where
     maker_may (commands.MessageSubscriptionCorrelate c) outcome is none a = of_made (commands.MessageSubscriptionCorrelate c) outcome a (taken c es) refl (kept_may c a.rest)
     maker_may (commands.MessageSubscriptionReject c) outcome is none a = of_made (commands.MessageSubscriptionReject c) outcome a (turned_away c es) refl (turned_may c a.rest)
     maker_may (commands.MessageSubscriptionDelete c) outcome is none a = of_made (commands.MessageSubscriptionDelete c) outcome a (unsubscribed c es) refl (deleted_may c a.rest)
+    maker_may (commands.ProcessMessageSubscriptionCorrelate c) outcome is none a = of_made (commands.ProcessMessageSubscriptionCorrelate c) outcome a (received p moment c es) refl (received_may c a.rest none)
+    maker_may (commands.ProcessMessageSubscriptionDelete key) outcome is none a = of_made (commands.ProcessMessageSubscriptionDelete key) outcome a (forgotten key es) refl (gone_may key a.rest)
     maker_may command outcome is none a = absurd (cc)
 
     -- what the events of a step tell may be told
@@ -393,9 +528,18 @@ module _ (n p : ℕ) (low : 1 ≤ p) (high : p ≤ n) where
             let told = command_told p n moment es makes (λ command. IsTrue (is_maker command)) maker_of command outcome is some in
             maker_may command outcome told.0 told.1 told.2
 
--- a message that is turned away says why
+-- a message that isn't kept says why
 nowhere_said : (c : MessageCorrelation) → turned_away_by c (unknown_subscription c.subscription) ≡ NoSubscription
 nowhere_said c = rw (text_refl (no_subscription c.subscription)) refl
+
+kept_said : (c : MessageCorrelation) → turned_away_by c (subscription_in_wrong_state (was_correlated c.message)) ≡ WasCorrelated
+kept_said c = rw (text_refl (was_correlated c.message)) refl
+
+closing_said : (c : MessageCorrelation) → turned_away_by c (subscription_in_wrong_state (being_deleted c.subscription)) ≡ BeingDeleted
+closing_said c = rw (text_refl (being_deleted c.subscription)) refl
+
+waiting_said : (c : MessageCorrelation) (cell : ℕ) → turned_away_by c (subscription_in_wrong_state (cell_not_waiting cell)) ≡ AnyOther
+waiting_said c cell = refl
 
 module _ (p n moment : ℕ) (es : List Event) (there : IsTrue (all_apply p [] es)) where
   -- behind its deletion a subscription isn't there
@@ -433,15 +577,67 @@ module _ (p n moment : ℕ) (es : List Event) (there : IsTrue (all_apply p [] es
           let all = events_are p n moment es (commands.MessageSubscriptionDelete c) outcome a (unsubscribed c es) refl in
           rw (all, deleted_there c a.rest (rest_follows p n moment es (commands.MessageSubscriptionDelete c) outcome a)) refl
 
+  -- a message for a subscription is answered as it was kept or not
+  module _ (c : MessageCorrelation) (outcome : Outcome) where
+    abbrev asking : Asking
+    asking = Correlate c.subscription c.message
+
+    abbrev behind : List Telling
+    behind = map tells es ++ map tells (events_in outcome)
+
+    abbrev Answers : Option Refusal → Type 0
+    Answers refusal = (a : Asking) → Contains (replies_to asking refusal) a → MayAnswer behind asking a
+
+    -- where it is rejected, nothing is told
+    refused_answers : (r : Rejection) (said : Refusal) → turned_away_by c r ≡ said → outcome ≡ outcomes.Rejected r → ((a : Asking) → Contains (replies_to asking (Some said)) a → MayAnswer (map tells es) asking a) → Answers (refusal_by (commands.ProcessMessageSubscriptionCorrelate c) outcome)
+    refused_answers r said says is answers = rw (is, says, append-nil (map tells es)) answers
+
+    kept_answers : (x : ProcessSubscription) → process_subscription_at c.subscription es ≡ Some x → has_kept c.message x ≡ true → (a : Asking) → Contains (replies_to asking (Some WasCorrelated)) a → MayAnswer (map tells es) asking a
+    kept_answers x at has a sends = rw (the_one (WasKept c.subscription c.message) a sends) (((waiting_told p c.subscription es there x at).kept c.message).0 (kept_so c.message x has))
+
+    closing_answers : (x : ProcessSubscription) → process_subscription_at c.subscription es ≡ Some x → has_kept c.message x ≡ false → is_being_deleted x.phase ≡ true → (a : Asking) → Contains (replies_to asking (Some BeingDeleted)) a → MayAnswer (map tells es) asking a
+    closing_answers x at new closes a sends =
+        let told = waiting_told p c.subscription es there x at in
+        rw (the_one (Reject c.subscription c.message) a sends) (refl, inr (closes_told c.subscription (map tells es) x told closes, λ stands. unkept_so c.message x new ((told.kept c.message).1 stands)))
+
+    nowhere_answers : process_subscription_at c.subscription es ≡ None → (a : Asking) → Contains (replies_to asking (Some NoSubscription)) a → MayAnswer (map tells es) asking a
+    nowhere_answers at a sends = rw (the_one (Reject c.subscription c.message) a sends) (refl, inl (nowhere_told p c.subscription es there at))
+
+    -- where it is run, it was kept
+    taken_answers : (x : ProcessSubscription) → process_subscription_at c.subscription es ≡ Some x → IsAcceptance p n moment es (commands.ProcessMessageSubscriptionCorrelate c) outcome → Answers (refusal_by (commands.ProcessMessageSubscriptionCorrelate c) outcome)
+    taken_answers x at a =
+        let all = events_are p n moment es (commands.ProcessMessageSubscriptionCorrelate c) outcome a (received p moment c es) refl in
+        let made : received p moment c es ≡ receive_events p moment c x es = rw at refl in
+        let none : refusal_by (commands.ProcessMessageSubscriptionCorrelate c) outcome ≡ None = rw (a.accepted) refl in
+        λ reply sends.
+        let one : reply ≡ WasKept c.subscription c.message = the_one (WasKept c.subscription c.message) reply (subst (λ (r : Option Refusal). Contains (replies_to asking r) reply) none sends) in
+        rw (one, all, made) (Contains-append_right (map tells es) _ (Kept c.subscription c.message) (here_in (Kept c.subscription c.message) _))
+
+    -- each reason in turn
+    by_reasons : (x : ProcessSubscription) → process_subscription_at c.subscription es ≡ Some x → (kept closes waits : Bool) → has_kept c.message x ≡ kept → is_being_deleted x.phase ≡ closes → x.key ≡ c.subscription
+        → IsOutcomeBy (if kept then Some (subscription_in_wrong_state (was_correlated c.message)) else if closes then Some (subscription_in_wrong_state (being_deleted x.key)) else if not waits then Some (subscription_in_wrong_state (cell_not_waiting x.cell)) else None) outcome
+        (IsAcceptance p n moment es (commands.ProcessMessageSubscriptionCorrelate c) outcome)
+        → Answers (refusal_by (commands.ProcessMessageSubscriptionCorrelate c) outcome)
+    by_reasons x at true closes waits has is key outcome_is = refused_answers (subscription_in_wrong_state (was_correlated c.message)) WasCorrelated (kept_said c) outcome_is (kept_answers x at has)
+    by_reasons x at false true waits new is key outcome_is =
+        refused_answers (subscription_in_wrong_state (being_deleted x.key)) BeingDeleted (ap (λ (k : ℕ). turned_away_by c (subscription_in_wrong_state (being_deleted k))) key ∙ closing_said c) outcome_is (closing_answers x at new is)
+    by_reasons x at false false false new is key outcome_is = refused_answers (subscription_in_wrong_state (cell_not_waiting x.cell)) AnyOther (waiting_said c x.cell) outcome_is (λ a sends. absurd (nothing_in a sends))
+    by_reasons x at false false true new is key a = taken_answers x at a
+
+    by_row : (found : Option ProcessSubscription) → process_subscription_at c.subscription es ≡ found
+        → IsOutcomeBy (option_map_or (reason_to_pass_over es c.message) found (Some (unknown_subscription c.subscription))) outcome (IsAcceptance p n moment es (commands.ProcessMessageSubscriptionCorrelate c) outcome)
+        → Answers (refusal_by (commands.ProcessMessageSubscriptionCorrelate c) outcome)
+    by_row None at is = refused_answers (unknown_subscription c.subscription) NoSubscription (nowhere_said c) is (nowhere_answers at)
+    by_row (Some x) at is = by_reasons x at (has_kept c.message x) (is_being_deleted x.phase) (holds_of_game (waits_for_message x) es) refl refl (keyed_so c.subscription es x at) is
+
+    received_answers : IsOutcomeOf p n moment es (commands.ProcessMessageSubscriptionCorrelate c) outcome → Answers (refusal_by (commands.ProcessMessageSubscriptionCorrelate c) outcome)
+    received_answers is = by_row (process_subscription_at c.subscription es) refl is
+
   -- what a step replies it may
   answers_may : (command : Command) (outcome : Outcome) → IsOutcomeOf p n moment es command outcome → (a : Asking) → Contains (replies_to (asks command) (refusal_by command outcome)) a
       → MayAnswer (map tells es ++ map tells (events_in outcome)) (asks command) a
   answers_may (commands.MessageSubscriptionCreate c) outcome is a sends = rw (the_one (IsCreated c.subscription) a sends) tt
-  answers_may (commands.ProcessMessageSubscriptionCorrelate c) outcome is a sends =
-      let asked = Correlate c.subscription c.message in
-      let refused : refusal_by (commands.ProcessMessageSubscriptionCorrelate c) outcome ≡ Some NoSubscription = rw (is, nowhere_said c) refl in
-      let one : a ≡ Reject c.subscription c.message = the_one (Reject c.subscription c.message) a (subst (λ (r : Option Refusal). Contains (replies_to asked r) a) refused sends) in
-      rw (one, is, append-nil (map tells es)) (refl, inl (inl (none_opened p es there c.subscription)))
+  answers_may (commands.ProcessMessageSubscriptionCorrelate c) outcome is a sends = received_answers c outcome is a sends
   answers_may (commands.MessageSubscriptionDelete c) outcome is a sends = rw (the_one (IsDeleted c.subscription) a sends) (c.keys, refl, deleted_task c outcome is)
   answers_may _ outcome is a sends = absurd (nothing_in a sends)
 

@@ -43,20 +43,6 @@ all_new p before (e ∷ es) apply =
     let r = and_parts (applies p before e) (all_apply p (before ++ e ∷ []) es) apply in
     rw (new_one p before e (own_holds p before e r.0)) (all_new p (before ++ e ∷ []) es r.1)
 
--- nor does one open a subscription at its own partition
-none_opens : (p : ℕ) (before es : List Event) → IsTrue (all_apply p before es) → (e : Event) → Contains es e → (s : ℕ) (terms : Terms) → tells e ≡ Opens s terms → ⊥
-none_opens p before [] apply e among s terms opens = nothing_in e among
-none_opens p before (x ∷ es) apply e among s terms opens =
-    let r = and_parts (applies p before x) (all_apply p (before ++ x ∷ []) es) apply in
-    elim (first_or_later x e es among) [
-      | inl same ↦ by_event x (own_holds p before x r.0) (ap tells (sym same) ∙ opens)
-      | inr later ↦ none_opens p (before ++ x ∷ []) es r.1 e later s terms opens
-    ]
-  where
-    by_event : (x : Event) → holds_own p before x ≡ true → tells x ≡ Opens s terms → ⊥
-    by_event (events.ProcessMessageSubscriptionCreating c) own is = absurd (cc)
-    by_event _ own is = absurd (cc)
-
 -- what a deletion gives up isn't among its keys
 pub given_up_unkept : (c : MessageSubscriptionDelete) (es : List Event) (m : ℕ) → unkept_message c es ≡ Some m → Contains c.keys m → ⊥
 given_up_unkept c es m is among = by_found (subscription_at c.subscription es) is
@@ -78,10 +64,6 @@ given_up_unkept c es m is among = by_found (subscription_at c.subscription es) i
     by_found (Some s) is = by_task s.correlating is
 
 module _ (p : ℕ) (es : List Event) (apply : IsTrue (all_apply p [] es)) where
-  -- no subscription opened at its own partition
-  pub none_opened : (s : ℕ) (terms : Terms) → Contains (map tells es) (Opens s terms) → ⊥
-  none_opened s terms stands = let r = map_out tells es (Opens s terms) stands in none_opens p [] es apply r.0 r.1 s terms (sym r.2)
-
   -- the message that a subscription is correlating
   task_known : (s : ℕ) → task_of s (map tells es) ≡ option_and_then (λ r. r.correlating) (subscription_at s es)
   task_known s = task_same s es (all_new p [] es apply)

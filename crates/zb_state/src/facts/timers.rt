@@ -10,6 +10,7 @@ ghost use Rattle.zb_state.specs.Tables.{IsNext};
 use crate::Facts;
 use zb_game::may_open;
 use zb_model::{Key, TimerCreated};
+use zb_tokens::Catch;
 
 impl Facts {
     // Whether the key of a timer is fresh, and its cell waits for the time of the node.
@@ -18,7 +19,13 @@ impl Facts {
         ensures own { (es : List Event) → IsStateOf es self.now
             → result ≡ (is_fresh (partition_of self.now) es made.now.key && holds_of_game (may_open made.now) es) }
     {
-        self.is_fresh(made.key) && may_open(self.game.board(), made.cell, made.node.as_str())
+        self.is_fresh(made.key)
+            && may_open(
+                self.game.board(),
+                made.cell,
+                Catch::Time,
+                made.node.as_str(),
+            )
     }
 
     // Whether the timer with this key is there.

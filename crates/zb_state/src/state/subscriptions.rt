@@ -4,6 +4,7 @@ ghost use Rattle.std.specs.List.{list_any};
 ghost use Rattle.std.specs.Option.{option_copied};
 ghost use Rattle.std.specs.Str.{bytes_eq};
 ghost use Rattle.zb_model.specs.declared.record.Event.{Event};
+ghost use Rattle.zb_views.specs.ProcessSubscriptions.{process_subscription_at};
 ghost use Rattle.zb_views.specs.Subscriptions.{wants_messages, is_lock, subscriptions, subscription_at};
 ghost use Rattle.zb_rules.specs.Correlate.{fits_message, next_message, next_subscription, is_correlating};
 ghost use Rattle.zb_state.specs.State.{IsStateOf};
@@ -14,7 +15,7 @@ use std::alloc::{AllocError, Global};
 use zb_model::{Key, MessagePublished};
 use zb_starts::Locks;
 use zb_table::Query;
-use zb_views::Subscription;
+use zb_views::{ProcessSubscription, Subscription};
 
 impl State {
     /// The subscription with this key. It takes the logarithm of how many there are.
@@ -22,6 +23,13 @@ impl State {
         ensures { (es : List Event) → IsStateOf es self.now → option_copied result ≡ subscription_at key es }
     {
         self.facts.subscription(key)
+    }
+
+    /// The subscription with this key, of an element instance that waits here. It takes the logarithm of how many there are.
+    pub fn process_subscription(&self, key: Key) -> Option<&ProcessSubscription>
+        ensures { (es : List Event) → IsStateOf es self.now → option_copied result ≡ process_subscription_at key es }
+    {
+        self.facts.process_subscription(key)
     }
 
     /// Whether a subscription is correlating this message.

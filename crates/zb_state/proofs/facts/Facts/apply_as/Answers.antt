@@ -20,6 +20,7 @@ invariant_of-self c =
     let took = c.in_ok-follow.ensures.taken in
     record {
       drawn = s.drawn;
+      waiting = s.waiting;
       begun = s.begun;
       in_order = rw took.place
           (messages_below mid.place mid.counter s.counter s.messages c.apply.new.self mid.tables.jobs s.tables.jobs s.tables.timers c.args.event.now c.apply.result

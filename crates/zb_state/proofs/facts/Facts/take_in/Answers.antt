@@ -17,6 +17,7 @@ invariant_of-self c =
     let took = c.in-Ok-follow.ensures.taken in
     record {
       drawn = s.drawn;
+      waiting = s.waiting;
       begun = s.begun;
       in_order = rw took.place
           (messages_below mid.place mid.counter s.counter s.messages c.take.new.self mid.tables.jobs s.tables.jobs s.tables.timers c.args.event c.take.result
