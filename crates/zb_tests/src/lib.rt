@@ -4,6 +4,8 @@
 #![tactic(auto)]
 
 #[cfg(test)]
+mod asked;
+#[cfg(test)]
 mod crashes;
 #[cfg(test)]
 mod disks;
@@ -11,6 +13,8 @@ mod disks;
 mod histories;
 #[cfg(test)]
 mod homes;
+#[cfg(test)]
+mod instances;
 #[cfg(test)]
 mod logs;
 #[cfg(test)]
@@ -21,3 +25,5 @@ mod runs;
 mod script;
 #[cfg(test)]
 mod streams;
+#[cfg(test)]
+mod written;
