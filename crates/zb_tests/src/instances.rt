@@ -177,6 +177,8 @@ fn an_instance_is_asked_early_late_and_twice(rt: HostRuntime) {
 // What is asked of either side, and what comes of it.
 type Step = (Asked, &'static str);
 
+const NO_CORRELATION: &str = "NOT_FOUND no correlation of 4503599627370497 at 2251799813685254";
+
 // The first message is taken, and its answer lost. It comes again before the home has heard of it, and once more when the
 // subscription is gone at both sides: it is turned away, which gives nothing up, and stays locked for process p alone.
 const COMES_AGAIN: [Step; 12] = [
@@ -209,8 +211,6 @@ const OPENED_LATE: [Step; 11] = [
     (Asked::Open(7), "CREATED 7"),
     (Asked::Open(8), "CREATED 8 CORRELATING 8 1"),
 ];
-
-const NO_CORRELATION: &str = "NOT_FOUND no correlation of 4503599627370497 at 2251799813685254";
 
 // Asks both sides one step after the other.
 fn follow(rt: &impl Abort, alloc: Global, steps: &[Step]) {
