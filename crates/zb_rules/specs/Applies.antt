@@ -83,7 +83,7 @@ begins_well p before e = is_plain e.role && (if e.scope == 0 then begins_instanc
 abbrev pub begins_start : MessageStartEventSubscriptionCorrelated → List Event → Bool
 begins_start e before = option_map_or (λ m. option_map_or (λ d. may_start m d.model.process before) (process_in e.definition before) false) (message_at e.message before) false
 
--- what holds of an event that applies, beside the move that it shows; one that no command makes so far doesn't apply
+-- what holds of an event that applies, beside the move that it shows; one of a migration doesn't apply so far
 abbrev pub holds_own : ℕ → List Event → Event → Bool
 holds_own p before (events.ProcessCreated e) = is_well_formed e.model
 holds_own p before (events.DeploymentCreated e) = is_fresh p before e.key && has_definition e.definition before
