@@ -11,7 +11,7 @@ use std::marker::Model;
 use std::mem;
 use zb_base::Key;
 use zb_pairs::{first_under, keys_under};
-use zb_table::{Edit, Table};
+use zb_table::{Edit, Iter, Table};
 
 /// Rows in the order of their keys, found by the cells at which they stand. Contracts see the list of them.
 #[derive(Drop)]
@@ -51,12 +51,12 @@ impl<R: Kept> Rows<R> {
         self.rows.get(key)
     }
 
-    /// The keys of all rows, ascending. It takes a step for each row, on average.
-    pub fn keys(&self, alloc: Global) -> Result<Vec<Key>, AllocError>
-        ensures keys { IfOk result (λ keys. keys.items ≡ map R.key_in self.now) }
+    /// The rows, in the order of their keys. To go through all of them takes a step for each, on average.
+    pub fn iter(&self) -> Iter<'_, R>
+        ensures rows { result ≡ self.now }
         ensures order { Ascend R.key_in 0 self.now }
     {
-        self.rows.keys(alloc)
+        self.rows.iter()
     }
 
     /// The keys of the rows at a cell, ascending. It takes the logarithm of how many rows there are, and a step for

@@ -85,6 +85,18 @@ module _ {A : Type 0} (key : A → ℕ) where
       let test : nat_lt p.key k ≡ true = grind (arith, nat_tests, here.0, below) in
       rw test (omega (arith, later))
 
+  -- below the key of a place are those in front of it
+  pub its_own : (low : ℕ) (ps : List (Place A)) (i : ℕ) (q : Place A) → AreOrdered key low ps → slice_get ps i ≡ Some q → count_below q.key ps ≡ i
+  its_own low [] i q o at = absurd (cc)
+  its_own low (p ∷ ps) zero q o at =
+      let same : p.key ≡ q.key = ap (λ (z : Place A). z.key) (let here : p ≡ q = cc in here) in
+      let test : nat_lt p.key q.key ≡ false = grind (arith, nat_tests, same) in
+      rw test refl
+  its_own low (p ∷ ps) (suc i) q o at =
+      let here = row_found (p.key + 1) ps i q o.2 at in
+      let test : nat_lt p.key q.key ≡ true = grind (arith, nat_tests, here.0) in
+      rw test (ap suc (its_own (p.key + 1) ps i q o.2 at))
+
   -- all are below where the last one is
   pub all_below : (k : ℕ) (ps : List (Place A)) (last : Place A) → AreOrdered key 0 ps → slice_get ps (length ps - 1) ≡ Some last → last.key < k → length ps ≡ count_below k ps
   all_below k ps last o at below = omega (arith, count_within k ps, all_before k 0 ps (length ps - 1) last o at below)

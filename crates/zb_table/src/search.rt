@@ -10,14 +10,15 @@ use crate::{Query, Row};
 use std::alloc::{AllocError, Global};
 use zb_base::Key;
 
-/// How many places have lower keys. It takes one step where all have, and else the logarithm of how many places
-/// there are from the first that hasn't on.
+/// How many places have lower keys. It takes one step where all have, or all but the last, and else the logarithm of how
+/// many places there are from the first that hasn't on.
 pub fn place_of<R: Row>(key: Key, places: &[Place<R>]) -> usize
     requires { AreOrdered R.key_in 0 places.now }
     ensures { result ≡ count_below key places.now }
 {
     match places.last() {
-        Some(last) if last.key >= key => search(key, places),
+        Some(last) if last.key > key => search(key, places),
+        Some(last) if last.key == key => places.len() - 1,
         _ => places.len(),
     }
 }
@@ -68,27 +69,6 @@ pub fn find<R: Row>(key: Key, places: &[Place<R>]) -> Result<usize, usize>
         Some(found) if found.key == key => Ok(place),
         _ => Err(place),
     }
-}
-
-/// The keys of all rows, ascending. It takes a step for each place.
-pub fn keys<R: Row>(alloc: Global, places: &[Place<R>]) -> Result<Vec<Key>, AllocError>
-    ensures { IfOk result (λ keys. keys.items ≡ map R.key_in (rows_in places.now)) }
-{
-    let mut keys = Vec::new(alloc);
-    for place in places {
-        push_key(place, &mut keys)?;
-    }
-    Ok(keys)
-}
-
-// Puts the key of the row that is there, if there is one, behind others.
-fn push_key<R: Row>(place: &Place<R>, keys: &mut Vec<Key>) -> Result<(), AllocError>
-    ensures { OnOk result (keys.new.items ≡ keys.old.items ++ map R.key_in (held place.now.row [])) }
-{
-    if let Some(row) = &place.row {
-        keys.push(row.key())?;
-    }
-    Ok(())
 }
 
 /// Whether a row passes. It goes through all of them.

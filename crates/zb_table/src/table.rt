@@ -7,7 +7,7 @@ ghost use Rattle.zb_table.specs.Rows.{Ascend, first_passing, last_passing, row_a
 
 use crate::row::Place;
 use crate::search::find;
-use crate::{Edit, Query, Row, search};
+use crate::{Edit, Iter, Query, Row, search};
 use std::alloc::{AllocError, Global};
 use std::marker::Model;
 use zb_base::Key;
@@ -51,7 +51,7 @@ impl<R: Row> Table<R> {
     }
 
     /// The row with this key. It takes the logarithm of how many rows there are; one step where the key is
-    /// greater than all.
+    /// the greatest, or greater than all.
     pub fn get(&self, key: Key) -> Option<&R>
         ensures row { option_copied result ≡ row_at R.key_in key self.now }
         ensures order { Ascend R.key_in 0 self.now }
@@ -69,12 +69,14 @@ impl<R: Row> Table<R> {
         self.get(key).is_some()
     }
 
-    /// The keys of all rows, ascending. It takes a step for each place.
-    pub fn keys(&self, alloc: Global) -> Result<Vec<Key>, AllocError>
-        ensures keys { IfOk result (λ keys. keys.items ≡ map R.key_in self.now) }
+    /// The rows, in the order of their keys. To go through all of them takes a step for each place.
+    pub fn iter(&self) -> Iter<'_, R>
+        ensures rows { result ≡ self.now }
         ensures order { Ascend R.key_in 0 self.now }
     {
-        search::keys(alloc, &self.places)
+        Iter {
+            places: &self.places,
+        }
     }
 
     /// Whether a row passes. It goes through all of them.
