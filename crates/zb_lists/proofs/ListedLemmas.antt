@@ -1,5 +1,5 @@
 -- What is listed of rows that are found by their keys, as one comes and as one goes.
-use Rattle.std.proofs.Common.{◌≡◌, ℕ, ◌+◌, ◌≤◌, ◌==◌, ◌&&◌, ◌||◌, nat_lt, List, [], ◌∷◌, ◌++◌, map, filter, Bool, true, false, cond, if◌then◌else◌, Option, Some, None, refl, sym, ap, ◌∙◌, arith, nat_cmp}
+use Rattle.std.proofs.Common.{◌≡◌, ℕ, ◌+◌, ◌≤◌, ◌<◌, ◌==◌, ◌&&◌, ◌||◌, nat_lt, List, [], ◌∷◌, ◌++◌, map, filter, Bool, true, false, cond, if◌then◌else◌, Option, Some, None, refl, sym, ap, ◌∙◌, arith, nat_cmp}
 use Rattle.std.specs.declared.cmp.Ordering.TheVariants.{Less, Equal, Greater}
 use Rattle.std.specs.List.{find, list_any}
 use Rattle.std.specs.List.Sorted.{IsStrictlySortedBy}
@@ -11,7 +11,7 @@ use Rattle.zb_pairs.specs.Pairs.{is_number}
 use Rattle.zb_lists.specs.Moments.{is_among}
 use Rattle.zb_pairs.proofs.UnderLemmas.{keys_passing}
 use Rattle.zb_lists.specs.declared.lists.Lists.{Lists}
-use Rattle.zb_lists.specs.Listed.{row_found, found_among, without_named, has_key, is_label, moments_of, keys_of, AreListed}
+use Rattle.zb_lists.specs.Listed.{row_found, without_named, has_key, is_label, moments_of, keys_of, AreListed}
 use Rattle.zb_lists.proofs.MemberLemmas.{same_number}
 
 -- keys in order ascend
@@ -89,75 +89,46 @@ module _ {A : Type 0} (test : A → Bool) where
           rw (was, its) (here s)
       by_test s false passes other was = elsewhere s (has k) ∙ (was ∙ ap (λ (o : Option A). option_map_or test o false) (sym (others k other)))
 
-  -- the row with one key more, if it is there
-  pub listed_more : (found : ℕ → Option A) (done : List ℕ) (has new : ℕ → Bool) (key : ℕ) → IsListOf (found_among done found) has
-      → ((k : ℕ) → new k ≡ ((option_map_or test (found key) false && (key == k)) || has k)) → IsListOf (found_among (done ++ key ∷ []) found) new
-  listed_more found done has new key listed puts k = puts k ∙ by_test (list_any (λ x. x == k) done) (key == k) refl refl (listed k)
-    where
-      more : (xs : List ℕ) → list_any (λ x. x == k) (xs ++ key ∷ []) ≡ (list_any (λ x. x == k) xs || (key == k))
-      more [] = last (key == k)
-        where
-          last : (t : Bool) → (t || false) ≡ t
-          last true = refl
-          last false = refl
-      more (x ∷ xs) = ap (λ (b : Bool). (x == k) || b) (more xs) ∙ grouped (x == k) (list_any (λ y. y == k) xs) (key == k)
-        where
-          grouped : (a b c : Bool) → (a || (b || c)) ≡ ((a || b) || c)
-          grouped true b c = refl
-          grouped false b c = refl
+module _ {A : Type 0} (key : A → ℕ) where
+  -- the key of the first of some rows is that of no other one
+  pub none_behind : (k low : ℕ) (rows : List A) → Ascend key low rows → k < low → row_found key rows k ≡ None
+  none_behind k low [] up below = refl
+  none_behind k low (r ∷ rows) up below =
+      let other : (key r == k) ≡ false = grind (arith, nat_tests, up.0, below) in
+      rw other (none_behind k (key r + 1) rows up.1 (omega (arith, up.0, below)))
 
-      in_front : (t b : Bool) → ((t && true) || (if b then t else false)) ≡ t
-      in_front true b = refl
-      in_front false true = refl
-      in_front false false = refl
+  module _ (test : A → Bool) where
+    -- listed are the rows that pass, but for some that are still to come
+    abbrev pub IsListBut : (rows rest : List A) → (ℕ → Bool) → Type 0
+    IsListBut rows rest has = (k : ℕ) → (option_map_or test (row_found key rest k) false || has k) ≡ option_map_or test (row_found key rows k) false
 
-      elsewhere : (t old : Bool) → ((t && false) || old) ≡ old
-      elsewhere true old = refl
-      elsewhere false old = refl
-
-      within : (b : Bool) (o : Option A) → option_map_or test (if b then o else None) false ≡ (if b then option_map_or test o false else false)
-      within true o = refl
-      within false o = refl
-
-      joined : (b : Bool) → (b || true) ≡ true
-      joined true = refl
-      joined false = refl
-
-      alone : (b : Bool) → (b || false) ≡ b
-      alone true = refl
-      alone false = refl
-
-      by_test : (b t : Bool) → list_any (λ x. x == k) done ≡ b → (key == k) ≡ t → has k ≡ option_map_or test (if b then found k else None) false
-          → ((option_map_or test (found key) false && t) || has k) ≡ option_map_or test (if list_any (λ x. x == k) (done ++ key ∷ []) then found k else None) false
-      by_test b true known same was =
-          let is : key ≡ k = grind (arith, nat_tests, same) in
-          let now : list_any (λ x. x == k) (done ++ key ∷ []) ≡ true = more done ∙ rw (known, same) (joined b) in
-          let its : option_map_or test (found key) false ≡ option_map_or test (found k) false = ap (λ (j : ℕ). option_map_or test (found j) false) is in
-          rw (now, its, was, within b (found k)) (in_front (option_map_or test (found k) false) b)
-      by_test b false known other was =
-          let now : list_any (λ x. x == k) (done ++ key ∷ []) ≡ b = more done ∙ rw (known, other) (alone b) in
-          elsewhere (option_map_or test (found key) false) (has k) ∙ (was ∙ ap (λ (u : Bool). option_map_or test (if u then found k else None) false) (sym now))
-
--- nothing is found among no keys
-pub among_none : {A : Type 0} (found : ℕ → Option A) (k : ℕ) → found_among [] found k ≡ None
-among_none found k = refl
-
--- among the keys of all rows each row is found
-pub among_all : {A : Type 0} (key : A → ℕ) (rows : List A) (k : ℕ) → row_found key rows k ≡ found_among (map key rows) (row_found key rows) k
-among_all {A} key rows k = by_test (list_any (λ x. x == k) (map key rows)) refl
-  where
-    none : (rows : List A) → list_any (λ x. x == k) (map key rows) ≡ false → find (λ r. key r == k) rows ≡ None
-    none [] missing = refl
-    none (r ∷ rows) missing = by_key (key r == k) refl missing (none rows)
+    -- none are listed so far
+    pub listed_first : (rows : List A) (has : ℕ → Bool) → ((k : ℕ) → has k ≡ false) → IsListBut rows rows has
+    listed_first rows has none k = ap (λ (b : Bool). option_map_or test (row_found key rows k) false || b) (none k) ∙ alone (option_map_or test (row_found key rows k) false)
       where
-        by_key : (t : Bool) → (key r == k) ≡ t → (t || list_any (λ x. x == k) (map key rows)) ≡ false → (list_any (λ x. x == k) (map key rows) ≡ false → find (λ y. key y == k) rows ≡ None)
-            → cond t (Some r) (find (λ y. key y == k) rows) ≡ None
-        by_key true is missing later = absurd (cc)
-        by_key false isnt missing later = later missing
+        alone : (b : Bool) → (b || false) ≡ b
+        alone true = refl
+        alone false = refl
 
-    by_test : (t : Bool) → list_any (λ x. x == k) (map key rows) ≡ t → find (λ r. key r == k) rows ≡ (if t then find (λ r. key r == k) rows else None)
-    by_test true there = refl
-    by_test false missing = none rows missing
+    -- the next one comes
+    pub listed_next : (rows : List A) (row : A) (rest : List A) (has new : ℕ → Bool) → Ascend key 0 (row ∷ rest) → IsListBut rows (row ∷ rest) has
+        → ((k : ℕ) → new k ≡ ((test row && (key row == k)) || has k)) → IsListBut rows rest new
+    listed_next rows row rest has new up listed puts k = ap (λ (b : Bool). option_map_or test (row_found key rest k) false || b) (puts k) ∙ by_test (key row == k) refl (listed k)
+      where
+        here : (t b : Bool) → (false || ((t && true) || b)) ≡ (t || b)
+        here true b = refl
+        here false b = refl
+
+        elsewhere : (t b : Bool) → ((t && false) || b) ≡ b
+        elsewhere true b = refl
+        elsewhere false b = refl
+
+        by_test : (t : Bool) → (key row == k) ≡ t → (option_map_or test (cond t (Some row) (row_found key rest k)) false || has k) ≡ option_map_or test (row_found key rows k) false
+            → (option_map_or test (row_found key rest k) false || ((test row && t) || has k)) ≡ option_map_or test (row_found key rows k) false
+        by_test true same was =
+            let none : row_found key rest k ≡ None = none_behind k (key row + 1) rest up.1 (grind (arith, nat_tests, same)) in
+            rw none (here (test row) (has k) ∙ was)
+        by_test false other was = ap (λ (b : Bool). option_map_or test (row_found key rest k) false || b) (elsewhere (test row) (has k)) ∙ was
 
 -- nothing is listed of no rows
 pub none_listed : {A : Type 0} (moment : A → Option ℕ) (label : A → Option (List ℕ × List ℕ)) (found : ℕ → Option A) (lists : Lists) → moments_of lists ≡ [] → ((first second : List ℕ) → keys_of lists first second ≡ [])

@@ -46,10 +46,6 @@ pub record AreListed {A : Type 0} (moment : A → Option ℕ) (label : A → Opt
 abbrev pub without_named : {A : Type 0} → Option ℕ → (ℕ → Option A) → ℕ → Option A
 without_named key found k = if is_number k key then None else found k
 
--- of the rows that are found those with these keys (own)
-abbrev pub found_among : {A : Type 0} → List ℕ → (ℕ → Option A) → ℕ → Option A
-found_among keys found k = if list_any (λ x. x == k) keys then found k else None
-
 -- the moments for which rows wait, each with its key, in their order: by the moment, and at one moment by the key
 pub record AreInTime {A : Type 0} (key : A → ℕ) (moment : A → Option ℕ) (rows : List A) (pairs : List (ℕ × ℕ)) : Type 0 where
   pub order : IsStrictlySortedBy place_cmp pairs

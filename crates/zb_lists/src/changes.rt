@@ -1,15 +1,13 @@
 // What a row changes in the lists as it comes and as it goes.
 ghost use Rattle.std.specs.Prelude.{◌≡◌, ℕ, List, ◌==◌, ◌&&◌, ◌||◌, true, false, OnOk, if◌then◌else◌};
-ghost use Rattle.std.specs.Option.{option_map_or};
 ghost use Rattle.zb_pairs.specs.Pairs.{is_number};
 ghost use Rattle.zb_lists.specs.Moments.{is_among};
-ghost use Rattle.zb_lists.specs.Listed.{row_found, is_label, is_labelled};
+ghost use Rattle.zb_lists.specs.Listed.{is_label, is_labelled};
 
 use crate::Listed;
 use std::alloc::{AllocError, Global};
 use zb_base::{Key, Moment};
 use zb_line::{Labels, Line};
-use zb_rows::{Kept, Rows};
 
 /// Lists a key under a moment, if there is one. It costs what `Line::add` does.
 pub fn keep(
@@ -60,22 +58,19 @@ pub fn unlabel<R: Listed>(labels: &mut Labels, row: &R, key: Key)
     }
 }
 
-/// Puts the moment of a row behind some, if the row is there and waits for one, and lists its key under its label.
-pub fn list<R: Kept + Listed>(
+/// Puts the moment of a row behind some, if it waits for one, and lists its key under its label.
+pub fn list<R: Listed>(
     alloc: Global,
-    key: Key,
-    rows: &Rows<R>,
+    row: &R,
     pairs: &mut Vec<(Moment, Key)>,
     labels: &mut Labels,
 ) -> Result<(), AllocError>
     ensures moments { OnOk result ((n k : ℕ) → is_among pairs.new.items n k
-        ≡ ((option_map_or (λ r. is_number n (R.moment_in r)) (row_found R.key_in rows.now key) false && (key == k)) || is_among pairs.old.items n k)) }
+        ≡ ((is_number n (R.moment_in row.now) && (R.key_in row.now == k)) || is_among pairs.old.items n k)) }
     ensures labels { OnOk result ((a b : List ℕ) (k : ℕ) → is_labelled labels.new a b k
-        ≡ ((option_map_or (λ r. is_label a b (R.label_in r)) (row_found R.key_in rows.now key) false && (key == k)) || is_labelled labels.old a b k)) }
+        ≡ ((is_label a b (R.label_in row.now) && (R.key_in row.now == k)) || is_labelled labels.old a b k)) }
 {
-    let Some(row) = rows.get(key) else {
-        return Ok(());
-    };
+    let key = row.key();
     if let Some(moment) = row.moment() {
         pairs.push((moment, key))?;
     }

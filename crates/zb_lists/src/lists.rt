@@ -36,16 +36,15 @@ impl Lists {
         }
     }
 
-    /// The lists of rows that are there. The moments are sorted once, at the end. It takes the logarithm of how many rows
-    /// there are for each of them.
+    /// The lists of rows that are there. The moments are sorted once, at the end: that takes the logarithm of how many rows
+    /// there are for each of them. Beside it each costs what `Labels::join` does.
     pub fn of<R: Kept + Listed>(alloc: Global, rows: &Rows<R>) -> Result<Lists, AllocError>
         ensures { IfOk result (AreListed R.moment_in R.label_in (row_found R.key_in rows.now)) }
     {
         let mut pairs = Vec::new(alloc);
         let mut labels = Labels::empty(alloc);
-        let keys = rows.keys(alloc)?;
-        for key in keys.as_slice() {
-            list(alloc, *key, rows, &mut pairs, &mut labels)?;
+        for row in rows.iter() {
+            list(alloc, row, &mut pairs, &mut labels)?;
         }
         Ok(Lists {
             moments: Line::of(pairs),

@@ -1,13 +1,15 @@
-use Rattle.std.proofs.Common.{ℕ, List, take}
+use Rattle.std.proofs.Common.{ℕ, List}
+use Rattle.zb_table.specs.Rows.{Ascend}
 use Rattle.zb_pairs.specs.Pairs.{is_number}
 use Rattle.zb_lists.specs.Moments.{is_among}
-use Rattle.zb_lists.specs.Listed.{row_found, found_among, is_label, is_labelled}
-use Rattle.zb_lists.proofs.ListedLemmas.{IsListOf}
+use Rattle.zb_lists.specs.Listed.{is_label, is_labelled}
+use Rattle.zb_lists.proofs.ListedLemmas.{IsListBut}
 use Rattle.zb_lists.proofs.lists.Lists.of.Given as goal
 
--- the rows with the keys so far are listed
-abbrev pub invariant-loop-key : goal.invariant-loop-key
-invariant-loop-key g l = record {
-  moments : (n : ℕ) → IsListOf (λ r. is_number n (g.R.Timed.moment_in r)) (found_among (take l.key-index l.key-items) (row_found g.R.Row.key_in l.rows)) (λ k. is_among l.pairs.items n k);
-  labels : (a b : List ℕ) → IsListOf (λ r. is_label a b (g.R.Listed.label_in r)) (found_among (take l.key-index l.key-items) (row_found g.R.Row.key_in l.rows)) (λ k. is_labelled l.labels a b k);
+-- the rows so far are listed
+abbrev pub invariant-loop-row : goal.invariant-loop-row
+invariant-loop-row g l = record {
+  ascend : Ascend g.R.Row.key_in 0 l.row-iterator;
+  moments : (n : ℕ) → IsListBut g.R.Row.key_in (λ r. is_number n (g.R.Timed.moment_in r)) l.rows l.row-iterator (λ k. is_among l.pairs.items n k);
+  labels : (a b : List ℕ) → IsListBut g.R.Row.key_in (λ r. is_label a b (g.R.Listed.label_in r)) l.rows l.row-iterator (λ k. is_labelled l.labels a b k);
 }
