@@ -1,3 +1,4 @@
 pub mod OrderLemmas
 pub mod MoveLemmas
 pub mod LevelLemmas
+pub mod KeptLemmas

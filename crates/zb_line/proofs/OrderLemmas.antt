@@ -148,6 +148,11 @@ module _ {A : Type 0} (cmp : A → A → Ordering) where
   unfolding IsStrictlySortedBy
   none_sorted = tt
 
+  -- nor is a single one out of order
+  pub one_sorted : (x : A) → IsStrictlySortedBy cmp (x ∷ [])
+  unfolding IsStrictlySortedBy
+  one_sorted x = (tt, tt)
+
   -- members that are the same stand at one place
   pub alike : IsTotalOrder cmp → (same : A → A → Bool) → ((x y : A) → same x y ≡ eq_by_cmp cmp x y) → (x y z : A) → same y z ≡ true → is_at (cmp x) y ≡ is_at (cmp x) z
   alike o same ties x y z is = ap is_eq (alike_right o y z x ((Equal-is (cmp y z)).0 (sym (ties y z) ∙ is)))

@@ -1,6 +1,7 @@
 //! Members in their order, each once, and keys under pairs of texts.
 #![tactic(auto)]
 
+mod keys;
 mod labels;
 mod line;
 mod place;

@@ -1,7 +1,6 @@
 // Keys under texts: the second ones of pairs that have the first in common.
-ghost use Rattle.std.specs.Prelude.{◌≡◌, ℕ, List, [], None, IsTrue, OnOk, if◌then◌else◌};
+ghost use Rattle.std.specs.Prelude.{◌≡◌, ℕ, List, [], IsTrue, OnOk, if◌then◌else◌};
 ghost use Rattle.std.specs.BTreeMap.{is_at};
-ghost use Rattle.std.specs.HashMap.{get_by_text};
 ghost use Rattle.std.specs.BTreeSet.{insert_key};
 ghost use Rattle.std.specs.List.Sorted.{IsStrictlySortedBy};
 ghost use Rattle.std.specs.Ordering.{nat_cmp};
@@ -9,7 +8,7 @@ ghost use Rattle.std.specs.Set.{remove_key};
 ghost use Rattle.std.specs.Str.{bytes_eq};
 ghost use Rattle.zb_line.specs.Labels.{keys_at};
 
-use crate::Line;
+use crate::keys::Keys;
 use std::alloc::{AllocError, Global};
 use std::collections::HashMap;
 use zb_base::Key;
@@ -17,7 +16,7 @@ use zb_base::Key;
 /// Keys under texts, ascending.
 #[derive(Drop)]
 pub struct Seconds {
-    seconds: HashMap<String, Line<Key>>,
+    seconds: HashMap<String, Keys>,
 }
 
 impl Seconds {
@@ -43,7 +42,7 @@ impl Seconds {
         ensures order { IsStrictlySortedBy nat_cmp (keys_at self.now second.now) }
     {
         match self.seconds.get(second) {
-            Some(line) => line.as_slice(),
+            Some(keys) => keys.as_slice(),
             None => &[],
         }
     }
@@ -54,23 +53,9 @@ impl Seconds {
             ≡ (if bytes_eq second.now text
             then insert_key nat_cmp (keys_at self.old text) key else keys_at self.old text)) }
     {
-        match self.seconds.get_mut(second) {
-            Some(line) => line.add(key),
-            None => self.begin(alloc, second, key),
-        }
-    }
-
-    // Puts a key under a text that has none so far.
-    fn begin(&mut self, alloc: Global, second: &str, key: Key) -> Result<(), AllocError>
-        requires { get_by_text self.old.seconds second.now ≡ None }
-        ensures { OnOk result ((text : List ℕ) → keys_at self.new text
-            ≡ (if bytes_eq second.now text
-            then insert_key nat_cmp (keys_at self.old text) key else keys_at self.old text)) }
-    {
-        let mut line = Line::empty(alloc);
-        line.add(key)?;
-        self.seconds.insert(String::from_str(alloc, second)?, line)?;
-        Ok(())
+        let text = String::from_str(alloc, second)?;
+        let keys = self.seconds.entry(text)?.or_insert(Keys::empty());
+        keys.add(alloc, key)
     }
 
     /// Takes a key from under a text, if it is there.
@@ -80,11 +65,11 @@ impl Seconds {
             ≡ (if bytes_eq second.now text
             then remove_key (is_at (nat_cmp key)) (keys_at self.old text) else keys_at self.old text) }
     {
-        let Some(line) = self.seconds.get_mut(second) else {
+        let Some(keys) = self.seconds.get_mut(second) else {
             return;
         };
-        line.remove(key);
-        if line.is_empty() {
+        keys.remove(key);
+        if keys.is_empty() {
             self.seconds.remove(second);
         }
     }
