@@ -44,6 +44,15 @@ impl Keys {
         }
     }
 
+    /// A single key.
+    pub fn one(key: Key) -> Keys
+        ensures { result ≡ key ∷ [] }
+    {
+        Keys {
+            kept: Kept::InPlace(Some(key)),
+        }
+    }
+
     /// The keys.
     pub fn as_slice(&self) -> &[Key]
         ensures items { result.now ≡ self.now }

@@ -1,4 +1,4 @@
-// Keys under texts: the second ones of pairs that have the first in common.
+// Keys under texts.
 ghost use Rattle.std.specs.Prelude.{◌≡◌, ℕ, List, [], IsTrue, OnOk, if◌then◌else◌};
 ghost use Rattle.std.specs.BTreeMap.{is_at};
 ghost use Rattle.std.specs.BTreeSet.{insert_key};
@@ -15,17 +15,17 @@ use zb_base::Key;
 
 /// Keys under texts, ascending.
 #[derive(Drop)]
-pub struct Seconds {
-    seconds: HashMap<String, Keys>,
+pub struct Texts {
+    texts: HashMap<String, Keys>,
 }
 
-impl Seconds {
+impl Texts {
     /// No keys. It takes no memory.
-    pub fn empty(alloc: Global) -> Seconds
+    pub fn empty(alloc: Global) -> Texts
         ensures { (text : List ℕ) → keys_at result text ≡ [] }
     {
-        Seconds {
-            seconds: HashMap::new(alloc),
+        Texts {
+            texts: HashMap::new(alloc),
         }
     }
 
@@ -33,44 +33,54 @@ impl Seconds {
     pub fn is_empty(&self) -> bool
         ensures { IsTrue result → (text : List ℕ) → keys_at self.now text ≡ [] }
     {
-        self.seconds.is_empty()
+        self.texts.is_empty()
     }
 
     /// The keys under a text.
-    pub fn keys(&self, second: &str) -> &[Key]
-        ensures keys { result.now ≡ keys_at self.now second.now }
-        ensures order { IsStrictlySortedBy nat_cmp (keys_at self.now second.now) }
+    pub fn keys(&self, name: &str) -> &[Key]
+        ensures keys { result.now ≡ keys_at self.now name.now }
+        ensures order { IsStrictlySortedBy nat_cmp (keys_at self.now name.now) }
     {
-        match self.seconds.get(second) {
+        match self.texts.get(name) {
             Some(keys) => keys.as_slice(),
             None => &[],
         }
     }
 
     /// Puts a key under a text, unless it is there.
-    pub fn join(&mut self, alloc: Global, second: &str, key: Key) -> Result<(), AllocError>
+    pub fn join(&mut self, alloc: Global, name: &str, key: Key) -> Result<(), AllocError>
         ensures { OnOk result ((text : List ℕ) → keys_at self.new text
-            ≡ (if bytes_eq second.now text
+            ≡ (if bytes_eq name.now text
             then insert_key nat_cmp (keys_at self.old text) key else keys_at self.old text)) }
     {
-        let text = String::from_str(alloc, second)?;
-        let keys = self.seconds.entry(text)?.or_insert(Keys::empty());
-        keys.add(alloc, key)
+        match self.texts.get_mut(name) {
+            Some(keys) => keys.add(alloc, key),
+            None => self.put(alloc, name, Keys::one(key)),
+        }
+    }
+
+    /// Puts these keys under a text, in place of those there.
+    pub fn put(&mut self, alloc: Global, name: &str, keys: Keys) -> Result<(), AllocError>
+        ensures { OnOk result ((text : List ℕ) → keys_at self.new text
+            ≡ (if bytes_eq name.now text then keys else keys_at self.old text)) }
+    {
+        self.texts.insert(String::from_str(alloc, name)?, keys)?;
+        Ok(())
     }
 
     /// Takes a key from under a text, if it is there.
-    pub fn leave(&mut self, second: &str, key: Key)
-        ensures order { IsStrictlySortedBy nat_cmp (keys_at self.old second.now) }
+    pub fn leave(&mut self, name: &str, key: Key)
+        ensures order { IsStrictlySortedBy nat_cmp (keys_at self.old name.now) }
         ensures left { (text : List ℕ) → keys_at self.new text
-            ≡ (if bytes_eq second.now text
+            ≡ (if bytes_eq name.now text
             then remove_key (is_at (nat_cmp key)) (keys_at self.old text) else keys_at self.old text) }
     {
-        let Some(keys) = self.seconds.get_mut(second) else {
+        let Some(keys) = self.texts.get_mut(name) else {
             return;
         };
         keys.remove(key);
         if keys.is_empty() {
-            self.seconds.remove(second);
+            self.texts.remove(name);
         }
     }
 }

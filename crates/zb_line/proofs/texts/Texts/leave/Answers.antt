@@ -7,13 +7,13 @@ use Rattle.std.specs.Set.{remove_key}
 use Rattle.zb_line.proofs.OrderLemmas.{none_sorted}
 use Rattle.std.proofs.lemmas.Map.Text.{hash_map_updates_text}
 use Rattle.zb_line.proofs.LevelLemmas.{level_changed, taken_again}
-use Rattle.zb_line.proofs.seconds.Seconds.leave.Goals as goal
+use Rattle.zb_line.proofs.texts.Texts.leave.Goals as goal
 
 pub returns-then-is_empty-clause-left : goal.returns-then-is_empty-clause-left
 returns-then-is_empty-clause-left c =
     let change = λ (keys : List ℕ). remove_key (is_at (nat_cmp c.args.key)) keys in
-    let text = c.args.second.now in
-    let old = c.args.self.now.seconds in
+    let text = c.args.name.now in
+    let old = c.args.self.now.texts in
     let line = c.remove.new.self in
     let lent = c.get_mut.follows.lender line in
     let new = c.remove-then-is_empty.new.self in
@@ -25,8 +25,8 @@ returns-then-is_empty-clause-left c =
 pub returns-else-is_empty-clause-left : goal.returns-else-is_empty-clause-left
 returns-else-is_empty-clause-left c =
     let change = λ (keys : List ℕ). remove_key (is_at (nat_cmp c.args.key)) keys in
-    let text = c.args.second.now in
-    let old = c.args.self.now.seconds in
+    let text = c.args.name.now in
+    let old = c.args.self.now.texts in
     let line = c.remove.new.self in
     let lent = c.get_mut.follows.lender line in
     let writes = hash_map_updates_text text old lent (Some line) ((c.get_mut.follows.holds line).3 (search rules)) in
