@@ -1,6 +1,6 @@
 ghost use Rattle.std.specs.Prelude.{◌≡◌, Some, None, IfOk, IfErr, length, ◌==◌};
 ghost use Rattle.zb_format.specs.declared.fault.ReadFault.TheVariants.{NotSpelled};
-ghost use Rattle.zb_format.specs.Reading.{Reads, front_at, byte_at};
+ghost use Rattle.zb_format.specs.Reading.{Reads, front_at, byte_at, number_at, long_at};
 
 use crate::ReadFault;
 use std::marker::Model;
@@ -52,6 +52,34 @@ impl<'a> Cursor<'a> {
         let (front, rest) = self.left.split_at(count);
         self.left = rest;
         Ok(front)
+    }
+
+    /// Takes the number that the first four bytes spell.
+    #[tactic(auto, unfolding(crate::specs::Reading::number_at))]
+    pub fn number(&mut self) -> Result<u32, ReadFault>
+        ensures { Reads (number_at self.old) result self.new }
+    {
+        match self.left.split_first_chunk::<4>() {
+            Some((front, rest)) => {
+                self.left = rest;
+                Ok(u32::from_be_bytes(*front))
+            }
+            None => Err(ReadFault::NotSpelled),
+        }
+    }
+
+    /// Takes the number that the first eight bytes spell.
+    #[tactic(auto, unfolding(crate::specs::Reading::long_at))]
+    pub fn long(&mut self) -> Result<u64, ReadFault>
+        ensures { Reads (long_at self.old) result self.new }
+    {
+        match self.left.split_first_chunk::<8>() {
+            Some((front, rest)) => {
+                self.left = rest;
+                Ok(u64::from_be_bytes(*front))
+            }
+            None => Err(ReadFault::NotSpelled),
+        }
     }
 
     /// Takes the first byte.

@@ -14,10 +14,9 @@ impl Format for u32 {
         encoder.add(&self.to_be_bytes())
     }
 
-    #[tactic(auto, unfolding(crate::specs::Layout::number, crate::specs::Reading::number_at))]
+    #[tactic(auto, unfolding(crate::specs::Layout::number))]
     fn read(_alloc: Global, cursor: &mut Cursor<'_>) -> Result<u32, ReadFault> {
-        let front = cursor.front(4)?;
-        Ok(u32::from_be_bytes([front[0], front[1], front[2], front[3]]))
+        cursor.number()
     }
 }
 
@@ -29,12 +28,9 @@ impl Format for u64 {
         encoder.add(&self.to_be_bytes())
     }
 
-    #[tactic(auto, unfolding(crate::specs::Layout::long, crate::specs::Reading::long_at))]
+    #[tactic(auto, unfolding(crate::specs::Layout::long))]
     fn read(_alloc: Global, cursor: &mut Cursor<'_>) -> Result<u64, ReadFault> {
-        let front = cursor.front(8)?;
-        Ok(u64::from_be_bytes([
-            front[0], front[1], front[2], front[3], front[4], front[5], front[6], front[7],
-        ]))
+        cursor.long()
     }
 }
 
@@ -46,9 +42,9 @@ impl Format for i64 {
         encoder.add(&self.cast_unsigned().to_be_bytes())
     }
 
-    #[tactic(auto, unfolding(crate::specs::Layout::signed, crate::specs::Layout::long, crate::specs::Reading::signed_at))]
-    fn read(alloc: Global, cursor: &mut Cursor<'_>) -> Result<i64, ReadFault> {
-        Ok(<u64 as Format>::read(alloc, cursor)?.cast_signed())
+    #[tactic(auto, unfolding(crate::specs::Layout::signed, crate::specs::Reading::signed_at))]
+    fn read(_alloc: Global, cursor: &mut Cursor<'_>) -> Result<i64, ReadFault> {
+        Ok(cursor.long()?.cast_signed())
     }
 }
 
@@ -105,7 +101,7 @@ impl Format for Text {
 
     #[tactic(auto, unfolding(crate::specs::Layout::text))]
     fn read(alloc: Global, cursor: &mut Cursor<'_>) -> Result<Text, ReadFault> {
-        let text = read_str(alloc, cursor)?;
+        let text = read_str(cursor)?;
         Ok(Text::of(alloc, text)?)
     }
 }

@@ -32,8 +32,8 @@ impl<T: Format> Skip for List<T> {}
 // The text is judged where it stands.
 #[tactic(auto, unfolding(crate::specs::Layout::text))]
 impl Skip for Text {
-    fn skip(alloc: Global, cursor: &mut Cursor<'_>) -> Result<(), ReadFault> {
-        let _ = read_str(alloc, cursor)?;
+    fn skip(_alloc: Global, cursor: &mut Cursor<'_>) -> Result<(), ReadFault> {
+        let _ = read_str(cursor)?;
         Ok(())
     }
 }

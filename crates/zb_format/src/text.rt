@@ -1,16 +1,17 @@
 // Reading a text where it stands.
-ghost use Rattle.std.specs.Prelude.{IsTrue, IsAscii};
-ghost use Rattle.zb_format.specs.Reading.{ReadsAs, text_at};
+ghost use Rattle.std.specs.Prelude.{◌≡◌, Some, None, IfOk, IfErr, IsTrue, IsAscii};
+ghost use Rattle.std.specs.Str.{is_utf8};
+ghost use Rattle.zb_format.specs.declared.fault.ReadFault.TheVariants.{NotSpelled};
+ghost use Rattle.zb_format.specs.Reading.{ReadsAs, passed, text_at};
 
-use crate::{Cursor, Format, ReadFault};
-use std::alloc::Global;
+use crate::{Cursor, ReadFault};
 
 /// The text at the front of the bytes, lent by them.
-#[tactic(auto, using(crate::proofs::TextLemmas::texts), unfolding(crate::specs::Layout::number, crate::specs::Reading::text_at))]
-pub fn read_str<'a>(alloc: Global, cursor: &mut Cursor<'a>) -> Result<&'a str, ReadFault>
+#[tactic(auto, using(crate::proofs::TextLemmas::texts), unfolding(crate::specs::Reading::text_at))]
+pub fn read_str<'a>(cursor: &mut Cursor<'a>) -> Result<&'a str, ReadFault>
     ensures { ReadsAs (λ text. text.now) (text_at cursor.old) result cursor.new }
 {
-    let length = <u32 as Format>::read(alloc, cursor)?;
+    let length = cursor.number()?;
     if length == 0 {
         return Ok("");
     }
@@ -19,7 +20,17 @@ pub fn read_str<'a>(alloc: Global, cursor: &mut Cursor<'a>) -> Result<&'a str, R
     if is_short_ascii(front) {
         return Ok(unsafe { str::from_utf8_unchecked(front) });
     }
-    match std::str::from_utf8(front) {
+    judged(front)
+}
+
+// The text of these bytes, where they are UTF-8. It stands apart, so that a short text of ASCII costs little.
+#[inline(never)]
+#[tactic(auto, using(crate::proofs::TextLemmas::texts))]
+fn judged(bytes: &[u8]) -> Result<&str, ReadFault>
+    ensures ok { IfOk result (λ text. passed is_utf8 bytes.now ≡ Some text.now) }
+    ensures err { IfErr result (λ fault. (fault ≡ NotSpelled) × (passed is_utf8 bytes.now ≡ None)) }
+{
+    match std::str::from_utf8(bytes) {
         Ok(text) => Ok(text),
         Err(_) => Err(ReadFault::NotSpelled),
     }
