@@ -6,9 +6,9 @@ ghost use Rattle.zb_rules.specs.Starts.{started_behind};
 ghost use Rattle.zb_state.specs.State.{partition_of, IsStateOf};
 ghost use Rattle.zb_follow.specs.Behind.{made_behind, job_canceled, ended_with, restarted};
 
+use crate::catches::{ClosedCatches, OpenedCatches};
 use crate::making::{Find, Found, Maker};
 use crate::starting::{Restarted, copied};
-use crate::timers::{ClosedTimers, OpenedTimers};
 use std::alloc::{AllocError, Global};
 use zb_game::is_interrupting;
 use zb_model::{Event, IncidentResolved, JobCreated, Key, Moment, TryCopy};
@@ -18,7 +18,7 @@ use zb_values::work_at;
 use zb_views::Started;
 
 /// An event, and those behind it. It costs what `Out::put` does for each; where a cell becomes active what
-/// `work_at` and `openings_at` do, where it begins to complete what `Timers::on` does, and where it begins to
+/// `work_at` and `openings_at` do, where it begins to complete what `ClosedCatches` does, and where it begins to
 /// terminate what that, `Jobs::on` and `Game::incident_on` do; where a node's event has come about what
 /// `is_interrupting` does too, and where an instance ends what `State::started` and `Restarted` do.
 #[derive(Drop)]
@@ -51,9 +51,9 @@ impl Maker for WithBehind {
 #[derive(Drop)]
 pub enum Behind {
     Nothing,
-    /// The cell that becomes active may have a job or timers.
+    /// The cell that becomes active may have a job, and what it waits for.
     Work(Key),
-    /// The cell begins to complete, and its timers end.
+    /// The cell begins to complete, and what it waited for closes.
     Close(Key),
     /// The cell begins to terminate, and what waits for it ends.
     End(Ended),
@@ -107,9 +107,9 @@ impl Maker for Behind {
         match self {
             Behind::Nothing => Ok(()),
             Behind::Work(cell) => {
-                (Found(JobOf(cell)), OpenedTimers(cell)).put(alloc, state, moment, out)
+                (Found(JobOf(cell)), OpenedCatches(cell)).put(alloc, state, moment, out)
             }
-            Behind::Close(cell) => ClosedTimers(cell).put(alloc, state, moment, out),
+            Behind::Close(cell) => ClosedCatches(cell).put(alloc, state, moment, out),
             Behind::End(waiting) => waiting.put(alloc, state, moment, out),
             Behind::Interrupt(told) => Interrupted(told).put(alloc, state, moment, out),
             Behind::Restart(started) => Restarted(started).put(alloc, state, moment, out),
@@ -160,8 +160,8 @@ impl Maker for Halted {
     }
 }
 
-/// What waits for a cell ends: the job that it had is canceled, then its timers are, and then the incident on it is
-/// resolved.
+/// What waits for a cell ends: the job that it had is canceled, then its timers and subscriptions close, and then the
+/// incident on it is resolved.
 #[derive(Drop)]
 pub struct Ended {
     pub cell: Key,
@@ -191,7 +191,7 @@ impl Maker for Ended {
         let Ended { cell, job } = self;
         (
             Found(CanceledJob(job)),
-            (ClosedTimers(cell), Found(ResolvedOn(cell))),
+            (ClosedCatches(cell), Found(ResolvedOn(cell))),
         )
             .put(alloc, state, moment, out)
     }

@@ -4,15 +4,16 @@
 mod assigning;
 mod beginning;
 mod behind;
+mod catches;
 mod making;
 mod settling;
 mod starting;
-mod timers;
 mod turning;
 
 pub use assigning::Place;
 pub use beginning::{Beginning, root};
 pub use behind::{WithBehind, repair_event};
+pub use catches::{ClosedCatches, closing_of};
 pub use making::{Each, Find, FindEach, Found, Maker};
 pub use settling::settle;
 pub use starting::EachStarting;

@@ -65,9 +65,10 @@ pub fn caught<'a>(game: &'a Game, cell: &Cell) -> Option<(Key, &'a Text)>
     }
 }
 
-// Where an error is caught that is thrown in the cell with a key. It goes up the scopes, and through the boundary events
-// of each cell; of the one that catches it twice.
-fn catcher<'a>(game: &'a Game, code: &str, thrown: Key) -> Option<(Key, &'a Text)>
+/// Where an error with this code is caught that is thrown in the cell with a key: at which cell, and by which event at its
+/// boundary; `None` where nothing catches it. It goes up the scopes, and through the boundary events of each cell; of the
+/// one that catches it twice.
+pub fn catcher<'a>(game: &'a Game, code: &str, thrown: Key) -> Option<(Key, &'a Text)>
     ensures { option_map (λ e. record { cell = e.0; node = e.1.now }) result ≡ catcher game.now code.now thrown }
 {
     let cell = game.nearest(thrown, &Catches { game, code })?;

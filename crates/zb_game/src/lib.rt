@@ -20,6 +20,7 @@ mod take;
 mod throw;
 mod trigger;
 
+pub use errors::catcher;
 pub use forced::{is_quiet, next_mover};
 pub use moves::move_of;
 pub use player::{fits, make, play};

@@ -1,5 +1,5 @@
 -- The events behind an event apply; an incident that stands may be resolved.
-use Rattle.std.proofs.Common.{◌≡◌, ℕ, ◌<◌, ◌==◌, List, [], ◌∷◌, ◌++◌, length, ◌+◌, ◌≤◌, Bool, true, false, if◌then◌else◌, IsTrue, is_some, All, Option, Some, None, option_and_then, Result, Ok, Err, refl, sym, ap, subst, append-nil, arith}
+use Rattle.std.proofs.Common.{◌≡◌, ℕ, ◌<◌, ◌==◌, List, [], ◌∷◌, ◌++◌, length, ◌+◌, ◌≤◌, Bool, true, false, if◌then◌else◌, IsTrue, is_some, All, Option, Some, None, option_and_then, Result, Ok, Err, refl, sym, ap, subst, append-nil, append_assoc, ◌∙◌, arith}
 use Rattle.std.specs.Option.{option_map_or}
 use Rattle.std.proofs.lemmas.Bool.Decides.{nat_tests}
 use Rattle.std.specs.List.{AllPairs}
@@ -8,7 +8,8 @@ use Rattle.zb_model.specs.declared.record.Event.TheVariants as events
 use Rattle.zb_model.specs.declared.record.RejectionKind.TheVariants as kinds
 use Rattle.zb_tokens.specs.declared.board.Incident.{Incident}
 use Rattle.zb_tokens.specs.declared.board.Move.TheVariants as moves
-use Rattle.zb_tokens.specs.declared.board.Catch.TheVariants as catches
+use Rattle.zb_tokens.specs.declared.board.Awaited.{Awaited}
+use Rattle.zb_tokens.specs.declared.board.Awaited.TheVariants as awaiteds
 use Rattle.zb_tokens.specs.declared.board.Cell.{Cell}
 use Rattle.zb_tokens.specs.declared.board.Opening.{Opening}
 use Rattle.zb_tokens.specs.declared.board.Phase.TheVariants as phases
@@ -18,6 +19,7 @@ use Rattle.zb_tokens.specs.Game.{fits, played}
 use Rattle.zb_tokens.specs.MoveTrigger.{is_interrupting}
 use Rattle.zb_process.specs.declared.model.Model.{Model}
 use Rattle.zb_instance_records.specs.declared.happening.TimerCreated.{TimerCreated}
+use Rattle.zb_exchange_records.specs.declared.subscription.ProcessMessageSubscriptionCreating.{ProcessMessageSubscriptionCreating}
 use Rattle.zb_faults.specs.Faults.{is_well_formed, most_nodes}
 use Rattle.zb_table.specs.Rows.{Ascend}
 use Rattle.zb_views.specs.declared.timer.Timer.{Timer}
@@ -31,6 +33,8 @@ use Rattle.zb_tokens.proofs.GameLaws.{both_left, found_passes}
 use Rattle.zb_tokens.specs.Work.{work_at, may_have_job, is_cause_of}
 use Rattle.zb_views.specs.declared.job.Job.{Job}
 use Rattle.zb_views.specs.Jobs.{job_on}
+use Rattle.zb_views.specs.ProcessSubscriptions.{process_subscriptions, process_subscription_at, is_being_deleted}
+use Rattle.zb_views.specs.declared.process_subscription.ProcessSubscription.{ProcessSubscription}
 use Rattle.zb_views.specs.Left.{left}
 use Rattle.zb_views.specs.declared.left.Left.TheVariants as lefts
 use Rattle.zb_views.proofs.ViewLaws.{left_more}
@@ -44,9 +48,10 @@ use Rattle.zb_rules.proofs.StartLaws.{restart_applies}
 use Rattle.zb_rules.proofs.StepLaws.{all_apply_on}
 use Rattle.zb_rules.proofs.OwnLaws.{fresh_from, next_counted, one_more, silent_applies, board_after}
 use Rattle.zb_rules.specs.Making.{and_then, each_made}
-use Rattle.zb_rules.specs.Behind.{repair_event, resolved_on, job_of, job_made_on, job_canceled_on, timer_opened, timers_made_on, timers_canceled_on, ended_on, halted_on, events_behind}
+use Rattle.zb_rules.specs.Behind.{repair_event, resolved_on, job_of, job_made_on, job_canceled_on, opened_by, catch_opened, catches_opened_on, timers_canceled_on, closing_of, closed_one, subscriptions_on, subscriptions_closed_on, catches_closed_on, ended_on, halted_on, events_behind}
 use Rattle.zb_rules.specs.TimerEvents.{may_open}
-use Rattle.zb_rules.proofs.OpeningsLaws.{openings_may}
+use Rattle.zb_rules.specs.WaitEvents.{may_subscribe}
+use Rattle.zb_rules.proofs.OpeningsLaws.{catch_of, openings_may}
 use Rattle.zb_rules.proofs.TimerSoundLaws.{HasSoundTimers, canceled_on_apply}
 use Rattle.zb_rules.proofs.KeysLaws.{next_key_more}
 use Rattle.zb_rules.specs.Sound.{StandApart, HasKeys, keys_of_turn}
@@ -86,7 +91,7 @@ module _ (p : ℕ) (es : List Event) (b : Board) (is : board_of es ≡ Some b) w
   resolved_apply cell apart = subst (λ (o : Option Board). IsTrue (all_apply p es (option_map_or (λ i. repair_event i ∷ []) (option_and_then (λ x. incident_on x cell) o) []))) (sym is)
       (on_cell cell (incident_on b cell) apart refl)
 
--- a cell may get the job and the timers that its node asks for: keys are left, and where there is work the cell waits for it, and has no job; it is
+-- a cell may get the job that its node asks for, and what it waits for may open: keys are left, and where there is work the cell waits for it, and has no job; it is
 -- active, of a model without faults, under a key that was drawn (BPMN 2.0.2, 13.3.3 and 13.5.3; Zeebe, jobs)
 pub record MayHaveWork (p : ℕ) (es : List Event) (b : Board) (cell : ℕ) : Type 0 where
   pub keys : HasKeys p es keys_of_turn
@@ -128,30 +133,59 @@ module _ (p : ℕ) (es : List Event) (b : Board) (is : board_of es ≡ Some b) w
       silent_applies p es b (events.JobCreated (record { key = next_key p es; cell = cell; kind = n.name; retries = n.retries })) is (rw (fresh, begins) refl) refl in
       rw first refl
 
-  openings_are : (moment cell : ℕ) → timers_made_on p moment cell es ≡ each_made (timer_opened p cell) (openings_at b moment cell) es
-  openings_are moment cell = ap (λ (o : Option Board). each_made (timer_opened p cell) (option_map_or (λ x. openings_at x moment cell) o []) es) is
+  openings_are : (moment cell : ℕ) → catches_opened_on p moment cell es ≡ each_made (catch_opened p cell) (openings_at b moment cell) es
+  openings_are moment cell = ap (λ (o : Option Board). each_made (catch_opened p cell) (option_map_or (λ x. openings_at x moment cell) o []) es) is
 
--- timers that may open are made one after the other, where there are keys for them
-each_opened : (p cell : ℕ) (b : Board) (os : List Opening) (es : List Event) → board_of es ≡ Some b → All (λ (o : Opening). IsTrue (may_open_at catches.Time cell o.node b)) os → HasKeys p es (length os)
-    → counter_at p cell ≤ greatest_counter p es → IsTrue (all_apply p es (each_made (timer_opened p cell) os es))
+-- at the node of what opens for a cell it waits for that
+abbrev MayOpen : Board → ℕ → Opening → Type 0
+MayOpen b cell o = IsTrue (may_open_at (catch_of o.event) cell o.node b)
+
+-- the event by which something may open applies under a fresh key, draws that key, and leaves the board
+record IsOpened (p : ℕ) (es : List Event) (b : Board) (e : Event) : Type 0 where
+  applied : IsTrue (applies p es e)
+  still : board_of (es ++ e ∷ []) ≡ Some b
+  more : (count : ℕ) → HasKeys p es (count + 1) → HasKeys p (es ++ e ∷ []) count
+
+one_opened : (p cell : ℕ) (b : Board) (node : List ℕ) (event : Awaited) (es : List Event) → board_of es ≡ Some b → IsTrue (may_open_at (catch_of event) cell node b) → HasKeys p es 1
+    → counter_at p cell ≤ greatest_counter p es → IsOpened p es b (opened_by (next_key p es) cell node event)
+one_opened p cell b node (awaiteds.Time due) es is may one counted =
+    let key = next_key p es in
+    let c : TimerCreated = record { key = key; cell = cell; node = node; due = due } in
+    let fresh : IsTrue (is_fresh p es key) = fresh_from p es one in
+    let opens : IsTrue (holds_of_game (may_open c) es) = game_holds_from (may_open c) es b is may in
+    let drawn : counter_at p key ≡ greatest_counter p es + 1 = next_counted p es one in
+    record {
+      applied = silent_applies p es b (events.TimerCreated c) is (rw (fresh, opens) refl) refl;
+      still = board_after es b b (events.TimerCreated c) is refl;
+      more = λ count keys. one_more p es (events.TimerCreated c) count keys (omega (arith, counted, drawn));
+    }
+one_opened p cell b node (awaiteds.Message m) es is may one counted =
+    let key = next_key p es in
+    let c : ProcessMessageSubscriptionCreating = record { subscription = key; cell = cell; node = node; name = m.name; correlation_key = m.correlation_key; process = m.process; cancel = m.cancel } in
+    let fresh : IsTrue (is_fresh p es key) = fresh_from p es one in
+    let opens : IsTrue (holds_of_game (may_subscribe c) es) = game_holds_from (may_subscribe c) es b is may in
+    let drawn : counter_at p key ≡ greatest_counter p es + 1 = next_counted p es one in
+    record {
+      applied = silent_applies p es b (events.ProcessMessageSubscriptionCreating c) is (rw (fresh, opens) refl) refl;
+      still = board_after es b b (events.ProcessMessageSubscriptionCreating c) is refl;
+      more = λ count keys. one_more p es (events.ProcessMessageSubscriptionCreating c) count keys (omega (arith, counted, drawn));
+    }
+
+-- what may open does, one after the other, where there are keys for it
+each_opened : (p cell : ℕ) (b : Board) (os : List Opening) (es : List Event) → board_of es ≡ Some b → All (MayOpen b cell) os → HasKeys p es (length os)
+    → counter_at p cell ≤ greatest_counter p es → IsTrue (all_apply p es (each_made (catch_opened p cell) os es))
 each_opened p cell b [] es is may keys counted = refl
 each_opened p cell b (o ∷ os) es is may keys counted =
-    let key = next_key p es in
-    let c : TimerCreated = record { key = key; cell = cell; node = o.node; due = o.due } in
-    let e = events.TimerCreated c in
-    let one : HasKeys p es 1 = omega (arith, keys) in
-    let fresh : IsTrue (is_fresh p es key) = fresh_from p es one in
-    let opens : IsTrue (holds_of_game (may_open c) es) = game_holds_from (may_open c) es b is (All-head (λ (x : Opening). IsTrue (may_open_at catches.Time cell x.node b)) o os may) in
-    let first : IsTrue (applies p es e) = silent_applies p es b e is (rw (fresh, opens) refl) refl in
-    let drawn : counter_at p key ≡ greatest_counter p es + 1 = next_counted p es one in
-    let more = one_more p es e (length os) (omega (arith, keys)) (omega (arith, counted, drawn)) in
+    let e = opened_by (next_key p es) cell o.node o.event in
+    let r = one_opened p cell b o.node o.event es is (All-head (MayOpen b cell) o os may) (omega (arith, keys)) counted in
+    let first = r.applied in
     let grown = greatest_counter_more p es (e ∷ []) in
-    let rest = each_opened p cell b os (es ++ e ∷ []) (board_after es b b e is refl) (All-tail (λ (x : Opening). IsTrue (may_open_at catches.Time cell x.node b)) o os may) more (omega (arith, counted, grown)) in
+    let rest = each_opened p cell b os (es ++ e ∷ []) r.still (All-tail (MayOpen b cell) o os may) (r.more (length os) (omega (arith, keys))) (omega (arith, counted, grown)) in
     rw first rest
 
 module _ (p : ℕ) (es : List Event) (b : Board) (is : board_of es ≡ Some b) (moment cell : ℕ) (keys : HasKeys p es (most_nodes + 1)) (counted : counter_at p cell ≤ greatest_counter p es) where
   openings_go : (c : Cell) (opened : Result (List Opening) Hindrance) → cell_at b cell ≡ Some c → IsTrue (is_phase c.phase phases.Active) → ((m : Model) → model_under b c.definition ≡ Some m → IsTrue (is_well_formed m)) → openings_of b moment c ≡ opened
-      → IsTrue (all_apply p es (each_made (timer_opened p cell) (result_unwrap_or opened []) es))
+      → IsTrue (all_apply p es (each_made (catch_opened p cell) (result_unwrap_or opened []) es))
   openings_go c (Err hindrance) found active formed gives = refl
   openings_go c (Ok os) found active formed gives =
       let r = openings_may b moment c formed os gives in
@@ -159,20 +193,20 @@ module _ (p : ℕ) (es : List Event) (b : Board) (is : board_of es ≡ Some b) (
       each_opened p cell b os es is (λ k d within. rw (found, active) (r.0 k d within)) (omega (arith, keys, few)) counted
 
   cell_goes : (at : Option Cell) → cell_at b cell ≡ at → ((c : Cell) → at ≡ Some c → IsTrue (is_phase c.phase phases.Active) × ((m : Model) → model_under b c.definition ≡ Some m → IsTrue (is_well_formed m)))
-      → IsTrue (all_apply p es (each_made (timer_opened p cell) (option_map_or (λ c. result_unwrap_or (openings_of b moment c) []) at []) es))
+      → IsTrue (all_apply p es (each_made (catch_opened p cell) (option_map_or (λ c. result_unwrap_or (openings_of b moment c) []) at []) es))
   cell_goes None found runs = refl
   cell_goes (Some c) found runs = let r = runs c refl in openings_go c (openings_of b moment c) found r.0 r.1 refl
 
-  -- the timers of a cell are made
-  timers_apply : ((c : Cell) → cell_at b cell ≡ Some c → IsTrue (is_phase c.phase phases.Active) × ((m : Model) → model_under b c.definition ≡ Some m → IsTrue (is_well_formed m))) → IsTrue (all_apply p es (timers_made_on p moment cell es))
-  timers_apply runs = subst (λ (made : List Event). IsTrue (all_apply p es made)) (sym (openings_are p es b is moment cell)) (cell_goes (cell_at b cell) refl runs)
+  -- what a cell waits for opens
+  catches_apply : ((c : Cell) → cell_at b cell ≡ Some c → IsTrue (is_phase c.phase phases.Active) × ((m : Model) → model_under b c.definition ≡ Some m → IsTrue (is_well_formed m))) → IsTrue (all_apply p es (catches_opened_on p moment cell es))
+  catches_apply runs = subst (λ (made : List Event). IsTrue (all_apply p es made)) (sym (openings_are p es b is moment cell)) (cell_goes (cell_at b cell) refl runs)
 
--- the job or the timers of a cell that has become active are made
+-- the job of a cell that has become active is made, and what it waits for opens
 module _ (p : ℕ) (es : List Event) (b : Board) (is : board_of es ≡ Some b) (moment cell : ℕ) (w : MayHaveWork p es b cell) where
-  both_by : (found : Option Node) → work_at b cell ≡ found → IsTrue (all_apply p es (and_then (λ before. option_map_or (λ n. job_of p cell n before) found []) (timers_made_on p moment cell) es))
+  both_by : (found : Option Node) → work_at b cell ≡ found → IsTrue (all_apply p es (and_then (λ before. option_map_or (λ n. job_of p cell n before) found []) (catches_opened_on p moment cell) es))
   both_by None at =
       let keys = w.keys in
-      subst (λ (over : List Event). IsTrue (all_apply p es (timers_made_on p moment cell over))) (sym (append-nil es)) (timers_apply p es b is moment cell (omega (arith, keys)) w.counted w.runs)
+      subst (λ (over : List Event). IsTrue (all_apply p es (catches_opened_on p moment cell over))) (sym (append-nil es)) (catches_apply p es b is moment cell (omega (arith, keys)) w.counted w.runs)
   both_by (Some n) at =
       let key = next_key p es in
       let e : Event = events.JobCreated (record { key = key; cell = cell; kind = n.name; retries = n.retries }) in
@@ -184,14 +218,14 @@ module _ (p : ℕ) (es : List Event) (b : Board) (is : board_of es ≡ Some b) (
       let drawn : counter_at p key ≡ greatest_counter p es + 1 = next_counted p es (omega (arith, keys)) in
       let more : HasKeys p (es ++ e ∷ []) (most_nodes + 1) = one_more p es e (most_nodes + 1) (omega (arith, keys)) (omega (arith, counted, drawn)) in
       let grown = greatest_counter_more p es (e ∷ []) in
-      let rest = timers_apply p (es ++ e ∷ []) b then_is moment cell more (omega (arith, counted, grown)) w.runs in
+      let rest = catches_apply p (es ++ e ∷ []) b then_is moment cell more (omega (arith, counted, grown)) w.runs in
       rw first rest
 
-  -- what is made behind a cell that becomes active applies: its job, and then its timers
-  pub opened_apply : IsTrue (all_apply p es (and_then (job_made_on p cell) (timers_made_on p moment cell) es))
+  -- what is made behind a cell that becomes active applies: its job, and then what it waits for
+  pub opened_apply : IsTrue (all_apply p es (and_then (job_made_on p cell) (catches_opened_on p moment cell) es))
   opened_apply =
       let same : job_made_on p cell es ≡ option_map_or (λ n. job_of p cell n es) (work_at b cell) [] = ap (λ (o : Option Board). option_map_or (λ n. job_of p cell n es) (option_and_then (λ x. work_at x cell) o) []) is in
-      subst (λ (made : List Event). IsTrue (all_apply p es (made ++ timers_made_on p moment cell (es ++ made)))) (sym same) (both_by (work_at b cell) refl)
+      subst (λ (made : List Event). IsTrue (all_apply p es (made ++ catches_opened_on p moment cell (es ++ made)))) (sym same) (both_by (work_at b cell) refl)
 
 module _ (p : ℕ) (es : List Event) (b : Board) (is : board_of es ≡ Some b) where
   cancel_goes : (found : Option Job) → left es ≡ option_map_or (λ j. lefts.Cancels j.key) found lefts.Nothing
@@ -223,6 +257,47 @@ pub sound_over : (p : ℕ) (es : List Event) (found : Option Job) → HasSoundTi
 sound_over p es None s = subst (HasSoundTimers p) (sym (append-nil es)) s
 sound_over p es (Some j) s = sound_kept p es (events.JobCanceled j.key) refl s
 
+-- a subscription closes, unless it is being deleted, which leaves the board
+one_closed : (p : ℕ) (es : List Event) (b : Board) (key : ℕ) → board_of es ≡ Some b → IsTrue (all_apply p es (closed_one key es)) × (board_of (es ++ closed_one key es) ≡ Some b)
+one_closed p es b key is = by_found (process_subscription_at key es) refl
+  where
+    Closes : List Event → Type 0
+    Closes made = IsTrue (all_apply p es made) × (board_of (es ++ made) ≡ Some b)
+
+    by_phase : (s : ProcessSubscription) (t : Bool) → process_subscription_at s.key es ≡ Some s → is_being_deleted s.phase ≡ t → Closes (if t then [] else closing_of s ∷ [])
+    by_phase s true at deleted = (refl, rw (append-nil es) is)
+    by_phase s false at stays =
+        let first : IsTrue (applies p es (closing_of s)) = silent_applies p es b (closing_of s) is (rw (at, stays) refl) refl in
+        (rw first refl, board_after es b b (closing_of s) is refl)
+
+    by_found : (found : Option ProcessSubscription) → process_subscription_at key es ≡ found → Closes (option_map_or (λ s. if is_being_deleted s.phase then [] else closing_of s ∷ []) found [])
+    by_found None at = (refl, rw (append-nil es) is)
+    by_found (Some s) at =
+        let its : (s.key == key) ≡ true = found_passes (λ (x : ProcessSubscription). x.key == key) (process_subscriptions es) s at in
+        let same : s.key ≡ key = grind (arith, nat_tests, its) in
+        by_phase s (is_being_deleted s.phase) (subst (λ (k : ℕ). process_subscription_at k es ≡ Some s) (sym same) at) refl
+
+-- subscriptions close one after the other, which leaves the board
+each_closed : (p : ℕ) (b : Board) (keys : List ℕ) (es : List Event) → board_of es ≡ Some b → IsTrue (all_apply p es (each_made closed_one keys es)) × (board_of (es ++ each_made closed_one keys es) ≡ Some b)
+each_closed p b [] es is = (refl, rw (append-nil es) is)
+each_closed p b (key ∷ keys) es is =
+    let made = closed_one key es in
+    let first = one_closed p es b key is in
+    let rest = each_closed p b keys (es ++ made) first.1 in
+    let one = first.0 in
+    (rw (all_apply_on p es made (each_made closed_one keys (es ++ made)), one) rest.0, ap board_of (sym (append_assoc es made (each_made closed_one keys (es ++ made)))) ∙ rest.1)
+
+-- what a cell has waited for closes, which leaves the board
+pub closed_apply : (p : ℕ) (es : List Event) (b : Board) (cell : ℕ) → board_of es ≡ Some b → HasSoundTimers p es
+    → IsTrue (all_apply p es (catches_closed_on cell es)) × (board_of (es ++ catches_closed_on cell es) ≡ Some b)
+closed_apply p es b cell is s =
+    let timers = timers_canceled_on cell es in
+    let first = canceled_on_apply p es b cell is s in
+    let later = subscriptions_closed_on cell (es ++ timers) in
+    let rest = each_closed p b (subscriptions_on cell (es ++ timers)) (es ++ timers) first.1 in
+    let one = first.0 in
+    (rw (all_apply_on p es timers later, one) rest.0, ap board_of (sym (append_assoc es timers later)) ∙ rest.1)
+
 -- what waits for a cell that begins to terminate ends
 ended_apply : (p : ℕ) (seen : List Event) (key : ℕ) (b : Board) → board_of (seen ++ events.ElementTerminating key ∷ []) ≡ Some b → AllPairs StandApart b.incidents → HasSoundTimers p (seen ++ events.ElementTerminating key ∷ [])
     → IsTrue (all_apply p (seen ++ events.ElementTerminating key ∷ []) (ended_on seen key (seen ++ events.ElementTerminating key ∷ [])))
@@ -231,8 +306,8 @@ ended_apply p seen key b is apart timed =
     let off = job_canceled_on seen key es in
     let over = es ++ off in
     let first = canceled_apply p seen key b is in
-    let second = canceled_on_apply p over b key first.1 (sound_over p es (job_on key seen) timed) in
-    let closed = timers_canceled_on key over in
+    let second = closed_apply p over b key first.1 (sound_over p es (job_on key seen) timed) in
+    let closed = catches_closed_on key over in
     let third = resolved_apply p (over ++ closed) b second.1 key apart in
     let one = first.0 in
     let two = second.0 in
@@ -258,7 +333,7 @@ module _ (p : ℕ) (es : List Event) (b : Board) (is : board_of es ≡ Some b) w
 -- the events behind an event apply
 pub behind_apply : (p moment : ℕ) (seen : List Event) (e : Event) (b : Board) → board_of (seen ++ e ∷ []) ≡ Some b → MayFollow p (seen ++ e ∷ []) b e → IsTrue (all_apply p (seen ++ e ∷ []) (events_behind p moment seen e (seen ++ e ∷ [])))
 behind_apply p moment seen (events.ElementActivated e) b is may = opened_apply p (seen ++ events.ElementActivated e ∷ []) b is moment e.key may
-behind_apply p moment seen (events.ElementCompleting key) b is may = (canceled_on_apply p (seen ++ events.ElementCompleting key ∷ []) b key is may).0
+behind_apply p moment seen (events.ElementCompleting key) b is may = (closed_apply p (seen ++ events.ElementCompleting key ∷ []) b key is may).0
 behind_apply p moment seen (events.ElementTerminating key) b is may = ended_apply p seen key b is may.0 may.1
 behind_apply p moment seen (events.ProcessEventTriggered e) b is may =
     let es = seen ++ events.ProcessEventTriggered e ∷ [] in

@@ -11,12 +11,12 @@ use Rattle.zb_process.specs.declared.model.NodeKind.{NodeKind}
 use Rattle.zb_process.specs.declared.model.NodeKind.TheVariants as kinds
 use Rattle.zb_faults.specs.Elements.{is_activity, is_boundary_of, is_catch, is_event_gateway, is_service_task}
 use Rattle.zb_tokens.specs.declared.board.Cell.{Cell}
-use Rattle.zb_tokens.specs.declared.board.Mark.{Mark}
 use Rattle.zb_tokens.specs.declared.board.Phase.{Phase}
 use Rattle.zb_tokens.specs.declared.board.Phase.TheVariants as phases
 use Rattle.zb_tokens.specs.declared.board.Triggered.{Triggered}
 use Rattle.zb_tokens.specs.Board.{Board, CellsAscend, cell_at, model_under, node_with, is_at, is_phase, is_root, up_from}
 use Rattle.zb_tokens.specs.Doom.{calls_off, is_doomed}
+use Rattle.zb_tokens.specs.Catches.{is_receive_task}
 use Rattle.zb_tokens.specs.Errors.{first_for, error_event, error_event_of, catches, catcher, caught, is_same_event}
 use Rattle.zb_tokens.proofs.ErrorLaws.{caught_there, any_there, catcher_near}
 use Rattle.zb_tokens.proofs.FoundLaws.{nearest_there}
@@ -29,31 +29,30 @@ use Rattle.zb_rules.specs.Sound.{runs, holds_others, is_scope}
 use Rattle.zb_rules.proofs.ScopesLaws.{at_cell}
 use Rattle.zb_rules.proofs.MoversLaws.{found_key}
 
--- an activity is no catch event, and no event gateway
-activity_apart : (kind : NodeKind) → IsTrue (is_activity kind) → (is_catch kind ≡ false) × (is_event_gateway kind ≡ false)
-activity_apart kinds.ServiceTask is = (refl, refl)
-activity_apart kinds.ReceiveTask is = (refl, refl)
-activity_apart kinds.SubProcess is = (refl, refl)
-activity_apart kind is = absurd (cc)
+-- a service task is no catch event, and no event gateway, and waits for no message
+service_apart : (kind : NodeKind) → IsTrue (is_service_task kind) → (is_catch kind ≡ false) × (is_event_gateway kind ≡ false) × (is_receive_task kind ≡ false)
+service_apart kinds.ServiceTask is = (refl, refl, refl)
+service_apart kind is = absurd (cc)
 
--- a cell at an activity isn't told of an event
-pub activity_unmarked : (b : Board) (t : Triggered) (c : Cell) (n : Node) → node_of b c ≡ Some n → IsTrue (is_activity n.kind) → mark_by b t c ≡ None
-activity_unmarked b t c n at is = let apart = activity_apart n.kind is in let one = apart.0 in let other = apart.1 in rw (at, one, other) refl
+-- a cell at a service task isn't told of an event
+service_unmarked : (b : Board) (t : Triggered) (c : Cell) (n : Node) → node_of b c ≡ Some n → IsTrue (is_service_task n.kind) → mark_by b t c ≡ None
+service_unmarked b t c n at is =
+    let apart = service_apart n.kind is in
+    let one = apart.0 in
+    let other = apart.1 in
+    let none = apart.2 in
+    rw (at, one, other, none) refl
 
--- nor is one that waits for its work
+-- so one that waits for its work isn't
 pub work_unmarked : (b : Board) (t : Triggered) (c : Cell) → IsTrue (awaits_work b c) → mark_by b t c ≡ None
 work_unmarked b t c works = by_root (is_root c) refl service
   where
     service : IsTrue (is_service_cell b c)
     service = both_right (is_unset c.mark) _ (both_right (is_phase c.phase phases.Active) _ works)
 
-    is_work : (kind : NodeKind) → IsTrue (is_service_task kind) → IsTrue (is_activity kind)
-    is_work kinds.ServiceTask is = refl
-    is_work kind is = absurd (cc)
-
     by_node : (m : Model) (found : Option Node) → is_root c ≡ false → model_under b c.definition ≡ Some m → node_with m c.node ≡ found → IsTrue (option_map_or (λ (n : Node). is_service_task n.kind) found false) → mark_by b t c ≡ None
     by_node m None inner stands at is = absurd (cc)
-    by_node m (Some n) inner stands at is = activity_unmarked b t c n (rw (inner, stands) at) (is_work n.kind is)
+    by_node m (Some n) inner stands at is = service_unmarked b t c n (rw (inner, stands) at) is
 
     by_model : (found : Option Model) → is_root c ≡ false → model_under b c.definition ≡ found → IsTrue (option_map_or (λ m. is_at m c.node is_service_task) found false) → mark_by b t c ≡ None
     by_model None inner stands is = absurd (cc)
@@ -147,14 +146,6 @@ module _ (b : Board) (t : Triggered) (c d : Cell) (comes : ComesAbout b t d) (fo
 pub told_inner : (b : Board) (t : Triggered) (c : Cell) → cell_at b t.cell ≡ Some c → IsTrue (fits_trigger b t) → (IsTrue (awaits_event b t c) → IsFalse (is_root c)) → IsFalse (is_root c)
 told_inner b t c found fit inner = ⊎_elim (λ waits. inner (at_cell (awaits_event b t) (cell_at b t.cell) c found waits))
     (λ r. let n = caught_node b t c r.0 r.2 found in node_inner b c n.0 n.1) (waits_or_catches (λ (x : Cell). Unit {0}) b t (λ k d within. tt) fit)
-
--- one that is told of it waits for it
-pub marked_awaits : (b : Board) (t : Triggered) (c : Cell) (mark : Mark) → cell_at b t.cell ≡ Some c → IsTrue (fits_trigger b t) → mark_by b t c ≡ Some mark → IsTrue (awaits_event b t c)
-marked_awaits b t c mark found fit told = ⊎_elim (λ waits. at_cell (awaits_event b t) (cell_at b t.cell) c found waits)
-    (λ r.
-    let n = caught_node b t c r.0 r.2 found in
-    let none = activity_unmarked b t c n.0 n.1 n.2 in
-    absurd (cc)) (waits_or_catches (λ (x : Cell). Unit {0}) b t (λ k d within. tt) fit)
 
 -- cells that ascend are found by their keys
 found_here : (low : ℕ) (cells : List Cell) → CellsAscend low cells → All (λ (c : Cell). (low ≤ c.key) × (find (λ x. x.key == c.key) cells ≡ Some c)) cells

@@ -1,5 +1,5 @@
 -- Laws of the cells that wait for their work as a move is made, and of those that begin: these were told nothing.
-use Rattle.std.proofs.Common.{◌≡◌, ℕ, ◌==◌, List, [], ◌∷◌, ◌++◌, Bool, true, false, ◌&&◌, ◌||◌, not, if◌then◌else◌, IsTrue, Option, Some, None, All, refl, sym, ◌∙◌, subst}
+use Rattle.std.proofs.Common.{◌≡◌, ◌⊎◌, ◌<◌, ℕ, ◌==◌, List, [], ◌∷◌, ◌++◌, Bool, true, false, ◌&&◌, ◌||◌, not, if◌then◌else◌, IsTrue, Option, Some, None, All, refl, sym, ◌∙◌, subst}
 use Rattle.std.specs.Option.{option_map_or}
 use Rattle.std.proofs.lemmas.Bool.{and_parts, and_right, not-true}
 use Rattle.zb_process.specs.declared.model.Model.{Model}
@@ -15,7 +15,7 @@ use Rattle.zb_tokens.specs.declared.board.Move.{Move}
 use Rattle.zb_tokens.specs.declared.board.Move.TheVariants as moves
 use Rattle.zb_tokens.specs.declared.board.Phase.{Phase}
 use Rattle.zb_tokens.specs.declared.board.Phase.TheVariants as phases
-use Rattle.zb_tokens.specs.Board.{Board, cell_at, model_under, node_with, is_at, is_phase, is_root, is_scope_in, has_child, is_empty, in_phase, new_cell, leaves_in}
+use Rattle.zb_tokens.specs.Board.{Board, CellsAscend, cell_at, model_under, node_with, is_at, is_phase, is_root, is_scope_in, has_child, is_empty, in_phase, new_cell, leaves_in}
 use Rattle.zb_tokens.specs.Marks.{is_unset, has_come_about, awaits_work, with_mark}
 use Rattle.zb_tokens.specs.MoveEnter.{entering}
 use Rattle.zb_tokens.specs.MoveOpen.{opens}
@@ -26,7 +26,8 @@ use Rattle.zb_tokens.specs.MoveAssign.{with_variable}
 use Rattle.zb_tokens.specs.declared.board.Triggered.{Triggered}
 use Rattle.zb_tokens.specs.MoveTrigger.{fits_trigger, mark_by}
 use Rattle.zb_rules.proofs.TimedLaws.{awaits_active}
-use Rattle.zb_rules.proofs.CatchLaws.{marked_awaits, work_unmarked}
+use Rattle.zb_rules.specs.Sound.{is_scope}
+use Rattle.zb_rules.proofs.CatchLaws.{told_runs, work_unmarked}
 use Rattle.zb_tokens.specs.Edits.{edited}
 use Rattle.zb_tokens.specs.Game.{fits}
 use Rattle.zb_tokens.proofs.GameLaws.{both_left, both_right}
@@ -203,31 +204,35 @@ untold_at b key mark fit c found is begins =
     let active = waits_active b c (at_cell (awaits_work b) (cell_at b key) c found fit) in
     absurd (let none = active_alone c.phase phases.Activating active refl in cc)
 
+-- cells ascend, and each is a root or stands in one that others may be in
+abbrev AreScoped : Board → Type 0
+AreScoped b = CellsAscend 1 b.cells × All (λ (c : Cell). (c.scope ≡ 0) ⊎ (IsTrue (is_scope b c.scope) × (c.scope < c.key))) b.cells
+
 -- a cell that is told of an event doesn't begin
-told_untold : (b : Board) (t : Triggered) → IsTrue (fits_trigger b t) → (c : Cell) → cell_at b t.cell ≡ Some c → (mark : Mark) → mark_by b t c ≡ Some mark → IsUntold c → IsUntold (with_mark mark c)
-told_untold b t fit c found mark at is begins =
-    let active : IsTrue (is_phase c.phase phases.Active) = awaits_active b t c (marked_awaits b t c mark found fit at) in
+told_untold : (b : Board) (t : Triggered) → AreScoped b → IsTrue (fits_trigger b t) → (c : Cell) → cell_at b t.cell ≡ Some c → (mark : Mark) → mark_by b t c ≡ Some mark → IsUntold c → IsUntold (with_mark mark c)
+told_untold b t scoped fit c found mark at is begins =
+    let active : IsTrue (is_phase c.phase phases.Active) = told_runs b scoped.0 scoped.1 t c found fit (λ waits. awaits_active b t c waits) in
     absurd (let none = active_alone c.phase phases.Activating active refl in cc)
 
-untold_kept : (b : Board) (move : Move) → IsTrue (fits b move) → CellKept b IsUntold move
-untold_kept b (moves.Stand d) fit = tt
-untold_kept b (moves.Start s) fit = λ node there phase. refl
-untold_kept b (moves.Enter e) fit = λ c m found phase. refl
-untold_kept b (moves.Open key) fit = λ c found is phase. absurd (cc)
-untold_kept b (moves.Finish key) fit = λ c found is phase. absurd (cc)
-untold_kept b (moves.Leave l) fit = (λ flow owed same c found is phase. absurd (cc), λ c is. is)
-untold_kept b (moves.Take t) fit = λ flow owed c found is phase. absurd (cc)
-untold_kept b (moves.Halt key) fit = λ c found is phase. absurd (cc)
-untold_kept b (moves.Gone key) fit = tt
-untold_kept b (moves.Assign a) fit = λ c found is. is
-untold_kept b (moves.Update a) fit = λ c found is. is
-untold_kept b (moves.Done key) fit = untold_at b key marks.Done fit
-untold_kept b (moves.Throw t) fit = untold_at b t.cell (marks.Thrown t.code) fit
-untold_kept b (moves.Trigger t) fit = told_untold b t fit
-untold_kept b (moves.Incident i) fit = tt
-untold_kept b (moves.Repair key) fit = tt
+untold_kept : (b : Board) (move : Move) → AreScoped b → IsTrue (fits b move) → CellKept b IsUntold move
+untold_kept b (moves.Stand d) scoped fit = tt
+untold_kept b (moves.Start s) scoped fit = λ node there phase. refl
+untold_kept b (moves.Enter e) scoped fit = λ c m found phase. refl
+untold_kept b (moves.Open key) scoped fit = λ c found is phase. absurd (cc)
+untold_kept b (moves.Finish key) scoped fit = λ c found is phase. absurd (cc)
+untold_kept b (moves.Leave l) scoped fit = (λ flow owed same c found is phase. absurd (cc), λ c is. is)
+untold_kept b (moves.Take t) scoped fit = λ flow owed c found is phase. absurd (cc)
+untold_kept b (moves.Halt key) scoped fit = λ c found is phase. absurd (cc)
+untold_kept b (moves.Gone key) scoped fit = tt
+untold_kept b (moves.Assign a) scoped fit = λ c found is. is
+untold_kept b (moves.Update a) scoped fit = λ c found is. is
+untold_kept b (moves.Done key) scoped fit = untold_at b key marks.Done fit
+untold_kept b (moves.Throw t) scoped fit = untold_at b t.cell (marks.Thrown t.code) fit
+untold_kept b (moves.Trigger t) scoped fit = told_untold b t scoped fit
+untold_kept b (moves.Incident i) scoped fit = tt
+untold_kept b (moves.Repair key) scoped fit = tt
 
 -- each cell that begins was told nothing, behind an event that shows the move
-pub untold_on : (b after : Board) (move : Option Move) → IsTrue (may_fit move b) → after_shown b move ≡ Some after → All IsUntold b.cells → All IsUntold after.cells
-untold_on b after None fit made all = subst (λ (x : Board). All IsUntold x.cells) (let same : b ≡ after = cc in same) all
-untold_on b after (Some move) fit made all = cells_played b IsUntold all after move (untold_kept b move fit) made
+pub untold_on : (b after : Board) (move : Option Move) → AreScoped b → IsTrue (may_fit move b) → after_shown b move ≡ Some after → All IsUntold b.cells → All IsUntold after.cells
+untold_on b after None scoped fit made all = subst (λ (x : Board). All IsUntold x.cells) (let same : b ≡ after = cc in same) all
+untold_on b after (Some move) scoped fit made all = cells_played b IsUntold all after move (untold_kept b move scoped fit) made

@@ -1,5 +1,5 @@
 -- Which moves a mover makes, and that each has an event.
-use Rattle.std.proofs.Common.{◌≡◌, ℕ, ◌+◌, ◌≤◌, ◌==◌, List, [], ◌∷◌, Bool, true, false, if◌then◌else◌, IsTrue, is_some, Option, Some, None, option_map, option_and_then, Result, Ok, Err, refl, subst, arith}
+use Rattle.std.proofs.Common.{◌≡◌, ℕ, ◌+◌, ◌≤◌, ◌==◌, List, [], ◌∷◌, ◌++◌, Bool, true, false, if◌then◌else◌, IsTrue, is_some, Option, Some, None, option_map, option_and_then, Result, Ok, Err, refl, subst, arith}
 use Rattle.std.specs.List.{find}
 use Rattle.std.specs.Option.{option_map_or, ok_or}
 use Rattle.std.specs.Result.{result_map_both}
@@ -10,12 +10,13 @@ use Rattle.zb_base.specs.declared.vars.Variable.{Variable}
 use Rattle.zb_process.specs.declared.model.Flow.{Flow}
 use Rattle.zb_process.specs.declared.model.Model.{Model}
 use Rattle.zb_process.specs.declared.model.Node.{Node}
-use Rattle.zb_tokens.specs.declared.board.Opening.{Opening}
 use Rattle.zb_process.specs.Expr.{ValueFault}
 use Rattle.zb_duration.specs.Due.{due_of}
 use Rattle.zb_duration.specs.declared.fault.DueFault.{DueFault}
 use Rattle.zb_duration.specs.declared.form.TimeForm.{TimeForm}
-use Rattle.zb_tokens.specs.Catches.{text_told, time_hindrance, time_form, value_given, due_by, awaited, opening_by, openings_in, openings_by, seen_with, opened_with}
+use Rattle.zb_tokens.specs.Catches.{time_form, is_message_event, time_hindrance, text_told, key_told, value_given, due_by, waits_once, message_by, event_by, opened_at, awaited, openings_in, openings_by, seen_with, opened_with}
+use Rattle.zb_tokens.specs.declared.board.Awaited.TheVariants as awaiteds
+use Rattle.zb_tokens.specs.declared.board.AwaitedMessage.{AwaitedMessage}
 use Rattle.zb_instance_records.specs.declared.happening.IncidentKind.TheVariants as kinds
 use Rattle.zb_tokens.specs.declared.board.Cell.{Cell}
 use Rattle.zb_tokens.specs.declared.board.Token.{Token}
@@ -97,26 +98,33 @@ due_tells_none : (r : Result ℕ DueFault) → TellsOfNone (result_map_both (λ 
 due_tells_none (Ok due) = tt
 due_tells_none (Err fault) = refl
 
-opening_tells_none : (names : List ℕ → Option Value) (moment : ℕ) (n : Node) (form : TimeForm) → TellsOfNone (opening_by names moment n form)
-opening_tells_none names moment n form = then_tells_none (due_by names moment form n.expr) (λ due. Ok (record { node = n.id; due = due }))
+time_tells_none : (names : List ℕ → Option Value) (moment : ℕ) (n : Node) (form : Option TimeForm) → TellsOfNone (option_map_or (λ f. due_by names moment f n.expr >>= (λ due. Ok (Some (awaiteds.Time due)))) form (Ok None))
+time_tells_none names moment n None = tt
+time_tells_none names moment n (Some form) = then_tells_none (due_by names moment form n.expr) (λ due. Ok (Some (awaiteds.Time due)))
     (then_tells_none (result_map_both (λ text. text) hindrance_of (value_given names n.expr >>= text_told)) (λ text. result_map_both (λ due. due) time_hindrance (due_of form text moment)) (fault_tells_none _)
     (λ text. due_tells_none (due_of form text moment))) (λ due. tt)
 
-time_tells_none : (names : List ℕ → Option Value) (moment : ℕ) (n : Node) (form : Option TimeForm) (rest : Result (List Opening) Hindrance) → TellsOfNone rest
-    → TellsOfNone (option_map_or (λ (x : TimeForm). opening_by names moment n x >>= (λ (o : Opening). rest >>= (λ os. Ok (o ∷ os)))) form rest)
-time_tells_none names moment n None rest none = none
-time_tells_none names moment n (Some form) rest none = then_tells_none (opening_by names moment n form) (λ (o : Opening). rest >>= (λ os. Ok (o ∷ os))) (opening_tells_none names moment n form)
-    (λ o. then_tells_none rest (λ os. Ok (o ∷ os)) none (λ os. tt))
+key_tells_none : (m : Model) (n : Node) (key : Result (List ℕ) ValueFault) → TellsOfNone {A = AwaitedMessage} (result_map_both (λ k. record { name = n.name; correlation_key = k; process = m.process; cancel = waits_once n }) hindrance_of key)
+key_tells_none m n (Ok key) = tt
+key_tells_none m n (Err fault) = refl
 
-each_tells_none : (names : List ℕ → Option Value) (moment : ℕ) (ns : List Node) → TellsOfNone (openings_in names moment ns)
-each_tells_none names moment [] = tt
-each_tells_none names moment (n ∷ ns) = time_tells_none names moment n (time_form n.kind) (openings_in names moment ns) (each_tells_none names moment ns)
+event_tells_none : (names : List ℕ → Option Value) (moment : ℕ) (m : Model) (n : Node) → TellsOfNone (event_by names moment m n)
+event_tells_none names moment m n = by_kind (is_message_event n.kind)
+  where
+    by_kind : (t : Bool) → TellsOfNone (if t then message_by names m n >>= (λ message. Ok (Some (awaiteds.Message message))) else option_map_or (λ f. due_by names moment f n.expr >>= (λ due. Ok (Some (awaiteds.Time due)))) (time_form n.kind) (Ok None))
+    by_kind true = then_tells_none (message_by names m n) (λ message. Ok (Some (awaiteds.Message message))) (key_tells_none m n (value_given names n.expr >>= key_told)) (λ message. tt)
+    by_kind false = time_tells_none names moment n (time_form n.kind)
 
-node_tells_none : (names : List ℕ → Option Value) (moment : ℕ) (m : Model) (c : Cell) (found : Option Node) → TellsOfNone (option_map_or (λ n. openings_in names moment (awaited m c n)) found (Ok []))
+each_tells_none : (names : List ℕ → Option Value) (moment : ℕ) (m : Model) (ns : List Node) → TellsOfNone (openings_in names moment m ns)
+each_tells_none names moment m [] = tt
+each_tells_none names moment m (n ∷ ns) = then_tells_none (event_by names moment m n) (λ event. openings_in names moment m ns >>= (λ os. Ok (opened_at n event ++ os))) (event_tells_none names moment m n)
+    (λ event. then_tells_none (openings_in names moment m ns) (λ os. Ok (opened_at n event ++ os)) (each_tells_none names moment m ns) (λ os. tt))
+
+node_tells_none : (names : List ℕ → Option Value) (moment : ℕ) (m : Model) (c : Cell) (found : Option Node) → TellsOfNone (option_map_or (λ n. openings_in names moment m (awaited m c n)) found (Ok []))
 node_tells_none names moment m c None = tt
-node_tells_none names moment m c (Some n) = each_tells_none names moment (awaited m c n)
+node_tells_none names moment m c (Some n) = each_tells_none names moment m (awaited m c n)
 
-openings_tell_none : (names : List ℕ → Option Value) (b : Board) (moment : ℕ) (c : Cell) (found : Option Model) → TellsOfNone (option_map_or (λ m. option_map_or (λ n. openings_in names moment (awaited m c n)) (node_of b c) (Ok [])) found (Ok []))
+openings_tell_none : (names : List ℕ → Option Value) (b : Board) (moment : ℕ) (c : Cell) (found : Option Model) → TellsOfNone (option_map_or (λ m. option_map_or (λ n. openings_in names moment m (awaited m c n)) (node_of b c) (Ok [])) found (Ok []))
 openings_tell_none names b moment c None = tt
 openings_tell_none names b moment c (Some m) = node_tells_none names moment m c (node_of b c)
 

@@ -22,7 +22,7 @@ use Rattle.zb_tokens.proofs.ForcedLaws.{movers_move, movers_fit, movers_agree}
 use Rattle.zb_rules.specs.Shown.{shown, board_of, event_of}
 use Rattle.zb_rules.specs.Applies.{is_fresh, holds_own, holds_of_game, applies, all_apply, is_definition_of}
 use Rattle.zb_rules.specs.InFront.{events_in_front}
-use Rattle.zb_rules.specs.Behind.{job_canceled_on, resolved_on, events_behind, with_events_behind, timers_canceled_on}
+use Rattle.zb_rules.specs.Behind.{job_canceled_on, resolved_on, events_behind, with_events_behind, catches_closed_on}
 use Rattle.zb_rules.specs.Settling.{turn_of, turn, HasQuietGame}
 use Rattle.zb_rules.specs.Legal.{AllLegal, EachLegal}
 use Rattle.zb_rules.specs.Reason.{reason_for}
@@ -44,7 +44,8 @@ use Rattle.zb_rules.specs.Retries.{retried}
 use Rattle.zb_rules.specs.TimeOut.{timed_out}
 use Rattle.zb_rules.proofs.ActivateLaws.{activate_applies}
 use Rattle.zb_rules.proofs.WorkerLaws.{complete_applies, throw_applies, fail_applies, retry_applies, time_out_applies}
-use Rattle.zb_rules.proofs.KindsLaws.{front_are, front_beside, behind_beside, own_kinds}
+use Rattle.zb_rules.specs.Kinds.{comes_beside}
+use Rattle.zb_rules.proofs.KindsLaws.{kinds_in, front_are, front_beside, behind_beside, own_kinds}
 use Rattle.zb_rules.proofs.LegalLaws.{made_legally, own_never, beside_never, legal_by, each_legal_by}
 use Rattle.zb_rules.proofs.StepLaws.{all_apply_on, all_legal_on}
 use Rattle.zb_rules.proofs.FrontLaws.{begins_end, front_begins_no_end, in_front}
@@ -53,7 +54,7 @@ use Rattle.zb_rules.specs.Receive.{confirmed, received, forgotten}
 use Rattle.zb_rules.proofs.CorrelateLaws.{open_applies, take_applies, turn_away_applies, delete_applies}
 use Rattle.zb_rules.proofs.ReceiveLaws.{confirm_applies, receive_applies, forget_applies}
 use Rattle.zb_rules.proofs.StartLaws.{publish_applies}
-use Rattle.zb_rules.proofs.BehindLaws.{MayHaveWork, MayRestart, MayFollow, resolve_applies, canceled_apply, behind_apply, sound_over}
+use Rattle.zb_rules.proofs.BehindLaws.{MayHaveWork, MayRestart, MayFollow, resolve_applies, canceled_apply, behind_apply, sound_over, closed_apply}
 use Rattle.zb_rules.proofs.CellsLaws.{ascend_between}
 use Rattle.zb_rules.proofs.OpenedLaws.{IsSetBehind, cell_counted, set_behind, opens_free, opened_may_work, follows_by}
 use Rattle.zb_rules.proofs.ModelsLaws.{Knows, board_knows}
@@ -71,7 +72,6 @@ use Rattle.zb_rules.proofs.IncidentsLaws.{none_behind}
 use Rattle.zb_views.specs.Jobs.{job_on}
 use Rattle.zb_rules.specs.Trigger.{triggered}
 use Rattle.zb_rules.proofs.TriggerLaws.{told_halts, trigger_applies}
-use Rattle.zb_rules.proofs.TimerSoundLaws.{canceled_on_apply}
 
 module _ (p moment : ℕ) (es : List Event) (b : Board) (mover : Mover) (is : board_of es ≡ Some b) (k : BoardKeeps p es b) where
   event_by : (move : Move) (e : Event) → move_of b moment (next_key p es) mover ≡ Some move → IsTrue (fits b move) → IsTrue (agrees b moment move) → event_of b move ≡ Some e
@@ -232,8 +232,8 @@ module _ (p moment : ℕ) (es : List Event) (b : Board) (mover : Mover) (is : bo
       restarts key (ap keys_in (sym told)) (holds_some _ (cell_at s.after key) fit)) in
       let second = behind_apply p moment (es ++ front) f.event r.0 after_is may in (
         rw (all_apply_on p es front (f.event ∷ behind), ahead, first) second,
-        all_legal_on moment es es front (f.event ∷ behind) (legal_by p moment es b is es front (beside_never front (front_beside b f.move es)) ahead)
-            (made_legally p moment es b is (es ++ front) f.event first agrees_there, legal_by p moment es b is ((es ++ front) ++ f.event ∷ []) behind (beside_never behind (behind_beside p moment (es ++ front) f.event ((es ++ front) ++ f.event ∷ []))) second),
+        all_legal_on moment es es front (f.event ∷ behind) (legal_by p moment es b is es front (beside_never front (kinds_in comes_beside es front (front_beside b f.move es))) ahead)
+            (made_legally p moment es b is (es ++ front) f.event first agrees_there, legal_by p moment es b is ((es ++ front) ++ f.event ∷ []) behind (beside_never behind (kinds_in comes_beside ((es ++ front) ++ f.event ∷ []) behind (behind_beside p moment (es ++ front) f.event ((es ++ front) ++ f.event ∷ [])))) second),
       )
 
 turn_by : (p moment : ℕ) (es : List Event) (b : Board) (next : Option Mover) (made : List Event) → IsTrue (all_apply p [] es) → HasKeys p es keys_of_turn → board_of es ≡ Some b → next_mover b ≡ next → turn p moment es ≡ Some made
@@ -272,8 +272,8 @@ module _ (p moment : ℕ) (es : List Event) (key : ℕ) (apply : IsTrue (all_app
       let gone = canceled_apply p es key r.0 (board_behind p es b begins r.0 r.1) in
       let off = job_canceled_on es key over in
       let next = over ++ off in
-      let closed = timers_canceled_on key next in
-      let timed = canceled_on_apply p next r.0 key gone.1 (sound_over p over (job_on key es) k.timers) in
+      let closed = catches_closed_on key next in
+      let timed = closed_apply p next r.0 key gone.1 (sound_over p over (job_on key es) k.timers) in
       let line : (next ++ closed) ++ resolved_on key (next ++ closed) ≡ es ++ begins ∷ events_behind p moment es begins over =
       append_assoc next closed (resolved_on key (next ++ closed)) ∙ (append_assoc over off (closed ++ resolved_on key (next ++ closed)) ∙ append_assoc es (begins ∷ []) (off ++ (closed ++ resolved_on key (next ++ closed)))) in
       none_behind (next ++ closed) r.0 key timed.1 k.incidents.apart after (ap board_of line ∙ led)

@@ -1,5 +1,5 @@
 -- The own events of what element instances hear from the home of their messages apply, where there is no reason against it.
-use Rattle.std.proofs.Common.{◌≡◌, ℕ, ◌==◌, List, [], ◌∷◌, ◌++◌, map, Bool, true, false, cond, ◌&&◌, not, if◌then◌else◌, IsTrue, IsFalse, Option, Some, None, option_map, refl, sym, ap, ◌∙◌, subst, append-nil, arith}
+use Rattle.std.proofs.Common.{◌≡◌, ℕ, ◌==◌, List, [], ◌∷◌, ◌++◌, map, Bool, true, false, cond, not, if◌then◌else◌, IsTrue, Option, Some, None, option_map, refl, sym, ap, ◌∙◌, subst, append-nil, arith}
 use Rattle.std.specs.List.{find}
 use Rattle.std.specs.Option.{option_map_or}
 use Rattle.std.specs.Str.{bytes_eq}
@@ -15,15 +15,15 @@ use Rattle.zb_views.proofs.StandingLaws.{each_changed}
 use Rattle.zb_tokens.specs.declared.board.Assignments.{Assignments}
 use Rattle.zb_tokens.specs.declared.board.Cell.{Cell}
 use Rattle.zb_tokens.specs.declared.board.Triggered.{Triggered}
-use Rattle.zb_tokens.specs.Board.{Board, cell_at, is_root}
+use Rattle.zb_tokens.specs.Board.{Board, cell_at}
 use Rattle.zb_tokens.specs.Mappings.{gives_outputs}
 use Rattle.zb_tokens.specs.MoveTrigger.{awaits_event, is_awaited}
 use Rattle.zb_tokens.proofs.GameLaws.{found_passes, found_holds, holds_some}
 use Rattle.zb_rules.specs.Applies.{has_cell, applies, all_apply}
-use Rattle.zb_rules.specs.Behind.{with_events_behind}
+use Rattle.zb_rules.specs.Behind.{with_events_behind, closing_of}
 use Rattle.zb_rules.specs.InFront.{assigning, set_all}
 use Rattle.zb_rules.specs.Making.{and_then}
-use Rattle.zb_rules.specs.Receive.{not_being_created, not_being_deleted, subscription_in_wrong_state, against, reason_to_confirm, reason_to_forget, waits_for_message, reason_to_pass_over, reason_to_receive, confirmed, forgotten, closing_of, closed_after, brought_to, brought, event_of_subscription, receive_events, received}
+use Rattle.zb_rules.specs.Receive.{against, reason_to_confirm, reason_to_forget, waits_for_message, reason_to_pass_over, reason_to_receive, confirmed, forgotten, closed_after, brought_to, brought, event_of_subscription, receive_events, received}
 use Rattle.zb_rules.specs.Shown.{board_of, holds_of_game}
 use Rattle.zb_rules.specs.Subscribe.{unknown_subscription}
 use Rattle.zb_rules.specs.Sound.{holds_others}

@@ -77,7 +77,7 @@ keeps_on p before b e after h k = record {
   jobs = jobs_on p before b e after h k.incidents.apart k.drawn k.jobs;
   timers = timers_sound_on p before b e after h k.timers;
   drawn = drawn_on p before b e after h k.jobs k.drawn;
-  unset = untold_on b after (shown before e) h.fit h.leads k.unset;
+  unset = untold_on b after (shown before e) (ascend_between 1 (next_key p before) b.cells k.stands.between, k.placed.scopes) h.fit h.leads k.unset;
   formed = formed_on p before b e after h k.formed;
 }
 

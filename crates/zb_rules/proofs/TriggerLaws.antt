@@ -45,7 +45,7 @@ use Rattle.zb_rules.proofs.OwnLaws.{silent_applies}
 use Rattle.zb_rules.proofs.BehindLaws.{MayInterrupt, behind_apply}
 use Rattle.zb_rules.proofs.SoundLaws.{BoardKeeps, keeps_on}
 use Rattle.zb_rules.specs.TimerEvents.{has_timer}
-use Rattle.zb_rules.specs.Trigger.{no_timer, timer_not_due, cell_not_waiting, waits_for, timer_in_wrong_state, reason_to_hold, reason_to_trigger, event_of_timer, trigger_events, triggered}
+use Rattle.zb_rules.specs.Trigger.{no_timer, timer_not_due, cell_not_waiting, waits_for, timer_in_wrong_state, reason_to_hold, reason_to_trigger, trigger_events, triggered}
 
 -- one that is found and passes another two tests passes among those that pass the one
 module _ (named keep passes : Node → Bool) where

@@ -1,9 +1,12 @@
 -- Which kinds of events a step may have: those to which its command may lead, and those that may come of what is forced behind them.
-use Rattle.std.specs.Prelude.{◌==◌, Bool, true, false}
+use Rattle.std.specs.Prelude.{◌≡◌, ◌==◌, List, [], ◌∷◌, ◌++◌, Bool, true, false, Some}
 use Rattle.zb_model.specs.declared.record.Command.{Command}
 use Rattle.zb_model.specs.declared.record.Command.TheVariants as commands
 use Rattle.zb_model.specs.declared.record.Event.{Event}
 use Rattle.zb_model.specs.declared.record.Event.TheVariants as events
+use Rattle.zb_views.specs.declared.process_subscription.ProcessSubscription.{ProcessSubscription}
+use Rattle.zb_views.specs.ProcessSubscriptions.{process_subscription_at}
+use Rattle.zb_rules.specs.Behind.{closing_of}
 use Rattle.zb_rules.specs.JobEvents.{tells_of_job}
 
 -- an event of this kind may stand in front of the event of a move, or behind it (Zeebe, the records)
@@ -14,6 +17,8 @@ comes_beside (events.JobCreated e) = true
 comes_beside (events.JobCanceled key) = true
 comes_beside (events.TimerCreated e) = true
 comes_beside (events.TimerCanceled key) = true
+comes_beside (events.ProcessMessageSubscriptionCreating e) = true
+comes_beside (events.ProcessMessageSubscriptionDeleting e) = true
 comes_beside (events.IncidentResolved e) = true
 comes_beside (events.ElementTerminating key) = true
 comes_beside (events.MessageStartEventSubscriptionCorrelated e) = true
@@ -72,3 +77,13 @@ may_lead_to (commands.ProcessMessageSubscriptionDelete key) (events.ProcessMessa
 may_lead_to (commands.TimerTrigger key) (events.TimerTriggered timer) = timer == key
 may_lead_to (commands.TimerTrigger key) (events.ProcessEventTriggered e) = true
 may_lead_to command e = false
+
+-- a subscription that begins to be deleted behind these events does so with the messages that it was given (own)
+abbrev pub Carries : List Event → Event → Type 0
+Carries before (events.ProcessMessageSubscriptionDeleting e) = (s : ProcessSubscription) × (process_subscription_at e.subscription before ≡ Some s) × (events.ProcessMessageSubscriptionDeleting e ≡ closing_of s)
+Carries before e = Unit {0}
+
+-- each of these events that begins to delete one does, behind those before it
+abbrev pub AllCarry : (before es : List Event) → Type 0
+AllCarry before [] = Unit {0}
+AllCarry before (e ∷ es) = Carries before e × AllCarry (before ++ e ∷ []) es

@@ -17,7 +17,7 @@ use Rattle.zb_tokens.specs.Board.{Board, cell_at}
 use Rattle.zb_tokens.specs.Mappings.{gives_outputs}
 use Rattle.zb_tokens.specs.MoveTrigger.{is_awaited}
 use Rattle.zb_record.specs.Answers.{was_correlated, being_deleted}
-use Rattle.zb_rules.specs.Behind.{with_events_behind}
+use Rattle.zb_rules.specs.Behind.{closing_of, with_events_behind}
 use Rattle.zb_rules.specs.InFront.{assigning}
 use Rattle.zb_rules.specs.Making.{Making, just, and_then}
 use Rattle.zb_rules.specs.Shown.{board_of, holds_of_game}
@@ -72,11 +72,7 @@ confirmed key = just (events.ProcessMessageSubscriptionCreated key)
 abbrev pub forgotten : ℕ → Making
 forgotten key = just (events.ProcessMessageSubscriptionDeleted key)
 
--- a subscription begins to be deleted, with the messages that it was given (Zeebe; the messages own)
-abbrev pub closing_of : ProcessSubscription → Event
-closing_of s = events.ProcessMessageSubscriptionDeleting (record { subscription = s.key; correlation_key = s.correlation_key; keys = s.kept })
-
--- the one with a key does, if it ends with the first message that it is given
+-- the one with a key begins to be deleted, if it ends with the first message that it is given
 abbrev pub closed_after : ℕ → Making
 closed_after key before = option_map_or (λ s. if s.cancel then closing_of s ∷ [] else []) (process_subscription_at key before) []
 

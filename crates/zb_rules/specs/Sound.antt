@@ -103,8 +103,8 @@ pub record IsHolder (b : Board) (name : List ℕ) (found : Option ℕ) : Type 0 
 abbrev pub HasKeys : ℕ → List Event → ℕ → Type 0
 HasKeys p es count = greatest_counter p es + count < 2 ^ 51
 
--- no turn draws more keys than these: one for a cell, an incident or a job, and one for each timer that opens, of which there is at most one more
--- than a model has nodes (own)
+-- no turn draws more keys than these: one for a cell, an incident or a job, and one for each timer or subscription that opens, of which there is
+-- at most one more than a model has nodes (own)
 abbrev pub keys_of_turn : ℕ
 keys_of_turn = most_nodes + 2
 

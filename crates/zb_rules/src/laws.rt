@@ -32,7 +32,7 @@ ghost use Rattle.zb_rules.specs.Cancel.{reason_to_cancel, cancelled};
 ghost use Rattle.zb_rules.specs.Update.{reason_to_update, updated};
 ghost use Rattle.zb_rules.specs.Reason.{reason_for};
 ghost use Rattle.zb_rules.specs.Own.{IsSupported};
-ghost use Rattle.zb_rules.specs.Kinds.{may_follow, may_lead_to};
+ghost use Rattle.zb_rules.specs.Kinds.{AllCarry, may_follow, may_lead_to};
 ghost use Rattle.zb_rules.specs.Step.{IsOutcomeOf};
 ghost use Rattle.zb_rules.specs.TimerEvents.{triggers, IsDueBy};
 ghost use Rattle.zb_rules.specs.declared.alarm.Alarm.{Alarm};
@@ -92,9 +92,12 @@ pub fn timers_fire_on_time()
 {}
 
 /// Each event of a step is of a kind that its command makes itself, or of one that may follow: it comes of what is
-/// forced, or stands beside an event that does.
+/// forced, or stands beside an event that does. One by which a subscription begins to be deleted carries the messages
+/// that this was given.
 pub fn steps_have_listed_kinds()
-    ensures { (p n moment : ℕ) (es : List Event) (command : Command) (outcome : Outcome) → IsOutcomeOf p n moment es command outcome
+    ensures closings { (p n moment : ℕ) (es : List Event) (command : Command) (outcome : Outcome) → IsOutcomeOf p n moment es command outcome
+        → AllCarry es (events_in outcome) }
+    ensures kinds { (p n moment : ℕ) (es : List Event) (command : Command) (outcome : Outcome) → IsOutcomeOf p n moment es command outcome
         → All (λ event. IsTrue (may_follow event || may_lead_to command event)) (events_in outcome) }
 {}
 

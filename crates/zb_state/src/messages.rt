@@ -1,4 +1,4 @@
-ghost use Rattle.std.specs.Prelude.{◌≡◌, ◌==◌, ◌&&◌, ◌++◌, ◌∷◌, [], ℕ, List, nat_le, not, filter, false, is_some, Some, None, IsTrue, IfOk, IfErr, OnOk, OnErr, option_map};
+ghost use Rattle.std.specs.Prelude.{◌≡◌, ◌==◌, ◌&&◌, ◌++◌, ◌∷◌, [], ℕ, List, nat_le, not, filter, false, is_some, Some, None, IsTrue, OnOk, OnErr, option_map};
 ghost use Rattle.std.specs.List.{find, list_any};
 ghost use Rattle.std.specs.Str.{bytes_eq};
 ghost use Rattle.std.specs.Option.{option_copied, option_map_or};
@@ -109,9 +109,9 @@ impl Messages {
         ensures ok { (before : List Event) → OnOk result (self.new ≡ standing_by message_sort before event self.old) }
         ensures err { OnErr result (self.new ≡ self.old) }
     {
-        match message_of(event) {
-            Ok(message) => self.add(message),
-            Err(other) => {
+        match event {
+            Event::MessagePublished(message) => self.add(message),
+            other => {
                 self.end(expiry_in(&other));
                 drop(other);
                 Ok(())
@@ -208,18 +208,6 @@ fn message_in(event: &Event) -> Option<&MessagePublished>
     match event {
         Event::MessagePublished(message) => Some(message),
         _ => None,
-    }
-}
-
-// The same, and else the event.
-fn message_of(event: Event) -> Result<MessagePublished, Event>
-    ensures message { IfOk result (λ message. message_told event ≡ Some message) }
-    ensures none { IfErr result (λ other. message_told event ≡ None) }
-    ensures other { IfErr result (λ other. other ≡ event) }
-{
-    match event {
-        Event::MessagePublished(message) => Ok(message),
-        other => Err(other),
     }
 }
 

@@ -3,6 +3,7 @@ ghost use Rattle.zb_model.specs.declared.record.Event.{Event};
 ghost use Rattle.zb_views.specs.View.{next_key};
 ghost use Rattle.zb_views.specs.Messages.{buffered};
 ghost use Rattle.zb_views.specs.Jobs as views;
+ghost use Rattle.zb_views.specs.ProcessSubscriptions as waiting_views;
 ghost use Rattle.zb_views.specs.Timers as timer_views;
 ghost use Rattle.zb_views.specs.Definitions.{definitions};
 ghost use Rattle.zb_definitions.specs.Kept.{KeepsDefinitions};
@@ -33,6 +34,7 @@ use zb_definitions::Definitions;
 use zb_game::move_of;
 use zb_jobs::Jobs;
 use zb_model::{Event, Key, Moment, PartitionId, TableFault};
+use zb_subscriptions::ProcessSubscriptions;
 use zb_timers::Timers;
 use zb_tokens::Mover;
 
@@ -176,6 +178,13 @@ impl State {
         ensures { (es : List Event) → IsStateOf es self.now → timer_views.timers es ≡ result.now }
     {
         &self.facts.tables.timers
+    }
+
+    /// The subscriptions of element instances that are there.
+    pub fn process_subscriptions(&self) -> &ProcessSubscriptions
+        ensures { (es : List Event) → IsStateOf es self.now → waiting_views.process_subscriptions es ≡ result.now }
+    {
+        &self.facts.tables.process_subscriptions
     }
 
     /// Who moves next; `None` where the game is quiet. It costs what `zb_game::next_mover` does, and nothing where nobody

@@ -10,11 +10,11 @@ ghost use Rattle.zb_state.specs.State.{IsStateOf};
 
 use crate::rejection::{no_such, wrong_state};
 use std::alloc::{AllocError, Global};
-use zb_follow::{Each, Find, Found, Maker, Place, WithBehind};
+use zb_follow::{Each, Find, Found, Maker, Place, WithBehind, closing_of};
 use zb_game::waits_at;
 use zb_model::{
-    Event, Key, MessageCorrelation, Moment, ProcessEventTriggered,
-    ProcessMessageSubscriptionDeleting, Rejection, SubscribedMessage, TryCopy, Variable,
+    Event, Key, MessageCorrelation, Moment, ProcessEventTriggered, Rejection, SubscribedMessage,
+    TryCopy, Variable,
 };
 use zb_state::{Out, Refusal, State};
 use zb_values::gives_outputs;
@@ -51,7 +51,7 @@ pub fn reason_to_forget(
 }
 
 /// Why a subscription isn't given a message: it isn't there, was given it before, is being deleted, or its cell doesn't wait.
-/// It goes through the messages that it was given, and costs what `waits_at` does.
+/// It takes the logarithm of how many messages it was given, and costs what `waits_at` does.
 pub fn reason_to_receive(
     alloc: Global,
     state: &State,
@@ -181,18 +181,6 @@ impl Find for ClosedAfter {
             _ => Ok(None),
         }
     }
-}
-
-// The event by which a subscription begins to be deleted, with the messages that it was given.
-fn closing_of(alloc: Global, subscription: &ProcessSubscription) -> Result<Event, AllocError>
-    ensures { IfOk result (λ event. event ≡ rules.closing_of subscription.now) }
-{
-    let closing = ProcessMessageSubscriptionDeleting {
-        subscription: subscription.key,
-        correlation_key: subscription.correlation_key.copy(alloc)?,
-        keys: subscription.kept.copy(alloc)?,
-    };
-    Ok(Event::ProcessMessageSubscriptionDeleting(closing))
 }
 
 // The event of a subscription's node comes about for its cell.

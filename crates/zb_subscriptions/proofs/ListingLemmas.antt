@@ -9,7 +9,7 @@ use Rattle.zb_lists.specs.Listed.{is_label}
 use Rattle.zb_views.specs.declared.subscription.Subscription.{Subscription}
 use Rattle.zb_subscriptions.specs.declared.opened.Opened.{Opened}
 use Rattle.zb_views.specs.Subscriptions.{wants_messages}
-use Rattle.zb_subscriptions.specs.Opened.{label_of_opened, opened_at, key_at, passes_place}
+use Rattle.zb_subscriptions.specs.Opened.{label_of_opened, kept_at, key_at, passes_place}
 use Rattle.zb_subscriptions.proofs.OpenedLemmas.{place_in, its}
 
 module _ (name correlation_key : List ℕ) (all : List Opened) where
@@ -36,7 +36,7 @@ module _ (name correlation_key : List ℕ) (all : List Opened) where
 
   module _ (passes : Subscription → Bool) where
     abbrev its_first : List Opened → Option Subscription
-    its_first os = option_map its (option_and_then (opened_at all) (find (passes_place passes all) (map place_in (filter is_its os))))
+    its_first os = option_map its (option_and_then (kept_at all) (find (passes_place passes all) (map place_in (filter is_its os))))
 
     abbrev both : Subscription → Bool
     both s = wants_messages name correlation_key s && passes s
@@ -45,11 +45,11 @@ module _ (name correlation_key : List ℕ) (all : List Opened) where
     first_among [] own = refl
     first_among (o ∷ os) own = by_tests (is_its o) (passes (its o)) refl (first_among os (All-tail Own o os own))
       where
-        here : opened_at all o.place ≡ Some o
+        here : kept_at all o.place ≡ Some o
         here = All-head Own o os own
 
         by_tests : (a b : Bool) → passes (its o) ≡ b → its_first os ≡ find both (map its os)
-            → option_map its (option_and_then (opened_at all) (find (passes_place passes all) (map place_in (cond a (o ∷ filter is_its os) (filter is_its os))))) ≡ cond (a && b) (Some (its o)) (find both (map its os))
+            → option_map its (option_and_then (kept_at all) (find (passes_place passes all) (map place_in (cond a (o ∷ filter is_its os) (filter is_its os))))) ≡ cond (a && b) (Some (its o)) (find both (map its os))
         by_tests true true so later = rw (here, so, here) refl
         by_tests true false so later = rw (here, so) later
         by_tests false b so later = later

@@ -27,16 +27,16 @@ pub record AreOpened (os : List Opened) (lists : Lists) (next : ℕ) : Type 0 wh
   pub listed : AreListed (λ o. None) label_of_opened (row_found (λ o. o.place) os) lists
 
 -- the one at a place (own)
-abbrev pub opened_at : List Opened → ℕ → Option Opened
-opened_at os place = find (λ o. o.place == place) os
+abbrev pub kept_at : List Opened → ℕ → Option Opened
+kept_at os place = find (λ o. o.place == place) os
 
 -- the key of the subscription at a place, if one is there (own)
 abbrev pub key_at : List Opened → ℕ → List ℕ
-key_at os place = option_map_or (λ o. o.subscription.key ∷ []) (opened_at os place) []
+key_at os place = option_map_or (λ o. o.subscription.key ∷ []) (kept_at os place) []
 
 -- the subscription at a place passes (own)
 abbrev pub passes_place : (Subscription → Bool) → List Opened → ℕ → Bool
-passes_place passes os place = option_map_or (λ o. passes o.subscription) (opened_at os place) false
+passes_place passes os place = option_map_or (λ o. passes o.subscription) (kept_at os place) false
 
 -- an event opens no subscription that is there (own)
 abbrev pub is_new : List Subscription → Event → Bool

@@ -6,7 +6,7 @@ ghost use Rattle.zb_model.specs.declared.record.Event.{Event};
 ghost use Rattle.zb_views.specs.OwnKeys.{HaveOwnKeys};
 ghost use Rattle.zb_views.specs.Standing.{standing_by};
 ghost use Rattle.zb_views.specs.Subscriptions.{subscription_of, subscription_sort, with_task, wants_messages};
-ghost use Rattle.zb_subscriptions.specs.Opened.{is_new, opened_at, key_at, passes_place};
+ghost use Rattle.zb_subscriptions.specs.Opened.{is_new, kept_at, key_at, passes_place};
 
 use crate::opened::{Correlates, Opened};
 use std::alloc::{AllocError, Global};
@@ -233,7 +233,7 @@ fn after(place: u64) -> Result<u64, AllocError>
 
 // The subscription at a place.
 fn at(place: Key, rows: &Rows<Opened>) -> Option<&Subscription>
-    ensures { option_copied result ≡ option_map (λ o. o.subscription) (opened_at rows.now place) }
+    ensures { option_copied result ≡ option_map (λ o. o.subscription) (kept_at rows.now place) }
 {
     match rows.get(place) {
         Some(opened) => Some(&opened.subscription),

@@ -3,9 +3,9 @@ ghost use Rattle.std.specs.Prelude.{◌≡◌, IfOk};
 ghost use Rattle.zb_views.specs.ProcessSubscriptions.{process_subscription_changed, process_subscription_of, says_nothing_of_process_subscriptions};
 
 use std::alloc::{AllocError, Global};
-use zb_model::{Event, List, ProcessMessageSubscriptionCreating, TryCopy};
+use zb_model::{Event, ProcessMessageSubscriptionCreating, TryCopy};
 use zb_table::Edit;
-use zb_views::{ProcessSubscription, WaitPhase};
+use zb_views::{Given, ProcessSubscription, WaitPhase};
 
 /// The subscription that is opened, as it is first. It costs a copy of its texts.
 pub fn opened(
@@ -23,7 +23,7 @@ pub fn opened(
         process: told.process.copy(alloc)?,
         cancel: told.cancel,
         phase: WaitPhase::Creating,
-        kept: List::empty(alloc),
+        kept: Given::empty(alloc),
     })
 }
 

@@ -4,6 +4,7 @@ use Rattle.std.specs.Option.{option_map_or, option_or}
 use Rattle.std.specs.List.{list_any}
 use Rattle.std.specs.Result.{result_map_both, result_unwrap_or}
 use Rattle.std.specs.Str.{bytes_eq}
+use Rattle.std.specs.Fmt.{signed_decimal}
 use Rattle.zb_base.specs.Results.{◌>>=◌}
 use Rattle.zb_base.specs.Vars.{value_named, with_value}
 use Rattle.zb_base.specs.declared.value.Value.{Value}
@@ -15,12 +16,15 @@ use Rattle.zb_process.specs.declared.model.NodeKind.{NodeKind}
 use Rattle.zb_process.specs.declared.model.NodeKind.TheVariants as kinds
 use Rattle.zb_process.specs.Expr.{ValueFault, Unknown, Kind, value_of}
 use Rattle.zb_process.specs.Tree.{Tree}
-use Rattle.zb_faults.specs.Elements.{is_boundary_of, is_catch, is_event_gateway}
+use Rattle.zb_faults.specs.Elements.{is_boundary, is_boundary_of, is_catch, is_event_gateway}
 use Rattle.zb_duration.specs.Due.{due_of}
 use Rattle.zb_duration.specs.declared.fault.DueFault.{DueFault}
 use Rattle.zb_duration.specs.declared.form.TimeForm.{TimeForm}
 use Rattle.zb_duration.specs.declared.form.TimeForm.TheVariants as forms
 use Rattle.zb_instance_records.specs.declared.happening.IncidentKind.TheVariants as incidents
+use Rattle.zb_tokens.specs.declared.board.Awaited.{Awaited}
+use Rattle.zb_tokens.specs.declared.board.Awaited.TheVariants as awaiteds
+use Rattle.zb_tokens.specs.declared.board.AwaitedMessage.{AwaitedMessage}
 use Rattle.zb_tokens.specs.declared.board.Catch.{Catch}
 use Rattle.zb_tokens.specs.declared.board.Catch.TheVariants as catches
 use Rattle.zb_tokens.specs.declared.board.Cell.{Cell}
@@ -41,8 +45,14 @@ time_form kinds.DateBoundaryEvent = Some forms.Date
 time_form kinds.DurationBoundaryEvent = Some forms.Duration
 time_form kind = None
 
--- at a node of this kind a message is caught: by an event in the flow, or at the boundary of an activity (BPMN 2.0.2, 10.5.5)
+-- a task that waits for a message (BPMN 2.0.2, 10.3.3)
+abbrev pub is_receive_task : NodeKind → Bool
+is_receive_task kinds.ReceiveTask = true
+is_receive_task kind = false
+
+-- at a node of this kind a message is caught: by a task, by an event in the flow, or at the boundary of an activity (BPMN 2.0.2, 10.3.3 and 10.5.5)
 abbrev pub is_message_event : NodeKind → Bool
+is_message_event kinds.ReceiveTask = true
 is_message_event kinds.MessageCatchEvent = true
 is_message_event kinds.MessageBoundaryEvent = true
 is_message_event kind = false
@@ -56,6 +66,12 @@ is_caught_at kind catches.Message = is_message_event kind
 abbrev pub text_told : Value → Result (List ℕ) ValueFault
 text_told (datums.Text text) = Ok text
 text_told value = Err Kind
+
+-- the correlation key that a value is: a text, or a whole number in decimal digits; another value is of the wrong kind (own)
+abbrev pub key_told : Value → Result (List ℕ) ValueFault
+key_told (datums.Text text) = Ok text
+key_told (datums.Int number) = Ok (signed_decimal number)
+key_told value = Err Kind
 
 -- a text that is no time of its form, or names a moment out of range, keeps a cell from going on (Zeebe, incidents)
 abbrev pub time_hindrance : DueFault → Hindrance
@@ -71,13 +87,22 @@ abbrev pub due_by : (List ℕ → Option Value) → ℕ → TimeForm → Option 
 due_by names moment form time =
     result_map_both (λ text. text) hindrance_of (value_given names time >>= text_told) >>= (λ text. result_map_both (λ due. due) time_hindrance (due_of form text moment))
 
+-- one message is all that is waited for at a node, unless it is a boundary event that lets its activity go on (BPMN 2.0.2, 10.5.4)
+abbrev pub waits_once : Node → Bool
+waits_once n = not (is_boundary n.kind) || n.cancel
+
+-- the message for which a cell of a model waits at a node, where names have these values, or why its correlation key can't be told (BPMN 2.0.2, 8.4.2 and 10.5.5)
+abbrev pub message_by : (List ℕ → Option Value) → Model → Node → Result AwaitedMessage Hindrance
+message_by names m n =
+    result_map_both (λ key. record { name = n.name; correlation_key = key; process = m.process; cancel = waits_once n }) hindrance_of (value_given names n.expr >>= key_told)
+
 -- a flow leads from one node to another (BPMN 2.0.2, 8.4.13)
 abbrev pub leads_from : Model → (origin target : List ℕ) → Bool
 leads_from m origin target = list_any (λ f. bytes_eq f.from origin && bytes_eq f.to target) m.flows
 
--- at a node a cell waits for the node's own event: at a catch event, where no event gateway in front of it has waited for that (BPMN 2.0.2, 10.6.6 and 13.5.3)
+-- at a node a cell waits for the node's own event: at a receive task, or at a catch event, where no event gateway in front of it has waited for that (BPMN 2.0.2, 10.3.3, 10.6.6 and 13.5.3)
 abbrev pub waits_itself : Cell → Node → Bool
-waits_itself c n = is_catch n.kind && not c.before
+waits_itself c n = is_receive_task n.kind || (is_catch n.kind && not c.before)
 
 -- at a node a cell waits for the event of another one: of one behind an event gateway, or at the boundary of an activity (BPMN 2.0.2, 10.5.4 and 10.6.6)
 abbrev pub waits_beside : Model → (at other : Node) → Bool
@@ -87,18 +112,24 @@ waits_beside m at other = if is_event_gateway at.kind then leads_from m at.id ot
 abbrev pub awaited : Model → Cell → Node → List Node
 awaited m c n = (if waits_itself c n then n ∷ [] else []) ++ filter (waits_beside m n) m.nodes
 
--- the timer that opens at a node whose time has this form, where names have these values, or why it can't
-abbrev pub opening_by : (List ℕ → Option Value) → ℕ → Node → TimeForm → Result Opening Hindrance
-opening_by names moment n form = due_by names moment form n.expr >>= (λ due. Ok (record { node = n.id; due = due }))
+-- the event for which a cell of a model waits at a node, where names have these values, or why that can't be told; none at a node without a time or a message (BPMN 2.0.2, 10.5.5)
+abbrev pub event_by : (List ℕ → Option Value) → ℕ → Model → Node → Result (Option Awaited) Hindrance
+event_by names moment m n =
+    if is_message_event n.kind then message_by names m n >>= (λ message. Ok (Some (awaiteds.Message message)))
+    else option_map_or (λ form. due_by names moment form n.expr >>= (λ due. Ok (Some (awaiteds.Time due)))) (time_form n.kind) (Ok None)
 
--- the timers that open at those of some nodes that have one, in their order, or why the first one that can't doesn't
-abbrev pub openings_in : (List ℕ → Option Value) → ℕ → List Node → Result (List Opening) Hindrance
-openings_in names moment [] = Ok []
-openings_in names moment (n ∷ ns) = option_map_or (λ form. opening_by names moment n form >>= (λ o. openings_in names moment ns >>= (λ os. Ok (o ∷ os)))) (time_form n.kind) (openings_in names moment ns)
+-- what opens at a node with such an event
+abbrev pub opened_at : Node → Option Awaited → List Opening
+opened_at n event = option_map_or (λ e. record { node = n.id; event = e } ∷ []) event []
 
--- the timers that open for a cell as it becomes active at a moment, where names have these values, or why they can't (BPMN 2.0.2, 13.5.3)
+-- what opens at some nodes of a model, in their order, or why the first one at which it can't doesn't
+abbrev pub openings_in : (List ℕ → Option Value) → ℕ → Model → List Node → Result (List Opening) Hindrance
+openings_in names moment m [] = Ok []
+openings_in names moment m (n ∷ ns) = event_by names moment m n >>= (λ event. openings_in names moment m ns >>= (λ os. Ok (opened_at n event ++ os)))
+
+-- the timers and subscriptions that open for a cell as it becomes active at a moment, where names have these values, or why they can't (BPMN 2.0.2, 13.5.3)
 abbrev pub openings_by : (List ℕ → Option Value) → Board → ℕ → Cell → Result (List Opening) Hindrance
-openings_by names b moment c = option_map_or (λ m. option_map_or (λ n. openings_in names moment (awaited m c n)) (node_of b c) (Ok [])) (model_under b c.definition) (Ok [])
+openings_by names b moment c = option_map_or (λ m. option_map_or (λ n. openings_in names moment m (awaited m c n)) (node_of b c) (Ok [])) (model_under b c.definition) (Ok [])
 
 -- variables set one after another: of one name the last counts (BPMN 2.0.2, 10.4.2)
 abbrev pub set_over : List Variable → List Variable → List Variable
@@ -109,11 +140,11 @@ set_over (v ∷ vs) vars = set_over vs (with_value v.name v.value vars)
 abbrev pub seen_with : List Variable → (List ℕ → Option Value) → List ℕ → Option Value
 seen_with vs names name = option_or (value_named name (set_over vs [])) (names name)
 
--- what a cell takes in as it becomes active, where behind it the timers can open too, or what keeps it from that: its inputs first (BPMN 2.0.2, 13.3.2 and 13.5.3)
+-- what a cell takes in as it becomes active, where behind it the timers and subscriptions can open too, or what keeps it from that: its inputs first (BPMN 2.0.2, 13.3.2 and 13.5.3)
 abbrev pub opened_with : Board → ℕ → Cell → Result (List Variable) Hindrance
 opened_with b moment c = inputs_of b c >>= (λ vs. openings_by (seen_with vs (value_seen b c.key)) b moment c >>= (λ openings. Ok vs))
 
--- the timers that open for a cell that has become active, on a board on which its inputs are set (BPMN 2.0.2, 13.5.3)
+-- what opens for a cell that has become active, on a board on which its inputs are set (BPMN 2.0.2, 13.5.3)
 abbrev pub openings_of : Board → ℕ → Cell → Result (List Opening) Hindrance
 openings_of b moment c = openings_by (value_seen b c.key) b moment c
 

@@ -191,12 +191,31 @@ pub enum Catch {
     Message,
 }
 
-/// A timer that opens for a cell.
+/// What opens for a cell as it becomes active.
 #[derive(Drop)]
 pub struct Opening {
-    /// The node of the timer: that of the cell.
+    /// The node of the event for which the cell waits: its own one, or another one.
     pub node: Text,
-    pub due: Moment,
+    pub event: Awaited,
+}
+
+/// An event for which a cell waits.
+#[derive(Drop)]
+pub enum Awaited {
+    /// A timer is due at this moment.
+    Time(Moment),
+    Message(AwaitedMessage),
+}
+
+/// A message for which a cell waits.
+#[derive(Drop)]
+pub struct AwaitedMessage {
+    pub name: Text,
+    pub correlation_key: Text,
+    /// The process of the cell.
+    pub process: Text,
+    /// Whether the cell waits for no other message behind it.
+    pub cancel: bool,
 }
 
 /// Who makes a forced move.

@@ -4,13 +4,13 @@ ghost use Rattle.std.specs.Prelude.{◌≡◌, ◌≤◌, ◌<◌, ◌^◌, ◌+
 ghost use Rattle.std.specs.Option.{option_map_or};
 ghost use Rattle.zb_process.specs.declared.model.Node.{Node};
 ghost use Rattle.zb_tokens.specs.Board.{node_with};
-ghost use Rattle.zb_tokens.specs.Catches.{awaited, awaits, is_awaited_at, is_caught_at, leads_from, time_form, waits_beside, waits_itself};
+ghost use Rattle.zb_tokens.specs.Catches.{awaited, awaits, is_awaited_at, is_caught_at, is_message_event, is_receive_task, leads_from, time_form, waits_beside, waits_itself, waits_once};
 
 use std::alloc::{AllocError, Global};
 use zb_base::{Key, List};
 use zb_board::Game;
 use zb_duration::TimeForm;
-use zb_faults::{is_boundary_of, is_catch, is_event_gateway};
+use zb_faults::{is_boundary, is_boundary_of, is_catch, is_event_gateway};
 use zb_graph::Graph;
 use zb_process::{Node, NodeKind};
 use zb_tokens::{Catch, Cell};
@@ -56,11 +56,26 @@ fn is_caught_at(kind: NodeKind, catch: Catch) -> bool
 {
     match catch {
         Catch::Time => time_form(kind).is_some(),
-        Catch::Message => matches!(
-            kind,
-            NodeKind::MessageCatchEvent | NodeKind::MessageBoundaryEvent
-        ),
+        Catch::Message => is_message_event(kind),
     }
+}
+
+/// Whether at a node of this kind a message is caught: by a task, by an event in the flow, or at the boundary of an
+/// activity.
+pub fn is_message_event(kind: NodeKind) -> bool
+    ensures { result ≡ is_message_event kind }
+{
+    matches!(
+        kind,
+        NodeKind::ReceiveTask | NodeKind::MessageCatchEvent | NodeKind::MessageBoundaryEvent
+    )
+}
+
+/// Whether one message is all that is waited for at a node.
+pub fn waits_once(node: &Node) -> bool
+    ensures { result ≡ waits_once node.now }
+{
+    !is_boundary(node.kind) || node.cancel
 }
 
 /// Whether at its node in a model a cell waits for the node's own event. The node is found in constant time, on
@@ -78,7 +93,14 @@ pub fn waits_itself_at(model: &Graph, cell: &Cell) -> bool
 fn waits_itself(cell: &Cell, node: &Node) -> bool
     ensures { result ≡ waits_itself cell.now node.now }
 {
-    is_catch(node.kind) && !cell.before
+    is_receive_task(node.kind) || is_catch(node.kind) && !cell.before
+}
+
+// A task that waits for a message.
+fn is_receive_task(kind: NodeKind) -> bool
+    ensures { result ≡ is_receive_task kind }
+{
+    matches!(kind, NodeKind::ReceiveTask)
 }
 
 // Whether at a node a cell waits for the event of another one. At an event gateway it goes through the flows into

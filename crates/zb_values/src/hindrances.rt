@@ -33,6 +33,20 @@ impl Model for Hindrance {
 }
 
 impl Hindrance {
+    /// The kind of the incident.
+    pub fn kind(&self) -> IncidentKind
+        ensures { result ≡ self.now.kind }
+    {
+        self.kind
+    }
+
+    /// The text of the incident.
+    pub fn text(&self) -> &str
+        ensures { result.now ≡ self.now.text }
+    {
+        self.text.as_str()
+    }
+
     fn of(alloc: Global, kind: IncidentKind, text: &str) -> Result<Hindrance, AllocError>
         ensures { IfOk result (λ hindrance. hindrance ≡ record { kind = kind; text = text.now }) }
     {

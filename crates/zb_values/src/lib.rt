@@ -15,9 +15,9 @@ mod unseen;
 mod work;
 
 pub use awaited::{awaits, waits_itself_at};
-pub use catches::{open_by, openings_at};
+pub use catches::{open_by, openings, openings_at};
 pub use flows::{are_among_flows, flows_in};
-pub use hindrances::uncaught;
+pub use hindrances::{Hindrance, uncaught};
 pub use mappings::{assignments_of, complete_by};
 pub use names::{cell_has_name, has_name, holder_of, is_instance, phase_of};
 pub use seen::visible;

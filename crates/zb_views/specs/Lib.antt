@@ -12,3 +12,4 @@ pub mod Subscriptions
 pub mod ProcessSubscriptions
 pub mod OwnKeys
 pub mod Starts
+pub mod Given

@@ -5,6 +5,7 @@
 mod begun;
 mod definition;
 mod distribution;
+mod given;
 mod job;
 mod laws;
 mod left;
@@ -17,6 +18,7 @@ mod timer;
 pub use begun::Begun;
 pub use definition::Definition;
 pub use distribution::Distribution;
+pub use given::Given;
 pub use job::{Job, JobPhase};
 pub use laws::timers_end_once;
 pub use left::Left;

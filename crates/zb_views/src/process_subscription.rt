@@ -1,7 +1,8 @@
 ghost use Rattle.std.specs.Prelude.{◌≡◌, Some};
 ghost use Rattle.zb_views.specs.ProcessSubscriptions.{has_kept, is_being_created, is_being_deleted};
 
-use zb_model::{Key, List, Text};
+use crate::given::Given;
+use zb_model::{Key, Text};
 use zb_rows::Kept;
 use zb_table::Row;
 
@@ -48,15 +49,15 @@ pub struct ProcessSubscription {
     pub cancel: bool,
     pub phase: WaitPhase,
     /// The messages that it was given, in that order.
-    pub kept: List<Key>,
+    pub kept: Given,
 }
 
 impl ProcessSubscription {
-    /// Whether it was given this message before. It goes through those that it was given.
+    /// Whether it was given this message before. It takes the logarithm of how many it was given.
     pub fn has_kept(&self, message: Key) -> bool
         ensures { result ≡ has_kept message self.now }
     {
-        self.kept.as_slice().contains(&message)
+        self.kept.has(message)
     }
 }
 

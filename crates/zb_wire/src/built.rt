@@ -56,15 +56,18 @@ fn is_built_kind(kind: Option<NodeKind>) -> bool
                 | NodeKind::EndEvent
                 | NodeKind::TerminateEndEvent
                 | NodeKind::ServiceTask
+                | NodeKind::ReceiveTask
                 | NodeKind::SubProcess
                 | NodeKind::ExclusiveGateway
                 | NodeKind::ParallelGateway
                 | NodeKind::EventBasedGateway
                 | NodeKind::DateCatchEvent
                 | NodeKind::DurationCatchEvent
+                | NodeKind::MessageCatchEvent
                 | NodeKind::ThrowEvent
                 | NodeKind::DateBoundaryEvent
                 | NodeKind::DurationBoundaryEvent
+                | NodeKind::MessageBoundaryEvent
                 | NodeKind::ErrorBoundaryEvent
         )
     )

@@ -6,6 +6,7 @@ pub mod FreshLaws
 pub mod HistoryLaws
 pub mod MessageViewLaws
 pub mod MessageStepLaws
+pub mod GivenOnceLaws
 pub mod OnceLaws
 pub mod PacketLaws
 pub mod SubscriptionMayLaws

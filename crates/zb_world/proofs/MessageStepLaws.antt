@@ -40,20 +40,20 @@ use Rattle.zb_rules.specs.Applies.{is_fresh, begins_start, has_definition, holds
 use Rattle.zb_rules.specs.Correlate.{correlating_event, next_message, next_correlated, next_subscription, passed_on}
 use Rattle.zb_rules.specs.Deploy.{reason_to_deploy, sent_to, deployed, version_behind}
 use Rattle.zb_rules.specs.Distribute.{reason_to_turn_back, reason_to_distribute, distributed}
-use Rattle.zb_rules.specs.Kinds.{may_follow}
+use Rattle.zb_rules.specs.Kinds.{comes_beside, may_follow, Carries, AllCarry}
 use Rattle.zb_rules.specs.Own.{own_events}
 use Rattle.zb_rules.specs.Reason.{reason_for}
 use Rattle.zb_rules.specs.Step.{IsAcceptance, IsOutcomeBy, IsOutcomeOf, IsStep, AreStepsOn}
-use Rattle.zb_rules.specs.Behind.{with_events_behind}
+use Rattle.zb_rules.specs.Behind.{closing_of, with_events_behind}
 use Rattle.zb_rules.specs.InFront.{assigning}
-use Rattle.zb_rules.specs.Making.{Making, and_then}
-use Rattle.zb_rules.specs.Receive.{subscription_in_wrong_state, waits_for_message, reason_to_pass_over, reason_to_receive, forgotten, closing_of, closed_after, brought, event_of_subscription, receive_events, received}
+use Rattle.zb_rules.specs.Making.{and_then}
+use Rattle.zb_rules.specs.Receive.{subscription_in_wrong_state, waits_for_message, reason_to_pass_over, reason_to_receive, forgotten, closed_after, brought, event_of_subscription, receive_events, received}
 use Rattle.zb_rules.specs.Shown.{holds_of_game}
 use Rattle.zb_rules.specs.Trigger.{cell_not_waiting}
 use Rattle.zb_rules.specs.WaitEvents.{is_open}
 use Rattle.zb_rules.specs.Subscribe.{unknown_subscription, opened, taken, turned_away, unkept_message, deleted_with, unsubscribed}
 use Rattle.zb_rules.proofs.KeysLaws.{fresh_is}
-use Rattle.zb_rules.proofs.KindsLaws.{EachOf, step_kind, rest_follows, command_told, all_weaker, then_makes, assigning_makes, variable_beside, beside_follows, with_behind}
+use Rattle.zb_rules.proofs.KindsLaws.{EachOf, Sets, Follows, kinds_in, from_weaker, listed_by, step_kind, rest_follows, command_told, closings_of_run, closings_of_steps, then_makes, assigning_makes, variable_beside, beside_follows, with_behind}
 use Rattle.zb_rules.proofs.ReceiveLaws.{none_against, tests_hold}
 use Rattle.zb_rules.proofs.MadeLaws.{made_of_any}
 use Rattle.zb_rules.proofs.StepLaws.{all_apply_more}
@@ -85,7 +85,6 @@ makes (events.MessageSubscriptionCorrelated e) = true
 makes (events.MessageSubscriptionRejected e) = true
 makes (events.MessageSubscriptionDeleted key) = true
 makes (events.ProcessMessageSubscriptionCorrelated e) = true
-makes (events.ProcessMessageSubscriptionDeleting e) = true
 makes (events.ProcessMessageSubscriptionDeleted key) = true
 makes e = false
 
@@ -101,7 +100,6 @@ follows_make_none (e ∷ es) follows = or_from (makes e) (list_any makes es) (by
     by_event (events.MessageSubscriptionRejected e) follows = absurd (cc)
     by_event (events.MessageSubscriptionDeleted key) follows = absurd (cc)
     by_event (events.ProcessMessageSubscriptionCorrelated e) follows = absurd (cc)
-    by_event (events.ProcessMessageSubscriptionDeleting e) follows = absurd (cc)
     by_event (events.ProcessMessageSubscriptionDeleted key) follows = absurd (cc)
     by_event e follows = refl
 
@@ -150,12 +148,11 @@ maker_of (events.MessageSubscriptionCorrelated e) command is made = absurd (cc)
 maker_of (events.MessageSubscriptionRejected e) command is made = absurd (cc)
 maker_of (events.MessageSubscriptionDeleted key) command is made = absurd (cc)
 maker_of (events.ProcessMessageSubscriptionCorrelated e) command is made = absurd (cc)
-maker_of (events.ProcessMessageSubscriptionDeleting e) command is made = absurd (cc)
 maker_of (events.ProcessMessageSubscriptionDeleted key) command is made = absurd (cc)
 maker_of e command is made = absurd (cc)
 
 -- the events of a command that is run are its own, and then what is forced
-events_are : (p n moment : ℕ) (es : List Event) (command : Command) (outcome : Outcome) (a : IsAcceptance p n moment es command outcome) (made : List Event) → own_events p n es moment command ≡ Some made → events_in outcome ≡ made ++ a.rest
+pub events_are : (p n moment : ℕ) (es : List Event) (command : Command) (outcome : Outcome) (a : IsAcceptance p n moment es command outcome) (made : List Event) → own_events p n es moment command ≡ Some made → events_in outcome ≡ made ++ a.rest
 events_are p n moment es command outcome a made are =
     let own : made ≡ a.own = (let its = a.are_own in cc) in
     ap events_in a.accepted ∙ ap (λ (l : List Event). l ++ a.rest) (sym own)
@@ -208,11 +205,11 @@ start_may before e begins = by_message (message_at e.message before) refl begins
     by_message (Some m) at may = by_process m at (process_in e.definition before) refl may
 
 -- what a message brings, and the event that comes about with those behind it, may follow
-brought_follow : (p moment : ℕ) (brings : Option Assignments) (e : Event) → IsTrue (may_follow e) → (before : List Event) → EachOf may_follow (and_then (assigning brings) (with_events_behind p moment e) before)
+pub brought_follow : (p moment : ℕ) (brings : Option Assignments) (e : Event) → ((earlier : List Event) → Follows earlier e) → (before : List Event) → EachOf may_follow (and_then (assigning brings) (with_events_behind p moment e) before)
 brought_follow p moment brings e follows before =
-    then_makes may_follow (assigning brings) (with_events_behind p moment e)
-    (λ earlier. all_weaker _ _ (λ x sets. beside_follows x (variable_beside x sets)) (assigning brings earlier) (assigning_makes brings earlier))
-    (with_behind may_follow beside_follows p moment e follows) before
+    kinds_in may_follow before _ (then_makes Follows (assigning brings) (with_events_behind p moment e)
+    (λ earlier. from_weaker Sets Follows (λ first x sets. listed_by comes_beside may_follow beside_follows first x (variable_beside first x sets)) earlier (assigning brings earlier) (assigning_makes brings earlier))
+    (with_behind may_follow beside_follows p moment e follows) before)
 
 -- the subscription that is found has the key
 keyed_so : (key : ℕ) (es : List Event) (s : ProcessSubscription) → process_subscription_at key es ≡ Some s → s.key ≡ key
@@ -253,58 +250,68 @@ stays_out s told (e ∷ es) quiet out =
     by_event (events.MessageSubscriptionCreated x) quiet = absurd (cc)
     by_event _ quiet = refl
 
+-- these events apply behind those before them, and what closes among them does so with what it was given
+abbrev Comes : (p : ℕ) (before es : List Event) → Type 0
+Comes p before es = IsTrue (all_apply p before es) × AllCarry before es
+
 module _ (n p : ℕ) (low : 1 ≤ p) (high : p ≤ n) where
   -- what any other event tells may be told, behind events that apply
-  quiet_may : (before : List Event) (asked : Asking) (e : Event) → IsTrue (all_apply p [] before) → holds_own p before e ≡ true → makes e ≡ false → May n p (map tells before) asked (tells e)
-  quiet_may before asked (events.ProcessCreated e) there own quiet = absurd (cc)
-  quiet_may before asked (events.MessagePublished m) there own quiet =
+  quiet_may : (before : List Event) (asked : Asking) (e : Event) → IsTrue (all_apply p [] before) → holds_own p before e ≡ true → makes e ≡ false → Carries before e → May n p (map tells before) asked (tells e)
+  quiet_may before asked (events.ProcessCreated e) there own quiet carries = absurd (cc)
+  quiet_may before asked (events.MessagePublished m) there own quiet carries =
       let f = fresh_is p before m.key (and_parts (is_fresh p before m.key) _ own).0 in (
         subst (λ (key : ℕ). home n key ≡ p) (sym f.1) (drawn_home n p before low high f.0),
         λ stands.
             let r = map_out tells before (Published m.key) stands in
             unnamed p before r.0 f.0 r.1 (subst (Contains (keys_in r.0)) f.1 (published_named m.key r.0 (sym r.2))),
       )
-  quiet_may before asked (events.MessageExpired key) there own quiet = buffered_same key before ∙ own
-  quiet_may before asked (events.MessageStartEventSubscriptionCorrelated e) there own quiet = start_may before e (both_right (is_fresh p before e.instance) (begins_start e before) own)
-  quiet_may before asked (events.MessageSubscriptionCreated e) there own quiet = absurd (cc)
-  quiet_may before asked (events.MessageSubscriptionCorrelating e) there own quiet = may_begin p before there e own
-  quiet_may before asked (events.MessageSubscriptionCorrelated e) there own quiet = absurd (cc)
-  quiet_may before asked (events.MessageSubscriptionRejected e) there own quiet = absurd (cc)
-  quiet_may before asked (events.MessageSubscriptionDeleted key) there own quiet = absurd (cc)
-  quiet_may before asked (events.ProcessMessageSubscriptionCreating c) there own quiet =
+  quiet_may before asked (events.MessageExpired key) there own quiet carries = buffered_same key before ∙ own
+  quiet_may before asked (events.MessageStartEventSubscriptionCorrelated e) there own quiet carries = start_may before e (both_right (is_fresh p before e.instance) (begins_start e before) own)
+  quiet_may before asked (events.MessageSubscriptionCreated e) there own quiet carries = absurd (cc)
+  quiet_may before asked (events.MessageSubscriptionCorrelating e) there own quiet carries = may_begin p before there e own
+  quiet_may before asked (events.MessageSubscriptionCorrelated e) there own quiet carries = absurd (cc)
+  quiet_may before asked (events.MessageSubscriptionRejected e) there own quiet carries = absurd (cc)
+  quiet_may before asked (events.MessageSubscriptionDeleted key) there own quiet carries = absurd (cc)
+  quiet_may before asked (events.ProcessMessageSubscriptionCreating c) there own quiet carries =
       let f = fresh_is p before c.subscription (and_parts (is_fresh p before c.subscription) _ own).0 in (
         subst (λ (key : ℕ). home n key ≡ p) (sym f.1) (drawn_home n p before low high f.0),
         λ terms stands.
             let r = map_out tells before (Opens c.subscription terms) stands in
             unnamed p before r.0 f.0 r.1 (subst (Contains (keys_in r.0)) f.1 (opened_named c.subscription terms r.0 (sym r.2))),
       )
-  quiet_may before asked (events.ProcessMessageSubscriptionCorrelated e) there own quiet = absurd (cc)
-  quiet_may before asked (events.ProcessMessageSubscriptionDeleted key) there own quiet = absurd (cc)
-  quiet_may before asked (events.ProcessMessageSubscriptionDeleting e) there own quiet = absurd (cc)
-  quiet_may before asked _ there own quiet = tt
+  quiet_may before asked (events.ProcessMessageSubscriptionCorrelated e) there own quiet carries = absurd (cc)
+  quiet_may before asked (events.ProcessMessageSubscriptionDeleted key) there own quiet carries = absurd (cc)
+  quiet_may before asked (events.ProcessMessageSubscriptionDeleting e) there own quiet carries =
+      let s = carries.0 in
+      let is : events.ProcessMessageSubscriptionDeleting e ≡ closing_of s = carries.2 in
+      let named : e.subscription ≡ s.key = cc in
+      let told = waiting_told p s.key before there s (subst (λ (k : ℕ). process_subscription_at k before ≡ Some s) named carries.1) in
+      subst (λ (x : Event). May n p (map tells before) asked (tells x)) (sym is) (terms_with s, told.opens, refl, told.kept)
+  quiet_may before asked _ there own quiet carries = tt
 
   -- the first of some events that apply behind others that do, and the rest
   record AreSplit (before : List Event) (e : Event) (es : List Event) : Type 0 where
     own : holds_own p before e ≡ true
+    carries : Carries before e
     over : IsTrue (all_apply p [] (before ++ e ∷ []))
-    rest : IsTrue (all_apply p (before ++ e ∷ []) es)
+    rest : Comes p (before ++ e ∷ []) es
 
-  split : (before : List Event) (e : Event) (es : List Event) → IsTrue (all_apply p [] before) → IsTrue (all_apply p before (e ∷ es)) → AreSplit before e es
+  split : (before : List Event) (e : Event) (es : List Event) → IsTrue (all_apply p [] before) → Comes p before (e ∷ es) → AreSplit before e es
   split before e es there apply =
-      let r = and_parts (applies p before e) (all_apply p (before ++ e ∷ []) es) apply in
-      record { own = own_holds p before e r.0; over = rw (all_apply_more p [] before e, there) r.0; rest = r.1 }
+      let r = and_parts (applies p before e) (all_apply p (before ++ e ∷ []) es) apply.0 in
+      record { own = own_holds p before e r.0; carries = apply.1.0; over = rw (all_apply_more p [] before e, there) r.0; rest = (r.1, apply.1.1) }
 
   -- what the first tells, and then what the others do
   told_first : (before : List Event) (asked : Asking) (e : Event) (es : List Event) → May n p (map tells before) asked (tells e) → EachMay n p (map tells (before ++ e ∷ [])) asked (map tells es) → EachMay n p (map tells before) asked (map tells (e ∷ es))
   told_first before asked e es may rest = (may, subst (λ (told : List Telling). EachMay n p told asked (map tells es)) (map-append tells before (e ∷ [])) rest)
 
   -- so it is of all of them
-  each_quiet : (before : List Event) (asked : Asking) (es : List Event) → IsTrue (all_apply p [] before) → IsTrue (all_apply p before es) → list_any makes es ≡ false → EachMay n p (map tells before) asked (map tells es)
+  each_quiet : (before : List Event) (asked : Asking) (es : List Event) → IsTrue (all_apply p [] before) → Comes p before es → list_any makes es ≡ false → EachMay n p (map tells before) asked (map tells es)
   each_quiet before asked [] there apply quiet = tt
   each_quiet before asked (e ∷ es) there apply quiet =
       let r = split before e es there apply in
       let q = either_fails (makes e) (list_any makes es) quiet in
-      told_first before asked e es (quiet_may before asked e there r.own q.0) (each_quiet (before ++ e ∷ []) asked es r.over r.rest q.1)
+      told_first before asked e es (quiet_may before asked e there r.own q.0 r.carries) (each_quiet (before ++ e ∷ []) asked es r.over r.rest q.1)
 
   -- of some behind others, where neither do
   both_quiet : (made rest : List Event) → list_any makes made ≡ false → EachOf may_follow rest → list_any makes (made ++ rest) ≡ false
@@ -337,7 +344,7 @@ module _ (n p : ℕ) (low : 1 ≤ p) (high : p ≤ n) where
 
   module _ (moment : ℕ) (es : List Event) (there : IsTrue (all_apply p [] es)) where
     -- a deployment defines its process under a key of the partition that no event names
-    deployment_may : (m : Model) (asked : Asking) (rest : List Event) → IsTrue (all_apply p es (deployed p n m es ++ rest)) → EachOf may_follow rest → EachMay n p (map tells es) asked (map tells (deployed p n m es ++ rest))
+    deployment_may : (m : Model) (asked : Asking) (rest : List Event) → Comes p es (deployed p n m es ++ rest) → EachOf may_follow rest → EachMay n p (map tells es) asked (map tells (deployed p n m es ++ rest))
     deployment_may m asked rest apply follows =
         let key = next_key p es in
         let made = events.ProcessCreated (record { key = key; version = version_behind (greatest_version m.process (definitions es)); model = m }) in
@@ -370,7 +377,7 @@ module _ (n p : ℕ) (low : 1 ≤ p) (high : p ≤ n) where
         by_first (Some r) is = absurd (cc)
 
     -- one that is taken is defined under the key, and is of the process, that the command says
-    taken_may : (c : ProcessDefinition) (rest : List Event) → reason_to_distribute es c ≡ None → IsTrue (all_apply p es (events.ProcessCreated c ∷ rest)) → EachOf may_follow rest
+    taken_may : (c : ProcessDefinition) (rest : List Event) → reason_to_distribute es c ≡ None → Comes p es (events.ProcessCreated c ∷ rest) → EachOf may_follow rest
         → EachMay n p (map tells es) (Distribute c.key c.model.process) (map tells (events.ProcessCreated c ∷ rest))
     taken_may c rest none apply follows =
         let asked = Distribute c.key c.model.process in
@@ -379,7 +386,7 @@ module _ (n p : ℕ) (low : 1 ≤ p) (high : p ≤ n) where
         (each_quiet (es ++ events.ProcessCreated c ∷ []) asked rest first.over first.rest (follows_make_none rest follows))
 
     -- a subscription that is opened has the terms that are asked, and isn't there before
-    opened_may : (c : MessageSubscription) (rest : List Event) → IsTrue (all_apply p es (opened c es ++ rest)) → EachOf may_follow rest
+    opened_may : (c : MessageSubscription) (rest : List Event) → Comes p es (opened c es ++ rest) → EachOf may_follow rest
         → EachMay n p (map tells es) (Create c.subscription (terms_from c)) (map tells (opened c es ++ rest))
     opened_may c rest apply follows =
         let e = events.MessageSubscriptionCreated c in
@@ -390,7 +397,7 @@ module _ (n p : ℕ) (low : 1 ≤ p) (high : p ≤ n) where
         (each_quiet (es ++ e ∷ []) asked (next ++ rest) first.over first.rest (both_quiet next rest (next_make_none c.subscription (es ++ e ∷ [])) follows))
 
     -- a message that is kept is the one that its subscription is correlating
-    kept_may : (c : SubscribedMessage) (rest : List Event) → IsTrue (all_apply p es (taken c es ++ rest)) → EachOf may_follow rest
+    kept_may : (c : SubscribedMessage) (rest : List Event) → Comes p es (taken c es ++ rest) → EachOf may_follow rest
         → EachMay n p (map tells es) (WasKept c.subscription c.message) (map tells (taken c es ++ rest))
     kept_may c rest apply follows =
         let e = events.MessageSubscriptionCorrelated c in
@@ -401,7 +408,7 @@ module _ (n p : ℕ) (low : 1 ≤ p) (high : p ≤ n) where
         (each_quiet (es ++ e ∷ []) asked (next ++ rest) first.over first.rest (both_quiet next rest (next_make_none c.subscription (es ++ e ∷ [])) follows))
 
     -- and so is one that is turned away
-    turned_may : (c : SubscribedMessage) (rest : List Event) → IsTrue (all_apply p es (turned_away c es ++ rest)) → EachOf may_follow rest
+    turned_may : (c : SubscribedMessage) (rest : List Event) → Comes p es (turned_away c es ++ rest) → EachOf may_follow rest
         → EachMay n p (map tells es) (Reject c.subscription c.message) (map tells (turned_away c es ++ rest))
     turned_may c rest apply follows =
         let e = events.MessageSubscriptionRejected c in
@@ -412,7 +419,7 @@ module _ (n p : ℕ) (low : 1 ≤ p) (high : p ≤ n) where
         (each_quiet (es ++ e ∷ []) asked (next ++ rest) first.over first.rest (both_quiet next rest (passed_make_none c.subscription c.message (es ++ e ∷ [])) follows))
 
     -- a subscription that is deleted gives up what it is correlating, unless that is among the keys
-    deleted_may : (c : MessageSubscriptionDelete) (rest : List Event) → IsTrue (all_apply p es (unsubscribed c es ++ rest)) → EachOf may_follow rest
+    deleted_may : (c : MessageSubscriptionDelete) (rest : List Event) → Comes p es (unsubscribed c es ++ rest) → EachOf may_follow rest
         → EachMay n p (map tells es) (Delete c.subscription c.keys) (map tells (unsubscribed c es ++ rest))
     deleted_may c rest apply follows = by_found (unkept_message c es) refl apply
       where
@@ -425,7 +432,7 @@ module _ (n p : ℕ) (low : 1 ≤ p) (high : p ≤ n) where
         made : Option ℕ → List Event
         made found = option_map_or (λ (m : ℕ). deleted_with c.subscription m es) found (d ∷ [])
 
-        by_found : (found : Option ℕ) → unkept_message c es ≡ found → IsTrue (all_apply p es (made found ++ rest)) → EachMay n p (map tells es) asked (map tells (made found ++ rest))
+        by_found : (found : Option ℕ) → unkept_message c es ≡ found → Comes p es (made found ++ rest) → EachMay n p (map tells es) asked (map tells (made found ++ rest))
         by_found None at apply =
             let first = split es d rest there apply in
             told_first es asked d rest (c.keys, refl) (each_quiet (es ++ d ∷ []) asked rest first.over first.rest (follows_make_none rest follows))
@@ -439,15 +446,15 @@ module _ (n p : ℕ) (low : 1 ≤ p) (high : p ≤ n) where
             (told_first over asked d (next ++ rest) (c.keys, refl)
             (each_quiet (over ++ d ∷ []) asked (next ++ rest) second.over second.rest (both_quiet next rest (passed_make_none c.subscription m (over ++ d ∷ [])) follows)))
 
-    -- a message is kept where its subscription is open and hasn't kept it; where that ends with it, it closes with those that it has kept
-    received_may : (c : MessageCorrelation) (rest : List Event) → reason_to_receive es c ≡ None → IsTrue (all_apply p es (received p moment c es ++ rest)) → EachOf may_follow rest
+    -- a message is kept where its subscription is open and hasn't kept it
+    received_may : (c : MessageCorrelation) (rest : List Event) → reason_to_receive es c ≡ None → Comes p es (received p moment c es ++ rest) → EachOf may_follow rest
         → EachMay n p (map tells es) (Correlate c.subscription c.message) (map tells (received p moment c es ++ rest))
     received_may c rest none apply follows =
         let r = none_against es c.subscription (reason_to_pass_over es c.message) none in
         let x = r.0 in
         let at = r.1 in
         let made : received p moment c es ≡ receive_events p moment c x es = rw at refl in
-        rw made (given_may x at (tests_hold (has_kept c.message x) (is_being_deleted x.phase) (holds_of_game (waits_for_message x) es) _ _ _ r.2).0 (subst (λ (l : List Event). IsTrue (all_apply p es (l ++ rest))) made apply))
+        rw made (given_may x at (tests_hold (has_kept c.message x) (is_being_deleted x.phase) (holds_of_game (waits_for_message x) es) _ _ _ r.2).0 (subst (λ (l : List Event). Comes p es (l ++ rest)) made apply))
       where
         asked : Asking
         asked = Correlate c.subscription c.message
@@ -458,41 +465,37 @@ module _ (n p : ℕ) (low : 1 ≤ p) (high : p ≤ n) where
         over : List Event
         over = es ++ e ∷ []
 
-        later : ProcessSubscription → Making
-        later x = and_then (assigning (brought c.variables x es)) (with_events_behind p moment (event_of_subscription x))
+        closed : List Event
+        closed = closed_after c.subscription over
 
-        quiet : (x : ProcessSubscription) (before : List Event) → list_any makes (later x before ++ rest) ≡ false
-        quiet x before = both_quiet (later x before) rest (follows_make_none (later x before) (brought_follow p moment (brought c.variables x es) (event_of_subscription x) refl before)) follows
+        later : ProcessSubscription → List Event
+        later x = and_then (assigning (brought c.variables x es)) (with_events_behind p moment (event_of_subscription x)) (over ++ closed)
 
-        -- behind it, it closes or not
-        closed_may : (x : ProcessSubscription) (found : Option ProcessSubscription) → process_subscription_at c.subscription over ≡ found → IsTrue (all_apply p [] over)
-            → IsTrue (all_apply p over (and_then (λ before. option_map_or (λ s. if s.cancel then closing_of s ∷ [] else []) found []) (later x) over ++ rest))
-            → EachMay n p (map tells over) asked (map tells (and_then (λ before. option_map_or (λ s. if s.cancel then closing_of s ∷ [] else []) found []) (later x) over ++ rest))
-        closed_may x None found over_there apply = each_quiet over asked (later x (over ++ []) ++ rest) over_there apply (quiet x (over ++ []))
-        closed_may x (Some s) found over_there apply = by_cancel s.cancel apply
-          where
-            by_cancel : (cancel : Bool) → IsTrue (all_apply p over (and_then (λ before. if cancel then closing_of s ∷ [] else []) (later x) over ++ rest))
-                → EachMay n p (map tells over) asked (map tells (and_then (λ before. if cancel then closing_of s ∷ [] else []) (later x) over ++ rest))
-            by_cancel false apply = each_quiet over asked (later x (over ++ []) ++ rest) over_there apply (quiet x (over ++ []))
-            by_cancel true apply =
-                let first = split over (closing_of s) (later x (over ++ closing_of s ∷ []) ++ rest) over_there apply in
-                let key = keyed_so c.subscription over s found in
-                let told = waiting_told p s.key over over_there s (subst (λ (k : ℕ). process_subscription_at k over ≡ Some s) (sym key) found) in
-                told_first over asked (closing_of s) (later x (over ++ closing_of s ∷ []) ++ rest) (terms_with s, told.opens, refl, told.kept)
-                (each_quiet (over ++ closing_of s ∷ []) asked (later x (over ++ closing_of s ∷ []) ++ rest) first.over first.rest (quiet x (over ++ closing_of s ∷ [])))
+        by_cancel : (s : ProcessSubscription) (cancel : Bool) → list_any makes (if cancel then closing_of s ∷ [] else []) ≡ false
+        by_cancel s true = refl
+        by_cancel s false = refl
 
-        given_may : (x : ProcessSubscription) → process_subscription_at c.subscription es ≡ Some x → has_kept c.message x ≡ false → IsTrue (all_apply p es (receive_events p moment c x es ++ rest))
+        closing_quiet : list_any makes closed ≡ false
+        closing_quiet = made_of_any (λ (l : List Event). list_any makes l ≡ false) (λ (s : ProcessSubscription). if s.cancel then closing_of s ∷ [] else []) (process_subscription_at c.subscription over) refl (λ s at. by_cancel s s.cancel)
+
+        -- what is behind it says nothing new
+        quiet : (x : ProcessSubscription) → list_any makes ((closed ++ later x) ++ rest) ≡ false
+        quiet x =
+            let happens : list_any makes (later x) ≡ false = follows_make_none (later x) (brought_follow p moment (brought c.variables x es) (event_of_subscription x) (λ earlier. (refl, tt)) (over ++ closed)) in
+            both_quiet (closed ++ later x) rest (list_any-append makes closed (later x) ∙ rw (closing_quiet, happens) refl) follows
+
+        given_may : (x : ProcessSubscription) → process_subscription_at c.subscription es ≡ Some x → has_kept c.message x ≡ false → Comes p es (receive_events p moment c x es ++ rest)
             → EachMay n p (map tells es) asked (map tells (receive_events p moment c x es ++ rest))
         given_may x at new apply =
-            let first = split es e (and_then (closed_after c.subscription) (later x) over ++ rest) there apply in
+            let first = split es e ((closed ++ later x) ++ rest) there apply in
             let told = waiting_told p c.subscription es there x at in
             let stays : is_open x.phase ≡ true = rw at at first.own in
-            told_first es asked e (and_then (closed_after c.subscription) (later x) over ++ rest)
+            told_first es asked e ((closed ++ later x) ++ rest)
             (refl, never_closes c.subscription (map tells es) x told stays, λ stands. unkept_so c.message x new ((told.kept c.message).1 stands))
-            (closed_may x (process_subscription_at c.subscription over) refl first.over first.rest)
+            (each_quiet over asked ((closed ++ later x) ++ rest) first.over first.rest (quiet x))
 
     -- a subscription that is gone is the one that is asked
-    gone_may : (key : ℕ) (rest : List Event) → IsTrue (all_apply p es (forgotten key es ++ rest)) → EachOf may_follow rest → EachMay n p (map tells es) (IsDeleted key) (map tells (forgotten key es ++ rest))
+    gone_may : (key : ℕ) (rest : List Event) → Comes p es (forgotten key es ++ rest) → EachOf may_follow rest → EachMay n p (map tells es) (IsDeleted key) (map tells (forgotten key es ++ rest))
     gone_may key rest apply follows =
         let e = events.ProcessMessageSubscriptionDeleted key in
         let first = split es e rest there apply in
@@ -500,10 +503,10 @@ module _ (n p : ℕ) (low : 1 ≤ p) (high : p ≤ n) where
 
     -- what is run tells what its own events do, and then what is forced
     of_made : (command : Command) (outcome : Outcome) (a : IsAcceptance p n moment es command outcome) (made : List Event) → own_events p n es moment command ≡ Some made
-        → (IsTrue (all_apply p es (made ++ a.rest)) → EachOf may_follow a.rest → EachMay n p (map tells es) (asks command) (map tells (made ++ a.rest))) → EachMay n p (map tells es) (asks command) (map tells (events_in outcome))
+        → (Comes p es (made ++ a.rest) → EachOf may_follow a.rest → EachMay n p (map tells es) (asks command) (map tells (made ++ a.rest))) → EachMay n p (map tells es) (asks command) (map tells (events_in outcome))
     of_made command outcome a made are each =
         let all = events_are p n moment es command outcome a made are in
-        let apply : IsTrue (all_apply p es (made ++ a.rest)) = subst (λ (l : List Event). IsTrue (all_apply p es l)) all (outcome_applies p n moment es command outcome None a) in
+        let apply : Comes p es (made ++ a.rest) = subst (λ (l : List Event). Comes p es l) all (outcome_applies p n moment es command outcome None a, closings_of_run p n moment es command outcome a) in
         rw all (each apply (rest_follows p n moment es command outcome a))
 
     -- the events of a command that is run, where such an event stands among them
@@ -523,7 +526,7 @@ module _ (n p : ℕ) (low : 1 ≤ p) (high : p ≤ n) where
     events_may command outcome is = by_test (list_any makes (events_in outcome)) refl
       where
         by_test : (t : Bool) → list_any makes (events_in outcome) ≡ t → EachMay n p (map tells es) (asks command) (map tells (events_in outcome))
-        by_test false none = each_quiet es (asks command) (events_in outcome) there (outcome_applies p n moment es command outcome (reason_for es moment command) is) none
+        by_test false none = each_quiet es (asks command) (events_in outcome) there (outcome_applies p n moment es command outcome (reason_for es moment command) is, closings_of_steps p n moment es command outcome is) none
         by_test true some =
             let told = command_told p n moment es makes (λ command. IsTrue (is_maker command)) maker_of command outcome is some in
             maker_may command outcome told.0 told.1 told.2

@@ -20,6 +20,7 @@ use Rattle.zb_world.specs.History.{IsEntryOf, IsHistory}
 use Rattle.zb_world.specs.Once.{HappensOnce}
 use Rattle.zb_world.proofs.EntryLaws.{part_of_joined, part_of_its, part_of_other}
 use Rattle.zb_world.proofs.HistoryLaws.{history_more, parts_are_steps}
+use Rattle.zb_world.proofs.GivenOnceLaws.{given_at_most_once}
 use Rattle.zb_world.proofs.AppliedStepLaws.{steps_apply}
 use Rattle.zb_world.proofs.TellingLaws.{messages_once}
 
@@ -76,6 +77,7 @@ module _ (ends : ℕ → Event → Bool) (home_of : (p : ℕ) (es : List Event) 
 pub happens_once : (n : ℕ) (h : List Entry) → IsHistory n h → HappensOnce h
 happens_once n h is = record {
   messages = messages_once n h is;
+  catches = λ partition key s there. given_at_most_once partition n (part_of partition h) (parts_are_steps n partition h is) key s there;
   jobs = λ (job : ℕ).
       let p = job / 2 ^ 51 in
       let once = ended_once p (events_of (part_of p h)) job (steps_apply p n (part_of p h) (parts_are_steps n p h is)) in

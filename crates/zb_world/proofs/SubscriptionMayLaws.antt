@@ -1,5 +1,5 @@
 -- What events of subscriptions may tell behind events that apply.
-use Rattle.std.proofs.Common.{◌≡◌, ℕ, ◌==◌, not, List, [], ◌∷◌, ◌++◌, map, is_some, Bool, true, false, if◌then◌else◌, IsTrue, Option, Some, None, option_and_then, Contains, refl, inl, inr, sym, ap, ◌∙◌, subst, arith}
+use Rattle.std.proofs.Common.{◌≡◌, ℕ, ◌==◌, not, List, [], ◌∷◌, ◌++◌, map, is_some, Bool, true, false, if◌then◌else◌, IsTrue, Option, Some, None, option_and_then, Contains, refl, ap, ◌∙◌, subst, arith}
 use Rattle.std.specs.List.{list_any}
 use Rattle.std.specs.Option.{option_map_or}
 use Rattle.std.proofs.lemmas.Bool.{and_parts, not-true}
@@ -17,10 +17,8 @@ use Rattle.zb_rules.specs.Correlate.{fits_message, begins_correlating, is_correl
 use Rattle.zb_rules.specs.Shown.{shown}
 use Rattle.zb_rules.specs.Subscribe.{unkept_message}
 use Rattle.zb_once.specs.May.{MayBegin}
-use Rattle.zb_once.specs.Tellings.Telling.{Opens}
-use Rattle.zb_once.specs.Tellings.{Terms}
 use Rattle.zb_once.specs.Views.{task_of}
-use Rattle.zb_once.proofs.ListLemmas.{nothing_in, first_or_later, has_passed, map_out}
+use Rattle.zb_once.proofs.ListLemmas.{has_passed}
 use Rattle.zb_once.proofs.ViewLaws.{eq_true}
 use Rattle.zb_world.specs.Tellings.{tells}
 use Rattle.zb_world.proofs.FreshLaws.{keyed, any_found, buffered_same}

@@ -1,8 +1,8 @@
 -- What a log says of the subscription of an element instance is what its events tell of it.
-use Rattle.std.proofs.Common.{◌≡◌, ◌⊎◌, ◌↔◌, ◌<◌, ◌^◌, ℕ, ◌+◌, ◌==◌, List, [], ◌∷◌, ◌++◌, map, filter, Bool, true, false, cond, ◌&&◌, not, if◌then◌else◌, IsTrue, Option, Some, None, option_map, Contains, refl, inl, inr, sym, ap, ◌∙◌, subst, append-nil, append_assoc, arith}
+use Rattle.std.proofs.Common.{◌≡◌, ◌↔◌, ℕ, ◌==◌, List, [], ◌∷◌, ◌++◌, map, Bool, true, false, cond, if◌then◌else◌, IsTrue, Option, Some, None, option_map, Contains, refl, inl, inr, sym, ap, ◌∙◌, subst, append-nil, append_assoc, arith}
 use Rattle.std.specs.List.{find}
 use Rattle.std.specs.Option.{option_map_or}
-use Rattle.std.proofs.lemmas.Bool.{and_parts, not-true}
+use Rattle.std.proofs.lemmas.Bool.{and_parts}
 use Rattle.std.proofs.lemmas.Bool.Decides.{nat_tests}
 use Rattle.std.proofs.lemmas.List.{map-append}
 use Rattle.std.proofs.lemmas.List.Elements.{Contains-append_left, Contains-append_right, Contains-append_cases}
@@ -10,8 +10,8 @@ use Rattle.zb_pairs.proofs.FoundLemmas.{found_without}
 use Rattle.zb_exchange_records.specs.declared.subscription.ProcessMessageSubscriptionCreating.{ProcessMessageSubscriptionCreating}
 use Rattle.zb_model.specs.declared.record.Event.{Event}
 use Rattle.zb_model.specs.declared.record.Event.TheVariants as events
-use Rattle.zb_views.specs.View.{keys_in, greatest_counter, next_key}
-use Rattle.zb_views.specs.ProcessSubscriptions.{process_subscription_of, process_subscription_sort, process_subscription_changed, process_subscriptions, process_subscription_at, is_being_created, is_being_deleted, has_kept, says_nothing_of_process_subscriptions}
+use Rattle.zb_views.specs.View.{keys_in}
+use Rattle.zb_views.specs.ProcessSubscriptions.{process_subscription_of, process_subscription_sort, process_subscription_changed, process_subscriptions, process_subscription_at, is_being_created, is_being_deleted, says_nothing_of_process_subscriptions}
 use Rattle.zb_views.specs.declared.process_subscription.ProcessSubscription.{ProcessSubscription}
 use Rattle.zb_views.specs.declared.process_subscription.WaitPhase.{WaitPhase}
 use Rattle.zb_views.specs.declared.process_subscription.WaitPhase.TheVariants as phases
@@ -22,8 +22,7 @@ use Rattle.zb_rules.specs.Applies.{is_fresh, holds_own, holds_of_game, applies, 
 use Rattle.zb_rules.specs.WaitEvents.{may_subscribe, is_waiting, is_open}
 use Rattle.zb_rules.proofs.KeysLaws.{fresh_is}
 use Rattle.zb_rules.proofs.ReceiveLaws.{found_changed}
-use Rattle.zb_rules.proofs.StepLaws.{all_apply_more}
-use Rattle.zb_once.specs.May.{IsNowhere, ClosesWithout}
+use Rattle.zb_once.specs.May.{IsNowhere}
 use Rattle.zb_once.specs.Tellings.{Terms, Telling}
 use Rattle.zb_once.specs.Tellings.Telling.{Opens, Kept, Closing, Gone}
 use Rattle.zb_once.proofs.ListLemmas.{nothing_in, the_one, here_in, map_out}
@@ -123,25 +122,25 @@ module _ (s : ℕ) where
     abbrev row_by : Event → Option ProcessSubscription
     row_by e = process_subscription_at s (before ++ e ∷ [])
 
-    row_still : (e : Event) → says_nothing_of_process_subscriptions e ≡ true → row_by e ≡ row
+    pub row_still : (e : Event) → says_nothing_of_process_subscriptions e ≡ true → row_by e ≡ row
     row_still e nothing = ap (find is_this) (process_subscriptions_kept before e nothing)
 
-    row_changed : (e : Event) → ((x : ProcessSubscription) → process_subscription_sort.ends before e x ≡ false) → process_subscription_sort.told before e ≡ None → row_by e ≡ option_map (process_subscription_changed e) row
+    pub row_changed : (e : Event) → ((x : ProcessSubscription) → process_subscription_sort.ends before e x ≡ false) → process_subscription_sort.told before e ≡ None → row_by e ≡ option_map (process_subscription_changed e) row
     row_changed e lasts none =
         ap (find is_this) (process_subscriptions_more before e ∙ each_changed process_subscription_sort before e (process_subscriptions before) none lasts) ∙ found_changed s e (process_subscriptions before)
 
-    row_opened : (c : ProcessMessageSubscriptionCreating) → row_by (events.ProcessMessageSubscriptionCreating c) ≡ option_map_or (λ y. Some y) row (if c.subscription == s then Some (process_subscription_of c) else None)
+    pub row_opened : (c : ProcessMessageSubscriptionCreating) → row_by (events.ProcessMessageSubscriptionCreating c) ≡ option_map_or (λ y. Some y) row (if c.subscription == s then Some (process_subscription_of c) else None)
     row_opened c =
         ap (find is_this) (process_subscriptions_more before (events.ProcessMessageSubscriptionCreating c) ∙ one_more process_subscription_sort before (events.ProcessMessageSubscriptionCreating c) (process_subscriptions before) (process_subscription_of c) refl (λ x. refl) (λ x. refl))
         ∙ found_more (process_subscriptions before) (process_subscription_of c)
 
-    row_gone : (key : ℕ) → row_by (events.ProcessMessageSubscriptionDeleted key) ≡ cond (key == s) None row
+    pub row_gone : (key : ℕ) → row_by (events.ProcessMessageSubscriptionDeleted key) ≡ cond (key == s) None row
     row_gone key =
         ap (find is_this) (process_subscriptions_more before (events.ProcessMessageSubscriptionDeleted key) ∙ some_gone process_subscription_sort before (events.ProcessMessageSubscriptionDeleted key) (process_subscriptions before) (λ x. x.key == key) refl (λ x. refl) (λ x. refl))
         ∙ found_without (λ (x : ProcessSubscription). x.key) key s (process_subscriptions before)
 
     -- the one that is there has the key
-    row_key : (x : ProcessSubscription) → row ≡ Some x → x.key ≡ s
+    pub row_key : (x : ProcessSubscription) → row ≡ Some x → x.key ≡ s
     row_key x is = found_key (process_subscriptions before) is
       where
         found_key : (xs : List ProcessSubscription) → find is_this xs ≡ Some x → x.key ≡ s
@@ -167,7 +166,7 @@ module _ (s : ℕ) where
     same_row e led other is = rw led (still_so told (tells e) row other is)
 
     -- what is there in a phase
-    there_in : (such : WaitPhase → Bool) (key : ℕ) → key ≡ s → IsTrue (is_waiting such key before) → (x : ProcessSubscription) × (row ≡ Some x) × (such x.phase ≡ true)
+    pub there_in : (such : WaitPhase → Bool) (key : ℕ) → key ≡ s → IsTrue (is_waiting such key before) → (x : ProcessSubscription) × (row ≡ Some x) × (such x.phase ≡ true)
     there_in such key same is = by_found row refl (subst (λ (k : ℕ). IsTrue (is_waiting such k before)) same is)
       where
         by_found : (found : Option ProcessSubscription) → row ≡ found → IsTrue (option_map_or (λ x. such x.phase) found false) → (x : ProcessSubscription) × (row ≡ Some x) × (such x.phase ≡ true)

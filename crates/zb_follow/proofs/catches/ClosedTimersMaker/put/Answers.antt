@@ -9,7 +9,7 @@ use Rattle.zb_rules.specs.Behind.{timers_canceled_on}
 use Rattle.zb_rules.specs.Making.{Making, just, each_made}
 use Rattle.zb_state.specs.State.{IsStateOf}
 use Rattle.zb_follow.proofs.MakerLemmas.{same_cant, same_put, each_of_part}
-use Rattle.zb_follow.proofs.timers.ClosedTimersMaker.put.Goals as goal
+use Rattle.zb_follow.proofs.catches.ClosedTimersMaker.put.Goals as goal
 
 abbrev canceled : List ℕ → Making
 canceled keys = each_made (λ key. just (events.TimerCanceled key)) keys
