@@ -35,7 +35,7 @@ the flows to take, a list of their ids, texts = flows texts; the jobs, a list of
 the key of the element that is left = element key; the flow's id, a text = flow text; the key of its element = element key
 its type, a text = type text; the worker, a text = worker text; all variables that its element sees = variables variables
 the id of the service task and the type, texts = node text, type text; the key of the element that waits = element key
-the id of the catch event or boundary event, a text = node text; the key of the element that has it = element key
+the id of the catch event or boundary event, a text = node text; the id of the receive task, catch event or boundary event, a text = node text; the key of the element that has it = element key
 the key of the element that waited, or of the activity at whose boundary the error is caught = element key
 the key of the element that was asked for = element key; the key of the element that it stands on = element key
 the key of the job that is its cause, 0 where it is of another kind than 3 = job key
@@ -57,6 +57,7 @@ NODES = {
     "a catch event with a duration": ("intermediateCatchEvent", "timerEventDefinition", "timeDuration"),
     "a boundary event with a date": ("boundaryEvent", "timerEventDefinition", "timeDate"),
     "a boundary event with a duration": ("boundaryEvent", "timerEventDefinition", "timeDuration"),
+    "a receive task": ("receiveTask", "messageEventDefinition", "correlationKey"),
     "a catch event with a message": ("intermediateCatchEvent", "messageEventDefinition", "correlationKey"),
     "a boundary event with a message": ("boundaryEvent", "messageEventDefinition", "correlationKey"),
     "a boundary event for an error": ("boundaryEvent", "errorEventDefinition", "errorCode"),
