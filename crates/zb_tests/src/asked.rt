@@ -239,14 +239,8 @@ fn put_hex(bytes: &mut Vec<u8>, hex: &str) -> Result<(), AllocError> {
     Ok(())
 }
 
-fn disk(rt: &impl Abort, alloc: Global, log: &[&[&str]]) -> MemDisk {
-    let mut bytes = Vec::new(alloc);
-    for piece in log {
-        for hex in *piece {
-            put_hex(&mut bytes, hex).expect(rt, "memory");
-        }
-    }
-    assert!(rt; bytes.len() <= 4096);
+fn disk(rt: &impl Abort, alloc: Global, bytes: Vec<u8>) -> MemDisk {
+    assert!(rt; bytes.len() <= 100_000_000);
     match MemDisk::new(alloc, bytes, Vec::new(alloc)) {
         Ok(disk) => disk,
         Err(_) => panic!(rt; "no memory"),
@@ -255,12 +249,28 @@ fn disk(rt: &impl Abort, alloc: Global, log: &[&[&str]]) -> MemDisk {
 
 /// One of three partitions, with this log.
 pub fn opened(rt: &impl Abort, alloc: Global, place: PartitionId, log: Log) -> Partition<MemDisk> {
+    let mut bytes = Vec::new(alloc);
+    for piece in log {
+        for hex in *piece {
+            put_hex(&mut bytes, hex).expect(rt, "memory");
+        }
+    }
+    over(rt, alloc, place, bytes)
+}
+
+/// One of three partitions, whose log has these bytes.
+pub fn over(
+    rt: &impl Abort,
+    alloc: Global,
+    place: PartitionId,
+    bytes: Vec<u8>,
+) -> Partition<MemDisk> {
     let volume = Volume {
-        log: disk(rt, alloc, log),
-        snap_a: disk(rt, alloc, &[]),
-        snap_b: disk(rt, alloc, &[]),
+        log: disk(rt, alloc, bytes),
+        snap_a: disk(rt, alloc, Vec::new(alloc)),
+        snap_b: disk(rt, alloc, Vec::new(alloc)),
     };
-    match Partition::open(alloc, volume, place, 3, 1_000_000) {
+    match Partition::open(alloc, volume, place, 3, 100_000_000) {
         Ok(partition) => partition,
         Err(_) => panic!(rt; "a partition that can't be opened"),
     }

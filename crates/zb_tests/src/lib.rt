@@ -18,11 +18,15 @@ mod instances;
 #[cfg(test)]
 mod logs;
 #[cfg(test)]
+mod lossy;
+#[cfg(test)]
 mod models;
 #[cfg(test)]
 mod runs;
 #[cfg(test)]
 mod script;
+#[cfg(test)]
+mod seen;
 #[cfg(test)]
 mod streams;
 #[cfg(test)]
