@@ -82,7 +82,7 @@ const SHAPES: [Shape; 4] = [
 const KEYS: [&str; 6] = ["k-0", "k-1", "k-2", "k-3", "k-4", "k-5"];
 
 // How many turns a play has.
-const TURNS: u32 = 700;
+const TURNS: u32 = 800;
 
 // How many packets come out of the wire in a turn, and how many are held back before one of them is taken.
 const PACKETS: u32 = 20;
@@ -312,14 +312,14 @@ impl World {
                 let place = home_of(key.as_bytes(), 3);
                 (place, publish(rt, alloc, name, key, time_to_live))
             }
-            7 => {
-                let draw = self.draw(1_000);
-                let (place, instance) = one_of(&self.seen.instances, draw);
+            7 | 8 => {
+                let back = self.draw(20);
+                let (place, instance) = one_of(&self.seen.instances, back);
                 (place, Command::ProcessInstanceCancel(instance))
             }
             _ => {
-                let draw = self.draw(1_000);
-                let (place, message) = one_of(&self.seen.messages, draw);
+                let back = self.draw(20);
+                let (place, message) = one_of(&self.seen.messages, back);
                 (place, Command::MessageExpire(message))
             }
         }
@@ -414,10 +414,10 @@ impl World {
     }
 }
 
-// One of these; where there are none, a key of nothing.
-fn one_of(keys: &[(PartitionId, Key)], draw: usize) -> (PartitionId, Key) {
-    match draw.checked_rem(keys.len()) {
-        Some(place) => keys[place],
+// The key that came so many before the last one; where there is none, a key of nothing.
+fn one_of(keys: &[(PartitionId, Key)], back: usize) -> (PartitionId, Key) {
+    match keys.iter().rev().nth(back) {
+        Some(key) => *key,
         None => (PartitionId::new(1), Key::new(0)),
     }
 }
