@@ -139,6 +139,17 @@ fn publish(rt: &impl Abort, alloc: Global, name: &str, key: &str, time_to_live: 
     })
 }
 
+// The next number of the generator, below this one.
+fn draw(drawn: &mut u64, below: usize) -> usize
+    requires { 0 < below }
+    ensures { result < below }
+{
+    *drawn = drawn
+        .wrapping_mul(6_364_136_223_846_793_005)
+        .wrapping_add(1_442_695_040_888_963_407);
+    (*drawn >> 33) as usize % below
+}
+
 // Why a batch was rejected; nothing where it wasn't.
 fn reason(batch: &Batch) -> &str {
     match &batch.outcome {
@@ -166,16 +177,11 @@ impl World {
         }
     }
 
-    // The next number of the generator, below this one.
     fn draw(&mut self, below: usize) -> usize
         requires { 0 < below }
         ensures { result < below }
     {
-        self.drawn = self
-            .drawn
-            .wrapping_mul(6_364_136_223_846_793_005)
-            .wrapping_add(1_442_695_040_888_963_407);
-        (self.drawn >> 33) as usize % below
+        draw(&mut self.drawn, below)
     }
 
     // Submits a command, and takes down what comes of it.
@@ -275,7 +281,7 @@ impl World {
         if packets == 0 {
             return;
         }
-        let place = self.draw(packets);
+        let place = draw(&mut self.drawn, packets);
         let packet = self.wire.swap_remove(place);
         match self.draw(8) {
             0 | 1 => self.lose(packet),
@@ -289,7 +295,7 @@ impl World {
     fn release(&mut self, rt: &impl Abort, alloc: Global) {
         let packets = self.held.len();
         if packets > HELD {
-            let place = self.draw(packets);
+            let place = draw(&mut self.drawn, packets);
             let packet = self.held.swap_remove(place);
             self.take(rt, alloc, packet, 1);
         }
