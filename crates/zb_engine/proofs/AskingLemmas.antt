@@ -3,6 +3,7 @@ use Rattle.std.proofs.Common.{append_assoc, ◌≡◌, ◌<◌, ◌≤◌, ◌+�
 use Rattle.std.specs.Option.{option_map_or}
 use Rattle.std.specs.List.{AllByRecursion}
 use Rattle.std.proofs.lemmas.Option.{slice_get_within}
+use Rattle.std.proofs.lemmas.List.{length-map}
 use Rattle.zb_disk.specs.declared.disk.Disk.{Ghosts}
 use Rattle.zb_model.specs.declared.record.Batch.{Batch}
 use Rattle.zb_model.specs.declared.record.Command.{Command}
@@ -13,7 +14,6 @@ use Rattle.zb_model.specs.declared.stop.Stop.{Stop}
 use Rattle.zb_views.specs.View.{events_of}
 use Rattle.zb_rules.specs.Due.{due_command}
 use Rattle.zb_rules.proofs.DueLaws.{due_command_unrefused, due_command_has, due_command_is_run}
-use Rattle.zb_rules.specs.Own.{IsSupported}
 use Rattle.zb_rules.specs.Step.{IsAcceptance, IsOutcomeBy, IsStep, EachOn}
 use Rattle.zb_rules.proofs.StepLaws.{each_on_none, each_on_more}
 use Rattle.zb_world.specs.Entries.{as_entry}
@@ -30,7 +30,8 @@ use Rattle.zb_desk.specs.Replies.{is_by_time, IsTicked, IsReplyIf}
 use Rattle.zb_desk.specs.Serial.{most_due, log_behind, due_in_logs, next_by, next_asked, asked_in, IsEntryBy, IsNextAsked, AreAsked}
 use Rattle.zb_desk.proofs.SerialLaws.{made_by_asking, next_by_asking, made_with_units, carried_out, next_of_unit, parted}
 use Rattle.zb_desk.proofs.UnitLaws.{AnyHas, either_has}
-use Rattle.zb_engine.specs.Solo.{Start, many_in, logs_in, basis_in, HasMade, HasEnded, IsPlaced, IsTurnedAway, IsDone, IsCutOff}
+use Rattle.zb_partition.specs.Ledger.{Opening}
+use Rattle.zb_engine.specs.Solo.{Start, many_in, logs_in, basis_in, CanBeDone, HasMade, HasEnded, IsPlaced, IsTurnedAway, IsDone, IsCutOff}
 use Rattle.zb_engine.specs.declared.solo.Solo.{Solo}
 use Rattle.zb_engine.proofs.DeliveryLemmas.{lt_is, not_lt, partition_known_within, home_within}
 use Rattle.zb_engine.proofs.ListLemmas.{append_none}
@@ -58,14 +59,10 @@ module _ (Q : ℕ × Command → Type 0) where
       let on : p + suc k ≡ suc p + k = omega arith in
       subst (λ (q : ℕ). due_command reading (events_of (log_behind q one entries)) ≡ Some command → Q (q, command)) on (each (suc k) one command at) is))
 
--- is run, at a partition that there is
-pub due_is_run : (reading : ℕ) (logs : List (List Batch)) (entries : List Entry) (next : ℕ × Command) → due_in_logs reading 1 logs entries ≡ Some next → IsSupported next.1
-due_is_run reading logs entries next is =
-    due_has (λ next. IsSupported next.1) reading 1 logs entries (λ k log command at is. due_command_is_run reading (events_of (log_behind (1 + k) log entries)) command is) next is
-
-pub due_is_within : (reading : ℕ) (logs : List (List Batch)) (entries : List Entry) (next : ℕ × Command) → due_in_logs reading 1 logs entries ≡ Some next → next.0 ≤ length logs
-due_is_within reading logs entries next is =
-    due_has (λ next. next.0 ≤ length logs) reading 1 logs entries (λ k log command at is. omega (arith, slice_get_within logs k log at)) next is
+-- can be done
+due_can : (n reading : ℕ) (logs : List (List Batch)) (entries : List Entry) (next : ℕ × Command) → length logs ≡ n → due_in_logs reading 1 logs entries ≡ Some next → CanBeDone n next
+due_can n reading logs entries next many is =
+    due_has (CanBeDone n) reading 1 logs entries (λ k log command at is. (omega (arith, slice_get_within logs k log at, many), due_command_is_run reading (events_of (log_behind (1 + k) log entries)) command is)) next is
 
 -- the partition that a request asks is there
 named_within : (n : ℕ) (named : Option ℕ) → 1 ≤ n → option_map_or (partition_of_key n) named 1 ≤ n
@@ -222,6 +219,12 @@ module _ {D : Type 0} (start : Start D) (made : List Entry) (reading : ℕ) wher
 
   pub ticking_is : (done : List Entry) → length done < most_due → ticking done ≡ due_behind done
   ticking_is done few = rw (lt_is (length done) most_due few) refl
+
+  -- what is due by logs is handed on as it can be done
+  pub due_comes : (done : List Entry) (count : ℕ) (found that : Option (ℕ × Command)) → count ≡ many_in start → found ≡ due_behind done
+      → (((one : ℕ × Command) → found ≡ Some one → CanBeDone count one) → that ≡ found) → that ≡ due_behind done
+  due_comes done count found that is_many is same =
+      same (λ one comes. due_can count reading (logs_in start) (made ++ done) one (length-map start.openings (λ (o : Opening D). o.batches) ∙ sym is_many) (sym is ∙ comes)) ∙ is
 
 -- and so does its engine
 module _ {D : Type 0} {disks : Ghosts D} (start : Start D) (made : List Entry) (reading : ℕ) where

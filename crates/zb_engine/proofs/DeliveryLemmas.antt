@@ -1,6 +1,5 @@
 -- Units of work that are done one after the other, and the answers that are in hand.
-use Rattle.std.proofs.Common.{◌≡◌, ◌<◌, ◌≤◌, ◌+◌, nat_lt, nat_le, ℕ, zero, suc, List, [], ◌∷◌, ◌++◌, length, filter, drop, slice_get, Bool, true, false, IsTrue, if◌then◌else◌, Option, Some, None, option_map, refl, sym, ap, ◌∙◌, subst, inl, inr, arith, length-append, append-nil}
-use Rattle.std.specs.List.{AllByRecursion}
+use Rattle.std.proofs.Common.{◌≡◌, ◌<◌, ◌≤◌, ◌+◌, nat_lt, nat_le, ℕ, zero, suc, List, [], ◌∷◌, ◌++◌, length, filter, drop, slice_get, Bool, true, false, if◌then◌else◌, Option, Some, None, option_map, refl, sym, ap, ◌∙◌, subst, inl, inr, arith, length-append, append-nil}
 use Rattle.std.proofs.lemmas.Bool.{cases_eq}
 use Rattle.std.proofs.lemmas.Bool.Decides.{nat_tests}
 use Rattle.std.proofs.lemmas.List.{length-map}
@@ -26,12 +25,10 @@ use Rattle.zb_world.specs.declared.entry.Entry.{Entry}
 use Rattle.zb_desk.specs.Asking.{IsDelivered, IsDeliveryCut}
 use Rattle.zb_desk.specs.Serial.{answers_sent, answers_in_hand, first_sent, unit_in_logs, next_unit}
 use Rattle.zb_desk.proofs.UnitLaws.{AnyHas, AllHave, first_has, all_answers_have, first_sent_has, unit_has}
-use Rattle.zb_engine.specs.Ledger.{Opening}
-use Rattle.zb_engine.specs.Solo.{Start, many_in, logs_in, basis_in, HasMade, HasEnded, IsPlaced, IsTurnedAway}
+use Rattle.zb_partition.specs.Ledger.{Opening}
+use Rattle.zb_engine.specs.Solo.{Start, many_in, logs_in, basis_in, CanBeDone, HasMade, HasEnded, IsPlaced, IsTurnedAway}
 use Rattle.zb_engine.specs.declared.solo.Solo.{Solo}
-use Rattle.zb_engine.proofs.MadeLemmas.{all_more}
 use Rattle.zb_engine.proofs.NextLemmas.{AreMade, entry_next, command_is, next_none, next_more}
-use Rattle.zb_engine.proofs.StandingLemmas.{LogsApply, logs_apply}
 
 -- the test of an order
 pub lt_is : (a b : ℕ) → a < b → nat_lt a b ≡ true
@@ -39,14 +36,6 @@ lt_is a b lt = grind (arith, nat_tests)
 
 pub not_lt : (a b : ℕ) → b ≤ a → nat_lt a b ≡ false
 not_lt a b ge = grind (arith, nat_tests)
-
--- a unit of work is run
-abbrev IsRun : ℕ × Command → Type 0
-IsRun next = IsSupported next.1
-
--- and these were
-abbrev pub AreRun : List Entry → Type 0
-AreRun units = AllByRecursion (λ unit. IsSupported unit.batch.command) units
 
 -- an answer is run
 answer_run : (command : Command) → is_answer command ≡ true → IsSupported command
@@ -57,19 +46,7 @@ answer_run (commands.MessageSubscriptionReject c) is = tt
 answer_run (commands.ProcessMessageSubscriptionDelete key) is = tt
 answer_run _ is = absurd (cc)
 
--- and so is what is sent again
-alone_run : (p n : ℕ) (s : Sending) → AllHave IsRun (begun_by (packet_alone p n s))
-alone_run p n (sending.Definition d) = tt
-alone_run p n s = (tt, tt)
-
--- the next unit of work is run
-pub unit_is_run : (logs : List (List Batch)) (units entries : List Entry) (next : ℕ × Command) → LogsApply logs entries → AreRun units → unit_in_logs logs units entries ≡ Some next → IsSupported next.1
-unit_is_run logs units entries next apply run is =
-    let n = length logs in
-    unit_has IsRun n (λ p d version m. tt) (λ p s. alone_run p n s) logs units entries refl (λ k above below. tt)
-    (first_has IsRun _ (answers_sent n units) (all_answers_have IsRun n (λ key c answer. answer_run c answer) units)) next is
-
--- at a partition that there is
+-- a partition that there is
 pub partition_known_within : (n q : ℕ) → 1 ≤ n → partition_known n q ≤ n
 partition_known_within n q some = grind (arith, nat_tests)
 
@@ -83,21 +60,18 @@ home_known_within n key some = by_test (nat_le 1 n)
     by_test true = home_within key n some
     by_test false = some
 
--- a unit of work is at a partition that there is
-abbrev IsWithin : ℕ → ℕ × Command → Type 0
-IsWithin n next = next.0 ≤ n
+-- what is sent again can be done
+alone_can : (p n : ℕ) (s : Sending) → 1 ≤ n → AllHave (CanBeDone n) (begun_by (packet_alone p n s))
+alone_can p n (sending.Definition d) some = tt
+alone_can p n (sending.Opening s) some = ((home_known_within n s.correlation_key some, tt), tt)
+alone_can p n (sending.Correlating c) some = ((partition_known_within n _ some, tt), tt)
+alone_can p n (sending.Closing s) some = ((home_known_within n s.correlation_key some, tt), tt)
 
-alone_within : (p n : ℕ) (s : Sending) → 1 ≤ n → AllHave (IsWithin n) (begun_by (packet_alone p n s))
-alone_within p n (sending.Definition d) some = tt
-alone_within p n (sending.Opening s) some = (home_known_within n s.correlation_key some, tt)
-alone_within p n (sending.Correlating c) some = (partition_known_within n _ some, tt)
-alone_within p n (sending.Closing s) some = (home_known_within n s.correlation_key some, tt)
-
-pub unit_is_within : (logs : List (List Batch)) (units entries : List Entry) (next : ℕ × Command) → 1 ≤ length logs → unit_in_logs logs units entries ≡ Some next → next.0 ≤ length logs
-unit_is_within logs units entries next some is =
-    let n = length logs in
-    unit_has (IsWithin n) n (λ p d version m. partition_known_within n d.partition some) (λ p s. alone_within p n s some) logs units entries refl (λ k above below. below)
-    (first_has (IsWithin n) _ (answers_sent n units) (all_answers_have (IsWithin n) n (λ key c answer. partition_known_within n _ some) units)) next is
+-- and so can the unit of work that comes next by logs
+unit_can : (n : ℕ) (logs : List (List Batch)) (units entries : List Entry) (next : ℕ × Command) → length logs ≡ n → 1 ≤ n → unit_in_logs logs units entries ≡ Some next → CanBeDone n next
+unit_can n logs units entries next many some is =
+    unit_has (CanBeDone n) n (λ p d version m. (partition_known_within n d.partition some, tt)) (λ p s. alone_can p n s some) logs units entries many (λ k above below. (below, tt))
+    (first_has (CanBeDone n) _ (answers_sent n units) (all_answers_have (CanBeDone n) n (λ key c answer. (partition_known_within n _ some, answer_run c answer)) units)) next is
 
 -- how many answers were taken
 abbrev pub taken : List Entry → ℕ
@@ -203,6 +177,11 @@ module _ {D : Type 0} (start : Start D) (made : List Entry) where
   abbrev pub unit_behind : List Entry → Option (ℕ × Command)
   unit_behind units = unit_in_logs (logs_in start) units (made ++ units)
 
+  -- what comes next by logs is handed on as it can be done
+  pub unit_comes : (units : List Entry) (count : ℕ) (found that : Option (ℕ × Command)) → 1 ≤ count → count ≡ many_in start → found ≡ unit_behind units
+      → (((one : ℕ × Command) → found ≡ Some one → CanBeDone count one) → that ≡ found) → that ≡ unit_behind units
+  unit_comes units count found that some is_many is same = same (λ one comes. unit_can count (logs_in start) units (made ++ units) one (many ∙ sym is_many) some (sym is ∙ comes)) ∙ is
+
   coming_is : (units : List Entry) → length units < start.units → coming units ≡ unit_behind units
   coming_is units few = rw (lt_is (length units) start.units few) refl
 
@@ -211,17 +190,11 @@ module _ {D : Type 0} {disks : Ghosts D} (start : Start D) (made : List Entry) (
   -- so many so far, with these answers in hand
   pub record IsWorking (done : ℕ) (hand : List Packet) (solo : Solo D disks) : Type 0 where
     pub are : AreMade start made (coming start made) reading done solo
-    pub run : AreRun are.more
     pub sent : AreSent (many_in start) are.more
     pub in_hand : hand ≡ answers_in_hand (many_in start) are.more
 
   pub working_none : (hand : List Packet) (solo : Solo D disks) → hand ≡ [] → HasMade start made solo → IsWorking 0 hand solo
-  working_none hand solo none has = record { are = next_none start made (coming start made) reading solo has; run = tt; sent = omega arith; in_hand = none }
-
-  -- the next one is run
-  pub working_runs : (done : ℕ) (hand : List Packet) (solo : Solo D disks) (w : IsWorking done hand solo) (p : ℕ) (command : Command) → unit_behind start made w.are.more ≡ Some (p, command) → IsSupported command
-  working_runs done hand solo w p command comes =
-      unit_is_run (logs_in start) w.are.more (made ++ w.are.more) (p, command) (logs_apply start (made ++ w.are.more) solo w.are.holds) w.run comes
+  working_none hand solo none has = record { are = next_none start made (coming start made) reading solo has; sent = omega arith; in_hand = none }
 
   -- one more
   pub working_more : (done : ℕ) (hand hand_then : List Packet) (old new : Solo D disks) (w : IsWorking done hand old) (p : ℕ) (command : Command) (batch : Batch) → done < start.units
@@ -238,7 +211,6 @@ module _ {D : Type 0} {disks : Ghosts D} (start : Start D) (made : List Entry) (
       let behind : hand_then ≡ hand_behind (many_in start) p batch hand = takes ∙ ap (λ (c : Command). (if is_answer c then drop 1 hand else hand) ++ begun_by (answer_packet p (many_in start) batch)) is in
       record {
         are = next_more start made (coming start made) reading done old new w.are p command batch (coming_is start made w.are.more within ∙ comes) placed;
-        run = all_more (λ (unit : Entry). IsSupported unit.batch.command) w.are.more (as_entry p batch) w.run (subst IsSupported is (working_runs done hand old w p command comes));
         sent = both.1;
         in_hand = behind ∙ (ap (hand_behind (many_in start) p batch) w.in_hand ∙ both.0);
       }

@@ -1,8 +1,6 @@
 pub mod AnswerLemmas
 pub mod NumberLemmas
-pub mod ResultLemmas
 pub mod ListLemmas
-pub mod LogLemmas
 pub mod MadeLemmas
 pub mod NextLemmas
 pub mod DeliveryLemmas

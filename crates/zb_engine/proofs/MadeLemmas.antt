@@ -1,5 +1,5 @@
 -- An engine whose entries grow by one, and one that stops.
-use Rattle.std.proofs.Common.{◌≡◌, ◌<◌, ◌≤◌, ◌+◌, ◌-◌, ℕ, List, [], ◌∷◌, ◌++◌, length, set, get_or, slice_get, Option, Some, None, option_map, IsTrue, refl, sym, ap, ◌∙◌, subst, inl, inr, arith, length-append, append-nil}
+use Rattle.std.proofs.Common.{◌≡◌, ◌<◌, ◌+◌, ◌-◌, ℕ, List, [], ◌∷◌, ◌++◌, length, set, get_or, slice_get, Option, Some, None, option_map, IsTrue, refl, sym, ap, ◌∙◌, subst, inl, inr, arith, length-append, append-nil}
 use Rattle.std.specs.List.{AllByRecursion}
 use Rattle.zb_disk.specs.declared.disk.Disk.{Ghosts}
 use Rattle.zb_model.specs.declared.record.Batch.{Batch}
@@ -15,10 +15,11 @@ use Rattle.zb_world.proofs.EntryLaws.{part_of_joined, part_of_its, part_of_other
 use Rattle.zb_partition.specs.declared.partition.Partition.{Partition}
 use Rattle.zb_desk.specs.Numbered.{EachFrom}
 use Rattle.zb_desk.specs.Serial.{log_behind, place_behind, IsEntryBy}
-use Rattle.zb_engine.specs.Ledger.{Opening, Account, account_of, HasAccount, HasStopped}
-use Rattle.zb_engine.specs.Solo.{Start, many_in, logs_in, place_at_start, account_in, HasPart, partitions_in, stamps_in, kept_in, HasMade, IsBatchOf, IsLeftPart, HasEnded, IsPlaced, IsTurnedAway}
+use Rattle.zb_partition.specs.Ledger.{Opening, Account, account_of, HasAccount}
+use Rattle.zb_partition.specs.Submitting.{IsCommitted, HasRefused, HasStopped}
+use Rattle.zb_partition.proofs.LedgerLaws.{stopped_resting}
+use Rattle.zb_engine.specs.Solo.{Start, many_in, logs_in, place_at_start, account_in, HasPart, partitions_in, stamps_in, kept_in, HasMade, IsBatchOf, halted_at, IsLeftPart, HasEnded, IsPlaced, IsTurnedAway}
 use Rattle.zb_engine.specs.declared.solo.Solo.{Solo}
-use Rattle.zb_engine.proofs.LogLemmas.{IsCommitted, HasRefused, stopped_resting}
 use Rattle.zb_engine.proofs.NumberLemmas.{each_from_length, each_from_at, each_from_set, range_map_set, range_map_get, slice_get_made, get_within, put_same, member}
 
 -- all of some, and one more
@@ -45,12 +46,6 @@ places_other p k first made batch other =
 -- the place behind one entry more
 place_more : (logs : List (List Batch)) (made : List Entry) (entry : Entry) → place_behind logs (made ++ entry ∷ []) ≡ place_behind logs made + 1
 place_more logs made entry = omega (arith, length-append made (entry ∷ []))
-
--- the place of a partition that there is, in their list
-pub known_within : {D : Type 0} {disks : Ghosts D} (solo : Solo D disks) (p index : ℕ) → (start : Start D) × (made : List Entry) × HasMade start made solo × (p ≤ many_in start) → p ≡ 1 + index → index < length (partitions_in solo)
-known_within solo p index known numbered =
-    let many = each_from_length (HasPart (many_in known.0) known.1) 1 known.0.openings (partitions_in solo) known.2.parts in
-    omega (arith, many, known.3, numbered)
 
 -- an engine that has made some entries, and a partition of it
 module _ {D : Type 0} {disks : Ghosts D} (start : Start D) (made : List Entry) (old new : Solo D disks) (has : HasMade start made old) (p index : ℕ) (numbered : p ≡ 1 + index) (within : index < length (partitions_in old)) where
@@ -101,16 +96,16 @@ module _ {D : Type 0} {disks : Ghosts D} (start : Start D) (made : List Entry) (
             x.0.batches,
             of_it.0,
             opened_at x.0 x.1,
-            subst (λ (m : ℕ). IsStep p m (log_behind p x.0.batches made) batch) x.2.0.1 (subst (λ (q : ℕ). IsStep q x.0.partitions (log_behind p x.0.batches made) batch) x.2.0.0 done.step),
+            subst (λ (m : ℕ). IsStep p m (log_behind p x.0.batches made) batch) x.2.0.1 (subst (λ (q : ℕ). IsStep q x.0.partitions (log_behind p x.0.batches made) batch) x.2.0.0 done.made.step),
           );
           by = record {
-            command = ap (λ c. Some (p, c)) (sym done.is);
-            moment = (x.0.batches, of_it.0, opened_at x.0 x.1, done.moment);
-            begin = done.begin ∙ has.place;
+            command = ap (λ c. Some (p, c)) (sym done.made.is.command);
+            moment = (x.0.batches, of_it.0, opened_at x.0 x.1, done.made.is.moment);
+            begin = done.made.is.begin ∙ has.place;
           };
           holds = record {
             within = all_more (λ (e : Entry). IsPartitionOf n e.partition) made entry has.within of_it;
-            begun = each_on_more (λ before (e : Entry). e.batch.begin ≡ place_behind (logs_in start) before) [] made entry has.begun (done.begin ∙ has.place);
+            begun = each_on_more (λ before (e : Entry). e.batch.begin ≡ place_behind (logs_in start) before) [] made entry has.begun (done.made.is.begin ∙ has.place);
             parts = subst (EachFrom (HasPart n (made ++ entry ∷ [])) 1 start.openings) (sym parts)
                 (each_from_set (HasPart n made) (HasPart n (made ++ entry ∷ [])) p 1 start.openings (partitions_in old) index partition numbered has.parts others its);
             stamped = stamps ∙ (ap (λ ss. set ss index (get_or ss index [] ++ old.place ∷ [])) has.stamped
@@ -131,14 +126,14 @@ module _ {D : Type 0} {disks : Ghosts D} (start : Start D) (made : List Entry) (
     abbrev unlogged : Option Entry
     unlogged = option_map (as_entry p) refused
 
-    still : (k : ℕ) (x : Opening D) (z : Partition D disks) → (k ≡ p → ⊥) → HasPart n made k x z → IsLeftPart n made unlogged p stop k x z
+    still : (k : ℕ) (x : Opening D) (z : Partition D disks) → (k ≡ p → ⊥) → HasPart n made k x z → IsLeftPart n made (halted_at p stop unlogged) k x z
     still k x z other part = (part.0, inl (other, part.1))
 
     batch_of : (r : Option Batch) → IsBatchOf p (option_map (as_entry p) r) r
     batch_of None = refl
     batch_of (Some batch) = (refl, refl)
 
-    left : (x : Opening D) → slice_get start.openings index ≡ Some x → HasPart n made p x (get_or (partitions_in old) index partition) → IsLeftPart n made unlogged p stop p x partition
+    left : (x : Opening D) → slice_get start.openings index ≡ Some x → HasPart n made p x (get_or (partitions_in old) index partition) → IsLeftPart n made (halted_at p stop unlogged) p x partition
     left x at part = (part.0, inr (refl, (refused, batch_of refused, stopped x at part)))
 
     last_of : (r : Option Batch) → ((batch : Batch) → r ≡ Some batch → batch.begin ≡ place_behind (logs_in start) made) → (entry : Entry) → option_map (as_entry p) r ≡ Some entry
@@ -157,8 +152,8 @@ module _ {D : Type 0} {disks : Ghosts D} (start : Start D) (made : List Entry) (
       begun = has.begun;
       last = last_of refused begin;
       of = of_it;
-      parts = subst (EachFrom (IsLeftPart n made unlogged p stop) 1 start.openings) (sym parts)
-          (each_from_set (HasPart n made) (IsLeftPart n made unlogged p stop) p 1 start.openings (partitions_in old) index partition numbered has.parts still left);
+      parts = subst (EachFrom (IsLeftPart n made (halted_at p stop unlogged)) 1 start.openings) (sym parts)
+          (each_from_set (HasPart n made) (IsLeftPart n made (halted_at p stop unlogged)) p 1 start.openings (partitions_in old) index partition numbered has.parts still left);
       stamped = stamps ∙ has.stamped;
       kept = kept;
     }
@@ -174,7 +169,7 @@ module _ {D : Type 0} {disks : Ghosts D} (start : Start D) (made : List Entry) (
       record {
         unlogged = option_map (as_entry p) told.refused;
         by = by_of x told told.refused refl;
-        holds = ended told.refused stop partition (stopped_of x told) parts stamps kept (λ batch is. (told.next batch is).begin ∙ has.place);
+        holds = ended told.refused stop partition (stopped_of x told) parts stamps kept (λ batch is. (told.next batch is).is.begin ∙ has.place);
       }
     where
       stopped_of : (x : ((x : Opening D) × (slice_get start.openings index ≡ Some x) × HasPart n made p x (get_or (partitions_in old) index partition))) (told : HasRefused (account_in p x.0 made) reading old.place command stop partition)
@@ -191,9 +186,9 @@ module _ {D : Type 0} {disks : Ghosts D} (start : Start D) (made : List Entry) (
           let same : as_entry p batch ≡ entry = cc in
           let next = told.next batch some in
           subst (λ (e : Entry). IsEntryBy (logs_in start) (Some (p, command)) reading made e) same (record {
-            command = ap (λ c. Some (p, c)) (sym next.command);
-            moment = (x.0.batches, of_it.0, opened_at x.0 x.1, next.moment);
-            begin = next.begin ∙ has.place;
+            command = ap (λ c. Some (p, c)) (sym next.is.command);
+            moment = (x.0.batches, of_it.0, opened_at x.0 x.1, next.is.moment);
+            begin = next.is.begin ∙ has.place;
           })
 
   -- there was no memory, and nothing was done to it

@@ -1,6 +1,7 @@
 -- Laws of members that have numbers, and of what each number has.
-use Rattle.std.proofs.Common.{◌≡◌, ℕ, zero, suc, ◌+◌, ◌<◌, ◌≤◌, List, [], ◌∷◌, ◌++◌, length, map, set, get_or, slice_get, Some, refl, sym, ap, ◌∙◌, subst, arith}
-use Rattle.std.specs.List.{range_with_len}
+use Rattle.std.proofs.Common.{◌≡◌, ℕ, zero, suc, ◌+◌, ◌<◌, ◌≤◌, List, [], ◌∷◌, ◌++◌, length, map, set, get_or, slice_get, Bool, IsTrue, Some, refl, sym, ap, ◌∙◌, subst, arith}
+use Rattle.std.specs.List.{list_all, range_with_len}
+use Rattle.std.proofs.lemmas.Bool.{and_parts, and_from}
 use Rattle.zb_desk.specs.Numbered.{EachFrom}
 
 module _ {A B : Type 0} where
@@ -20,18 +21,6 @@ module _ {A B : Type 0} where
       each_from_at R at (suc n) xs ys i d (omega (arith, is)) (omega (arith, within)) all.1
   each_from_at R at n [] (y ∷ ys) i d is within all = absurd all
   each_from_at R at n (x ∷ xs) [] i d is within all = absurd all
-
-  -- what each pair has of what is made of its first
-  pub each_from_made : {C : Type 0} (R : ℕ → A → B → Type 0) (P : ℕ → C → Type 0) (f : A → C) → ((k : ℕ) (x : A) (y : B) → R k x y → P k (f x)) → (n : ℕ) (xs : List A) (ys : List B) → EachFrom R n xs ys
-      → (i : ℕ) (z : C) → slice_get (map f xs) i ≡ Some z → P (n + i) z
-  each_from_made R P f goes n [] [] all i z is = absurd (cc)
-  each_from_made R P f goes n (x ∷ xs) (y ∷ ys) all zero z is =
-      let same : f x ≡ z = cc in
-      subst (P (n + 0)) same (subst (λ (k : ℕ). P k (f x)) (let here : n ≡ n + 0 = omega arith in here) (goes n x y all.0))
-  each_from_made R P f goes n (x ∷ xs) (y ∷ ys) all (suc i) z is =
-      subst (λ (k : ℕ). P k z) (let on : suc n + i ≡ n + suc i = omega arith in on) (each_from_made R P f goes (suc n) xs ys all.1 i z is)
-  each_from_made R P f goes n [] (y ∷ ys) all i z is = absurd all
-  each_from_made R P f goes n (x ∷ xs) [] all i z is = absurd all
 
   -- what holds of all holds of all in other words
   pub each_from_weaker : (R Q : ℕ → A → B → Type 0) (n : ℕ) (xs : List A) (ys : List B) → ((k : ℕ) (x : A) (y : B) → n ≤ k → R k x y → Q k x y) → EachFrom R n xs ys → EachFrom Q n xs ys
@@ -81,6 +70,23 @@ module _ {X : Type 0} (f g : ℕ → X) where
   range_map_get at start zero i d is within = absurd (let no : ⊥ = omega (arith, within) in no)
   range_map_get at start (suc n) zero d is within = ap f (let here : start ≡ at = omega (arith, is) in here)
   range_map_get at start (suc n) (suc i) d is within = range_map_get at (start + 1) n i d (omega (arith, is)) (omega (arith, within))
+
+-- the place of a number from 1 on, in a list that goes so far
+pub there_within : (n p index : ℕ) → p ≤ n → p ≡ 1 + index → index < n
+there_within n p index there numbered = omega (arith, there, numbered)
+
+module _ {A : Type 0} (test : A → Bool) where
+  -- where all pass a test the member at a place does
+  pub all_at : (xs : List A) (i : ℕ) (d : A) → i < length xs → IsTrue (list_all test xs) → IsTrue (test (get_or xs i d))
+  all_at [] i d within all = absurd (let no : ⊥ = omega (arith, within) in no)
+  all_at (x ∷ xs) zero d within all = (and_parts (test x) (list_all test xs) all).0
+  all_at (x ∷ xs) (suc i) d within all = all_at xs i d (omega (arith, within)) (and_parts (test x) (list_all test xs) all).1
+
+  -- and all do where one that does is put
+  pub all_put : (xs : List A) (i : ℕ) (a : A) → IsTrue (list_all test xs) → IsTrue (test a) → IsTrue (list_all test (set xs i a))
+  all_put [] i a all this = refl
+  all_put (x ∷ xs) zero a all this = and_from (test a) (list_all test xs) this (and_parts (test x) (list_all test xs) all).1
+  all_put (x ∷ xs) (suc i) a all this = let parts = and_parts (test x) (list_all test xs) all in and_from (test x) (list_all test (set xs i a)) parts.0 (all_put xs i a parts.1 this)
 
 -- the member of a list that is made of another
 pub slice_get_made : {A B : Type 0} (f : A → B) (xs : List A) (i : ℕ) (x : A) → slice_get xs i ≡ Some x → slice_get (map f xs) i ≡ Some (f x)

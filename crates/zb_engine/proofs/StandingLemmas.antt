@@ -1,5 +1,5 @@
 -- What stands in the log of each partition of an engine, and what comes next by it.
-use Rattle.std.proofs.Common.{◌≡◌, ◌<◌, ◌≤◌, ◌+◌, ℕ, zero, suc, List, [], ◌∷◌, length, map, drop, get_or, slice_get, if◌then◌else◌, IsTrue, Some, option_map, refl, ap, ◌∙◌, subst, arith}
+use Rattle.std.proofs.Common.{◌≡◌, ◌<◌, ◌≤◌, ◌+◌, ℕ, zero, suc, List, [], ◌∷◌, length, map, drop, get_or, slice_get, if◌then◌else◌, Some, option_map, refl, ap, ◌∙◌, arith}
 use Rattle.std.specs.Option.{option_or}
 use Rattle.std.proofs.lemmas.List.{length-map}
 use Rattle.zb_disk.specs.declared.disk.Disk.{Ghosts}
@@ -7,19 +7,16 @@ use Rattle.zb_model.specs.declared.record.Batch.{Batch}
 use Rattle.zb_model.specs.declared.record.Command.TheVariants as commands
 use Rattle.zb_views.specs.View.{events_of}
 use Rattle.zb_record.specs.Packets.{first_packet}
-use Rattle.zb_rules.specs.Applies.{all_apply}
 use Rattle.zb_rules.specs.Continue.{is_quiet}
 use Rattle.zb_rules.specs.Due.{due_command}
-use Rattle.zb_world.specs.Entries.{part_of}
 use Rattle.zb_world.specs.declared.entry.Entry.{Entry}
-use Rattle.zb_world.proofs.AppliedStepLaws.{steps_apply_on}
 use Rattle.zb_partition.specs.Partition.{partition_number_of, partitions_of, HasLog}
 use Rattle.zb_partition.specs.declared.partition.Partition.{Partition}
 use Rattle.zb_desk.specs.Serial.{log_behind, due_in_logs, going_on, first_sent}
-use Rattle.zb_engine.specs.Ledger.{Opening}
+use Rattle.zb_partition.specs.Ledger.{Opening}
 use Rattle.zb_engine.specs.Solo.{Start, many_in, logs_in, HasPart, partitions_in, HasMade}
 use Rattle.zb_engine.specs.declared.solo.Solo.{Solo}
-use Rattle.zb_engine.proofs.NumberLemmas.{each_from_length, each_from_at, each_from_made}
+use Rattle.zb_engine.proofs.NumberLemmas.{each_from_length, each_from_at}
 
 -- the log of the partition at a place stands first of those from it on
 pub record StandsAt {D : Type 0} {disks : Ghosts D} (start : Start D) (made : List Entry) (index : ℕ) (partition : Partition D disks) : Type 0 where
@@ -40,10 +37,6 @@ past [] (suc i) far = refl
 past (x ∷ xs) zero far = absurd (let no : ⊥ = omega (arith, far) in no)
 past (x ∷ xs) (suc i) far = past xs i (omega (arith, far))
 
--- the events of each log apply, behind some entries
-abbrev pub LogsApply : List (List Batch) → List Entry → Type 0
-LogsApply logs entries = (k : ℕ) (log : List Batch) → slice_get logs k ≡ Some log → IsTrue (all_apply (1 + k) [] (events_of (log_behind (1 + k) log entries)))
-
 module _ {D : Type 0} {disks : Ghosts D} (start : Start D) (made : List Entry) (solo : Solo D disks) (has : HasMade start made solo) where
   as_many : many_in start ≡ length (partitions_in solo)
   as_many = each_from_length (HasPart (many_in start) made) 1 start.openings (partitions_in solo) has.parts
@@ -58,16 +51,6 @@ module _ {D : Type 0} {disks : Ghosts D} (start : Start D) (made : List Entry) (
         place = x.2.1.is_open.place ∙ x.2.0.0;
         partitions = x.2.1.is_open.partitions ∙ x.2.0.1;
       }
-
-  -- the events of its log apply
-  part_applies : (p : ℕ) (opening : Opening D) (partition : Partition D disks) → HasPart (many_in start) made p opening partition → IsTrue (all_apply p [] (events_of (log_behind p opening.batches made)))
-  part_applies p opening partition part =
-      subst (λ (q : ℕ). IsTrue (all_apply q [] (events_of (log_behind p opening.batches made)))) part.0.0
-      (steps_apply_on opening.place opening.partitions opening.batches (part_of p made) part.1.was.applied part.1.made.steps)
-
-  pub logs_apply : LogsApply (logs_in start) made
-  logs_apply =
-      each_from_made (HasPart (many_in start) made) (λ p log. IsTrue (all_apply p [] (events_of (log_behind p log made)))) (λ (o : Opening D). o.batches) part_applies 1 start.openings (partitions_in solo) has.parts
 
   pub none_behind : (index : ℕ) → length (partitions_in solo) ≤ index → drop index (logs_in start) ≡ []
   none_behind index far = past (logs_in start) index (omega (arith, far, as_many, length-map start.openings (λ (o : Opening D). o.batches)))

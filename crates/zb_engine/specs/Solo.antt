@@ -1,16 +1,15 @@
 -- What is known of the engine of one thread.
-use Rattle.std.specs.Prelude.{◌≡◌, ◌⊎◌, ◌≤◌, ℕ, List, [], ◌∷◌, ◌++◌, length, map, IsTrue, Option, Some, None}
+use Rattle.std.specs.Prelude.{◌≡◌, ◌⊎◌, ◌≤◌, ℕ, List, [], ◌∷◌, ◌++◌, length, map, Bool, true, false, Option, Some, None}
 use Rattle.std.specs.List.{AllByRecursion}
 use Rattle.zb_disk.specs.declared.disk.Disk.{Ghosts}
 use Rattle.zb_model.specs.declared.record.Batch.{Batch}
 use Rattle.zb_model.specs.declared.record.Command.{Command}
+use Rattle.zb_model.specs.declared.record.Command.TheVariants as commands
 use Rattle.zb_model.specs.declared.stop.Stop.{Stop}
-use Rattle.zb_store.specs.Stands.{Stands}
+use Rattle.zb_rules.specs.Own.{IsSupported}
 use Rattle.zb_rules.specs.Step.{IsStep, EachOn}
 use Rattle.zb_world.specs.Entries.{IsPartitionOf, part_of, stamps_of, as_entry}
 use Rattle.zb_world.specs.declared.entry.Entry.{Entry}
-use Rattle.zb_partition.specs.Log.{bodies_of}
-use Rattle.zb_partition.specs.Partition.{disk_of, slots_of}
 use Rattle.zb_partition.specs.declared.partition.Partition.{Partition}
 use Rattle.zb_wire.specs.declared.request.Request.{Request}
 use Rattle.zb_reply.specs.declared.reply.Reply.{Reply}
@@ -18,25 +17,13 @@ use Rattle.zb_wire.specs.Asked.{command_of}
 use Rattle.zb_desk.specs.Numbered.{EachFrom, OfNumber}
 use Rattle.zb_desk.specs.Replies.{IsReplyIf}
 use Rattle.zb_desk.specs.Serial.{Basis, basis_of, log_behind, place_behind, IsEntryBy, AreMadeFor, IsNextEntry, AreAsked}
-use Rattle.zb_engine.specs.Ledger.{Opening, Account, account_of, slots_in, WasOpened, IsOpen, LeftSince, HasAccount, HasStopped}
+use Rattle.zb_partition.specs.Ledger.{Opening, Account, account_of, HasAccount}
+use Rattle.zb_partition.specs.Submitting.{HasStopped}
 use Rattle.zb_engine.specs.declared.solo.Solo.{Solo}
 
--- a partition was opened so, and nothing was done with it since
-pub record IsOpenedAs {D : Type 0} {disks : Ghosts D} (opening : Opening D) (partition : Partition D disks) : Type 0 where
-  pub is_open : IsOpen opening partition opening.batches
-  pub was : WasOpened disks opening
-  pub time : IsTrue disks.tells_images → LeftSince disks opening (disk_of partition) (λ image. Stands image (bodies_of opening.batches))
-  pub faults : (disks.view opening.volume.log).faults ≤ (disks.view (disk_of partition)).faults
-  pub steady : IsTrue disks.counts_failures → (disks.view (disk_of partition)).faults ≡ (disks.view opening.volume.log).faults
-  pub slots : slots_of partition ≡ slots_in opening.volume
-
 -- the opening is that of the partition with this number, of so many
-abbrev pub IsOpeningOf : {D : Type 0} → (n number : ℕ) → Opening D → Type 0
-IsOpeningOf n number opening = (opening.place ≡ number) × (opening.partitions ≡ n)
-
--- the partition with this number, of n, was opened so, and nothing was done with it since
-abbrev pub IsFreshPart : {D : Type 0} {disks : Ghosts D} → (n number : ℕ) → Opening D → Partition D disks → Type 0
-IsFreshPart n number opening partition = IsOpeningOf n number opening × IsOpenedAs opening partition
+abbrev pub IsNumbered : {D : Type 0} → (n number : ℕ) → Opening D → Type 0
+IsNumbered n number opening = (opening.place ≡ number) × (opening.partitions ≡ n)
 
 -- what an engine began with: how its logs were opened, and how many units of work it does behind a request
 pub record Start (D : Type 0) : Type 0 where
@@ -68,12 +55,15 @@ abbrev pub account_in : {D : Type 0} → ℕ → Opening D → List Entry → Ac
 account_in number opening entries = account_of opening (part_of number entries)
 
 -- the partition with this number, of n, was opened so, and has made what is its own of these entries
-abbrev pub HasPart : {D : Type 0} {disks : Ghosts D} → (n : ℕ) → List Entry → (number : ℕ) → Opening D → Partition D disks → Type 0
-HasPart n entries number opening partition = IsOpeningOf n number opening × HasAccount (account_in number opening entries) partition
+abbrev pub HasPart : {D : Type 0} {disks : Ghosts D} → (n : ℕ) → List Entry → (number : ℕ)
+    → Opening D → Partition D disks → Type 0
+HasPart n entries number opening partition = IsNumbered n number opening
+    × HasAccount (account_in number opening entries) partition
 
 -- each of these entries begins at its own place
 abbrev pub AreStamped : List (List Batch) → List Entry → Type 0
-AreStamped logs entries = EachOn (λ before entry. entry.batch.begin ≡ place_behind logs before) [] entries
+AreStamped logs entries = EachOn (λ before entry. entry.batch.begin ≡ place_behind logs before) []
+    entries
 
 -- the partitions of an engine
 abbrev pub partitions_in : {D : Type 0} {disks : Ghosts D} → Solo D disks → List (Partition D disks)
@@ -88,7 +78,8 @@ abbrev pub kept_in : {D : Type 0} {disks : Ghosts D} → Solo D disks → Option
 kept_in solo = solo.kept
 
 -- its logs were opened so, and it has made these entries since
-pub record HasMade {D : Type 0} {disks : Ghosts D} (start : Start D) (entries : List Entry) (solo : Solo D disks) : Type 0 where
+pub record HasMade {D : Type 0} {disks : Ghosts D} (start : Start D) (entries : List Entry)
+    (solo : Solo D disks) : Type 0 where
   pub within : AllByRecursion (λ entry. IsPartitionOf (many_in start) entry.partition) entries
   pub begun : AreStamped (logs_in start) entries
   pub parts : EachFrom (HasPart (many_in start) entries) 1 start.openings (partitions_in solo)
@@ -102,49 +93,81 @@ abbrev pub IsBatchOf : ℕ → Option Entry → Option Batch → Type 0
 IsBatchOf number None batch = batch ≡ None
 IsBatchOf number (Some entry) batch = (entry.partition ≡ number) × (batch ≡ Some entry.batch)
 
--- the partition with this number was opened so and has made what is its own of these entries, or it is the one that
--- stopped, with the entry that was made last and isn't in its log, if there is one
-abbrev pub IsLeftPart : {D : Type 0} {disks : Ghosts D} → (n : ℕ) → List Entry → Option Entry → (at : ℕ) → Stop → (number : ℕ) → Opening D → Partition D disks → Type 0
-IsLeftPart n entries unlogged at stop number opening partition = IsOpeningOf n number opening
-    × (((number ≡ at → ⊥) × HasAccount (account_in number opening entries) partition)
-    ⊎ ((number ≡ at) × ((refused : Option Batch) × IsBatchOf number unlogged refused × HasStopped (account_in number opening entries) refused stop partition)))
+-- where an engine stopped: at which partition, why, and the entry that was made last and isn't in
+-- its log, if there is one
+pub record Halted : Type 0 where
+  pub at : ℕ
+  pub stop : Stop
+  pub unlogged : Option Entry
+
+-- where it stopped, by its parts
+abbrev pub halted_at : ℕ → Stop → Option Entry → Halted
+halted_at at stop unlogged = record { at = at; stop = stop; unlogged = unlogged }
+
+-- the partition with this number was opened so and has made what is its own of these entries, or it
+-- is the one that stopped
+abbrev pub IsLeftPart : {D : Type 0} {disks : Ghosts D} → (n : ℕ) → List Entry → Halted
+    → (number : ℕ) → Opening D → Partition D disks → Type 0
+IsLeftPart n entries halted number opening partition = IsNumbered n number opening
+    × (((number ≡ halted.at → ⊥) × HasAccount (account_in number opening entries) partition)
+    ⊎ ((number ≡ halted.at) × ((refused : Option Batch) × IsBatchOf number halted.unlogged refused
+    × HasStopped (account_in number opening entries) refused halted.stop partition)))
 
 -- its logs were opened so, it made these entries, and then the partition with this number stopped, with the entry that was
 -- made last and isn't in its log, if there is one
-pub record HasEnded {D : Type 0} {disks : Ghosts D} (start : Start D) (entries : List Entry) (unlogged : Option Entry) (stop : Stop) (solo : Solo D disks) : Type 0 where
+pub record HasEnded {D : Type 0} {disks : Ghosts D} (start : Start D) (entries : List Entry)
+    (unlogged : Option Entry) (stop : Stop) (solo : Solo D disks) : Type 0 where
   pub at : ℕ
   pub within : AllByRecursion (λ entry. IsPartitionOf (many_in start) entry.partition) entries
   pub begun : AreStamped (logs_in start) entries
-  pub last : (entry : Entry) → unlogged ≡ Some entry → (entry.partition ≡ at) × (entry.batch.begin ≡ place_behind (logs_in start) entries)
+  pub last : (entry : Entry) → unlogged ≡ Some entry → (entry.partition ≡ at)
+      × (entry.batch.begin ≡ place_behind (logs_in start) entries)
   pub of : IsPartitionOf (many_in start) at
-  pub parts : EachFrom (IsLeftPart (many_in start) entries unlogged at stop) 1 start.openings (partitions_in solo)
+  pub parts : EachFrom (IsLeftPart (many_in start) entries (halted_at at stop unlogged)) 1
+      start.openings (partitions_in solo)
   pub stamped : stamps_in solo ≡ stamps_of (many_in start) (place_at_start start) entries
   pub kept : kept_in solo ≡ Some (at, stop)
 
+-- a command that is run
+abbrev pub is_run : Command → Bool
+is_run (commands.ProcessInstanceMigrationMigrate migration) = false
+is_run _ = true
+
+-- a command that is run comes next, at one of so many partitions
+abbrev pub CanBeDone : ℕ → ℕ × Command → Type 0
+CanBeDone count next = (next.0 ≤ count) × IsSupported next.1
+
 -- behind these entries a command was submitted at a reading of the clock at a partition, and this is its batch, a step on
 -- the log that the partition has then
-pub record IsPlaced {D : Type 0} {disks : Ghosts D} (start : Start D) (entries : List Entry) (reading : ℕ) (next : ℕ × Command) (batch : Batch) (solo : Solo D disks) : Type 0 where
-  pub step : OfNumber (logs_in start) next.0 (λ opened. IsStep next.0 (many_in start) (log_behind next.0 opened entries) batch)
+pub record IsPlaced {D : Type 0} {disks : Ghosts D} (start : Start D) (entries : List Entry)
+    (reading : ℕ) (next : ℕ × Command) (batch : Batch) (solo : Solo D disks) : Type 0 where
+  pub step : OfNumber (logs_in start) next.0
+      (λ opened. IsStep next.0 (many_in start) (log_behind next.0 opened entries) batch)
   pub by : IsEntryBy (logs_in start) (Some next) reading entries (as_entry next.0 batch)
   pub holds : HasMade start (entries ++ as_entry next.0 batch ∷ []) solo
 
 -- behind these entries a command at a partition stopped the engine
-pub record IsTurnedAway {D : Type 0} {disks : Ghosts D} (start : Start D) (entries : List Entry) (reading : ℕ) (next : ℕ × Command) (stop : Stop) (solo : Solo D disks) : Type 0 where
+pub record IsTurnedAway {D : Type 0} {disks : Ghosts D} (start : Start D) (entries : List Entry)
+    (reading : ℕ) (next : ℕ × Command) (stop : Stop) (solo : Solo D disks) : Type 0 where
   pub unlogged : Option Entry
-  pub by : (entry : Entry) → unlogged ≡ Some entry → IsEntryBy (logs_in start) (Some next) reading entries entry
+  pub by : (entry : Entry) → unlogged ≡ Some entry
+      → IsEntryBy (logs_in start) (Some next) reading entries entry
   pub holds : HasEnded start entries unlogged stop solo
 
 -- what a request itself asks for was done at a reading, and this is the reply to it
-pub record IsDone {D : Type 0} {disks : Ghosts D} (start : Start D) (earlier : List Entry) (request : Request) (reading : ℕ) (reply : Reply) (solo : Solo D disks) : Type 0 where
+pub record IsDone {D : Type 0} {disks : Ghosts D} (start : Start D) (earlier : List Entry)
+    (request : Request) (reading : ℕ) (reply : Reply) (solo : Solo D disks) : Type 0 where
   pub own : List Entry
   pub done : AreAsked (logs_in start) request reading earlier own
   pub told : IsReplyIf (command_of request) (many_in start) request reading own reply
   pub holds : HasMade start (earlier ++ own) solo
 
 -- a request stopped the engine once it had made these entries, and the one that isn't in its log, if there is one
-pub record IsCutOff {D : Type 0} {disks : Ghosts D} (start : Start D) (earlier : List Entry) (request : Request) (reading : ℕ) (stop : Stop) (solo : Solo D disks) : Type 0 where
+pub record IsCutOff {D : Type 0} {disks : Ghosts D} (start : Start D) (earlier : List Entry)
+    (request : Request) (reading : ℕ) (stop : Stop) (solo : Solo D disks) : Type 0 where
   pub own : List Entry
   pub made : AreMadeFor (basis_in start) request reading earlier own
   pub unlogged : Option Entry
-  pub next : (entry : Entry) → unlogged ≡ Some entry → IsNextEntry (basis_in start) request reading earlier own entry
+  pub next : (entry : Entry) → unlogged ≡ Some entry
+      → IsNextEntry (basis_in start) request reading earlier own entry
   pub holds : HasEnded start (earlier ++ own) unlogged stop solo

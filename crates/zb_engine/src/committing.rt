@@ -1,8 +1,8 @@
 // A command at one of the partitions.
-ghost use Rattle.std.specs.Prelude.{◌≡◌, ◌≤◌, List, max, Some, IfOk, IfErr};
+ghost use Rattle.std.specs.Prelude.{◌≡◌, ◌≤◌, List, length, Some, None, IfOk, IfErr, OnOk};
 ghost use Rattle.zb_world.specs.declared.entry.Entry.{Entry};
 ghost use Rattle.zb_rules.specs.Own.{IsSupported};
-ghost use Rattle.zb_engine.specs.Solo.{Start, many_in, HasMade, IsPlaced, IsTurnedAway, partitions_in, stamps_in, kept_in};
+ghost use Rattle.zb_engine.specs.Solo.{Start, HasMade, IsPlaced, IsTurnedAway, partitions_in, stamps_in, kept_in};
 
 use crate::Solo;
 use std::alloc::{AllocError, Global};
@@ -19,12 +19,19 @@ impl<D: Disk> Solo<D> {
         partition: PartitionId,
         command: Command,
     ) -> Result<Batch, Stop>
-        requires known { (start : Start D) × (made : List Entry) × HasMade start made self.old × (partition ≤ many_in start) }
+        requires goes_on { kept_in self.old ≡ None }
+        requires there { partition ≤ length (partitions_in self.old) }
         requires run { IsSupported command }
         ensures placed { (start : Start D) (made : List Entry) → HasMade start made self.old
-            → IfOk result (λ batch. IsPlaced start made reading (partition, command) batch self.new) }
+            → IfOk result
+            (λ batch. IsPlaced start made reading (partition, command) batch self.new) }
         ensures stopped { (start : Start D) (made : List Entry) → HasMade start made self.old
-            → IfErr result (λ stop. IsTurnedAway start made reading (partition, command) stop self.new) }
+            → IfErr result
+            (λ stop. IsTurnedAway start made reading (partition, command) stop self.new) }
+
+        // Whatever it may have begun with.
+        ensures still { OnOk result (kept_in self.new ≡ None) }
+        ensures many { length (partitions_in self.new) ≡ length (partitions_in self.old) }
     {
         let index = partition.number() as usize - 1;
         let place = self.place;
@@ -39,14 +46,16 @@ impl<D: Disk> Solo<D> {
                 return Err(self.keep(partition, Stop::Memory));
             }
         }
-        let moment = later_of(self.partitions[index].last_moment(), reading);
-        match self.partitions[index].submit(alloc, moment, place, command) {
+        match self.partitions[index].submit(alloc, reading, place, command) {
             Ok(batch) => {
                 self.stamps[index].push_reserved(place);
                 self.place = next;
                 Ok(batch)
             }
-            Err(stop) => Err(self.keep(partition, stop)),
+            Err(stop) => {
+                self.kept = Some((partition, stop));
+                Err(stop)
+            }
         }
     }
 
@@ -60,11 +69,4 @@ impl<D: Disk> Solo<D> {
         self.kept = Some((partition, stop));
         stop
     }
-}
-
-// The later one of the last moment of a log and a reading of the clock.
-fn later_of(last: Moment, reading: Moment) -> Moment
-    ensures { result ≡ max last reading }
-{
-    last.max(reading)
 }

@@ -1,5 +1,5 @@
 // What the engine is to those who ask it, and to the one who closes it.
-ghost use Rattle.std.specs.Prelude.{◌≡◌, ◌≤◌, List, map, IfOk, IfErr};
+ghost use Rattle.std.specs.Prelude.{◌≡◌, ◌≤◌, List, length, map, None, IfOk, IfErr, OnOk};
 ghost use Rattle.zb_world.specs.declared.entry.Entry.{Entry};
 ghost use Rattle.zb_desk.specs.Asking.{IsDelivered, IsDeliveryCut};
 ghost use Rattle.zb_engine.specs.Solo.{Start, many_in, basis_in, HasMade, HasEnded, partitions_in, stamps_in, kept_in};
@@ -18,13 +18,17 @@ impl<D: Disk> Solo<D> {
     /// Does units of work at a reading of the clock, at most so many as behind a request, and tells how many. After an
     /// `Err` it has stopped, and is only closed.
     pub fn deliver(&mut self, alloc: Global, reading: Moment) -> Result<u64, Stop>
-        requires { (start : Start D) × (made : List Entry) × HasMade start made self.old }
+        requires { kept_in self.old ≡ None }
         ensures delivered { (start : Start D) (made : List Entry) → HasMade start made self.old
             → IfOk result (IsDelivered (basis_in start) reading made
             (λ entries. HasMade start entries self.new)) }
         ensures cut { (start : Start D) (made : List Entry) → HasMade start made self.old
             → IfErr result (λ stop. IsDeliveryCut (basis_in start) reading made
             (λ entries unlogged. HasEnded start entries unlogged stop self.new)) }
+
+        // Whatever it may have begun with.
+        ensures still { OnOk result (kept_in self.new ≡ None) }
+        ensures many { length (partitions_in self.new) ≡ length (partitions_in self.old) }
     {
         deliver(alloc, self, reading)
     }
@@ -54,7 +58,9 @@ impl<D: Disk> Solo<D> {
     pub(crate) fn count(&self) -> u32
         ensures some { 1 ≤ result }
         ensures few { result ≤ 16 }
-        ensures count { (start : Start D) (made : List Entry) → HasMade start made self.now → result ≡ many_in start }
+        ensures many { result ≡ length (partitions_in self.now) }
+        ensures count { (start : Start D) (made : List Entry) → HasMade start made self.now
+            → result ≡ many_in start }
     {
         self.partitions.len() as u32
     }
@@ -68,6 +74,10 @@ impl<D: Disk> Desk for Solo<D> {
     ghost has = { HasMade };
 
     ghost stopped = { HasEnded };
+
+    ghost goes_on = { λ solo. kept_in solo ≡ None };
+
+    ghost many = { λ solo. length (partitions_in solo) };
 
     fn partitions(&self) -> u32 {
         self.count()

@@ -1,9 +1,10 @@
 // What comes next: which partition has something due, is to go on, or has sent a packet.
-ghost use Rattle.std.specs.Prelude.{◌≡◌, ◌≤◌, ◌+◌, List, IfOk, Some, option_map};
+ghost use Rattle.std.specs.Prelude.{◌≡◌, ◌≤◌, ◌+◌, ℕ, List, IfOk, IfSome, Some, option_map};
+ghost use Rattle.zb_model.specs.declared.record.Command.{Command as Asked};
 ghost use Rattle.zb_model.specs.declared.record.Command.TheVariants as commands;
 ghost use Rattle.zb_world.specs.declared.entry.Entry.{Entry};
 ghost use Rattle.zb_desk.specs.Serial.{due_in_logs, going_on, first_sent};
-ghost use Rattle.zb_engine.specs.Solo.{Start, logs_in, many_in, HasMade};
+ghost use Rattle.zb_engine.specs.Solo.{Start, logs_in, many_in, HasMade, CanBeDone, is_run};
 
 use crate::Solo;
 use std::alloc::{AllocError, Global};
@@ -52,4 +53,30 @@ impl<D: Disk> Solo<D> {
         }
         Ok(None)
     }
+}
+
+/// What comes next, where it can be done: a command that is run, at one of so many partitions. What
+/// logs lead to can.
+pub(crate) fn that_can(
+    next: Option<(PartitionId, Command)>,
+    count: u32,
+) -> Option<(PartitionId, Command)>
+    ensures can { IfSome result (CanBeDone count) }
+    ensures its { IfSome result (λ one. next ≡ Some one) }
+    ensures same { ((one : ℕ × Asked) → next ≡ Some one → CanBeDone count one) → result ≡ next }
+{
+    let next = next?;
+    let (partition, command) = next;
+    if partition.number() <= count && is_run(&command) {
+        return Some((partition, command));
+    }
+    command.discard();
+    None
+}
+
+// Whether a command is run.
+fn is_run(command: &Command) -> bool
+    ensures { result ≡ is_run command.now }
+{
+    !matches!(command, Command::ProcessInstanceMigrationMigrate(_))
 }

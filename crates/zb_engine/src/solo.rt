@@ -1,4 +1,6 @@
-ghost use Rattle.std.specs.Prelude.{◌≡◌, ◌≤◌, length};
+ghost use Rattle.std.specs.Prelude.{◌≡◌, ◌≤◌, length, IsTrue, None};
+ghost use Rattle.std.specs.List.{list_all};
+ghost use Rattle.zb_partition.specs.Partition.{is_live};
 
 use zb_disk::Disk;
 use zb_model::{PartitionId, Stop};
@@ -19,4 +21,5 @@ pub struct Solo<D: Disk> {
     ghost some: { 1 ≤ length partitions.items },
     ghost few: { length partitions.items ≤ 16 },
     ghost same: { length stamps.items ≡ length partitions.items },
+    ghost live: { kept ≡ None → IsTrue (list_all is_live partitions.items) },
 }

@@ -1,9 +1,10 @@
 // How the engine begins.
-ghost use Rattle.std.specs.Prelude.{◌≡◌, ◌≤◌, [], List, length, map, replicate, sum_by, IfOk, IfErr, IfSome};
-ghost use Rattle.zb_partition.specs.Partition.{frames_of};
+ghost use Rattle.std.specs.Prelude.{◌≡◌, ◌≤◌, [], List, length, map, replicate, sum_by, IsTrue, None, IfOk, IfErr, IfSome};
+ghost use Rattle.std.specs.List.{list_all};
+ghost use Rattle.zb_partition.specs.Partition.{frames_of, is_live};
 ghost use Rattle.zb_desk.specs.Numbered.{EachFrom};
-ghost use Rattle.zb_engine.specs.Ledger.{Opening};
-ghost use Rattle.zb_engine.specs.Solo.{start_of, IsFreshPart, HasMade};
+ghost use Rattle.zb_partition.specs.Ledger.{Opening};
+ghost use Rattle.zb_engine.specs.Solo.{start_of, HasPart, HasMade, partitions_in, kept_in};
 
 use crate::Solo;
 use std::alloc::{AllocError, Global};
@@ -11,8 +12,8 @@ use zb_disk::Disk;
 use zb_partition::Partition;
 
 impl<D: Disk> Solo<D> {
-    /// The engine over partitions that were opened, in order, which does at most so many units of work behind a request.
-    /// They are handed back where there is no memory.
+    /// The engine over partitions that were opened and go on, in order, which does at most so many units of
+    /// work behind a request. They are handed back where there is no memory.
     pub fn new(
         alloc: Global,
         partitions: Vec<Partition<D>>,
@@ -20,8 +21,11 @@ impl<D: Disk> Solo<D> {
     ) -> Result<Solo<D>, (Vec<Partition<D>>, AllocError)>
         requires some { 1 ≤ length partitions.items }
         requires few { length partitions.items ≤ 16 }
+        requires live { IsTrue (list_all is_live partitions.items) }
+        ensures goes_on { IfOk result (λ solo. kept_in solo ≡ None) }
+        ensures partitions { IfOk result (λ solo. partitions_in solo ≡ partitions.items) }
         ensures made { (openings : List (Opening D))
-            → EachFrom (IsFreshPart (length openings)) 1 openings partitions.items
+            → EachFrom (HasPart (length openings) []) 1 openings partitions.items
             → IfOk result (HasMade (start_of openings units) []) }
         ensures refused { IfErr result (λ back. back.0 ≡ partitions) }
     {
@@ -43,7 +47,8 @@ impl<D: Disk> Solo<D> {
 
 // No stamps for so many partitions.
 fn no_stamps(alloc: Global, count: usize) -> Result<Vec<Vec<u64>>, AllocError>
-    ensures { IfOk result (λ stamps. map (λ places. places.items) stamps.items ≡ replicate count []) }
+    ensures { IfOk result (λ stamps. map (λ places. places.items) stamps.items
+        ≡ replicate count []) }
 {
     let mut stamps = Vec::with_capacity(alloc, count)?;
     for _place in 0..count {

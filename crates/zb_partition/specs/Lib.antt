@@ -1,6 +1,9 @@
 pub mod Fault
 pub mod Log
+pub mod Ground
 pub mod Reading
 pub mod Partition
+pub mod Ledger
 pub mod Opening
 pub mod Stopping
+pub mod Submitting

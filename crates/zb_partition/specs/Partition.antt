@@ -1,9 +1,8 @@
 -- What contracts see of a partition.
-use Rattle.std.specs.Prelude.{◌≡◌, ℕ, List, [], ◌∷◌, ◌++◌, length, Bool, IsTrue, Option, None}
-use Rattle.zb_disk.specs.Disk.{Only}
+use Rattle.std.specs.Prelude.{◌≡◌, ℕ, List, [], ◌∷◌, ◌++◌, length, Bool, Option, None}
+use Rattle.zb_disk.specs.Disk.{DiskView}
 use Rattle.zb_disk.specs.declared.disk.Disk.{Ghosts}
 use Rattle.zb_model.specs.declared.record.Batch.{Batch}
-use Rattle.zb_store.specs.Log.{extent}
 use Rattle.zb_store.specs.GateLog as gates
 use Rattle.zb_views.specs.View.{events_of, moment_of_last}
 use Rattle.zb_state.specs.State as states
@@ -47,24 +46,38 @@ is_live partition = partition.live
 abbrev pub in_writing : {D : Type 0} {disks : Ghosts D} → Partition D disks → Option Batch
 in_writing partition = partition.in_writing
 
+-- how long its log is, in bytes
+abbrev pub log_length_of : {D : Type 0} {disks : Ghosts D} → Partition D disks → ℕ
+log_length_of partition = gates.length_of partition.log
+
+-- the disk of its log as plain data
+abbrev pub view_in : {D : Type 0} {disks : Ghosts D} → Partition D disks → DiskView
+view_in {D} {disks} partition = disks.view (disk_of partition)
+
 -- these batches are its log: in the file, on the disk, and in what it knows of them
-pub record HasLog {D : Type 0} {disks : Ghosts D} (log : List Batch) (partition : Partition D disks) : Type 0 where
-  pub file : IsTrue disks.tells → gates.HasClosedFrames (disks.view (disk_of partition)).contents partition.log (bodies_of log)
-  pub durable : IsTrue disks.tells_images → Only (disks.view (disk_of partition)).contents (disks.images (disk_of partition))
+pub record HasLog {D : Type 0} {disks : Ghosts D} (log : List Batch)
+    (partition : Partition D disks) : Type 0 where
+  pub frames : gates.IsLogOf (bodies_of log) partition.log
   pub fits : AreBatches log
   pub count : frames_of partition ≡ length log
-  pub extent : gates.length_of partition.log ≡ extent (bodies_of log)
   pub state : IsStateOf (events_of log) partition.state
   pub moment : moment_of_last log ≡ partition.last_moment
   pub resting : partition.in_writing ≡ None
 
 -- these batches are its log in the file and on the disk, and it knows of one more
-pub record IsAhead {D : Type 0} {disks : Ghosts D} (log : List Batch) (batch : Batch) (partition : Partition D disks) : Type 0 where
-  pub file : IsTrue disks.tells → gates.HasClosedFrames (disks.view (disk_of partition)).contents partition.log (bodies_of log)
-  pub durable : IsTrue disks.tells_images → Only (disks.view (disk_of partition)).contents (disks.images (disk_of partition))
+pub record IsAhead {D : Type 0} {disks : Ghosts D} (log : List Batch) (batch : Batch)
+    (partition : Partition D disks) : Type 0 where
+  pub frames : gates.IsLogOf (bodies_of log) partition.log
   pub fits : AreBatches log
   pub count : frames_of partition ≡ length log
-  pub extent : gates.length_of partition.log ≡ extent (bodies_of log)
   pub state : IsStateOf (events_of (log ++ batch ∷ [])) partition.state
   pub moment : batch.moment ≡ partition.last_moment
   pub resting : partition.in_writing ≡ None
+
+-- two partitions with the same numbers, limit and slots
+pub record IsSamePartition {D : Type 0} {disks : Ghosts D}
+    (old new : Partition D disks) : Type 0 where
+  pub place : partition_number_of new ≡ partition_number_of old
+  pub partitions : partitions_of new ≡ partitions_of old
+  pub limit : limit_of new ≡ limit_of old
+  pub slots : slots_of new ≡ slots_of old

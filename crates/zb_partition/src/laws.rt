@@ -11,9 +11,11 @@ use zb_store::one_reading;
 pub fn one_log()
     ensures one { (file : List ℕ) (a b : List Batch) → AreBatches a → AreBatches b
         → Stands file (bodies_of a) → Stands file (bodies_of b) → a ≡ b }
-    ensures not_both { (p : ℕ) (file : List ℕ) (log : List Batch) (frame : ℕ) → AreBatches log → IsApplied p log
+    ensures not_both { (p : ℕ) (file : List ℕ) (log : List Batch) (frame : ℕ) → AreBatches log
+        → IsApplied p log
         → Stands file (bodies_of log) → IsBadAt p file frame → ⊥ }
-    ensures one_frame { (p : ℕ) (file : List ℕ) (m n : ℕ) → IsBadAt p file m → IsBadAt p file n → m ≡ n }
+    ensures one_frame { (p : ℕ) (file : List ℕ) (m n : ℕ) → IsBadAt p file m → IsBadAt p file n
+        → m ≡ n }
 {
     one_reading();
 }

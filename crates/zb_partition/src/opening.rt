@@ -39,14 +39,20 @@ pub fn read_state<D: Disk>(
 ) -> Result<(State, Moment), OpenFault>
     requires { IsAtStart (D.view (disk_of_scan scan.old)).contents scan.old }
     ensures read { IfOk result (λ opened. (log : List Batch)
-        × IsReadOn place (D.view (disk_of_scan scan.new)).contents scan.new log (record { state = opened.0; last_moment = opened.1 }) false) }
+        × IsReadOn place (D.view (disk_of_scan scan.new)).contents scan.new log
+        (record { state = opened.0; last_moment = opened.1 }) false) }
     ensures over { OnOk result (IsTrue (is_over scan.new)) }
     ensures closed { OnOk result (IsTrue (is_closed scan.new)) }
-    ensures bad { IsTrue D.tells → (n : ℕ) → IsErrOf result (OpenFault.BadLog n) → IsBadAt place (D.view (disk_of_scan scan.old)).contents n }
+    ensures bad { IsTrue D.tells → (n : ℕ) → IsErrOf result (OpenFault.BadLog n)
+        → IsBadAt place (D.view (disk_of_scan scan.old)).contents n }
     ensures limit { limit_of_scan scan.new ≡ limit_of_scan scan.old }
-    ensures reads { OnlyReads D.tells D.tells_images D.view D.images D.since (disk_of_scan scan.old) (disk_of_scan scan.new) }
-    ensures steady { IsTrue D.counts_failures → OnOk result ((D.view (disk_of_scan scan.new)).faults ≡ (D.view (disk_of_scan scan.old)).faults) }
-    ensures cause { IfErr result (IsDiskCause D.counts_failures (D.view (disk_of_scan scan.old)).faults (D.view (disk_of_scan scan.new)).faults) }
+    ensures reads { OnlyReads D.Disk (disk_of_scan scan.old) (disk_of_scan scan.new) }
+    ensures steady { IsTrue D.counts_failures
+        → OnOk result ((D.view (disk_of_scan scan.new)).faults
+        ≡ (D.view (disk_of_scan scan.old)).faults) }
+    ensures cause { IfErr result
+        (IsDiskCause D.counts_failures (D.view (disk_of_scan scan.old)).faults
+        (D.view (disk_of_scan scan.new)).faults) }
 {
     match read_frames(alloc, scan, place) {
         Ok(known) => listed(alloc, known),
@@ -56,7 +62,8 @@ pub fn read_state<D: Disk>(
 
 // What is known of a log, listed.
 fn listed(alloc: Global, known: Known) -> Result<(State, Moment), OpenFault>
-    ensures known { IfOk result (λ opened. known ≡ record { state = opened.0; last_moment = opened.1 }) }
+    ensures known { IfOk result
+        (λ opened. known ≡ record { state = opened.0; last_moment = opened.1 }) }
     ensures refused { IfErr result (λ fault. fault ≡ OpenFault.Memory) }
 {
     let Known { state, last_moment } = known;
@@ -77,11 +84,16 @@ fn read_frames<D: Disk>(
         × IsReadOn place (D.view (disk_of_scan scan.new)).contents scan.new log known false) }
     ensures over { OnOk result (IsTrue (is_over scan.new)) }
     ensures closed { OnOk result (IsTrue (is_closed scan.new)) }
-    ensures bad { IsTrue D.tells → (n : ℕ) → IsErrOf result (OpenFault.BadLog n) → IsBadAt place (D.view (disk_of_scan scan.old)).contents n }
+    ensures bad { IsTrue D.tells → (n : ℕ) → IsErrOf result (OpenFault.BadLog n)
+        → IsBadAt place (D.view (disk_of_scan scan.old)).contents n }
     ensures limit { limit_of_scan scan.new ≡ limit_of_scan scan.old }
-    ensures reads { OnlyReads D.tells D.tells_images D.view D.images D.since (disk_of_scan scan.old) (disk_of_scan scan.new) }
-    ensures steady { IsTrue D.counts_failures → OnOk result ((D.view (disk_of_scan scan.new)).faults ≡ (D.view (disk_of_scan scan.old)).faults) }
-    ensures cause { IfErr result (IsDiskCause D.counts_failures (D.view (disk_of_scan scan.old)).faults (D.view (disk_of_scan scan.new)).faults) }
+    ensures reads { OnlyReads D.Disk (disk_of_scan scan.old) (disk_of_scan scan.new) }
+    ensures steady { IsTrue D.counts_failures
+        → OnOk result ((D.view (disk_of_scan scan.new)).faults
+        ≡ (D.view (disk_of_scan scan.old)).faults) }
+    ensures cause { IfErr result
+        (IsDiskCause D.counts_failures (D.view (disk_of_scan scan.old)).faults
+        (D.view (disk_of_scan scan.new)).faults) }
 {
     let mut known = Known {
         state: Facts::empty(alloc, place),
@@ -106,18 +118,27 @@ fn read_next<D: Disk>(
     known: &mut Known,
 ) -> Result<bool, OpenFault>
     requires { IsFalse (is_over scan.old) }
-    ensures read { (p : ℕ) (log : List Batch) → IsRead p (D.view (disk_of_scan scan.old)).contents scan.old log known.old
-        → IfOk result (IsReadOn p (D.view (disk_of_scan scan.new)).contents scan.new log known.new) }
-    ensures bad { IsTrue D.tells → (p : ℕ) (log : List Batch) (n : ℕ) → IsRead p (D.view (disk_of_scan scan.old)).contents scan.old log known.old
-        → IsErrOf result (OpenFault.BadLog n) → IsBadAt p (D.view (disk_of_scan scan.old)).contents n }
+    ensures read { (p : ℕ) (log : List Batch)
+        → IsRead p (D.view (disk_of_scan scan.old)).contents scan.old log known.old
+        → IfOk result
+        (IsReadOn p (D.view (disk_of_scan scan.new)).contents scan.new log known.new) }
+    ensures bad { IsTrue D.tells → (p : ℕ) (log : List Batch) (n : ℕ)
+        → IsRead p (D.view (disk_of_scan scan.old)).contents scan.old log known.old
+        → IsErrOf result (OpenFault.BadLog n)
+        → IsBadAt p (D.view (disk_of_scan scan.old)).contents n }
     ensures over { IfOk result (λ more. is_over scan.new ≡ not more) }
     ensures closed { IfOk result (λ more. is_closed scan.new ≡ not more) }
-    ensures behind { IfOk result (λ more. IsTrue more → gate_of_scan scan.old < gate_of_scan scan.new) }
+    ensures behind { IfOk result (λ more. IsTrue more
+        → gate_of_scan scan.old < gate_of_scan scan.new) }
     ensures small { gate_of_scan scan.new < 2 ^ 58 }
     ensures limit { limit_of_scan scan.new ≡ limit_of_scan scan.old }
-    ensures reads { OnlyReads D.tells D.tells_images D.view D.images D.since (disk_of_scan scan.old) (disk_of_scan scan.new) }
-    ensures steady { IsTrue D.counts_failures → OnOk result ((D.view (disk_of_scan scan.new)).faults ≡ (D.view (disk_of_scan scan.old)).faults) }
-    ensures cause { IfErr result (IsDiskCause D.counts_failures (D.view (disk_of_scan scan.old)).faults (D.view (disk_of_scan scan.new)).faults) }
+    ensures reads { OnlyReads D.Disk (disk_of_scan scan.old) (disk_of_scan scan.new) }
+    ensures steady { IsTrue D.counts_failures
+        → OnOk result ((D.view (disk_of_scan scan.new)).faults
+        ≡ (D.view (disk_of_scan scan.old)).faults) }
+    ensures cause { IfErr result
+        (IsDiskCause D.counts_failures (D.view (disk_of_scan scan.old)).faults
+        (D.view (disk_of_scan scan.new)).faults) }
 {
     let frame = scan.count();
     match scan.advance()? {
@@ -133,7 +154,8 @@ fn read_next<D: Disk>(
 // Takes in the batch that the body of this frame spells.
 fn read_body(alloc: Global, body: &[u8], frame: u64, known: &mut Known) -> Result<(), OpenFault>
     ensures read { (p : ℕ) (log : List Batch) → IsKnown p log known.old
-        → OnOk result ((batch : Batch) × (body.now ≡ bytes_of batch) × IsKnown p (log ++ batch ∷ []) known.new) }
+        → OnOk result ((batch : Batch) × (body.now ≡ bytes_of batch)
+        × IsKnown p (log ++ batch ∷ []) known.new) }
     ensures bad { (p : ℕ) (log : List Batch) (n : ℕ) → IsKnown p log known.old
         → IsErrOf result (OpenFault.BadLog n) → (n ≡ frame) × IsBadBody p log body.now }
     ensures silent { ¬ (IsErrOf result OpenFault.DiskFault) }
@@ -148,7 +170,8 @@ fn read_body(alloc: Global, body: &[u8], frame: u64, known: &mut Known) -> Resul
 // doesn't, or memory is wanting, what is known is only dropped.
 fn take_body(alloc: Global, body: &[u8], known: &mut Known) -> Result<bool, AllocError>
     ensures taken { (p : ℕ) (log : List Batch) → IsKnown p log known.old
-        → IfOk result (λ taken. IsTrue taken → (batch : Batch) × (body.now ≡ bytes_of batch) × IsKnown p (log ++ batch ∷ []) known.new) }
+        → IfOk result (λ taken. IsTrue taken → (batch : Batch) × (body.now ≡ bytes_of batch)
+        × IsKnown p (log ++ batch ∷ []) known.new) }
     ensures bad { (p : ℕ) (log : List Batch) → IsKnown p log known.old
         → IfOk result (λ taken. IsFalse taken → IsBadBody p log body.now) }
 {
@@ -190,7 +213,8 @@ fn take_events(
 fn take_event(alloc: Global, cursor: &mut Cursor<'_>, state: &mut Facts) -> Result<bool, AllocError>
     ensures place { partition_of state.new ≡ partition_of state.old }
     ensures taken { (es : List Event) → IsStateOf es state.old → IfOk result (λ taken. IsTrue taken
-        → IsTaken (partition_of state.old) es (layouts.event.reading cursor.old) cursor.new state.new) }
+        → IsTaken (partition_of state.old) es (layouts.event.reading cursor.old) cursor.new
+        state.new) }
     ensures bad { (es : List Event) → IsStateOf es state.old → IfOk result (λ taken. IsFalse taken
         → IsRefused (partition_of state.old) es (layouts.event.reading cursor.old)) }
 {
@@ -205,7 +229,8 @@ fn take_event(alloc: Global, cursor: &mut Cursor<'_>, state: &mut Facts) -> Resu
 fn take_in(alloc: Global, event: Event, state: &mut Facts) -> Result<bool, AllocError>
     ensures place { partition_of state.new ≡ partition_of state.old }
     ensures taken { (es : List Event) → IsStateOf es state.old → IfOk result (λ taken. IsTrue taken
-        → IsTrue (applies (partition_of state.old) es event) × IsStateOf (es ++ event ∷ []) state.new) }
+        → IsTrue (applies (partition_of state.old) es event)
+        × IsStateOf (es ++ event ∷ []) state.new) }
     ensures bad { (es : List Event) → IsStateOf es state.old → IfOk result (λ taken. IsFalse taken
         → IsFalse (applies (partition_of state.old) es event)) }
 {

@@ -1,25 +1,25 @@
-ghost use Rattle.std.specs.Prelude.{◌≡◌, ◌⊎◌, ◌<◌, ◌≤◌, ◌+◌, ◌++◌, ◌∷◌, ◌^◌, ℕ, List, [], length, IsTrue, IsFalse, IsOk, IsErr, IfErr, IfOk, IfSome, IfNone, OnErr, OnOk, IsErrOf, Some, None, Err};
+ghost use Rattle.std.specs.Prelude.{◌≡◌, ◌⊎◌, ◌<◌, ◌≤◌, ◌+◌, ◌++◌, ◌∷◌, ◌^◌, ℕ, List, [], length, max};
+ghost use Rattle.std.specs.Prelude.{IsTrue, IsFalse, IsOk, IsErr, IfErr, IfOk, IfSome, IfNone, OnErr, OnOk};
+ghost use Rattle.std.specs.Prelude.{IsErrOf, None, Err};
 ghost use Rattle.zb_disk.specs.Disk.{Only};
-ghost use Rattle.zb_model.specs.declared.record.Event.{Event};
 ghost use Rattle.zb_model.specs.declared.record.Batch.{Batch};
 ghost use Rattle.zb_model.specs.Record.{bytes_of};
 ghost use Rattle.zb_model.specs.RecordFits.{IsBatch};
-ghost use Rattle.zb_store.specs.Calls.{OnlyReads, OnlyOpens, LeavesOnly, Settles};
-ghost use Rattle.zb_store.specs.Stands.{Stands};
+ghost use Rattle.zb_store.specs.Calls.{OnlyReads, OnlyOpens};
 ghost use Rattle.zb_store.specs.GateLog as gates;
 ghost use Rattle.zb_store.specs.Scan.{disk_of_scan, limit_of_scan};
-ghost use Rattle.zb_store.specs.Log.{framed, extent};
-ghost use Rattle.zb_views.specs.View.{moment_of_last, events_of};
+ghost use Rattle.zb_store.specs.Log.{framed};
+ghost use Rattle.zb_views.specs.View.{events_of};
 ghost use Rattle.zb_record.specs.Packets.{outbox_of, first_packet};
 ghost use Rattle.zb_rules.specs.Due.{due_command};
 ghost use Rattle.zb_rules.specs.Own.{IsSupported};
 ghost use Rattle.zb_rules.specs.Continue.{is_quiet};
-ghost use Rattle.zb_state.specs.State as states;
-ghost use Rattle.zb_state.specs.State.{IsStateOf};
+ghost use Rattle.zb_rules.specs.Step.{IsStep};
 ghost use Rattle.zb_partition.specs.Fault.{IsDiskCause};
 ghost use Rattle.zb_partition.specs.Reading.{IsAtStart};
-ghost use Rattle.zb_partition.specs.Log.{bodies_of};
-ghost use Rattle.zb_partition.specs.Stopping.{IsStepOf, IsStopped, IsLogOrMore, IsUnwritten, IsTooLong, UnlessDiskFails, stop_of};
+ghost use Rattle.zb_partition.specs.Log.{IsBadAt};
+ghost use Rattle.zb_partition.specs.Stopping.{IsOfCommand};
+ghost use Rattle.zb_partition.specs.Stopping.{IsTooLong, stop_of};
 
 use crate::fault::OpenFault;
 use crate::opening::read_state;
@@ -68,8 +68,13 @@ pub struct Stopped<D> {
 }
 
 impl<D: Disk> Partition<D> {
-    ghost use Rattle.zb_partition.specs.Log.{IsBadAt};
-    ghost use Rattle.zb_partition.specs.Partition.{partition_number_of, partitions_of, disk_of, slots_of, limit_of, frames_of, last_moment_of, is_live, in_writing, HasLog, IsAhead};
+    ghost use Rattle.zb_partition.specs.Ground.{Found, IsLogOn, IsFoundIn};
+    ghost use Rattle.zb_partition.specs.Partition.{partition_number_of, partitions_of, disk_of};
+    ghost use Rattle.zb_partition.specs.Partition.{slots_of, limit_of, frames_of, last_moment_of, is_live};
+    ghost use Rattle.zb_partition.specs.Partition.{in_writing, log_length_of, HasLog, IsAhead, IsSamePartition};
+    ghost use Rattle.zb_partition.specs.Ledger.{Opening, Account, account_of, on_log, IsOpeningOf, HasAccount};
+    ghost use Rattle.zb_partition.specs.Submitting.{IsCommitted, HasRefused, IsAdded};
+    ghost use Rattle.zb_partition.specs.Submitting.{IsUnwritten};
     ghost use Rattle.zb_partition.specs.Opening.{IsOpened, disk_after, slots_after};
 
     /// Opens the partition with this number, of so many, over its volume, whose log may have so many bytes. Every frame is
@@ -86,23 +91,23 @@ impl<D: Disk> Partition<D> {
     ) -> Result<Partition<D>, (OpenFault, Volume<D>)>
         requires limit { limit ≤ 2 ^ 32 }
         requires most { partitions ≤ 16 }
-        ensures opened { IfOk result (λ partition. (log : List Batch) × IsOpened place (D.view volume.log).contents log partition) }
-        ensures place { IfOk result (λ partition. partition_number_of partition ≡ place) }
-        ensures partitions { IfOk result (λ partition. partitions_of partition ≡ partitions) }
-        ensures limit { IfOk result (λ partition. limit_of partition ≡ limit) }
+
+        // What was found of the log, and that the partition has each log that goes on from where its reading began by
+        // the batches that were found, whatever crash comes.
+        ensures opened { IfOk result (λ partition. (opening : Opening D)
+            × IsOpeningOf volume place partitions limit opening
+            × IsFoundIn place D.tells (D.view volume.log).contents opening.found
+            × ((log : List Batch) → IsLogOn opening.found log
+            → HasAccount (account_of (on_log opening log) []) partition)) }
         ensures live { IfOk result (λ partition. IsTrue (is_live partition)) }
-        ensures bad { IsTrue D.tells → (frame : ℕ) → IfErr result (λ refused. refused.0 ≡ OpenFault.BadLog frame → IsBadAt place (D.view volume.log).contents frame) }
+        ensures bad { IsTrue D.tells → (frame : ℕ) → IfErr result (λ refused.
+            refused.0 ≡ OpenFault.BadLog frame → IsBadAt place (D.view volume.log).contents frame) }
 
-        // What becomes of the file, and what a crash may leave of it at any moment. The slots stay as they are.
-        ensures opens { OnlyOpens D.tells D.tells_images D.view D.images D.since volume.log (disk_after result) }
-
-        // From the first call of the disk on a crash leaves a file that stands for the log that was opened.
-        ensures settled { IsTrue D.tells_images → (log : List Batch) → Stands (D.view volume.log).contents (bodies_of log)
-            → OnOk result (Settles (D.view volume.log).moment (D.view (disk_after result)).moment
-            (D.images volume.log) (D.since (disk_after result)) (λ image. Stands image (bodies_of log))) }
+        // What becomes of the files, whether it is opened or not.
+        ensures opens { OnlyOpens D.Disk volume.log (disk_after result) }
         ensures slots { slots_after result ≡ (volume.snap_a, volume.snap_b) }
-        ensures steady { IsTrue D.counts_failures → OnOk result ((D.view (disk_after result)).faults ≡ (D.view volume.log).faults) }
-        ensures cause { IfErr result (λ refused. IsDiskCause D.counts_failures (D.view volume.log).faults (D.view refused.1.log).faults refused.0) }
+        ensures cause { IfErr result (λ refused. IsDiskCause D.counts_failures
+            (D.view volume.log).faults (D.view refused.1.log).faults refused.0) }
     {
         let Volume {
             log,
@@ -143,45 +148,35 @@ impl<D: Disk> Partition<D> {
         self.live
     }
 
-    /// Makes the step of a command at this moment and adds it to the log. At `Ok` it is on the disk. After an
-    /// `Err` the partition has stopped. It costs the step, its bytes, and the four calls of the disk.
+    /// Makes the step of a command and adds it to the log, at a reading of the clock, or at the moment of the last
+    /// batch where that is later. At `Ok` it is on the disk. After an `Err` the partition has stopped. It costs the step,
+    /// its bytes, and the four calls of the disk.
     pub fn submit(
         &mut self,
         alloc: Global,
-        moment: Moment,
+        reading: Moment,
         begin: u64,
         command: Command,
     ) -> Result<Batch, Stop>
         requires live { IsTrue (is_live self.old) }
         requires run { IsSupported command }
-        ensures step { (log : List Batch) → HasLog log self.old → moment_of_last log ≤ moment
-            → IfOk result (IsStepOf (partition_number_of self.old) (partitions_of self.old) log moment begin command) }
-        ensures log { (log : List Batch) → HasLog log self.old → IfOk result (λ batch. HasLog (log ++ batch ∷ []) self.new) }
-        ensures fits { (log : List Batch) → HasLog log self.old
-            → IfOk result (λ batch. extent (bodies_of (log ++ batch ∷ [])) ≤ limit_of self.old) }
-        ensures stopped { (log : List Batch) → HasLog log self.old → moment_of_last log ≤ moment
-            → IfErr result (IsStopped D.tells D.tells_images D.takes_memory (D.view (disk_of self.old)) (D.view (disk_of self.new))
-            (D.images (disk_of self.new)) (D.since (disk_of self.old)) (D.since (disk_of self.new))
-            (partition_number_of self.old) (partitions_of self.old) (limit_of self.old) log moment begin command (in_writing self.new)) }
+        ensures committed { (account : Account D) → HasAccount account self.old
+            → IfOk result (λ batch. IsCommitted account reading begin command batch self.new) }
+        ensures stopped { (account : Account D) → HasAccount account self.old
+            → IfErr result (λ stop. HasRefused account reading begin command stop self.new) }
 
-        // A crash at any moment since leaves the log, or the log with this batch.
-        ensures time { IsTrue D.tells_images → (log : List Batch) → HasLog log self.old
-            → IfOk result (λ batch. LeavesOnly (D.view (disk_of self.old)).moment (D.view (disk_of self.new)).moment
-            (D.since (disk_of self.old)) (D.since (disk_of self.new)) (IsLogOrMore log batch)) }
-
-        // A batch is in writing only where the disk was called for it, and for want of memory only on a disk that takes some.
-        ensures untouched { IfErr result (λ stop. in_writing self.new ≡ None → disk_of self.new ≡ disk_of self.old) }
-        ensures memory { IsErrOf result Stop.Memory → (in_writing self.new ≡ None) ⊎ IsTrue D.takes_memory }
-        ensures slots { slots_of self.new ≡ slots_of self.old }
+        // A batch is in writing only where the disk was called for it, and for want of memory only on a disk that takes
+        // some.
+        ensures untouched { IfErr result (λ stop.
+            in_writing self.new ≡ None → disk_of self.new ≡ disk_of self.old) }
+        ensures memory { IsErrOf result Stop.Memory
+            → (in_writing self.new ≡ None) ⊎ IsTrue D.takes_memory }
+        ensures same { IsSamePartition self.old self.new }
         ensures live { IsOk result → IsTrue (is_live self.new) }
         ensures dead { IsErr result → IsFalse (is_live self.new) }
-        ensures place { partition_number_of self.new ≡ partition_number_of self.old }
-        ensures partitions { partitions_of self.new ≡ partitions_of self.old }
-        ensures limit { limit_of self.new ≡ limit_of self.old }
-        ensures steady { IsTrue D.counts_failures → UnlessDiskFails result ((D.view (disk_of self.new)).faults ≡ (D.view (disk_of self.old)).faults) }
-        ensures later { (D.view (disk_of self.old)).faults ≤ (D.view (disk_of self.new)).faults }
     {
         self.live = false;
+        let moment = later_of(self.last_moment, reading);
         let batch = match self.make(alloc, moment, begin, command) {
             Ok(batch) => batch,
             Err(stop) => return Err(stop),
@@ -197,7 +192,8 @@ impl<D: Disk> Partition<D> {
 
     /// The command that is due first at this moment, if one is. It costs what `State::due` does.
     pub fn due(&self, now: Moment) -> Option<Command>
-        ensures { (log : List Batch) → HasLog log self.now → result ≡ due_command now (events_of log) }
+        ensures { (log : List Batch) → HasLog log self.now
+            → result ≡ due_command now (events_of log) }
     {
         self.state.due(now)
     }
@@ -212,16 +208,17 @@ impl<D: Disk> Partition<D> {
     /// The packets that it has sent and that no event has ended, in the order in which they were sent. It costs what
     /// `State::outbox` does.
     pub fn outbox(&self, alloc: Global) -> Result<Vec<Packet>, AllocError>
-        ensures { (log : List Batch) → HasLog log self.now
-            → IfOk result (λ packets. packets.items ≡ outbox_of (partition_number_of self.now) (partitions_of self.now) (events_of log)) }
+        ensures { (log : List Batch) → HasLog log self.now → IfOk result (λ packets. packets.items
+            ≡ outbox_of (partition_number_of self.now) (partitions_of self.now) (events_of log)) }
     {
         self.state.outbox(alloc, self.partitions)
     }
 
     /// The first one of these packets. It costs what `State::first_packet` does.
     pub fn first_packet(&self, alloc: Global) -> Result<Option<Packet>, AllocError>
-        ensures { (log : List Batch) → HasLog log self.now
-            → IfOk result (λ packet. packet ≡ first_packet (partition_number_of self.now) (partitions_of self.now) (events_of log)) }
+        ensures { (log : List Batch) → HasLog log self.now → IfOk result (λ packet. packet
+            ≡ first_packet (partition_number_of self.now) (partitions_of self.now)
+            (events_of log)) }
     {
         self.state.first_packet(alloc, self.partitions)
     }
@@ -265,18 +262,23 @@ impl<D: Disk> Partition<D> {
         requires start { IsAtStart (D.view (disk_of_scan scan)).contents scan }
         requires limit { limit_of_scan scan ≤ 2 ^ 32 }
         requires most { partitions ≤ 16 }
-        requires durable { IsTrue D.tells_images → Only (D.view (disk_of_scan scan)).contents (D.images (disk_of_scan scan)) }
-        ensures opened { IfOk result (λ partition. (log : List Batch) × IsOpened place (D.view (disk_of_scan scan)).contents log partition) }
+        requires durable { IsTrue D.tells_images → Only (D.view (disk_of_scan scan)).contents
+            (D.images (disk_of_scan scan)) }
+        ensures opened { IfOk result (λ partition. (found : Found)
+            × IsOpened place (D.view (disk_of_scan scan)).contents found partition) }
         ensures place { IfOk result (λ partition. partition_number_of partition ≡ place) }
         ensures partitions { IfOk result (λ partition. partitions_of partition ≡ partitions) }
         ensures limit { IfOk result (λ partition. limit_of partition ≡ limit_of_scan scan) }
         ensures live { IfOk result (λ partition. IsTrue (is_live partition)) }
-        ensures bad { IsTrue D.tells → (frame : ℕ)
-            → IfErr result (λ refused. refused.0 ≡ OpenFault.BadLog frame → IsBadAt place (D.view (disk_of_scan scan)).contents frame) }
-        ensures reads { OnlyReads D.tells D.tells_images D.view D.images D.since (disk_of_scan scan) (disk_after result) }
+        ensures bad { IsTrue D.tells → (frame : ℕ) → IfErr result (λ refused.
+            refused.0 ≡ OpenFault.BadLog frame
+            → IsBadAt place (D.view (disk_of_scan scan)).contents frame) }
+        ensures reads { OnlyReads D.Disk (disk_of_scan scan) (disk_after result) }
         ensures slots { slots_after result ≡ (snap_a, snap_b) }
-        ensures steady { IsTrue D.counts_failures → OnOk result ((D.view (disk_after result)).faults ≡ (D.view (disk_of_scan scan)).faults) }
-        ensures cause { IfErr result (λ refused. IsDiskCause D.counts_failures (D.view (disk_of_scan scan)).faults (D.view refused.1.log).faults refused.0) }
+        ensures steady { IsTrue D.counts_failures → OnOk result
+            ((D.view (disk_after result)).faults ≡ (D.view (disk_of_scan scan)).faults) }
+        ensures cause { IfErr result (λ refused. IsDiskCause D.counts_failures
+            (D.view (disk_of_scan scan)).faults (D.view refused.1.log).faults refused.0) }
     {
         match read_state(alloc, &mut scan, place) {
             Ok((state, last_moment)) => Ok(Partition {
@@ -312,16 +314,17 @@ impl<D: Disk> Partition<D> {
     ) -> Result<Batch, Stop>
         requires run { IsSupported command }
         requires stopped { IsFalse (is_live self.old) }
-        ensures step { (log : List Batch) → HasLog log self.old → moment_of_last log ≤ moment
-            → IfOk result (IsStepOf (partition_number_of self.old) (partitions_of self.old) log moment begin command) }
-        ensures ahead { (log : List Batch) → HasLog log self.old → IfOk result (λ batch. IsAhead log batch self.new) }
+        requires later { last_moment_of self.old ≤ moment }
+        ensures step { (log : List Batch) → HasLog log self.old → IfOk result
+            (IsStep (partition_number_of self.old) (partitions_of self.old) log) }
+        ensures command { IfOk result (IsOfCommand moment begin command) }
+        ensures ahead { (log : List Batch) → HasLog log self.old
+            → IfOk result (λ batch. IsAhead log batch self.new) }
         ensures memory { OnErr result (result ≡ Err Stop.Memory) }
         ensures log { self.new.log ≡ self.old.log }
-        ensures slots { slots_of self.new ≡ slots_of self.old }
+        ensures same { IsSamePartition self.old self.new }
         ensures live { is_live self.new ≡ is_live self.old }
         ensures in_writing { in_writing self.new ≡ in_writing self.old }
-        ensures place { partition_number_of self.new ≡ partition_number_of self.old }
-        ensures partitions { partitions_of self.new ≡ partitions_of self.old }
     {
         let outcome = match outcome_of(alloc, &mut self.state, self.partitions, moment, &command) {
             Ok(outcome) => outcome,
@@ -344,30 +347,19 @@ impl<D: Disk> Partition<D> {
         requires whole { IsTrue (gates.is_whole_log self.old.log) }
         requires sound { IsTrue (gates.is_sound self.old.log) }
         requires stopped { IsFalse (is_live self.old) }
-        ensures same { IfOk result (λ stored. stored ≡ batch) }
-        ensures state { self.new.state ≡ self.old.state }
-        ensures log { (log : List Batch) → IsAhead log batch self.old → OnOk result (HasLog (log ++ batch ∷ []) self.new) }
-        ensures stopped { (log : List Batch) → IsAhead log batch self.old → in_writing self.old ≡ None
-            → IfErr result (IsUnwritten D.tells D.tells_images D.takes_memory (D.view (disk_of self.old)) (D.view (disk_of self.new))
-            (D.images (disk_of self.new)) (D.since (disk_of self.old)) (D.since (disk_of self.new))
-            (limit_of self.old) log (Some batch) (in_writing self.new)) }
-        ensures time { IsTrue D.tells_images → (log : List Batch) → IsAhead log batch self.old
-            → OnOk result (LeavesOnly (D.view (disk_of self.old)).moment (D.view (disk_of self.new)).moment
-            (D.since (disk_of self.old)) (D.since (disk_of self.new)) (IsLogOrMore log batch)) }
-        ensures untouched { OnErr result (in_writing self.new ≡ None → disk_of self.new ≡ disk_of self.old) }
-        ensures memory { in_writing self.old ≡ None → IsErrOf result Stop.Memory → (in_writing self.new ≡ None) ⊎ IsTrue D.takes_memory }
-        ensures slots { slots_of self.new ≡ slots_of self.old }
-        ensures fits { (log : List Batch) → IsAhead log batch self.old
-            → OnOk result (extent (bodies_of (log ++ batch ∷ [])) ≤ limit_of self.old) }
-        ensures whole { OnOk result (IsTrue (gates.is_whole_log self.new.log)) }
-        ensures sound { OnOk result (IsTrue (gates.is_sound self.new.log)) }
+        ensures stored { IfOk result (λ stored. stored ≡ batch) }
+        ensures written { (log : List Batch) → IsAhead log batch self.old
+            → OnOk result (IsAdded log batch self.old.log self.new) }
+        ensures unwritten { (log : List Batch) → IsAhead log batch self.old
+            → IfErr result (λ stop. IsUnwritten log batch stop self.old.log self.new) }
+        ensures ready { OnOk result (IsTrue (gates.is_whole_log self.new.log)
+            × IsTrue (gates.is_sound self.new.log) × (in_writing self.new ≡ in_writing self.old)) }
+        ensures untouched { OnErr result
+            (in_writing self.new ≡ None → disk_of self.new ≡ disk_of self.old) }
+        ensures memory { in_writing self.old ≡ None → IsErrOf result Stop.Memory
+            → (in_writing self.new ≡ None) ⊎ IsTrue D.takes_memory }
+        ensures same { IsSamePartition self.old self.new }
         ensures live { is_live self.new ≡ is_live self.old }
-        ensures resting { OnOk result (in_writing self.new ≡ in_writing self.old) }
-        ensures place { partition_number_of self.new ≡ partition_number_of self.old }
-        ensures partitions { partitions_of self.new ≡ partitions_of self.old }
-        ensures limit { limit_of self.new ≡ limit_of self.old }
-        ensures steady { IsTrue D.counts_failures → UnlessDiskFails result ((D.view (disk_of self.new)).faults ≡ (D.view (disk_of self.old)).faults) }
-        ensures later { (D.view (disk_of self.old)).faults ≤ (D.view (disk_of self.new)).faults }
     {
         match self.prepare(&batch) {
             Ok(()) => {}
@@ -388,9 +380,11 @@ impl<D: Disk> Partition<D> {
     // Makes the frame of a batch, if the log has room for it.
     fn prepare(&mut self, batch: &Batch) -> Result<(), Stop>
         ensures frame { OnOk result (self.new.frame.items ≡ framed (bytes_of batch.now)) }
-        ensures fits { OnOk result (gates.length_of self.new.log + length self.new.frame.items ≤ limit_of self.new) }
+        ensures fits { OnOk result
+            (log_length_of self.new + length self.new.frame.items ≤ limit_of self.new) }
         ensures batch { OnOk result (IsBatch batch.now) }
-        ensures full { IfErr result (IsTooLong (gates.length_of self.old.log) (limit_of self.old) batch.now) }
+        ensures full { IfErr result
+            (IsTooLong (log_length_of self.old) (limit_of self.old) batch.now) }
         ensures log { self.new.log ≡ self.old.log }
         ensures slots { slots_of self.new ≡ slots_of self.old }
         ensures state { self.new.state ≡ self.old.state }
@@ -416,9 +410,10 @@ impl<D: Disk> Partition<D> {
 
     // Why the log takes no frame of so many bytes, if it takes none.
     fn full_at(&self, frame: u64) -> Option<Stop>
-        ensures room { IfNone result (gates.length_of self.now.log + frame ≤ limit_of self.now) }
-        ensures full { IfSome result (λ stop. (stop ≡ Stop.LogFull (gates.length_of self.now.log) frame (limit_of self.now))
-            × (limit_of self.now < gates.length_of self.now.log + frame)) }
+        ensures room { IfNone result (log_length_of self.now + frame ≤ limit_of self.now) }
+        ensures full { IfSome result (λ stop.
+            (stop ≡ Stop.LogFull (log_length_of self.now) frame (limit_of self.now))
+            × (limit_of self.now < log_length_of self.now + frame)) }
     {
         let length = self.log.length();
         let limit = self.log.limit();
@@ -450,4 +445,11 @@ fn stop_of(fault: StoreFault) -> Stop
         },
         StoreFault::Memory => Stop::Memory,
     }
+}
+
+// The later one of the last moment of a log and a reading of the clock.
+fn later_of(last: Moment, reading: Moment) -> Moment
+    ensures { result ≡ max last reading }
+{
+    last.max(reading)
 }

@@ -1,4 +1,4 @@
-ghost use Rattle.std.specs.Prelude.{◌≡◌, IsSome, Option, Some, None, IfOk};
+ghost use Rattle.std.specs.Prelude.{◌≡◌, Option, Some, None, IfOk};
 ghost use Rattle.std.specs.List.{filter_map};
 ghost use Rattle.zb_model.specs.declared.record.Event.{Event};
 ghost use Rattle.zb_wire.specs.First.{first_told};
@@ -9,36 +9,44 @@ use crate::{ActivatedJob, Created, DeployedReply, Reply};
 use std::alloc::{AllocError, Global};
 use zb_model::{Batch, Command, Event, JobActivated, List, Outcome, ProcessDefinition, TryCopy};
 
-/// The reply to the request whose command became this batch.
+/// The reply to the request whose command became this batch, if it has one.
 #[tactic(auto, unfolding(crate::specs::Reply::answer_of))]
-pub fn reply_of(alloc: Global, batch: &Batch) -> Result<Reply, AllocError>
-    requires { IsSome (answer_of batch.now) }
-    ensures { IfOk result (λ reply. answer_of batch.now ≡ Some reply) }
+pub fn reply_of(alloc: Global, batch: &Batch) -> Result<Option<Reply>, AllocError>
+    ensures { IfOk result (λ reply. reply ≡ answer_of batch.now) }
 {
     match &batch.outcome {
         Outcome::Accepted(events) => accepted_answer(alloc, &batch.command, events.as_slice()),
-        Outcome::Rejected(rejection) => Ok(Reply::Rejected(rejection.copy(alloc)?)),
+        Outcome::Rejected(rejection) => match rejection.copy(alloc) {
+            Ok(rejection) => Ok(Some(Reply::Rejected(rejection))),
+            Err(AllocError) => Err(AllocError),
+        },
     }
 }
 
 // The reply to a command that was accepted with these events.
-fn accepted_answer(alloc: Global, command: &Command, events: &[Event]) -> Result<Reply, AllocError>
-    requires { IsSome (accepted_answer command.now events.now) }
-    ensures { IfOk result (λ reply. accepted_answer command.now events.now ≡ Some reply) }
+fn accepted_answer(
+    alloc: Global,
+    command: &Command,
+    events: &[Event],
+) -> Result<Option<Reply>, AllocError>
+    ensures { IfOk result (λ reply. reply ≡ accepted_answer command.now events.now) }
 {
     match command {
         Command::DeploymentCreate(_) => first_told::<Deploying>(alloc, events),
         Command::ProcessInstanceCreationCreate(_) => first_told::<Creating>(alloc, events),
-        Command::ProcessInstanceCancel(key) => Ok(Reply::Cancel(*key)),
-        Command::VariableDocumentUpdate(update) => Ok(Reply::Variables(update.scope)),
-        Command::JobBatchActivate(_) => Ok(Reply::Activate(activated_jobs(alloc, events)?)),
-        Command::JobComplete(completion) => Ok(Reply::Complete(completion.key)),
-        Command::JobFail(failure) => Ok(Reply::Fail(failure.key)),
-        Command::JobThrowError(thrown) => Ok(Reply::Throw(thrown.key)),
-        Command::JobUpdateRetries(update) => Ok(Reply::Retries(update.key)),
+        Command::ProcessInstanceCancel(key) => Ok(Some(Reply::Cancel(*key))),
+        Command::VariableDocumentUpdate(update) => Ok(Some(Reply::Variables(update.scope))),
+        Command::JobBatchActivate(_) => match activated_jobs(alloc, events) {
+            Ok(jobs) => Ok(Some(Reply::Activate(jobs))),
+            Err(AllocError) => Err(AllocError),
+        },
+        Command::JobComplete(completion) => Ok(Some(Reply::Complete(completion.key))),
+        Command::JobFail(failure) => Ok(Some(Reply::Fail(failure.key))),
+        Command::JobThrowError(thrown) => Ok(Some(Reply::Throw(thrown.key))),
+        Command::JobUpdateRetries(update) => Ok(Some(Reply::Retries(update.key))),
         Command::MessagePublish(_) => first_told::<Publishing>(alloc, events),
-        Command::IncidentResolve(key) => Ok(Reply::Resolve(*key)),
-        _ => unreachable!(),
+        Command::IncidentResolve(key) => Ok(Some(Reply::Resolve(*key))),
+        _ => Ok(None),
     }
 }
 
@@ -99,16 +107,15 @@ impl Answering for Publishing {
 }
 
 // The reply that the first event tells that tells one.
-fn first_told<A: Answering>(alloc: Global, events: &[Event]) -> Result<Reply, AllocError>
-    requires { IsSome (first_told A.answer events.now) }
-    ensures { IfOk result (λ reply. first_told A.answer events.now ≡ Some reply) }
+fn first_told<A: Answering>(alloc: Global, events: &[Event]) -> Result<Option<Reply>, AllocError>
+    ensures { IfOk result (λ reply. reply ≡ first_told A.answer events.now) }
 {
     for event in events {
         if let Some(reply) = A::reply(alloc, event)? {
-            return Ok(reply);
+            return Ok(Some(reply));
         }
     }
-    unreachable!()
+    Ok(None)
 }
 
 // What is told of a definition.

@@ -1,10 +1,7 @@
 -- The clocks as a run begins.
-use Rattle.std.proofs.Common.{◌≡◌, List, ℕ, [], Bool, IsTrue, is_some, Option, Some, Result, refl, sym, ap, ◌∙◌, subst, arith}
+use Rattle.std.proofs.Common.{◌≡◌, ℕ, [], Bool, IsTrue, is_some, Option, Some, refl, sym, ap, ◌∙◌, subst, arith}
 use Rattle.zb_words.specs.declared.plan.ClockKind.{ClockKind}
 use Rattle.zb_words.specs.declared.plan.ClockKind.TheVariants as kinds
-use Rattle.zb_wire.specs.declared.request.Request.{Request}
-use Rattle.zb_wire.specs.declared.request.LineFault.{LineFault}
-use Rattle.zb_session.specs.Hours.{clock_after}
 use Rattle.zb_session.specs.Serving.{clocks_of, dial_of, AreAt}
 use Rattle.zb_serve.specs.Setting.{hours_of}
 use Rattle.zb_serve.specs.Running.{is_by_hand}
@@ -21,11 +18,4 @@ at_first kind tells upcoming dial by_hand is as_told = subst (λ (d : Option ℕ
 pub by_hand_is : (kind : ClockKind) (dial : Option ℕ) (by_hand : Bool) → dial ≡ dial_of by_hand → by_hand ≡ is_by_hand kind → kind ≡ kinds.Manual → IsTrue (is_some dial)
 by_hand_is kind dial by_hand is as_told manual =
     let stands : dial ≡ Some 0 = is ∙ ap dial_of (as_told ∙ ap is_by_hand manual) in
-    rw stands refl
-
--- and it still has it behind its lines
-pub still_by_hand : (kind : ClockKind) (tells : Bool) (upcoming : ℕ → ℕ) (found : List (Result Request LineFault)) (dial : Option ℕ) (shows : Bool) (now : ℕ → ℕ) → kind ≡ kinds.Manual
-    → AreAt (hours_of kind tells upcoming) found (clocks_of dial shows now) → IsTrue (is_some dial)
-still_by_hand kind tells upcoming found dial shows now by_hand at =
-    let stands : dial ≡ Some (clock_after found) = subst (λ (k : ClockKind). AreAt (hours_of k tells upcoming) found (clocks_of dial shows now)) by_hand at in
     rw stands refl

@@ -1,13 +1,12 @@
 -- How a run of one session ends: what its cause says, and what is left undone.
-use Rattle.std.proofs.Common.{◌≡◌, ℕ, zero, suc, ◌+◌, ◌-◌, ◌<◌, ◌≤◌, List, [], ◌∷◌, ◌++◌, length, slice_get, nat_lt, Bool, true, false, IsTrue, IsFalse, Some, Ok, refl, sym, ap, subst, inl, inr, arith}
+use Rattle.std.proofs.Common.{◌≡◌, ◌⊎◌, ℕ, zero, suc, ◌+◌, ◌-◌, ◌<◌, ◌≤◌, List, [], ◌∷◌, length, slice_get, nat_lt, Bool, true, false, IsTrue, IsFalse, Some, Ok, refl, sym, ap, subst, inl, inr, arith}
 use Rattle.std.specs.List.{AllByRecursion}
 use Rattle.std.proofs.lemmas.Bool.{false≢true}
 use Rattle.std.proofs.lemmas.Bool.Decides.{nat_tests}
 use Rattle.zb_disk.specs.Cause.{Rose}
 use Rattle.zb_model.specs.declared.record.Batch.{Batch}
 use Rattle.zb_world.specs.declared.entry.Entry.{Entry}
-use Rattle.zb_store.specs.Log.{extent}
-use Rattle.zb_partition.specs.Log.{bodies_of}
+use Rattle.zb_partition.specs.Log.{frame_size}
 use Rattle.zb_wire.specs.Request.{request_of}
 use Rattle.zb_desk.specs.Numbered.{OfNumber}
 use Rattle.zb_desk.specs.Serial.{Basis, IsNextEntry, AreMadeFor, IsNextUnit, AreUnits}
@@ -15,11 +14,12 @@ use Rattle.zb_session.specs.Hours.{given_of, moved_by, IsReadingOf}
 use Rattle.zb_session.specs.Answer.{Answer, found_in, entries_made}
 use Rattle.zb_session.specs.Session.{SessionEnds, SessionRun, CutsOff, IsLeftUndone, most_taken}
 use Rattle.zb_session.specs.declared.session.End.{End}
-use Rattle.zb_serve.specs.Ends.{Told, LogEnds}
-use Rattle.zb_serve.specs.Log.{Course, OpenedLog, log_in, batch_of}
-use Rattle.zb_serve.specs.Served.{MayEnd, IsWhyUndone, IsUndone, AreClosing, IsUntroubled, answers_of}
+use Rattle.zb_serve.specs.Ends.{Told, VolumeEnds, EachDisk, AnyDisk, IsSteady}
+use Rattle.zb_serve.specs.Log.{Course, OpenedLog, length_in, batch_of}
+use Rattle.zb_serve.specs.Served.{MayEnd, IsNoneLeft, IsWhyUndone, IsUndone, AreClosing, IsUntroubled, answers_of}
 use Rattle.zb_serve.specs.Cause.{rank_of, comes_before}
-use Rattle.zb_serve.specs.Order.{HasFailed, WasMet}
+use Rattle.zb_serve.specs.Parts.{RunParts}
+use Rattle.zb_serve.specs.Order.{HasFailed, HasDiskFailed, WasMet}
 use Rattle.zb_serve.specs.Running.{ends_alone}
 use Rattle.zb_serve.specs.declared.run.Cause.{Cause}
 use Rattle.zb_serve.specs.declared.run.Cause.TheVariants as causes
@@ -37,10 +37,14 @@ pub record IsNamed (told : Told) (n : ℕ) (sides : SessionEnds) (run : SessionR
   pub not_full : 6 < rank_of cause → run.ended ≡ true
 
 -- and that nothing that comes before it was met at the logs
-pub record AreNamed (course : Course) (ends : List LogEnds) (logs : List OpenedLog) : Type 0 where
+pub record AreNamed (course : Course) (ends : List VolumeEnds) (opened : List OpenedLog) : Type 0 where
   pub steady : 1 < rank_of course.cause → AllByRecursion (IsUntroubled course.told) ends
-  pub room : 2 < rank_of course.cause → (k : ℕ) (opened : OpenedLog) → slice_get logs k ≡ Some opened → (batch : Batch) → batch_of (suc k) course.unlogged ≡ Some batch
-      → extent (bodies_of (log_in course (suc k) opened ++ batch ∷ [])) ≤ course.setting.limit
+  pub room : 2 < rank_of course.cause → (k : ℕ) (one : OpenedLog) → slice_get opened k ≡ Some one → (batch : Batch) → batch_of (suc k) course.unlogged ≡ Some batch
+      → length_in course (suc k) one + frame_size batch ≤ course.setting.limit
+
+-- what a run of one session is made of
+abbrev pub parts_alone : List OpenedLog → SessionRun → (rest closing : List Entry) → RunParts
+parts_alone opened run rest closing = record { opened = opened; runs = run ∷ []; rest = rest; closing = closing }
 
 -- a run that wasn't cut off, of whose streams none failed and whose session isn't full, served every line
 pub whole_served : (told : Told) (n : ℕ) (sides : SessionEnds) (run : SessionRun) (cause : Cause)
@@ -72,6 +76,12 @@ not_told a b never true is = absurd (never (grind (arith, nat_tests)))
 no_failure : (counts : Bool) (before after : ℕ) → HasFailed counts before after → (IsTrue counts → after ≡ before) → ⊥
 no_failure counts before after failed same = absurd (omega (arith, same failed.0, failed.1))
 
+-- nor did those of a volume's disks
+none_failed : (counts : Bool) (ends : VolumeEnds) → (IsTrue counts → EachDisk IsSteady ends) → AnyDisk (HasDiskFailed counts) ends → ⊥
+none_failed counts ends steady (inl failed) = no_failure counts ends.log.before.faults ends.log.after.faults failed (λ t. (steady t).0)
+none_failed counts ends steady (inr (inl failed)) = no_failure counts ends.snap_a.before.faults ends.snap_a.after.faults failed (λ t. (steady t).1)
+none_failed counts ends steady (inr (inr failed)) = no_failure counts ends.snap_b.before.faults ends.snap_b.after.faults failed (λ t. (steady t).2)
+
 -- the one member is the one that has a number
 of_one : {A : Type 0} (member : A) (number : ℕ) (P : A → Type 0) → OfNumber (member ∷ []) number P → P member
 of_one member number P is =
@@ -84,25 +94,25 @@ of_one member number P is =
 -- the run of one session
 module _ (course : Course) (sides : SessionEnds) where
   -- of the causes that were met none comes before the one that is told
-  pub none_first : (ends : List LogEnds) (run : SessionRun) (logs : List OpenedLog) → IsNamed course.told course.partitions sides run course.cause → AreNamed course ends logs → (other : Cause)
-      → WasMet course (ends_alone sides ends) (run ∷ []) logs other → IsFalse (comes_before other course.cause)
-  none_first ends run logs named are (causes.DiskFault partition batch) met =
-      not_told _ _ (λ before. no_failure course.told.disk_counts met.0.disk.faults met.0.disk_after.faults met.3 (all_at (IsUntroubled course.told) ends (partition - 1) met.0 (are.steady before) met.2)) _ refl
-  none_first ends run logs named are (causes.LogFull partition length_told frame most) met =
+  pub none_first : (ends : List VolumeEnds) (run : SessionRun) (opened : List OpenedLog) (rest closing : List Entry) → IsNamed course.told course.partitions sides run course.cause → AreNamed course ends opened → (other : Cause)
+      → WasMet course (ends_alone sides ends) (parts_alone opened run rest closing) other → IsFalse (comes_before other course.cause)
+  none_first ends run opened rest closing named are (causes.DiskFault partition batch) met =
+      not_told _ _ (λ before. none_failed course.told.disk_counts met.0 (all_at (IsUntroubled course.told) ends (partition - 1) met.0 (are.steady before) met.2) met.3) _ refl
+  none_first ends run opened rest closing named are (causes.LogFull partition length_told frame most) met =
       let of = met.2 in
       let number : partition ≡ suc (partition - 1) = number_behind partition of.1 in
       let mine : batch_of (suc (partition - 1)) course.unlogged ≡ Some met.0 = subst (λ (p : ℕ). batch_of p course.unlogged ≡ Some met.0) number met.1 in
-      let over_it : course.setting.limit < extent (bodies_of (log_in course (suc (partition - 1)) of.0 ++ met.0 ∷ [])) =
-      subst (λ (p : ℕ). course.setting.limit < extent (bodies_of (log_in course p of.0 ++ met.0 ∷ []))) number of.3 in
+      let over_it : course.setting.limit < length_in course (suc (partition - 1)) of.0 + frame_size met.0 =
+      subst (λ (p : ℕ). course.setting.limit < length_in course p of.0 + frame_size met.0) number of.3 in
       not_told 2 (rank_of course.cause) (λ (before : 2 < rank_of course.cause). let room = are.room before (partition - 1) of.0 of.2 met.0 mine in absurd (omega (arith, over_it, room))) _ refl
-  none_first ends run logs named are (causes.SourceFault session) met =
+  none_first ends run opened rest closing named are (causes.SourceFault session) met =
       not_told _ _ (λ before. no_failure course.told.source_counts sides.source.faults sides.source_after.faults (of_one sides session _ met) (named.no_source_fault before)) _ refl
-  none_first ends run logs named are (causes.SinkFault session) met =
+  none_first ends run opened rest closing named are (causes.SinkFault session) met =
       not_told _ _ (λ before. no_failure course.told.sink_counts sides.sink.faults sides.sink_after.faults (of_one sides session _ met) (named.no_sink_fault before)) _ refl
-  none_first ends run logs named are (causes.InputFull session) met =
+  none_first ends run opened rest closing named are (causes.InputFull session) met =
       let full = of_one run session _ met in
       not_told _ _ (λ before. let ended = named.not_full before in let more = full.1 in absurd (cc (ended, more))) _ refl
-  none_first ends run logs named are causes.Done met = last course.cause
+  none_first ends run opened rest closing named are causes.Done met = last course.cause
     where
       last : (cause : Cause) → IsFalse (comes_before causes.Done cause)
       last causes.Done = refl
@@ -114,19 +124,18 @@ module _ (course : Course) (sides : SessionEnds) where
       last causes.Memory = refl
       last (causes.LogFull partition length_told frame limit) = refl
       last (causes.InputFull session) = refl
-  none_first ends run logs named are causes.Memory met = absurd met
-  none_first ends run logs named are causes.Usage met = absurd met
-  none_first ends run logs named are (causes.BadLog partition frame) met = absurd met
+  none_first ends run opened rest closing named are causes.Memory met = absurd met
+  none_first ends run opened rest closing named are causes.Usage met = absurd met
+  none_first ends run opened rest closing named are (causes.BadLog partition frame) met = absurd met
 
   -- what it left undone, by what it goes by
-  module _ (basis : Basis) (many : length basis.logs ≡ course.partitions) (run : SessionRun) where
+  module _ (basis : Basis) (many : length basis.logs ≡ course.partitions) (opened : List OpenedLog) (run : SessionRun) where
     alone : run.answers ≡ answers_of (run ∷ [])
     alone = append_none run.answers
 
-    pub undone_of : (rest : List Entry) (end : End) → IsLeftUndone course.setting.hours basis run rest course.unlogged end → (CutsOff end → IsWhyUndone course.cause course.unlogged)
-        → IsUndone course basis (run ∷ []) rest []
-    undone_of rest end (inl none) why = inl none
-    undone_of rest end (inr (first, cuts)) why =
+    pub undone_of : (rest : List Entry) (end : End) → IsLeftUndone course.setting.hours basis run rest course.unlogged end → IsUndone course basis (parts_alone opened run rest [])
+    undone_of rest end (inl none) = inl none
+    undone_of rest end (inr (first, cuts)) =
         let cut = first.cut in
         inr (inl (
           refl,
@@ -146,17 +155,21 @@ module _ (course : Course) (sides : SessionEnds) where
                 read = subst (λ (answers : List Answer). IsReadingOf course.setting.hours (found_in answers) (moved_by (Ok cut.request)) cut.reading) alone cut.read;
                 made = subst (λ (answers : List Answer). AreMadeFor basis cut.request cut.reading (entries_made answers) rest) alone cut.made;
                 next = λ entry is. subst (λ (answers : List Answer). IsNextEntry basis cut.request cut.reading (entries_made answers) rest entry) alone (cut.next entry is);
-                why = why cuts;
               },
             ),
           ),
         ))
 
+    -- and why
+    pub why_of : (volumes : List VolumeEnds) (rest : List Entry) (end : End) → IsLeftUndone course.setting.hours basis run rest course.unlogged end → (CutsOff end → IsWhyUndone course.cause volumes course.unlogged)
+        → IsNoneLeft course (parts_alone opened run rest []) ⊎ IsWhyUndone course.cause volumes course.unlogged
+    why_of volumes rest end (inl none) why = inl none
+    why_of volumes rest end (inr (first, cuts)) why = inr (why cuts)
+
     -- units of work behind the last line that were cut off
     pub undone_work : (closing : List Entry) (reading : ℕ) → IsReadingOf course.setting.hours (found_in run.answers) 0 reading → AreUnits basis reading (entries_made run.answers) closing
-        → ((entry : Entry) → course.unlogged ≡ Some entry → IsNextUnit basis reading (entries_made run.answers) closing entry) → IsWhyUndone course.cause course.unlogged
-        → IsUndone course basis (run ∷ []) [] closing
-    undone_work closing reading read made next why =
+        → ((entry : Entry) → course.unlogged ≡ Some entry → IsNextUnit basis reading (entries_made run.answers) closing entry) → IsUndone course basis (parts_alone opened run [] closing)
+    undone_work closing reading read made next =
         inr (inr (
           refl,
           record {
@@ -164,12 +177,11 @@ module _ (course : Course) (sides : SessionEnds) where
             read = subst (λ (answers : List Answer). IsReadingOf course.setting.hours (found_in answers) 0 reading) alone read;
             made = subst (λ (answers : List Answer). AreUnits basis reading (entries_made answers) closing) alone made;
             next = λ entry is. subst (λ (answers : List Answer). IsNextUnit basis reading (entries_made answers) closing entry) alone (next entry is);
-            why = why;
           },
         ))
 
     -- and units of work that were done
     pub closing_of : (closing : List Entry) (reading : ℕ) → IsReadingOf course.setting.hours (found_in run.answers) 0 reading → AreUnits basis reading (entries_made run.answers) closing
-        → AreClosing course basis (answers_of (run ∷ [])) closing
+        → AreClosing course basis (parts_alone opened run [] closing)
     closing_of closing reading read made =
         inr (reading, subst (λ (answers : List Answer). IsReadingOf course.setting.hours (found_in answers) 0 reading) alone read, subst (λ (answers : List Answer). AreUnits basis reading (entries_made answers) closing) alone made)

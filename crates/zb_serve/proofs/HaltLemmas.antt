@@ -1,5 +1,5 @@
 -- How a run is told that ends by itself, or by a stop of one of its partitions.
-use Rattle.std.proofs.Common.{◌≡◌, ℕ, zero, suc, ◌<◌, ◌≤◌, List, [], ◌∷◌, ◌++◌, length, map, take, slice_get, IsTrue, IsFalse, Option, Some, None, Result, Ok, Err, ◌-◌, refl, sym, ap, ◌∙◌, subst, inl, inr, arith}
+use Rattle.std.proofs.Common.{◌≡◌, ℕ, zero, suc, ◌+◌, ◌<◌, ◌≤◌, List, [], ◌∷◌, ◌++◌, length, map, take, slice_get, IsTrue, IsFalse, Option, Some, None, Result, Ok, Err, ◌-◌, refl, sym, ap, ◌∙◌, subst, inl, inr, arith}
 use Rattle.std.specs.Option.{option_or}
 use Rattle.std.specs.List.{AllByRecursion}
 use Rattle.std.proofs.lemmas.Bool.{false≢true}
@@ -12,12 +12,11 @@ use Rattle.zb_model.specs.declared.stop.Stop.{Stop}
 use Rattle.zb_model.specs.declared.stop.Stop.TheVariants as stops
 use Rattle.zb_rules.specs.Step.{EachOn}
 use Rattle.zb_rules.proofs.StepLaws.{each_on_none, each_on_all, each_on_joined}
-use Rattle.zb_store.specs.Log.{extent}
 use Rattle.zb_store.specs.declared.volume.Volume.{Volume}
-use Rattle.zb_partition.specs.Log.{bodies_of}
-use Rattle.zb_partition.specs.Partition.{disk_of, slots_of, in_writing}
+use Rattle.zb_partition.specs.Log.{frame_size}
+use Rattle.zb_partition.specs.Partition.{disk_of, in_writing}
 use Rattle.zb_partition.specs.declared.partition.Partition.{Partition}
-use Rattle.zb_partition.specs.Stopping.{IsStopCause}
+use Rattle.zb_partition.specs.Submitting.{IsStopCause}
 use Rattle.zb_world.specs.Entries.{IsPartitionOf, places_of, stamps_of}
 use Rattle.zb_world.specs.declared.entry.Entry.{Entry}
 use Rattle.zb_wire.specs.declared.request.Request.{Request}
@@ -30,22 +29,24 @@ use Rattle.zb_session.specs.Answer.{Answer, found_in, entries_made, IsServed, Is
 use Rattle.zb_session.specs.Session.{Streams, SessionEnds, SessionRun, CutsOff, IsLeftUndone, LeavesDesk, IsEndOf, HasServed}
 use Rattle.zb_session.specs.declared.session.End.{End}
 use Rattle.zb_session.specs.declared.session.End.TheVariants as endings
-use Rattle.zb_engine.specs.Ledger.{Opening, slots_in}
-use Rattle.zb_engine.specs.Solo.{Start, many_in, logs_in, basis_in, place_at_start, HasPart, IsLeftPart, IsBatchOf, partitions_in, stamps_in, kept_in, HasMade, HasEnded}
+use Rattle.zb_partition.specs.Ledger.{Opening, Account}
+use Rattle.zb_engine.specs.Solo.{Start, account_in, many_in, logs_in, basis_in, place_at_start, HasPart, Halted, halted_at, IsLeftPart, IsBatchOf, partitions_in, stamps_in, kept_in, HasMade, HasEnded}
 use Rattle.zb_engine.specs.declared.solo.Solo.{Solo}
 use Rattle.zb_serve.specs.Setting.{RunSetting}
-use Rattle.zb_serve.specs.Ends.{Told, LogEnds, RunEnds, logs_ends, Crashes, crashes_of}
-use Rattle.zb_serve.specs.Log.{Course, course_of, OpenedLog, log_in, batch_of, IsLog}
-use Rattle.zb_serve.specs.Served.{IsWhyUndone, IsUntroubled, Serves, batches_of, answer_of_run, HasRun, IsRun, slots_of_all}
+use Rattle.zb_serve.specs.Ends.{Told, VolumeEnds, RunEnds, volumes_ends, Crashes, crashes_of}
+use Rattle.zb_serve.specs.Log.{Course, course_of, OpenedLog, length_in, batch_of, IsVolume, IsLog, IsLogIn}
+use Rattle.zb_serve.specs.Served.{IsWhyUndone, IsUntroubled, Serves, answer_of_run, HasRun, IsRun}
+use Rattle.zb_serve.specs.Slots.{AreSlotsLeft, AreAllSlotsLeft}
 use Rattle.zb_serve.specs.Cause.{rank_of, comes_before, cuts_off}
-use Rattle.zb_serve.specs.Opening.{volumes_in, IsBegunOver}
+use Rattle.zb_serve.specs.Opening.{IsFoundOver, volumes_in, IsBegunOver}
 use Rattle.zb_serve.specs.WorkOff.{facts_in, Behind, behind_of, AreWorkedOff, AreWorkCut, IsWorkedOff}
 use Rattle.zb_serve.specs.Running.{ends_alone, files_of, first_writing, stop_cause_of, cause_of}
 use Rattle.zb_serve.specs.declared.run.Cause.{Cause}
 use Rattle.zb_serve.specs.declared.run.Cause.TheVariants as causes
-use Rattle.zb_serve.proofs.ListLemmas.{append_none, some_same, member_at, place_within, mapped_at, unmapped_at, map_map, all_at, or_none, each_length, first_at, first_by, number_behind}
-use Rattle.zb_serve.proofs.LogLemmas.{told_by, AreTold, crashes_told, none_left, opened_by, ends_by, account_log, stopped_log, stopped_steady, stopped_room, why}
-use Rattle.zb_serve.proofs.EndLemmas.{IsNamed, AreNamed, undone_of, undone_work, closing_of}
+use Rattle.zb_serve.proofs.ListLemmas.{append_none, some_same, member_at, place_within, mapped_at, unmapped_at, all_at, has_number, or_none, each_length, first_at, first_by, number_behind}
+use Rattle.zb_serve.proofs.LogLemmas.{told_by, AreTold, crashes_told, ends_at, ends_many, none_left, opened_by, ends_by, account_volume, account_log, account_steady, stopped_volume, stopped_log, stopped_steady, stopped_room}
+use Rattle.zb_serve.proofs.GroundLemmas.{tails_of}
+use Rattle.zb_serve.proofs.EndLemmas.{IsNamed, AreNamed, undone_of, why_of, undone_work, closing_of}
 use Rattle.zb_serve.proofs.OverLemmas.{HasCome, over}
 
 -- what a cause says of a session that ended by itself, or of which memory was wanting
@@ -137,22 +138,22 @@ module _ {D : Type 0} (streams : Streams) (disks : Ghosts D) (n : ℕ) (sides : 
   }
 
 -- why a line was left undone: the batch that was made last isn't in the log, or there was no memory
-undone_by : (before after limit : ℕ) (log : List Batch) (number : ℕ) (unlogged : Option Entry) (refused writing : Option Batch) (stop : Stop) → IsBatchOf number unlogged refused
-    → IsStopCause before after limit log refused writing stop → IsWhyUndone (stop_cause_of writing (Some (number, stop))) unlogged
-undone_by before after limit log number unlogged refused writing stops.Memory last why = tt
-undone_by before after limit log number None refused writing stops.DiskFault last why = absurd (let e : None ≡ Some why.1.0 = sym last ∙ (why.2 ∙ why.1.1) in cc (e))
-undone_by before after limit log number (Some entry) refused writing stops.DiskFault last why = refl
-undone_by before after limit log number None refused writing (stops.LogFull a b c) last why = absurd (let e : None ≡ Some why.4.0 = sym last ∙ why.4.1 in cc (e))
-undone_by before after limit log number (Some entry) refused writing (stops.LogFull a b c) last why = refl
+undone_by : {D : Type 0} (account : Account D) (rose : Type 0) (number : ℕ) (volumes : List VolumeEnds) (unlogged : Option Entry) (refused writing : Option Batch) (stop : Stop) → IsBatchOf number unlogged refused
+    → IsStopCause account rose refused writing stop → IsWhyUndone (stop_cause_of writing (Some (number, stop))) volumes unlogged
+undone_by account rose number volumes unlogged refused writing stops.Memory last why = tt
+undone_by account rose number volumes None refused writing stops.DiskFault last why = absurd (let e : None ≡ Some why.1.0 = sym last ∙ (why.2 ∙ why.1.1) in cc (e))
+undone_by account rose number volumes (Some entry) refused writing stops.DiskFault last why = inl refl
+undone_by account rose number volumes None refused writing (stops.LogFull a b c) last why = absurd (let e : None ≡ Some why.4.0 = sym last ∙ why.4.1 in cc (e))
+undone_by account rose number volumes (Some entry) refused writing (stops.LogFull a b c) last why = refl
 
 -- a cause of a session that ends so is told so
-own_undone : (writing : Option Batch) (end : End) → (end ≡ endings.Stopped → ⊥) → CutsOff end → IsWhyUndone {A = Entry} (cause_of writing None end) None
-own_undone writing endings.Memory own cuts = tt
-own_undone writing endings.Stopped own cuts = absurd (own refl)
-own_undone writing endings.Done own cuts = absurd cuts
-own_undone writing endings.SourceFault own cuts = absurd cuts
-own_undone writing endings.SinkFault own cuts = absurd cuts
-own_undone writing endings.InputFull own cuts = absurd cuts
+own_undone : (writing : Option Batch) (volumes : List VolumeEnds) (end : End) → (end ≡ endings.Stopped → ⊥) → CutsOff end → IsWhyUndone (cause_of writing None end) volumes None
+own_undone writing volumes endings.Memory own cuts = tt
+own_undone writing volumes endings.Stopped own cuts = absurd (own refl)
+own_undone writing volumes endings.Done own cuts = absurd cuts
+own_undone writing volumes endings.SourceFault own cuts = absurd cuts
+own_undone writing volumes endings.SinkFault own cuts = absurd cuts
+own_undone writing volumes endings.InputFull own cuts = absurd cuts
 
 -- it names no partition
 own_no_disk_fault : (writing : Option Batch) (end : End) → (end ≡ endings.Stopped → ⊥) → (number : ℕ) (batch : Option Batch) → cause_of writing None end ≡ causes.DiskFault number batch → ⊥
@@ -248,7 +249,7 @@ units_come : (basis : Basis) (reading : ℕ) (earlier units : List Entry) → Ar
 units_come basis reading earlier units made = λ k entry at. unit_follows_on basis reading earlier (take k units) entry (made k entry at)
 
 -- an engine as it ended, which began over these volumes with this limit
-module _ {D : Type 0} {disks : Ghosts D} (streams : Streams) (hours : Hours) (images_told : IsTrue disks.tells_images → IsTrue disks.tells) (start : Start D) (limit : ℕ) (limits : AllByRecursion (λ opening. opening.limit ≡ limit) start.openings)
+module _ {D : Type 0} {disks : Ghosts D} (streams : Streams) (hours : Hours) (images_told : IsTrue disks.tells_images → IsTrue disks.tells) (start : Start D) (limit : ℕ) (limits : AllByRecursion (λ opening. opening.limit ≡ limit) start.openings) (found : EachFrom (IsFoundOver disks) 1 (volumes_in start) start.openings)
     (sides : SessionEnds) (solo : Solo D disks) where
   abbrev n : ℕ
   n = many_in start
@@ -259,8 +260,8 @@ module _ {D : Type 0} {disks : Ghosts D} (streams : Streams) (hours : Hours) (im
   abbrev news : List (Volume D)
   news = map files_of ps
 
-  abbrev ends : List LogEnds
-  ends = logs_ends disks (volumes_in start) news
+  abbrev ends : List VolumeEnds
+  ends = volumes_ends disks (volumes_in start) news
 
   abbrev crashes : Crashes
   crashes = crashes_of disks (volumes_in start) news
@@ -268,8 +269,8 @@ module _ {D : Type 0} {disks : Ghosts D} (streams : Streams) (hours : Hours) (im
   abbrev setting : RunSetting
   setting = record { hours = hours; limit = limit; units = start.units }
 
-  abbrev logs : List OpenedLog
-  logs = map opened_by start.openings
+  abbrev opened : List OpenedLog
+  opened = map opened_by start.openings
 
   abbrev basis : Basis
   basis = basis_in start
@@ -280,36 +281,38 @@ module _ {D : Type 0} {disks : Ghosts D} (streams : Streams) (hours : Hours) (im
   abbrev Runs : Cause → ℕ → Type 0
   Runs cause units = HasRun (told_by streams disks) setting (ends_alone sides ends) crashes (answer_of_run cause (stamps_in solo) units)
 
-  batches : batches_of logs ≡ logs_in start
-  batches = map_map (λ (log : OpenedLog). log.batches) opened_by start.openings
+  -- each log is what was found of it
+  tails_from : (number : ℕ) (os : List (Opening D)) → EachFrom (IsFoundOver disks) number (map (λ opening. opening.volume) os) os → tails_of (map opened_by os) ≡ map (λ opening. opening.batches) os
+  tails_from number [] each = refl
+  tails_from number (o ∷ os) each = ap (λ (log : List Batch). log ∷ tails_of (map opened_by os)) (sym each.0.log_is) ∙ ap (λ logs. o.batches ∷ logs) (tails_from (suc number) os each.1)
+
+  tails : tails_of opened ≡ logs_in start
+  tails = tails_from 1 start.openings found
 
   many_logs : length (logs_in start) ≡ n
   many_logs = length-map start.openings (λ (opening : Opening D). opening.batches)
 
-  -- what holds of each opening and its partition holds of the logs
-  logs_from : (c : Course) (number : ℕ) (os : List (Opening D)) (qs : List (Partition D disks)) → EachFrom (λ k o p. IsLog c crashes k (ends_by o p) (opened_by o)) number os qs
-      → EachFrom (IsLog c crashes) number (logs_ends disks (map (λ opening. opening.volume) os) (map files_of qs)) (map opened_by os)
-  logs_from c number [] [] each = tt
-  logs_from c number (o ∷ os) (q ∷ qs) each = (each.0, logs_from c (suc number) os qs each.1)
-  logs_from c number [] (q ∷ qs) each = absurd each
-  logs_from c number (o ∷ os) [] each = absurd each
+  -- what holds of each opening and its partition holds of the volumes
+  volumes_from : (c : Course) (number : ℕ) (os : List (Opening D)) (qs : List (Partition D disks)) → EachFrom (λ k o p. IsVolume c crashes k (ends_by o p) (opened_by o)) number os qs
+      → EachFrom (IsVolume c crashes) number (volumes_ends disks (map (λ opening. opening.volume) os) (map files_of qs)) (map opened_by os)
+  volumes_from c number [] [] each = tt
+  volumes_from c number (o ∷ os) (q ∷ qs) each = (each.0, volumes_from c (suc number) os qs each.1)
+  volumes_from c number [] (q ∷ qs) each = absurd each
+  volumes_from c number (o ∷ os) [] each = absurd each
 
   steady_from : (number : ℕ) (os : List (Opening D)) (qs : List (Partition D disks)) → EachFrom (λ k o p. IsUntroubled (told_by streams disks) (ends_by o p)) number os qs
-      → AllByRecursion (IsUntroubled (told_by streams disks)) (logs_ends disks (map (λ opening. opening.volume) os) (map files_of qs))
+      → AllByRecursion (IsUntroubled (told_by streams disks)) (volumes_ends disks (map (λ opening. opening.volume) os) (map files_of qs))
   steady_from number [] [] each = tt
   steady_from number (o ∷ os) (q ∷ qs) each = (each.0, steady_from (suc number) os qs each.1)
   steady_from number [] (q ∷ qs) each = absurd each
   steady_from number (o ∷ os) [] each = absurd each
 
-  count_from : (number : ℕ) (os : List (Opening D)) (qs : List (Partition D disks)) → length os ≡ length qs → length (logs_ends disks (map (λ opening. opening.volume) os) (map files_of qs)) ≡ length os
-  count_from number [] [] many = refl
-  count_from number (o ∷ os) (q ∷ qs) many = ap suc (count_from (suc number) os qs (omega (arith, many)))
-  count_from number [] (q ∷ qs) many = absurd (omega (arith, many))
-  count_from number (o ∷ os) [] many = absurd (omega (arith, many))
-
   -- the opening and the partition at a place
   limit_at : (k : ℕ) (o : Opening D) → slice_get start.openings k ≡ Some o → o.limit ≡ limit
   limit_at k o at = all_at (λ opening. opening.limit ≡ limit) start.openings k o limits at
+
+  found_at : (k : ℕ) (o : Opening D) → slice_get start.openings k ≡ Some o → IsFoundOver disks (suc k) o.volume o
+  found_at k o at = first_at (IsFoundOver disks) (volumes_in start) start.openings k o.volume o found (mapped_at (λ opening. opening.volume) start.openings k o at) at
 
   told_at : (k : ℕ) (o : Opening D) (p : Partition D disks) → slice_get start.openings k ≡ Some o → slice_get ps k ≡ Some p → AreTold disks crashes (suc k) o.volume.log (disk_of p)
   told_at k o p at_o at_p = crashes_told disks (volumes_in start) news k o.volume (files_of p) (mapped_at (λ opening. opening.volume) start.openings k o at_o) (mapped_at files_of ps k p at_p)
@@ -319,32 +322,46 @@ module _ {D : Type 0} {disks : Ghosts D} (streams : Streams) (hours : Hours) (im
     abbrev c : Course
     c = course c_entries c_unlogged c_cause
 
+    -- each log goes on from what was found of it
+    logs_from : ((k : ℕ) (o : Opening D) (p : Partition D disks) → slice_get start.openings k ≡ Some o → slice_get ps k ≡ Some p → IsLog c crashes (suc k) (ends_by o p) (opened_by o) o.batches)
+        → EachFrom (IsLogIn c (ends_alone sides ends) crashes) 1 opened (tails_of opened)
+    logs_from is_log = first_by (IsLogIn c (ends_alone sides ends) crashes) opened (tails_of opened) (sym (length-map opened (λ one. one.found.tail))) (λ k one log at_one at_log.
+        let o = unmapped_at opened_by start.openings k one at_one in
+        let p = member_at ps k (let within_it = place_within start.openings k o.0 o.1 in omega (arith, within_it, many)) in
+        let same : one.found.tail ≡ log = some_same one.found.tail log (sym (mapped_at (λ one. one.found.tail) opened k one at_one) ∙ at_log) in
+        has_number ends k (ends_by o.0 p.0) (λ volume. IsLog c crashes (suc k) volume one log) (ends_at disks (volumes_in start) news k o.0.volume (files_of p.0) (mapped_at (λ opening. opening.volume) start.openings k o.0 o.1) (mapped_at files_of ps k p.0 p.1))
+        (subst (λ (l : List Batch). IsLog c crashes (suc k) (ends_by o.0 p.0) one l) same
+        (subst (λ (l : OpenedLog). IsLog c crashes (suc k) (ends_by o.0 p.0) l l.found.tail) o.2
+        (subst (λ (l : List Batch). IsLog c crashes (suc k) (ends_by o.0 p.0) (opened_by o.0) l) (found_at k o.0 o.1).log_is (is_log k o.0 p.0 o.1 p.1)))))
+
     run_is : (end : End) (run : SessionRun) (rest closing : List Entry) (units : ℕ)
         → (end ≡ endings.SinkFault → IsFalse (comes_before (causes.SinkFault 1) c_cause)) → (end ≡ endings.Memory → IsTrue (cuts_off c_cause))
         → (IsTrue (cuts_off c_cause) → units ≡ 0)
         → c_entries ≡ entries_made run.answers ++ (rest ++ closing)
         → AllByRecursion (λ entry. IsPartitionOf n entry.partition) c_entries
-        → ((k : ℕ) (o : Opening D) (p : Partition D disks) → slice_get start.openings k ≡ Some o → slice_get ps k ≡ Some p → IsLog c crashes (suc k) (ends_by o p) (opened_by o))
+        → ((k : ℕ) (o : Opening D) (p : Partition D disks) → slice_get start.openings k ≡ Some o → slice_get ps k ≡ Some p → IsVolume c crashes (suc k) (ends_by o p) (opened_by o))
+        → ((k : ℕ) (o : Opening D) (p : Partition D disks) → slice_get start.openings k ≡ Some o → slice_get ps k ≡ Some p → IsLog c crashes (suc k) (ends_by o p) (opened_by o) o.batches)
         → IsNamed (told_by streams disks) n sides run c_cause
         → (1 < rank_of c_cause → (k : ℕ) (o : Opening D) (p : Partition D disks) → slice_get start.openings k ≡ Some o → slice_get ps k ≡ Some p → IsUntroubled (told_by streams disks) (ends_by o p))
         → (2 < rank_of c_cause → (k : ℕ) (o : Opening D) (p : Partition D disks) → slice_get start.openings k ≡ Some o → slice_get ps k ≡ Some p → (batch : Batch) → batch_of (suc k) c_unlogged ≡ Some batch
-        → extent (bodies_of (log_in c (suc k) (opened_by o) ++ batch ∷ [])) ≤ limit)
-        → HasCome streams c sides run end rest closing units (stamps_in solo) (logs_in start)
+        → length_in c (suc k) (opened_by o) + frame_size batch ≤ limit)
+        → HasCome streams c sides ends opened run end rest closing units (stamps_in solo) (logs_in start)
         → Runs c_cause units
-    run_is end run rest closing units failed forgot unsettled split within is_log named steady room come =
-        let each : EachFrom (λ k o p. IsLog c crashes k (ends_by o p) (opened_by o)) 1 start.openings ps = first_by (λ k o p. IsLog c crashes k (ends_by o p) (opened_by o)) start.openings ps many is_log in
-        let are_named : AreNamed c ends logs = record {
+    run_is end run rest closing units failed forgot unworked split within is_volume is_log named steady room come =
+        let each : EachFrom (λ k o p. IsVolume c crashes k (ends_by o p) (opened_by o)) 1 start.openings ps = first_by (λ k o p. IsVolume c crashes k (ends_by o p) (opened_by o)) start.openings ps many is_volume in
+        let are_named : AreNamed c ends opened = record {
           steady = λ before. steady_from 1 start.openings ps (first_by (λ k o p. IsUntroubled (told_by streams disks) (ends_by o p)) start.openings ps many (steady before));
-          room = λ before k opened at batch last.
-              let o = unmapped_at opened_by start.openings k opened at in
+          room = λ before k one at batch last.
+              let o = unmapped_at opened_by start.openings k one at in
               let p = member_at ps k (let within_it = place_within start.openings k o.0 o.1 in omega (arith, within_it, many)) in
-              subst (λ (l : OpenedLog). extent (bodies_of (log_in c (suc k) l ++ batch ∷ [])) ≤ limit) o.2 (room before k o.0 p.0 o.1 p.1 batch last);
+              subst (λ (l : OpenedLog). length_in c (suc k) l + frame_size batch ≤ limit) o.2 (room before k o.0 p.0 o.1 p.1 batch last);
         } in
+        let as_many : length ends ≡ n = ends_many disks (volumes_in start) news (length-map ps files_of ∙ (sym many ∙ sym (length-map start.openings (λ opening. opening.volume)))) ∙ (length-map ps files_of ∙ sym many) in
         let serves : Serves c (ends_alone sides ends) crashes (stamps_in solo) units =
-        over streams c crashes sides ends logs run end rest closing units (stamps_in solo) refl refl refl (length-map start.openings opened_by) failed forgot unsettled split within
-        (logs_from c 1 start.openings ps each) named are_named
-        (subst (HasCome streams c sides run end rest closing units (stamps_in solo)) (sym batches) come) in
-        (c_entries, c_unlogged, subst (λ (m : ℕ). Serves (course_of (told_by streams disks) setting m c_entries c_unlogged c_cause) (ends_alone sides ends) crashes (stamps_in solo) units) (sym (count_from 1 start.openings ps many)) serves)
+        over streams c crashes sides ends opened run end rest closing units (stamps_in solo) (length-map start.openings opened_by) within (volumes_from c 1 start.openings ps each) (logs_from is_log)
+        (subst (HasCome streams c sides ends opened run end rest closing units (stamps_in solo)) (sym tails) come)
+        refl refl refl failed forgot unworked split named are_named in
+        (c_entries, c_unlogged, subst (λ (m : ℕ). Serves (course_of (told_by streams disks) setting m c_entries c_unlogged c_cause) (ends_alone sides ends) crashes (stamps_in solo) units) (sym as_many) serves)
 
   -- nothing stopped it
   module _ (entries : List Entry) (h : HasMade start entries solo) where
@@ -356,31 +373,36 @@ module _ {D : Type 0} {disks : Ghosts D} (streams : Streams) (hours : Hours) (im
 
     made_over : (writing : Option Batch) (end : End) (run : SessionRun) (rest closing : List Entry) (units : ℕ) → (end ≡ endings.Stopped → ⊥) → IsEndOf streams sides run end
         → entries ≡ entries_made run.answers ++ (rest ++ closing) → (IsTrue (cuts_off (cause_of writing None end)) → units ≡ 0)
-        → HasCome streams (course entries None (cause_of writing None end)) sides run end rest closing units (stamps_in solo) (logs_in start)
+        → HasCome streams (course entries None (cause_of writing None end)) sides ends opened run end rest closing units (stamps_in solo) (logs_in start)
         → Runs (cause_of writing None end) units
-    made_over writing end run rest closing units own is_end split unsettled come =
+    made_over writing end run rest closing units own is_end split unworked come =
         let cause = cause_of writing None end in
         run_is entries None cause made_many end run rest closing units
-        (λ e. subst (λ (ended : End). IsFalse (comes_before (causes.SinkFault 1) (cause_of writing None ended))) (sym e) refl) (λ e. subst (λ (ended : End). IsTrue (cuts_off (cause_of writing None ended))) (sym e) refl) unsettled split h.within
+        (λ e. subst (λ (ended : End). IsFalse (comes_before (causes.SinkFault 1) (cause_of writing None ended))) (sym e) refl) (λ e. subst (λ (ended : End). IsTrue (cuts_off (cause_of writing None ended))) (sym e) refl) unworked split h.within
         (λ k o p at_o at_p.
         let part = part_at k o p at_o at_p in
-        account_log streams images_told setting n entries None cause crashes (suc k) o p part.0.0 part.0.1 (limit_at k o at_o) (told_at k o p at_o at_p) part.1 refl
+        account_volume streams images_told setting n entries None cause crashes (suc k) o p part.0.0 part.0.1 (limit_at k o at_o) (found_at k o at_o) (told_at k o p at_o at_p) part.1 refl
         (λ batch e. own_no_disk_fault writing end own (suc k) batch e) (λ a b d e. own_not_full writing end own (suc k) a b d e))
+        (λ k o p at_o at_p.
+        let part = part_at k o p at_o at_p in
+        account_log streams images_told setting n entries None cause crashes (suc k) o p part.0.0 part.0.1 (limit_at k o at_o) (found_at k o at_o) (told_at k o p at_o at_p) part.1 refl)
         (named_by streams disks n sides run writing end own is_end)
-        (λ before k o p at_o at_p. (part_at k o p at_o at_p).1.steady)
+        (λ before k o p at_o at_p.
+        let part = part_at k o p at_o at_p in
+        account_steady streams images_told setting n entries None cause crashes (suc k) o p part.0.0 part.0.1 (limit_at k o at_o) (found_at k o at_o) (told_at k o p at_o at_p) part.1 refl)
         (λ before k o p at_o at_p batch e. absurd (cc (e)))
         come
 
   -- a partition stopped it
   module _ (entries : List Entry) (unlogged : Option Entry) (stop : Stop) (h : HasEnded start entries unlogged stop solo) where
     ended_many : length start.openings ≡ length ps
-    ended_many = each_length (IsLeftPart n entries unlogged h.at stop) 1 start.openings ps h.parts
+    ended_many = each_length (IsLeftPart n entries (halted_at h.at stop unlogged)) 1 start.openings ps h.parts
 
-    left_at : (k : ℕ) (o : Opening D) (p : Partition D disks) → slice_get start.openings k ≡ Some o → slice_get ps k ≡ Some p → IsLeftPart n entries unlogged h.at stop (suc k) o p
-    left_at k o p at_o at_p = first_at (IsLeftPart n entries unlogged h.at stop) start.openings ps k o p h.parts at_o at_p
+    left_at : (k : ℕ) (o : Opening D) (p : Partition D disks) → slice_get start.openings k ≡ Some o → slice_get ps k ≡ Some p → IsLeftPart n entries (halted_at h.at stop unlogged) (suc k) o p
+    left_at k o p at_o at_p = first_at (IsLeftPart n entries (halted_at h.at stop unlogged)) start.openings ps k o p h.parts at_o at_p
 
     -- no other partition was writing
-    resting : (number : ℕ) (o : Opening D) (p : Partition D disks) → IsLeftPart n entries unlogged h.at stop number o p → (number ≡ h.at → ⊥) → in_writing p ≡ None
+    resting : (number : ℕ) (o : Opening D) (p : Partition D disks) → IsLeftPart n entries (halted_at h.at stop unlogged) number o p → (number ≡ h.at → ⊥) → in_writing p ≡ None
     resting number o p (of, inl live) other = live.1.is_open.has.resting
     resting number o p (of, inr dead) other = absurd (other dead.0)
 
@@ -398,38 +420,47 @@ module _ {D : Type 0} {disks : Ghosts D} (streams : Streams) (hours : Hours) (im
     none_of : (number : ℕ) → (number ≡ h.at → ⊥) → batch_of number unlogged ≡ None
     none_of number other = none_left number unlogged (λ entry is its. other (sym its ∙ (h.last entry is).0))
 
-    log_by : (k : ℕ) (o : Opening D) (p : Partition D disks) → slice_get start.openings k ≡ Some o → slice_get ps k ≡ Some p → IsLeftPart n entries unlogged h.at stop (suc k) o p
-        → IsLog (course entries unlogged ended_cause) crashes (suc k) (ends_by o p) (opened_by o)
-    log_by k o p at_o at_p (of, inl live) =
-        account_log streams images_told setting n entries unlogged ended_cause crashes (suc k) o p of.0 of.1 (limit_at k o at_o) (told_at k o p at_o at_p) live.1 (none_of (suc k) live.0)
+    volume_by : (k : ℕ) (o : Opening D) (p : Partition D disks) → slice_get start.openings k ≡ Some o → slice_get ps k ≡ Some p → IsLeftPart n entries (halted_at h.at stop unlogged) (suc k) o p
+        → IsVolume (course entries unlogged ended_cause) crashes (suc k) (ends_by o p) (opened_by o)
+    volume_by k o p at_o at_p (of, inl live) =
+        account_volume streams images_told setting n entries unlogged ended_cause crashes (suc k) o p of.0 of.1 (limit_at k o at_o) (found_at k o at_o) (told_at k o p at_o at_p) live.1 (none_of (suc k) live.0)
         (λ batch e. live.0 (stop_disk_number (first_writing ps) h.at stop (suc k) batch e)) (λ a b d e. live.0 (stop_full_number (first_writing ps) h.at stop (suc k) a b d e))
+    volume_by k o p at_o at_p (of, inr dead) =
+        let d = dead.1 in
+        stopped_volume streams images_told setting n entries unlogged ended_cause crashes (suc k) o p of.0 of.1 (limit_at k o at_o) (found_at k o at_o) (told_at k o p at_o at_p) d.0 stop d.2 d.1 (cause_at k p dead.0 at_p)
+
+    log_by : (k : ℕ) (o : Opening D) (p : Partition D disks) → slice_get start.openings k ≡ Some o → slice_get ps k ≡ Some p → IsLeftPart n entries (halted_at h.at stop unlogged) (suc k) o p
+        → IsLog (course entries unlogged ended_cause) crashes (suc k) (ends_by o p) (opened_by o) o.batches
+    log_by k o p at_o at_p (of, inl live) =
+        account_log streams images_told setting n entries unlogged ended_cause crashes (suc k) o p of.0 of.1 (limit_at k o at_o) (found_at k o at_o) (told_at k o p at_o at_p) live.1 (none_of (suc k) live.0)
     log_by k o p at_o at_p (of, inr dead) =
         let d = dead.1 in
-        stopped_log streams images_told setting n entries unlogged ended_cause crashes (suc k) o p of.0 of.1 (limit_at k o at_o) (told_at k o p at_o at_p) d.0 stop d.2 d.1 (cause_at k p dead.0 at_p)
+        stopped_log streams images_told setting n entries unlogged ended_cause crashes (suc k) o p of.0 of.1 (limit_at k o at_o) (found_at k o at_o) (told_at k o p at_o at_p) d.0 stop d.2 d.1 (cause_at k p dead.0 at_p)
 
-    steady_by : 1 < rank_of ended_cause → (k : ℕ) (o : Opening D) (p : Partition D disks) → slice_get start.openings k ≡ Some o → slice_get ps k ≡ Some p → IsLeftPart n entries unlogged h.at stop (suc k) o p
+    steady_by : 1 < rank_of ended_cause → (k : ℕ) (o : Opening D) (p : Partition D disks) → slice_get start.openings k ≡ Some o → slice_get ps k ≡ Some p → IsLeftPart n entries (halted_at h.at stop unlogged) (suc k) o p
         → IsUntroubled (told_by streams disks) (ends_by o p)
-    steady_by before k o p at_o at_p (of, inl live) = live.1.steady
+    steady_by before k o p at_o at_p (of, inl live) =
+        account_steady streams images_told setting n entries unlogged ended_cause crashes (suc k) o p of.0 of.1 (limit_at k o at_o) (found_at k o at_o) (told_at k o p at_o at_p) live.1 (none_of (suc k) live.0)
     steady_by before k o p at_o at_p (of, inr dead) =
         let d = dead.1 in
-        stopped_steady streams images_told setting n entries unlogged ended_cause crashes (suc k) o p of.0 of.1 (limit_at k o at_o) (told_at k o p at_o at_p) d.0 stop d.2 d.1 (cause_at k p dead.0 at_p) before
+        stopped_steady streams images_told setting n entries unlogged ended_cause crashes (suc k) o p of.0 of.1 (limit_at k o at_o) (found_at k o at_o) (told_at k o p at_o at_p) d.0 stop d.2 d.1 (cause_at k p dead.0 at_p) before
 
-    room_by : 2 < rank_of ended_cause → (k : ℕ) (o : Opening D) (p : Partition D disks) → slice_get start.openings k ≡ Some o → slice_get ps k ≡ Some p → IsLeftPart n entries unlogged h.at stop (suc k) o p
-        → (batch : Batch) → batch_of (suc k) unlogged ≡ Some batch → extent (bodies_of (log_in (course entries unlogged ended_cause) (suc k) (opened_by o) ++ batch ∷ [])) ≤ limit
+    room_by : 2 < rank_of ended_cause → (k : ℕ) (o : Opening D) (p : Partition D disks) → slice_get start.openings k ≡ Some o → slice_get ps k ≡ Some p → IsLeftPart n entries (halted_at h.at stop unlogged) (suc k) o p
+        → (batch : Batch) → batch_of (suc k) unlogged ≡ Some batch → length_in (course entries unlogged ended_cause) (suc k) (opened_by o) + frame_size batch ≤ limit
     room_by before k o p at_o at_p (of, inl live) batch e = absurd (let some : None ≡ Some batch = sym (none_of (suc k) live.0) ∙ e in cc (some))
     room_by before k o p at_o at_p (of, inr dead) batch e =
         let d = dead.1 in
-        stopped_room streams images_told setting n entries unlogged ended_cause crashes (suc k) o p of.0 of.1 (limit_at k o at_o) (told_at k o p at_o at_p) d.0 stop d.2 d.1 (cause_at k p dead.0 at_p) before batch e
+        stopped_room streams images_told setting n entries unlogged ended_cause crashes (suc k) o p of.0 of.1 (limit_at k o at_o) (found_at k o at_o) (told_at k o p at_o at_p) d.0 stop d.2 d.1 (cause_at k p dead.0 at_p) before batch e
 
     -- why something was left undone
-    why_at : (k : ℕ) (o : Opening D) (p : Partition D disks) → suc k ≡ h.at → slice_get ps k ≡ Some p → IsLeftPart n entries unlogged h.at stop (suc k) o p → IsWhyUndone ended_cause unlogged
+    why_at : (k : ℕ) (o : Opening D) (p : Partition D disks) → suc k ≡ h.at → slice_get ps k ≡ Some p → IsLeftPart n entries (halted_at h.at stop unlogged) (suc k) o p → IsWhyUndone ended_cause ends unlogged
     why_at k o p here at_p (of, inl live) = absurd (live.0 here)
     why_at k o p here at_p (of, inr dead) =
         let d = dead.1 in
-        subst (λ (cause : Cause). IsWhyUndone cause unlogged) (sym (cause_at k p here at_p))
-        (undone_by _ _ _ _ (suc k) unlogged d.0 (in_writing p) stop d.1 d.2.cause)
+        subst (λ (cause : Cause). IsWhyUndone cause ends unlogged) (sym (cause_at k p here at_p))
+        (undone_by {D = D} (account_in (suc k) o entries) _ (suc k) ends unlogged d.0 (in_writing p) stop d.1 d.2.cause)
 
-    why_ended : IsWhyUndone ended_cause unlogged
+    why_ended : IsWhyUndone ended_cause ends unlogged
     why_ended =
         let here : suc (h.at - 1) ≡ h.at = sym (number_behind h.at h.of.0) in
         let o = member_at start.openings (h.at - 1) (omega (arith, h.of.0, h.of.1)) in
@@ -437,11 +468,12 @@ module _ {D : Type 0} {disks : Ghosts D} (streams : Streams) (hours : Hours) (im
         why_at (h.at - 1) o.0 p.0 here p.1 (left_at (h.at - 1) o.0 p.0 o.1 p.1)
 
     ended_over : (end : End) (run : SessionRun) (rest closing : List Entry) → entries ≡ entries_made run.answers ++ (rest ++ closing)
-        → HasCome streams (course entries unlogged ended_cause) sides run end rest closing 0 (stamps_in solo) (logs_in start)
+        → HasCome streams (course entries unlogged ended_cause) sides ends opened run end rest closing 0 (stamps_in solo) (logs_in start)
         → Runs ended_cause 0
     ended_over end run rest closing split come =
         run_is entries unlogged ended_cause ended_many end run rest closing 0
         (λ e. stop_first (first_writing ps) h.at stop) (λ e. stop_cuts (first_writing ps) h.at stop) (λ cut. refl) split h.within
+        (λ k o p at_o at_p. volume_by k o p at_o at_p (left_at k o p at_o at_p))
         (λ k o p at_o at_p. log_by k o p at_o at_p (left_at k o p at_o at_p))
         (named_stop streams disks n sides run (first_writing ps) h.at h.of stop)
         (λ before k o p at_o at_p. steady_by before k o p at_o at_p (left_at k o p at_o at_p))
@@ -490,23 +522,29 @@ module _ {D : Type 0} {disks : Ghosts D} (streams : Streams) (hours : Hours) (im
             (ended_over entries unlogged stop h end run rest [] split
             (record {
               served = served;
-              undone = undone_of (course entries unlogged cause) sides basis many_logs run rest end undone (λ c. why_ended entries unlogged stop h);
+              undone = undone_of (course entries unlogged cause) sides basis many_logs opened run rest end undone;
+              why = why_of (course entries unlogged cause) sides basis many_logs opened run ends rest end undone (λ c. why_ended entries unlogged stop h);
               delivered = inl refl;
+              worked = λ uncut. absurd (false≢true (sym uncut ∙ stop_cuts (first_writing ps) h.at stop));
               settled = λ uncut. absurd (false≢true (sym uncut ∙ stop_cuts (first_writing ps) h.at stop));
               stamped = h.stamped;
               each = come.0;
               last = λ entry e. (subst (IsPartitionOf n) (sym (h.last entry e).0) h.of, come.1 entry e);
             }))
         by_end endings.Memory is cut (h, none) =
+            let forgot_cuts : IsFalse (cuts_off (cause_of (first_writing ps) None end)) → ⊥ = λ uncut.
+            let cuts_too : IsFalse (cuts_off (cause_of (first_writing ps) None endings.Memory)) = subst (λ (e : End). IsFalse (cuts_off (cause_of (first_writing ps) None e))) is uncut in false≢true (sym cuts_too) in
             subst (λ (k : Option (ℕ × Stop)). Runs (cause_of (first_writing ps) k endings.Memory) 0) (sym h.goes_on)
             (subst (λ (e : End). Runs (cause_of (first_writing ps) None e) 0) is
             (made_over entries h (first_writing ps) end run rest [] 0 (λ e. let no : endings.Memory ≡ endings.Stopped = sym is ∙ e in cc (no)) served.ends split (λ c. refl)
             (record {
               served = served;
-              undone = undone_of (course entries None (cause_of (first_writing ps) None end)) sides basis many_logs run rest end (subst (λ (u : Option Entry). IsLeftUndone hours basis run rest u end) none undone)
-                  (λ c. own_undone (first_writing ps) end (λ e. let no : endings.Memory ≡ endings.Stopped = sym is ∙ e in cc (no)) c);
+              undone = undone_of (course entries None (cause_of (first_writing ps) None end)) sides basis many_logs opened run rest end (subst (λ (u : Option Entry). IsLeftUndone hours basis run rest u end) none undone);
+              why = why_of (course entries None (cause_of (first_writing ps) None end)) sides basis many_logs opened run ends rest end (subst (λ (u : Option Entry). IsLeftUndone hours basis run rest u end) none undone)
+                  (λ c. own_undone (first_writing ps) ends end (λ e. let no : endings.Memory ≡ endings.Stopped = sym is ∙ e in cc (no)) c);
               delivered = inl refl;
-              settled = λ uncut. absurd (let cuts_too : IsFalse (cuts_off (cause_of (first_writing ps) None endings.Memory)) = subst (λ (e : End). IsFalse (cuts_off (cause_of (first_writing ps) None e))) is uncut in false≢true (sym cuts_too));
+              worked = λ uncut. absurd (forgot_cuts uncut);
+              settled = λ uncut. absurd (forgot_cuts uncut);
               stamped = h.stamped;
               each = come.0;
               last = λ entry e. absurd (cc (e));
@@ -541,8 +579,10 @@ module _ {D : Type 0} {disks : Ghosts D} (streams : Streams) (hours : Hours) (im
         (record {
           served = served;
           undone = inl (refl, refl);
-          delivered = closing_of (course entries None (cause_of writing None end)) sides basis many_logs run d.units w.reading w.read made;
-          settled = λ c. (d.told, last);
+          why = inl (refl, refl);
+          delivered = closing_of (course entries None (cause_of writing None end)) sides basis many_logs opened run d.units w.reading w.read made;
+          worked = λ c. d.told;
+          settled = λ c. last;
           stamped = h.stamped;
           each = each_on_joined (FollowsOn (logs_in start)) [] (entries_made run.answers) d.units answered (units_come basis w.reading (entries_made run.answers) d.units made);
           last = λ entry e. absurd (cc (e));
@@ -564,8 +604,10 @@ module _ {D : Type 0} {disks : Ghosts D} (streams : Streams) (hours : Hours) (im
         (ended_over entries d.unlogged w.stop h end run [] d.units refl
         (record {
           served = served;
-          undone = undone_work (course entries d.unlogged (ended_cause entries d.unlogged w.stop h)) sides basis many_logs run d.units w.reading w.read made next (why_ended entries d.unlogged w.stop h);
-          delivered = closing_of (course entries d.unlogged (ended_cause entries d.unlogged w.stop h)) sides basis many_logs run d.units w.reading w.read made;
+          undone = undone_work (course entries d.unlogged (ended_cause entries d.unlogged w.stop h)) sides basis many_logs opened run d.units w.reading w.read made next;
+          why = inr (why_ended entries d.unlogged w.stop h);
+          delivered = closing_of (course entries d.unlogged (ended_cause entries d.unlogged w.stop h)) sides basis many_logs opened run d.units w.reading w.read made;
+          worked = λ c. absurd (false≢true (sym c ∙ stop_cuts writing h.at w.stop));
           settled = λ c. absurd (false≢true (sym c ∙ stop_cuts writing h.at w.stop));
           stamped = h.stamped;
           each = each_on_joined (FollowsOn (logs_in start)) [] (entries_made run.answers) d.units answered (units_come basis w.reading (entries_made run.answers) d.units made);
@@ -592,26 +634,25 @@ module _ {D : Type 0} {disks : Ghosts D} (start : Start D) (solo : Solo D disks)
   pub record IsLeft : Type 0 where
     pub many : length (partitions_in solo) ≡ many_in start
     pub stamps : length (stamps_in solo) ≡ many_in start
-    pub slots : slots_of_all (map files_of (partitions_in solo)) ≡ slots_of_all (volumes_in start)
+    pub slots : AreAllSlotsLeft (volumes_in start) (map files_of (partitions_in solo))
 
   slots_made : (n : ℕ) (entries : List Entry) (number : ℕ) (os : List (Opening D)) (qs : List (Partition D disks)) → EachFrom (HasPart n entries) number os qs
-      → slots_of_all (map files_of qs) ≡ slots_of_all (map (λ opening. opening.volume) os)
-  slots_made n entries number [] [] each = refl
-  slots_made n entries number (o ∷ os) (q ∷ qs) each = ap (λ (s : D × D). s ∷ slots_of_all (map files_of qs)) each.0.1.slots ∙ ap (λ (l : List (D × D)). slots_in o.volume ∷ l) (slots_made n entries (suc number) os qs each.1)
+      → AreAllSlotsLeft (map (λ opening. opening.volume) os) (map files_of qs)
+  slots_made n entries number [] [] each = tt
+  slots_made n entries number (o ∷ os) (q ∷ qs) each = (each.0.1.slots, slots_made n entries (suc number) os qs each.1)
   slots_made n entries number [] (q ∷ qs) each = absurd each
   slots_made n entries number (o ∷ os) [] each = absurd each
 
-  slot_left : (n : ℕ) (entries : List Entry) (unlogged : Option Entry) (at : ℕ) (stop : Stop) (number : ℕ) (o : Opening D) (q : Partition D disks) → IsLeftPart n entries unlogged at stop number o q → slots_of q ≡ slots_in o.volume
-  slot_left n entries unlogged at stop number o q (of, inl live) = live.1.slots
-  slot_left n entries unlogged at stop number o q (of, inr dead) = dead.1.2.slots
+  slot_left : (n : ℕ) (entries : List Entry) (halted : Halted) (number : ℕ) (o : Opening D) (q : Partition D disks) → IsLeftPart n entries halted number o q → AreSlotsLeft o.volume (files_of q)
+  slot_left n entries halted number o q (of, inl live) = live.1.slots
+  slot_left n entries halted number o q (of, inr dead) = dead.1.2.slots
 
-  slots_ended : (n : ℕ) (entries : List Entry) (unlogged : Option Entry) (at : ℕ) (stop : Stop) (number : ℕ) (os : List (Opening D)) (qs : List (Partition D disks)) → EachFrom (IsLeftPart n entries unlogged at stop) number os qs
-      → slots_of_all (map files_of qs) ≡ slots_of_all (map (λ opening. opening.volume) os)
-  slots_ended n entries unlogged at stop number [] [] each = refl
-  slots_ended n entries unlogged at stop number (o ∷ os) (q ∷ qs) each =
-      ap (λ (s : D × D). s ∷ slots_of_all (map files_of qs)) (slot_left n entries unlogged at stop number o q each.0) ∙ ap (λ (l : List (D × D)). slots_in o.volume ∷ l) (slots_ended n entries unlogged at stop (suc number) os qs each.1)
-  slots_ended n entries unlogged at stop number [] (q ∷ qs) each = absurd each
-  slots_ended n entries unlogged at stop number (o ∷ os) [] each = absurd each
+  slots_ended : (n : ℕ) (entries : List Entry) (halted : Halted) (number : ℕ) (os : List (Opening D)) (qs : List (Partition D disks)) → EachFrom (IsLeftPart n entries halted) number os qs
+      → AreAllSlotsLeft (map (λ opening. opening.volume) os) (map files_of qs)
+  slots_ended n entries halted number [] [] each = tt
+  slots_ended n entries halted number (o ∷ os) (q ∷ qs) each = (slot_left n entries halted number o q each.0, slots_ended n entries halted (suc number) os qs each.1)
+  slots_ended n entries halted number [] (q ∷ qs) each = absurd each
+  slots_ended n entries halted number (o ∷ os) [] each = absurd each
 
   stamps_count : (m first : ℕ) (entries : List Entry) → length (stamps_of m first entries) ≡ m
   stamps_count m first entries = length-map-range_with_len (λ p. places_of p first entries) 1 m
@@ -625,9 +666,9 @@ module _ {D : Type 0} {disks : Ghosts D} (start : Start D) (solo : Solo D disks)
 
   left_ended : (entries : List Entry) (unlogged : Option Entry) (stop : Stop) → HasEnded start entries unlogged stop solo → IsLeft
   left_ended entries unlogged stop h = record {
-    many = sym (each_length (IsLeftPart (many_in start) entries unlogged h.at stop) 1 start.openings (partitions_in solo) h.parts);
+    many = sym (each_length (IsLeftPart (many_in start) entries (halted_at h.at stop unlogged)) 1 start.openings (partitions_in solo) h.parts);
     stamps = ap length h.stamped ∙ stamps_count (many_in start) (place_at_start start) entries;
-    slots = slots_ended (many_in start) entries unlogged h.at stop 1 start.openings (partitions_in solo) h.parts;
+    slots = slots_ended (many_in start) entries (halted_at h.at stop unlogged) 1 start.openings (partitions_in solo) h.parts;
   }
 
   left_desk : (end : End) (entries : List Entry) (unlogged : Option Entry) → LeavesDesk (facts_in start solo) entries unlogged end → IsLeft
@@ -650,20 +691,20 @@ run_by told setting ends crashes cause units [] some run = absurd (omega (arith,
 run_by told setting ends crashes cause units (stamp ∷ stamps) some run = run
 
 -- the run is over, in the words of what was closed
-module _ {D : Type 0} {disks : Ghosts D} (streams : Streams) (hours : Hours) (images_told : IsTrue disks.tells_images → IsTrue disks.tells) (start : Start D) (limit units : ℕ) (volumes : List (Volume D)) (begun : IsBegunOver limit units volumes start)
+module _ {D : Type 0} {disks : Ghosts D} (streams : Streams) (hours : Hours) (images_told : IsTrue disks.tells_images → IsTrue disks.tells) (start : Start D) (limit units : ℕ) (volumes : List (Volume D)) (begun : IsBegunOver disks limit units volumes start)
     (sides : SessionEnds) (solo : Solo D disks) where
   abbrev IsRunTo : List (Volume D) → ℕ → List (Volume D) → Cause → List (List ℕ) → ℕ → Type 0
   IsRunTo olds bound news cause stamps count =
-      IsRun (told_by streams disks) (record { hours = hours; limit = limit; units = bound }) (ends_alone sides (logs_ends disks olds news)) (crashes_of disks olds news) (answer_of_run cause stamps count)
+      IsRun (told_by streams disks) (record { hours = hours; limit = limit; units = bound }) (ends_alone sides (volumes_ends disks olds news)) (crashes_of disks olds news) (answer_of_run cause stamps count)
 
   pub closed_over : (run : SessionRun) (end : End) → HasServed streams hours (basis_in start) sides run end → (rest : List Entry) (unlogged : Option Entry) (told_end : End) (count : ℕ) → IsLeftUndone hours (basis_in start) run rest unlogged end
       → IsWorkedOff (basis_in start) (behind_of hours (found_in run.answers) (entries_made run.answers ++ rest) unlogged end) (facts_in start solo) (told_end, count)
       → (news : List (Volume D)) → news ≡ map files_of (partitions_in solo) → (cause : Cause) → cause ≡ cause_of (first_writing (partitions_in solo)) (kept_in solo) told_end → (stamps : List (List ℕ)) → stamps ≡ stamps_in solo → (told_count : ℕ) → told_count ≡ count
       → 1 ≤ length (stamps_in solo) → IsRunTo volumes units news cause stamps told_count
   closed_over run end served rest unlogged told_end count undone worked news are_news cause is_cause stamps are_stamps told_count is_count some =
-      let own = run_by (told_by streams disks) (record { hours = hours; limit = limit; units = start.units }) (ends_alone sides (logs_ends disks (volumes_in start) (map files_of (partitions_in solo)))) (crashes_of disks (volumes_in start) (map files_of (partitions_in solo)))
+      let own = run_by (told_by streams disks) (record { hours = hours; limit = limit; units = start.units }) (ends_alone sides (volumes_ends disks (volumes_in start) (map files_of (partitions_in solo)))) (crashes_of disks (volumes_in start) (map files_of (partitions_in solo)))
       (cause_of (first_writing (partitions_in solo)) (kept_in solo) told_end) count (stamps_in solo) some
-      (run_over streams hours images_told start limit begun.most sides solo run end served rest unlogged told_end count undone worked) in
+      (run_over streams hours images_told start limit begun.most (subst (λ (olds : List (Volume D)). EachFrom (IsFoundOver disks) 1 olds start.openings) (sym begun.over) begun.found) sides solo run end served rest unlogged told_end count undone worked) in
       subst (λ (olds : List (Volume D)). IsRunTo olds units news cause stamps told_count) begun.over
       (subst (λ (bound : ℕ). IsRunTo (volumes_in start) bound news cause stamps told_count) begun.bound
       (subst (λ (l : List (Volume D)). IsRunTo (volumes_in start) start.units l cause stamps told_count) (sym are_news)

@@ -5,8 +5,7 @@ use Rattle.std.proofs.lemmas.Bool.Decides.{nat_tests}
 use Rattle.std.proofs.lemmas.List.{take_all}
 use Rattle.std.proofs.lemmas.List.Elements.{All-nil, All-cons}
 use Rattle.zb_model.specs.declared.record.Batch.{Batch}
-use Rattle.zb_store.specs.Stands.{Stands}
-use Rattle.zb_partition.specs.Log.{bodies_of}
+use Rattle.zb_partition.specs.Log.{StandsFor}
 use Rattle.zb_once.specs.Once.{AtMostOne}
 use Rattle.zb_world.specs.Entries.{IsPartitionOf, is_of, part_of, parts_of}
 use Rattle.zb_world.specs.declared.entry.Entry.{Entry}
@@ -16,7 +15,7 @@ use Rattle.zb_world.proofs.HistoryLaws.{whole_is_cut}
 use Rattle.zb_world.proofs.OnceLaws.{happens_once}
 use Rattle.zb_desk.specs.Serial.{log_behind}
 use Rattle.zb_desk.proofs.SentLaws.{AreSerially, serial_goes_on}
-use Rattle.zb_serve.specs.Ends.{Told, LogEnds}
+use Rattle.zb_serve.specs.Ends.{Told, VolumeEnds}
 use Rattle.zb_serve.specs.Log.{batch_if, batch_of, IsKept}
 use Rattle.zb_serve.specs.History.{GoesOnWith, AreCut, AreImages}
 use Rattle.zb_serve.specs.declared.run.Cause.{Cause}
@@ -51,14 +50,14 @@ batch_is number (Some entry) batch e = elim (cases_eq entry.partition number) [
 
 -- an image of the log at a place stands for it, or for it with the batch of the entry that isn't in it
 abbrev pub IsKeptAt : Option Entry → ℕ → List Batch → List ℕ → Type 0
-IsKeptAt unlogged k log image = Stands image (bodies_of log)
-    ⊎ ((entry : Entry) × (unlogged ≡ Some entry) × (entry.partition ≡ suc k) × Stands image (bodies_of (log ++ entry.batch ∷ [])))
+IsKeptAt unlogged k log image = StandsFor image log
+    ⊎ ((entry : Entry) × (unlogged ≡ Some entry) × (entry.partition ≡ suc k) × StandsFor image (log ++ entry.batch ∷ []))
 
-pub kept_at : (told : Told) (ends : LogEnds) (cause : Cause) (unlogged : Option Entry) (k : ℕ) (log : List Batch) (image : List ℕ) → IsKept told ends cause (batch_of (suc k) unlogged) log image → IsKeptAt unlogged k log image
+pub kept_at : (told : Told) (ends : VolumeEnds) (cause : Cause) (unlogged : Option Entry) (k : ℕ) (log : List Batch) (image : List ℕ) → IsKept told ends cause (batch_of (suc k) unlogged) log image → IsKeptAt unlogged k log image
 kept_at told ends cause unlogged k log image (inl stands) = inl stands
 kept_at told ends cause unlogged k log image (inr kept) =
     let of = batch_is (suc k) unlogged kept.0.0 kept.0.1 in
-    inr (of.entry, of.is, of.its, subst (λ (batch : Batch). Stands image (bodies_of (log ++ batch ∷ []))) (sym of.same) kept.0.3)
+    inr (of.entry, of.is, of.its, subst (λ (batch : Batch). StandsFor image (log ++ batch ∷ [])) (sym of.same) kept.0.3)
 
 -- one entry is at most one
 only_one : (p : ℕ) (e : Entry) → AtMostOne (is_of p) (e ∷ [])
@@ -80,13 +79,13 @@ one_more_is_cut n h e entry =
 -- images that stand for all of a history, or for it and one more entry
 module _ (n : ℕ) (h : List Entry) (kept : List (List ℕ)) (many : length kept ≡ n) where
   abbrev StandFor : List Entry → Type 0
-  StandFor cut = (k : ℕ) (image : List ℕ) → slice_get kept k ≡ Some image → Stands image (bodies_of (part_of (suc k) cut))
+  StandFor cut = (k : ℕ) (image : List ℕ) → slice_get kept k ≡ Some image → StandsFor image (part_of (suc k) cut)
 
   cut_of : (cut : List Entry) → IsCutAt n (length h) h cut → StandFor cut → AreCut n h kept
   cut_of cut is stand = record {
     cut = cut;
     is = is;
-    stand = zip_parts (λ image part. Stands image (bodies_of part)) n kept cut many stand;
+    stand = zip_parts StandsFor n kept cut many stand;
   }
 
 -- what a crash leaves of all logs is a cut of every history of them
@@ -113,7 +112,7 @@ module _ (n : ℕ) (logs : List (List Batch)) (many : length logs ≡ n) (entrie
   none_more : unlogged ≡ None → AreCut n whole kept
   none_more none = cut_of n whole kept all whole (whole_is_cut n whole) (λ k image at. stands k (part_of (suc k) whole) image (by_place k image at))
     where
-      stands : (k : ℕ) (log : List Batch) (image : List ℕ) → IsKeptAt unlogged k log image → Stands image (bodies_of log)
+      stands : (k : ℕ) (log : List Batch) (image : List ℕ) → IsKeptAt unlogged k log image → StandsFor image log
       stands k log image (inl is) = is
       stands k log image (inr more) = absurd (let e : None ≡ Some more.0 = sym none ∙ more.1 in cc (e))
 
@@ -128,31 +127,31 @@ module _ (n : ℕ) (logs : List (List Batch)) (many : length logs ≡ n) (entrie
         one_at kept place image other at (subst (λ (j : ℕ). slice_get kept j ≡ Some other) here there)
 
     -- its image stands for the whole
-    it_has_none : Stands image (bodies_of (part_of entry.partition whole)) → AreCut n whole kept
+    it_has_none : StandsFor image (part_of entry.partition whole) → AreCut n whole kept
     it_has_none stands = cut_of n whole kept all whole (whole_is_cut n whole) (λ k other there. by_kept k other there (by_place k other there))
       where
-        by_kept : (k : ℕ) (other : List ℕ) → slice_get kept k ≡ Some other → IsKeptAt unlogged k (part_of (suc k) whole) other → Stands other (bodies_of (part_of (suc k) whole))
+        by_kept : (k : ℕ) (other : List ℕ) → slice_get kept k ≡ Some other → IsKeptAt unlogged k (part_of (suc k) whole) other → StandsFor other (part_of (suc k) whole)
         by_kept k other there (inl is) = is
         by_kept k other there (inr more) =
             let one : entry ≡ more.0 = some_same entry more.0 (sym is ∙ more.1) in
             let same : entry.partition ≡ suc k = ap (λ (e : Entry). e.partition) one ∙ more.2 in
-            subst (λ (i : List ℕ). Stands i (bodies_of (part_of (suc k) whole))) (same_image k other same there)
-            (subst (λ (p : ℕ). Stands image (bodies_of (part_of p whole))) same stands)
+            subst (λ (i : List ℕ). StandsFor i (part_of (suc k) whole)) (same_image k other same there)
+            (subst (λ (p : ℕ). StandsFor image (part_of p whole)) same stands)
 
     -- or for the whole and the entry
-    it_has_more : Stands image (bodies_of (part_of entry.partition whole ++ entry.batch ∷ [])) → AreCut n whole kept
+    it_has_more : StandsFor image (part_of entry.partition whole ++ entry.batch ∷ []) → AreCut n whole kept
     it_has_more stands = cut_of n whole kept all (whole ++ entry ∷ []) (one_more_is_cut n whole entry (next entry is)) (λ k other there. elim (cases_eq entry.partition (suc k)) [
       | inl same ↦
           let more : part_of (suc k) (whole ++ entry ∷ []) ≡ part_of (suc k) whole ++ entry.batch ∷ [] = part_of_joined (suc k) whole (entry ∷ []) ∙ ap (λ (l : List Batch). part_of (suc k) whole ++ l) (part_of_its (suc k) entry [] same) in
-          subst (λ (l : List Batch). Stands other (bodies_of l)) (sym more)
-          (subst (λ (i : List ℕ). Stands i (bodies_of (part_of (suc k) whole ++ entry.batch ∷ []))) (same_image k other same there)
-          (subst (λ (p : ℕ). Stands image (bodies_of (part_of p whole ++ entry.batch ∷ []))) same stands))
+          subst (λ (l : List Batch). StandsFor other l) (sym more)
+          (subst (λ (i : List ℕ). StandsFor i (part_of (suc k) whole ++ entry.batch ∷ [])) (same_image k other same there)
+          (subst (λ (p : ℕ). StandsFor image (part_of p whole ++ entry.batch ∷ [])) same stands))
       | inr not ↦
           let none : part_of (suc k) (whole ++ entry ∷ []) ≡ part_of (suc k) whole = part_of_joined (suc k) whole (entry ∷ []) ∙ (ap (λ (l : List Batch). part_of (suc k) whole ++ l) (part_of_other (suc k) entry [] not) ∙ append-nil (part_of (suc k) whole)) in
-          subst (λ (l : List Batch). Stands other (bodies_of l)) (sym none) (by_kept k other not (by_place k other there))
+          subst (λ (l : List Batch). StandsFor other l) (sym none) (by_kept k other not (by_place k other there))
     ])
       where
-        by_kept : (k : ℕ) (other : List ℕ) → (entry.partition ≡ suc k → ⊥) → IsKeptAt unlogged k (part_of (suc k) whole) other → Stands other (bodies_of (part_of (suc k) whole))
+        by_kept : (k : ℕ) (other : List ℕ) → (entry.partition ≡ suc k → ⊥) → IsKeptAt unlogged k (part_of (suc k) whole) other → StandsFor other (part_of (suc k) whole)
         by_kept k other not (inl is) = is
         by_kept k other not (inr more) =
             let one : entry ≡ more.0 = some_same entry more.0 (sym is ∙ more.1) in
@@ -165,11 +164,11 @@ module _ (n : ℕ) (logs : List (List Batch)) (many : length logs ≡ n) (entrie
         number = omega (arith, of.0)
 
         by_its : IsKeptAt unlogged place (part_of (suc place) whole) image → AreCut n whole kept
-        by_its (inl stands) = it_has_none (subst (λ (p : ℕ). Stands image (bodies_of (part_of p whole))) number stands)
+        by_its (inl stands) = it_has_none (subst (λ (p : ℕ). StandsFor image (part_of p whole)) number stands)
         by_its (inr more) =
             let one : more.0 ≡ entry = some_same more.0 entry (sym more.1 ∙ is) in
-            it_has_more (subst (λ (p : ℕ). Stands image (bodies_of (part_of p whole ++ entry.batch ∷ []))) number
-            (subst (λ (e : Entry). Stands image (bodies_of (part_of (suc place) whole ++ e.batch ∷ []))) one more.3))
+            it_has_more (subst (λ (p : ℕ). StandsFor image (part_of p whole ++ entry.batch ∷ [])) number
+            (subst (λ (e : Entry). StandsFor image (part_of (suc place) whole ++ e.batch ∷ [])) one more.3))
 
   pub cut_at_end : AreCut n whole kept
   cut_at_end = by_unlogged unlogged refl

@@ -4,6 +4,7 @@ pub mod PartLemmas
 pub mod HistoryLemmas
 pub mod LogLemmas
 pub mod EndLemmas
+pub mod GroundLemmas
 pub mod OverLemmas
 pub mod OpeningLemmas
 pub mod ClosingLemmas

@@ -12,7 +12,7 @@ use Rattle.zb_words.specs.declared.plan.ServePlan.{ServePlan}
 use Rattle.zb_words.specs.declared.fault.PlanFault.{PlanFault}
 use Rattle.zb_words.specs.declared.fault.PlanFault.TheVariants as faults
 use Rattle.zb_serve.specs.Words.{words_cause_of}
-use Rattle.zb_serve.specs.Ends.{Told, RunEnds, Crashes, Devices, told_of, logs_ends, ends_of, crashes_of}
+use Rattle.zb_serve.specs.Ends.{Told, RunEnds, Crashes, Devices, told_of, volumes_ends, ends_of, crashes_of}
 use Rattle.zb_serve.specs.Setting.{RunSetting}
 use Rattle.zb_serve.specs.Served.{MayEnd, FailsToOpen, answer_of_run, IsRun}
 use Rattle.zb_serve.specs.Running.{ends_alone}
@@ -32,15 +32,15 @@ one_set xs x y is = ap (λ l. set l 0 y) is
 pub run_single : {S K D : Type 0} (devices : Devices S K D) (setting : RunSetting) (old new : Session S K) (olds news : List (Session S K)) (volumes volumes' back : List (Volume D))
     (cause : Cause) (units : ℕ) (stamps : List (List ℕ)) → olds ≡ old ∷ [] → news ≡ new ∷ [] → back ≡ volumes'
     → IsRun (told_of devices) setting
-    (ends_alone (session_ends (devices.source.view old.source) (devices.source.view new.source) (devices.sink.view old.sink) (devices.sink.view new.sink)) (logs_ends devices.disk volumes volumes'))
+    (ends_alone (session_ends (devices.source.view old.source) (devices.source.view new.source) (devices.sink.view old.sink) (devices.sink.view new.sink)) (volumes_ends devices.disk volumes volumes'))
     (crashes_of devices.disk volumes volumes') (answer_of_run cause stamps units)
     → IsRun (told_of devices) setting (ends_of devices olds news volumes back) (crashes_of devices.disk volumes back) (answer_of_run cause stamps units)
 run_single devices setting old new olds news volumes volumes' back cause units stamps e1 e2 e3 run = rw (e1, e2, e3) run
 
 -- a run of planned words is no question of usage
 pub not_usage : (told : Told) (setting : RunSetting) (ends : RunEnds) (crashes : Crashes) (cause : Cause) (units : ℕ) (stamps : List (List ℕ)) → IsRun told setting ends crashes (answer_of_run cause stamps units) → cause ≡ causes.Usage → ⊥
-not_usage told setting ends crashes cause units [] run is = subst (λ (c : Cause). FailsToOpen told ends.logs c) is run.0
-not_usage told setting ends crashes cause units (stamp ∷ stamps) run is = subst (λ (c : Cause). MayEnd (length ends.sessions) (length ends.logs) c) is run.2.status
+not_usage told setting ends crashes cause units [] run is = subst (λ (c : Cause). FailsToOpen told ends.volumes c) is run.0
+not_usage told setting ends crashes cause units (stamp ∷ stamps) run is = subst (λ (c : Cause). MayEnd (length ends.sessions) (length ends.volumes) c) is run.2.status
 
 -- words that weren't read were none of a command line, or there was no memory
 pub usage_fault : (fault : PlanFault) → words_cause_of fault ≡ causes.Usage → fault ≡ faults.Usage

@@ -1,4 +1,4 @@
--- Why a run ends: the exit status of each cause, which cause comes before which, and which cut a run off.
+-- Why a run ends: the exit status of each cause, which comes before which, and which cut a run off.
 use Rattle.std.specs.Prelude.{ℕ, nat_lt, Bool}
 use Rattle.zb_serve.specs.declared.run.Cause.{Cause}
 use Rattle.zb_serve.specs.declared.run.Cause.TheVariants as causes

@@ -7,7 +7,8 @@ use Rattle.zb_serve.specs.Setting.{setting_of}
 use Rattle.zb_serve.specs.Words.{IsPlanned}
 use Rattle.zb_serve.specs.Ends.{Devices, told_of, ends_of, crashes_of, IsSafe}
 use Rattle.zb_serve.specs.Cause.{status_of}
-use Rattle.zb_serve.specs.Served.{answer_of_run, IsRun, slots_of_all}
+use Rattle.zb_serve.specs.Served.{answer_of_run, IsRun}
+use Rattle.zb_serve.specs.Slots.{AreAllSlotsLeft}
 use Rattle.zb_session.specs.declared.session.Session.{Session}
 use Rattle.zb_serve.specs.declared.run.Closed.{Closed}
 use Rattle.zb_serve.specs.declared.run.Cause.TheVariants as causes
@@ -23,7 +24,8 @@ abbrev pub clock_at_hand : Bool → (ℕ → ℕ) → ClockAtHand
 clock_at_hand tells upcoming = record { tells = tells; upcoming = upcoming }
 
 -- there was no memory to read the words, and nothing was touched
-pub record IsUnheard {S K D : Type 0} (volumes : List (Volume D)) (closed : Closed S K D) : Type 0 where
+pub record IsUnheard {S K D : Type 0} (volumes : List (Volume D))
+    (closed : Closed S K D) : Type 0 where
   pub memory : closed.cause ≡ causes.Memory
   pub unopened : (closed.stamps.items ≡ []) × (closed.units ≡ 0)
   pub untouched : closed.volumes.items ≡ volumes
@@ -45,10 +47,10 @@ pub record Closes {S K D : Type 0} (devices : Devices S K D) (clock : ClockAtHan
   -- nor is a log that was there before put at risk where none was opened
   pub spared : closed.stamps.items ≡ [] → IsTrue (told_of devices).images
       → AllZip (IsSafe devices.disk) volumes closed.volumes.items
-  -- everything is handed back in order, and the slots for snapshots as they were
+  -- everything is handed back in order, and the slots for snapshots as a run leaves them
   pub same_sessions : length closed.sessions.items ≡ length sessions
   pub same_volumes : length closed.volumes.items ≡ length volumes
-  pub slots : slots_of_all closed.volumes.items ≡ slots_of_all volumes
+  pub slots : AreAllSlotsLeft volumes closed.volumes.items
   -- what the run is, by the plan of the words: its causes, its logs, its sessions, the units of
   -- work behind the last line, and what a crash leaves, now and ever
   pub run : closed.cause ≢ causes.Usage → IsUnheard volumes closed

@@ -1,5 +1,6 @@
 -- What was handed to a run and what it handed back, as plain data.
-use Rattle.std.specs.Prelude.{◌<◌, ℕ, List, [], ◌∷◌, length, Bool}
+use Rattle.std.specs.Prelude.{◌≡◌, ◌⊎◌, ◌<◌, ℕ, List, [], ◌∷◌, length, Bool}
+use Rattle.zb_disk.specs.Cause.{Rose}
 use Rattle.zb_disk.specs.Disk.{DiskView}
 use Rattle.zb_disk.specs.declared.disk.Disk as disk_trait
 use Rattle.zb_outside.specs.declared.source.Source as source_trait
@@ -10,15 +11,46 @@ use Rattle.zb_session.specs.Session.{SessionEnds}
 use Rattle.zb_session.specs.declared.session.Session.{Session}
 use Rattle.zb_store.specs.declared.volume.Volume.{Volume}
 
--- one volume's log, as the run began and as it ended
-pub record LogEnds : Type 0 where
-  pub disk : DiskView
-  pub disk_after : DiskView
+-- a disk, as the run began and as it ended
+pub record DiskEnds : Type 0 where
+  pub before : DiskView
+  pub after : DiskView
 
--- the ends of a run: of each session's streams, and of each volume's log
+-- a volume, as the run began and as it ended: the disk of its log, and those of its slots for
+-- snapshots
+pub record VolumeEnds : Type 0 where
+  pub log : DiskEnds
+  pub snap_a : DiskEnds
+  pub snap_b : DiskEnds
+
+-- each of a volume's disks has P
+abbrev pub EachDisk : (DiskEnds → Type 0) → VolumeEnds → Type 0
+EachDisk P ends = P ends.log × P ends.snap_a × P ends.snap_b
+
+-- the disk of one of its slots has P
+abbrev pub AnySlot : (DiskEnds → Type 0) → VolumeEnds → Type 0
+AnySlot P ends = P ends.snap_a ⊎ P ends.snap_b
+
+-- one of its disks has P
+abbrev pub AnyDisk : (DiskEnds → Type 0) → VolumeEnds → Type 0
+AnyDisk P ends = P ends.log ⊎ AnySlot P ends
+
+-- the count of a disk's faults rose
+abbrev pub HasRisen : DiskEnds → Type 0
+HasRisen ends = Rose ends.before.faults ends.after.faults
+
+-- that count stayed
+abbrev pub IsSteady : DiskEnds → Type 0
+IsSteady ends = ends.after.faults ≡ ends.before.faults
+
+-- no call was made of a disk
+abbrev pub IsUncalled : DiskEnds → Type 0
+IsUncalled ends = ends.after ≡ ends.before
+
+-- the ends of a run: of each session's streams, and of each volume
 pub record RunEnds : Type 0 where
   pub sessions : List SessionEnds
-  pub logs : List LogEnds
+  pub volumes : List VolumeEnds
 
 -- what the types handed in tell, which of their calls may want memory, and which of them count
 -- nothing but failures
@@ -61,7 +93,8 @@ all_told source_tells source_counts sink disk = record {
 
 -- what the devices of a run tell
 abbrev pub told_of : {S K D : Type 0} → Devices S K D → Told
-told_of devices = all_told devices.source.tells devices.source.counts_failures devices.sink devices.disk
+told_of devices =
+    all_told devices.source.tells devices.source.counts_failures devices.sink devices.disk
 
 -- the ends of each session
 abbrev pub sessions_ends : {S K D : Type 0} → Devices S K D → List (Session S K)
@@ -75,14 +108,25 @@ sessions_ends devices (old ∷ olds) (new ∷ news) = record {
 sessions_ends devices [] news = []
 sessions_ends devices (old ∷ olds) [] = []
 
--- the ends of each volume's log
-abbrev pub logs_ends : {D : Type 0} → disk_trait.Ghosts D → List (Volume D) → List (Volume D)
-    → List LogEnds
-logs_ends disks (old ∷ olds) (new ∷ news) =
-    record { disk = disks.view old.log; disk_after = disks.view new.log }
-    ∷ logs_ends disks olds news
-logs_ends disks [] news = []
-logs_ends disks (old ∷ olds) [] = []
+-- the ends of a disk
+abbrev pub disk_ends : {D : Type 0} → disk_trait.Ghosts D → (old new : D) → DiskEnds
+disk_ends disks old new = record { before = disks.view old; after = disks.view new }
+
+-- the ends of a volume
+abbrev pub volume_ends : {D : Type 0} → disk_trait.Ghosts D → (old new : Volume D) → VolumeEnds
+volume_ends disks old new = record {
+  log = disk_ends disks old.log new.log;
+  snap_a = disk_ends disks old.snap_a new.snap_a;
+  snap_b = disk_ends disks old.snap_b new.snap_b;
+}
+
+-- the ends of each volume
+abbrev pub volumes_ends : {D : Type 0} → disk_trait.Ghosts D → List (Volume D) → List (Volume D)
+    → List VolumeEnds
+volumes_ends disks (old ∷ olds) (new ∷ news) =
+    volume_ends disks old new ∷ volumes_ends disks olds news
+volumes_ends disks [] news = []
+volumes_ends disks (old ∷ olds) [] = []
 
 -- the log of a volume was not put at risk: a crash now, or at any moment since the run began,
 -- leaves no more of it than what one before might have left, or an opening
@@ -109,11 +153,11 @@ crashes_of disks before now = record {
       OfNumber now number (λ volume. disks.since volume.log moment image);
 }
 
--- the ends of a run's sessions and logs, as they were handed in and handed back
+-- the ends of a run's sessions and volumes, as they were handed in and handed back
 abbrev pub ends_of : {S K D : Type 0} → Devices S K D
     → (sessions sessions_after : List (Session S K)) → (volumes volumes_after : List (Volume D))
     → RunEnds
 ends_of devices sessions sessions_after volumes volumes_after = record {
   sessions = sessions_ends devices sessions sessions_after;
-  logs = logs_ends devices.disk volumes volumes_after;
+  volumes = volumes_ends devices.disk volumes volumes_after;
 }

@@ -2,8 +2,10 @@ pub mod Words
 pub mod Setting
 pub mod Cause
 pub mod Ends
+pub mod Slots
 pub mod Session
 pub mod Log
+pub mod Parts
 pub mod History
 pub mod Served
 pub mod Opening

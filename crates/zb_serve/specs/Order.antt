@@ -1,12 +1,12 @@
 -- The order of the causes of a run: of those that were met the first is told.
-use Rattle.std.specs.Prelude.{◌≡◌, ◌<◌, ℕ, List, [], ◌∷◌, ◌++◌, length, Bool, false, IsTrue, Some}
+use Rattle.std.specs.Prelude.{◌≡◌, ◌<◌, ◌+◌, ℕ, length, Bool, false, IsTrue, Some}
 use Rattle.zb_model.specs.declared.record.Batch.{Batch}
-use Rattle.zb_store.specs.Log.{extent}
-use Rattle.zb_partition.specs.Log.{bodies_of}
+use Rattle.zb_partition.specs.Log.{frame_size}
 use Rattle.zb_desk.specs.Numbered.{OfNumber}
-use Rattle.zb_session.specs.Session.{SessionRun, most_taken}
-use Rattle.zb_serve.specs.Ends.{RunEnds}
-use Rattle.zb_serve.specs.Log.{Course, OpenedLog, log_in, batch_of}
+use Rattle.zb_session.specs.Session.{most_taken}
+use Rattle.zb_serve.specs.Ends.{DiskEnds, RunEnds, AnyDisk}
+use Rattle.zb_serve.specs.Log.{Course, length_in, batch_of}
+use Rattle.zb_serve.specs.Parts.{RunParts}
 use Rattle.zb_serve.specs.declared.run.Cause.{Cause}
 use Rattle.zb_serve.specs.declared.run.Cause.TheVariants as causes
 
@@ -14,26 +14,29 @@ use Rattle.zb_serve.specs.declared.run.Cause.TheVariants as causes
 abbrev pub HasFailed : Bool → (before after : ℕ) → Type 0
 HasFailed counts_failures before after = IsTrue counts_failures × (before < after)
 
--- a run with these ends, sessions and logs met this cause, whether it was told or not. Want of
--- memory leaves no trace.
-abbrev pub WasMet : Course → RunEnds → List SessionRun → List OpenedLog → Cause → Type 0
-WasMet course ends runs logs (causes.DiskFault partition batch) =
-    OfNumber ends.logs partition
-    (λ log. HasFailed course.told.disk_counts log.disk.faults log.disk_after.faults)
-WasMet course ends runs logs (causes.LogFull partition length_told frame most) = (batch : Batch)
+-- a call of a disk did
+abbrev pub HasDiskFailed : Bool → DiskEnds → Type 0
+HasDiskFailed counts_failures ends =
+    HasFailed counts_failures ends.before.faults ends.after.faults
+
+-- a run with these ends and parts met this cause, whether it was told or not. Want of memory leaves
+-- no trace.
+abbrev pub WasMet : Course → RunEnds → RunParts → Cause → Type 0
+WasMet course ends parts (causes.DiskFault partition batch) =
+    OfNumber ends.volumes partition (AnyDisk (HasDiskFailed course.told.disk_counts))
+WasMet course ends parts (causes.LogFull partition length_told frame most) = (batch : Batch)
     × (batch_of partition course.unlogged ≡ Some batch)
-    × OfNumber logs partition
-    (λ opened. course.setting.limit
-    < extent (bodies_of (log_in course partition opened ++ batch ∷ [])))
-WasMet course ends runs logs causes.Memory = ⊥
-WasMet course ends runs logs (causes.SourceFault session) =
+    × OfNumber parts.opened partition
+    (λ opened. course.setting.limit < length_in course partition opened + frame_size batch)
+WasMet course ends parts causes.Memory = ⊥
+WasMet course ends parts (causes.SourceFault session) =
     OfNumber ends.sessions session
     (λ stream. HasFailed course.told.source_counts stream.source.faults stream.source_after.faults)
-WasMet course ends runs logs (causes.SinkFault session) =
+WasMet course ends parts (causes.SinkFault session) =
     OfNumber ends.sessions session
     (λ stream. HasFailed course.told.sink_counts stream.sink.faults stream.sink_after.faults)
-WasMet course ends runs logs (causes.InputFull session) =
-    OfNumber runs session (λ run. (length run.taken ≡ most_taken) × (run.ended ≡ false))
-WasMet course ends runs logs causes.Done = Unit {0}
-WasMet course ends runs logs causes.Usage = ⊥
-WasMet course ends runs logs (causes.BadLog partition frame) = ⊥
+WasMet course ends parts (causes.InputFull session) =
+    OfNumber parts.runs session (λ run. (length run.taken ≡ most_taken) × (run.ended ≡ false))
+WasMet course ends parts causes.Done = Unit {0}
+WasMet course ends parts causes.Usage = ⊥
+WasMet course ends parts (causes.BadLog partition frame) = ⊥

@@ -1,4 +1,4 @@
--- A run of one session: its ends, the causes that they are told as, and what is left of its partitions.
+-- A run of one session: its ends, the causes that they are told as, and what its partitions leave.
 use Rattle.std.specs.Prelude.{ℕ, List, [], ◌∷◌, Bool, true, false, Option, Some, None}
 use Rattle.std.specs.Option.{option_or}
 use Rattle.zb_disk.specs.declared.disk.Disk.{Ghosts}
@@ -13,13 +13,13 @@ use Rattle.zb_words.specs.declared.plan.ClockKind.TheVariants as kinds
 use Rattle.zb_session.specs.Session.{SessionEnds}
 use Rattle.zb_session.specs.declared.session.End.{End}
 use Rattle.zb_session.specs.declared.session.End.TheVariants as ends
-use Rattle.zb_serve.specs.Ends.{LogEnds, RunEnds}
+use Rattle.zb_serve.specs.Ends.{VolumeEnds, RunEnds}
 use Rattle.zb_serve.specs.declared.run.Cause.{Cause}
 use Rattle.zb_serve.specs.declared.run.Cause.TheVariants as causes
 
--- the ends of the one session, and those of the logs
-abbrev pub ends_alone : SessionEnds → List LogEnds → RunEnds
-ends_alone session logs = record { sessions = session ∷ []; logs = logs }
+-- the ends of the one session, and those of the volumes
+abbrev pub ends_alone : SessionEnds → List VolumeEnds → RunEnds
+ends_alone session volumes = record { sessions = session ∷ []; volumes = volumes }
 
 -- the files of a partition
 abbrev pub files_of : {D : Type 0} {disks : Ghosts D} → Partition D disks → Volume D
@@ -30,7 +30,8 @@ files_of partition = record {
 }
 
 -- the batch that the first of these partitions was writing that was writing one
-abbrev pub first_writing : {D : Type 0} {disks : Ghosts D} → List (Partition D disks) → Option Batch
+abbrev pub first_writing : {D : Type 0} {disks : Ghosts D} → List (Partition D disks)
+    → Option Batch
 first_writing [] = None
 first_writing (partition ∷ partitions) = option_or (in_writing partition) (first_writing partitions)
 

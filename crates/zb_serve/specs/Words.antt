@@ -10,7 +10,8 @@ use Rattle.zb_serve.specs.declared.run.Cause.TheVariants as causes
 
 -- these words, one session and so many volumes can be served by this plan: a volume for each of its
 -- partitions, and files for one session at most
-pub record IsPlanned (given : List (List ℕ)) (sessions volumes : ℕ) (plan : ServePlan) : Type 0 where
+pub record IsPlanned (given : List (List ℕ)) (sessions volumes : ℕ)
+    (plan : ServePlan) : Type 0 where
   pub words : IsPlan given (plans.Serve plan)
   pub one_session : sessions ≡ 1
   pub a_volume_each : volumes ≡ plan.partitions

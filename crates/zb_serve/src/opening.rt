@@ -1,8 +1,8 @@
-ghost use Rattle.std.specs.Prelude.{◌≡◌, ◌≤◌, ◌+◌, ◌^◌, [], length, vec_capacity, IfOk, IfErr};
+ghost use Rattle.std.specs.Prelude.{◌≡◌, ◌≤◌, ◌+◌, ◌^◌, [], length, None, vec_capacity, IfOk, IfErr};
 ghost use Rattle.std.specs.List.{AllZip};
 ghost use Rattle.zb_desk.specs.Numbered.{EachFrom};
-ghost use Rattle.zb_engine.specs.Solo.{Start, HasMade};
-ghost use Rattle.zb_serve.specs.Ends.{Told, logs_ends};
+ghost use Rattle.zb_engine.specs.Solo.{Start, HasMade, partitions_in, kept_in};
+ghost use Rattle.zb_serve.specs.Ends.{Told, volumes_ends};
 ghost use Rattle.zb_serve.specs.Served.{FailsToOpen};
 ghost use Rattle.zb_serve.specs.Opening.{open_cause_of, TellsOf, IsHandedBack, IsOpenedOver, IsBegunOver};
 
@@ -29,13 +29,15 @@ pub fn open_engine<D: Disk>(
     requires some { 1 ≤ length volumes.items }
     requires few { length volumes.items ≤ 16 }
     ensures opened { IfOk result (λ opened. (start : Start D)
-        × IsBegunOver limit units volumes.items start × HasMade start [] opened.0) }
+        × IsBegunOver D.Disk limit units volumes.items start × HasMade start [] opened.0) }
+    ensures goes_on { IfOk result (λ opened. kept_in opened.0 ≡ None) }
+    ensures many { IfOk result (λ opened. length (partitions_in opened.0) ≡ length volumes.items) }
     ensures none { IfOk result (λ opened. opened.1.items ≡ []) }
     ensures room { IfOk result (λ opened. length volumes.items ≤ vec_capacity opened.1) }
     ensures back { IfErr result (λ refused.
         AllZip (IsHandedBack D.Disk) volumes.items refused.1.items) }
     ensures unopened { IfErr result (λ refused. (told : Told) → TellsOf D.Disk told
-        → FailsToOpen told (logs_ends D.Disk volumes.items refused.1.items) refused.0) }
+        → FailsToOpen told (volumes_ends D.Disk volumes.items refused.1.items) refused.0) }
 {
     let opened = match open_all(alloc, volumes, limit) {
         Ok(opened) => opened,
@@ -63,7 +65,7 @@ fn open_all<D: Disk>(
     ensures back { IfErr result (λ refused.
         AllZip (IsHandedBack D.Disk) volumes.items refused.1.items) }
     ensures unopened { IfErr result (λ refused. (told : Told) → TellsOf D.Disk told
-        → FailsToOpen told (logs_ends D.Disk volumes.items refused.1.items) refused.0) }
+        → FailsToOpen told (volumes_ends D.Disk volumes.items refused.1.items) refused.0) }
 {
     let count = volumes.len();
     let Ok(mut partitions) = Vec::with_capacity(alloc, count) else {

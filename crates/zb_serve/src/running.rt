@@ -7,12 +7,13 @@ ghost use Rattle.zb_session.specs.Hours.{Hours};
 ghost use Rattle.zb_wire.specs.declared.request.Request.{Request as Asked};
 ghost use Rattle.zb_wire.specs.declared.request.LineFault.{LineFault};
 ghost use Rattle.zb_world.specs.declared.entry.Entry.{Entry};
-ghost use Rattle.zb_session.specs.Session.{session_ends, streams_of, LeavesDesk};
+ghost use Rattle.zb_session.specs.Session.{session_ends, streams_of, CutsOff, LeavesDesk};
 ghost use Rattle.zb_session.specs.Serving.{AreAt, began_of, clocks_of, service_of, IsOver};
 ghost use Rattle.zb_engine.specs.Solo.{Start, basis_in, many_in, HasMade, partitions_in, stamps_in, kept_in};
 ghost use Rattle.zb_serve.specs.Setting.{setting_of};
-ghost use Rattle.zb_serve.specs.Ends.{all_told, logs_ends, crashes_of, IsSafe};
-ghost use Rattle.zb_serve.specs.Served.{answer_of_run, IsRun, slots_of_all};
+ghost use Rattle.zb_serve.specs.Ends.{all_told, volumes_ends, crashes_of, IsSafe};
+ghost use Rattle.zb_serve.specs.Served.{answer_of_run, IsRun};
+ghost use Rattle.zb_serve.specs.Slots.{AreAllSlotsLeft};
 ghost use Rattle.zb_serve.specs.Opening.{volumes_in, IsBegunOver};
 ghost use Rattle.zb_serve.specs.WorkOff.{facts_in, behind_of, IsWorkedOff};
 ghost use Rattle.zb_serve.specs.Running.{ends_alone, files_of, first_writing, cause_of, is_cut};
@@ -58,7 +59,7 @@ pub fn serve_by<S: Source, K: Sink, D: Disk, C: Clock>(
     requires few { length volumes.items ≤ 16 }
     ensures unread { result.stamps.items ≡ [] → session.new ≡ session.old }
     ensures same { length result.volumes.items ≡ length volumes.items }
-    ensures slots { slots_of_all result.volumes.items ≡ slots_of_all volumes.items }
+    ensures slots { AreAllSlotsLeft volumes.items result.volumes.items }
     ensures spared { result.stamps.items ≡ [] → IsTrue D.tells_images
         → AllZip (IsSafe D.Disk) volumes.items result.volumes.items }
     ensures run { IsRun
@@ -67,7 +68,7 @@ pub fn serve_by<S: Source, K: Sink, D: Disk, C: Clock>(
         (ends_alone
         (session_ends (S.view session.old.source) (S.view session.new.source)
         (K.view session.old.sink) (K.view session.new.sink))
-        (logs_ends D.Disk volumes.items result.volumes.items))
+        (volumes_ends D.Disk volumes.items result.volumes.items))
         (crashes_of D.Disk volumes.items result.volumes.items)
         (answer_of_run result.cause (map (λ list. list.items) result.stamps.items) result.units) }
     ensures untouched { plan.now.clock ≡ kinds.Manual → clock.new ≡ clock.old }
@@ -93,8 +94,8 @@ fn serve_engine<S: Source, K: Sink, D: Disk, C: Clock>(
     room: Vec<Volume<D>>,
     clock: &mut C,
 ) -> Ran<D>
-    requires made { (start : Start D) × HasMade start [] solo
-        × (many_in start ≤ vec_capacity room) }
+    requires goes_on { kept_in solo ≡ None }
+    requires room { length (partitions_in solo) ≤ vec_capacity room }
     requires none { room.items ≡ [] }
     ensures some { ¬ (result.stamps.items ≡ []) }
 
@@ -102,15 +103,15 @@ fn serve_engine<S: Source, K: Sink, D: Disk, C: Clock>(
     ensures same { (start : Start D) → HasMade start [] solo
         → length result.volumes.items ≡ many_in start }
     ensures slots { (start : Start D) → HasMade start [] solo
-        → slots_of_all result.volumes.items ≡ slots_of_all (volumes_in start) }
+        → AreAllSlotsLeft (volumes_in start) result.volumes.items }
     ensures run { (start : Start D) (volumes : List (Volume D)) → HasMade start [] solo
-        → IsBegunOver plan.now.limit plan.now.units volumes start → IsRun
+        → IsBegunOver D.Disk plan.now.limit plan.now.units volumes start → IsRun
         (all_told S.tells S.counts_failures K.Sink D.Disk)
         (setting_of plan.now C.tells (C.upcoming clock.old))
         (ends_alone
         (session_ends (S.view session.old.source) (S.view session.new.source)
         (K.view session.old.sink) (K.view session.new.sink))
-        (logs_ends D.Disk volumes result.volumes.items))
+        (volumes_ends D.Disk volumes result.volumes.items))
         (crashes_of D.Disk volumes result.volumes.items)
         (answer_of_run result.cause (map (λ list. list.items) result.stamps.items) result.units) }
     ensures untouched { plan.now.clock ≡ kinds.Manual → clock.new ≡ clock.old }
@@ -152,12 +153,7 @@ fn work_off<D: Disk, C: Clock>(
     dial: &Dial,
     clock: &mut C,
 ) -> (End, u64)
-    requires left { (start : Start D) × (hours : Hours)
-        × (found : List (Result Asked LineFault)) × (entries : List Entry)
-        × (unlogged : Option Entry)
-        × LeavesDesk (facts_in start solo.old) entries unlogged end
-        × (IsFalse (is_cut end)
-        → AreAt hours found (clocks_of dial.now C.tells (C.upcoming clock.old))) }
+    requires { IsFalse (is_cut end) → kept_in solo.old ≡ None }
     ensures worked { (start : Start D) (hours : Hours) (found : List (Result Asked LineFault))
         (entries : List Entry) (unlogged : Option Entry)
         → LeavesDesk (facts_in start solo.old) entries unlogged end
@@ -165,6 +161,7 @@ fn work_off<D: Disk, C: Clock>(
         → AreAt hours found (clocks_of dial.now C.tells (C.upcoming clock.old)))
         → IsWorkedOff (basis_in start) (behind_of hours found entries unlogged end)
         (facts_in start solo.new) result }
+    ensures many { length (partitions_in solo.new) ≡ length (partitions_in solo.old) }
     ensures readings { HasGoneOn (C.upcoming clock.old) (C.upcoming clock.new) }
     ensures untouched { (IsFalse (is_cut end) → IsTrue (is_some dial.now)) → clock.new ≡ clock.old }
 {
@@ -193,8 +190,7 @@ fn serve_solo<S: Source, K: Sink, D: Disk, C: Clock>(
     dial: &mut Dial,
     clock: &mut C,
 ) -> End
-    requires { (start : Start D) × (hours : Hours) × HasMade start [] solo.old
-        × AreAt hours [] (clocks_of dial.old C.tells (C.upcoming clock.old)) }
+    requires { kept_in solo.old ≡ None }
     ensures over { (start : Start D) (hours : Hours) → HasMade start [] solo.old
         → AreAt hours [] (clocks_of dial.old C.tells (C.upcoming clock.old))
         → IsOver (streams_of S.tells S.counts_failures K.Sink)
@@ -202,6 +198,9 @@ fn serve_solo<S: Source, K: Sink, D: Disk, C: Clock>(
         (S.view session.new.source)
         (service_of (K.view session.new.sink) (clocks_of dial.new C.tells (C.upcoming clock.new))
         (facts_in start solo.new)) result }
+    ensures uncut { (CutsOff result → ⊥) → kept_in solo.new ≡ None }
+    ensures many { length (partitions_in solo.new) ≡ length (partitions_in solo.old) }
+    ensures kind { is_some dial.new ≡ is_some dial.old }
     ensures readings { HasGoneOn (C.upcoming clock.old) (C.upcoming clock.new) }
     ensures untouched { IsTrue (is_some dial.old) → clock.new ≡ clock.old }
 {

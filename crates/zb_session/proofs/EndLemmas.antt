@@ -1,11 +1,12 @@
 -- How a session ends.
-use Rattle.std.proofs.Common.{◌≡◌, ◌≢◌, ◌⊎◌, ℕ, ◌+◌, ◌≤◌, List, [], ◌∷◌, ◌++◌, length, take, Bool, true, false, IsTrue, Option, None, Ok, Err, IsErrOf, refl, ap, ◌∙◌, subst, inl, inr, arith}
+use Rattle.std.proofs.Common.{◌≡◌, ◌≢◌, ◌⊎◌, ℕ, ◌+◌, ◌<◌, ◌≤◌, List, [], ◌∷◌, ◌++◌, length, take, Bool, true, false, IsTrue, Option, None, Ok, Err, IsErrOf, refl, ap, ◌∙◌, subst, inl, inr, arith, length-append}
+use Rattle.std.proofs.lemmas.Bool.{false≢true}
 use Rattle.zb_outside.specs.Cause.{StreamFaultsRose, UnlessStreamFailed}
 use Rattle.zb_outside.specs.Stream.{SourceView, SinkView}
 use Rattle.zb_outside.specs.declared.trouble.Trouble.{Trouble}
 use Rattle.zb_outside.specs.declared.trouble.Trouble.TheVariants as troubles
 use Rattle.zb_lines.specs.Taken.{TakesBytes}
-use Rattle.zb_lines.specs.Line.{IsOneLine, ended, Comes, has_ended}
+use Rattle.zb_lines.specs.Line.{newline, IsOneLine, ended, Comes, has_ended}
 use Rattle.zb_lines.specs.declared.reader.Next.{Next}
 use Rattle.zb_lines.specs.declared.reader.Next.TheVariants as nexts
 use Rattle.zb_world.specs.declared.entry.Entry.{Entry}
@@ -337,6 +338,15 @@ line_in held more most nexts.Line left shown came = came.0
 line_in held more most nexts.Last left shown came = held ++ more
 line_in held more most nexts.End left shown came = []
 line_in held more most nexts.Full left shown came = []
+
+-- a line that others may follow has taken a byte at least
+pub fewer_left : (held more : List ℕ) (most left_over budget : ℕ) (next : Next) (left shown : List ℕ) → Comes most (Ok next) (held ++ more) left shown → budget ≡ left_over + length more → IsTrue (goes_on next)
+    → length left + left_over < length held + budget
+fewer_left held more most left_over budget nexts.Line left shown came spends goes =
+    omega (arith, spends, ap length came.2, length-append held more, length-append (ended came.0) left, length-append came.0 (newline ∷ []))
+fewer_left held more most left_over budget nexts.Last left shown came spends goes = absurd (false≢true goes)
+fewer_left held more most left_over budget nexts.End left shown came spends goes = absurd (false≢true goes)
+fewer_left held more most left_over budget nexts.Full left shown came spends goes = absurd (false≢true goes)
 
 -- what was kept of it is its front
 shown_in : (held more : List ℕ) (most : ℕ) (next : Next) (left shown : List ℕ) (came : Comes most (Ok next) (held ++ more) left shown) → next ≢ nexts.End → next ≢ nexts.Full

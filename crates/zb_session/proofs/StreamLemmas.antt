@@ -1,5 +1,5 @@
 -- The lines of a stream, served and to come.
-use Rattle.std.proofs.Common.{◌≡◌, ◌≢◌, ℕ, ◌<◌, ◌≤◌, List, [], ◌∷◌, ◌++◌, length, Bool, true, false, IsTrue, eqb, refl, sym, ap, ◌∙◌, append_assoc, arith, length-append}
+use Rattle.std.proofs.Common.{◌≡◌, ◌≢◌, ℕ, ◌<◌, ◌≤◌, List, [], ◌∷◌, ◌++◌, length, Bool, true, false, IsTrue, eqb, refl, sym, ap, ◌∙◌, append_assoc, arith}
 use Rattle.std.proofs.lemmas.Bool.{eqb-true, eqb-false, false≢true}
 use Rattle.std.proofs.lemmas.List.{append-nil}
 use Rattle.std.proofs.lemmas.Grind.{flat_map-append}
@@ -53,12 +53,6 @@ splits (byte ∷ bytes) = splits_by byte bytes (eqb byte newline) refl (splits b
 -- the replies of one answer more
 pub replies_of_more : (answers : List Answer) (answer : Answer) → replies_of (answers ++ answer ∷ []) ≡ replies_of answers ++ answer.reply
 replies_of_more answers answer = flat_map-append (λ (a : Answer). a.reply) answers (answer ∷ []) ∙ ap (λ bs. replies_of answers ++ bs) (append-nil answer.reply)
-
--- each line has a newline
-pub length-lines : (lines : List (List ℕ)) (rest : List ℕ) → length lines ≤ length (flat_map ended lines ++ rest)
-length-lines [] rest = omega arith
-length-lines (line ∷ lines) rest =
-    omega (arith, length-lines lines rest, length-append (flat_map ended (line ∷ lines)) rest, length-append (flat_map ended lines) rest, length-append (ended line) (flat_map ended lines), length-append line (newline ∷ []))
 
 -- a source has told its end, and has nothing left where it tells its bytes
 abbrev pub IsAtItsEnd : Bool → SourceView → Type 0

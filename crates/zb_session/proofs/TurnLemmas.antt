@@ -1,5 +1,5 @@
 -- One turn of a session that goes on: a line is read, answered and replied to.
-use Rattle.std.proofs.Common.{◌≡◌, ℕ, ◌+◌, ◌≤◌, List, [], ◌∷◌, ◌++◌, length, take, IsTrue, refl, sym, ap, ◌∙◌, subst, append_assoc, arith, length-append}
+use Rattle.std.proofs.Common.{◌≡◌, ℕ, ◌+◌, List, [], ◌∷◌, ◌++◌, length, take, IsTrue, refl, sym, ap, ◌∙◌, subst, append_assoc, arith, length-append}
 use Rattle.std.specs.List.{flat_map}
 use Rattle.std.proofs.lemmas.Grind.{flat_map-append}
 use Rattle.std.proofs.lemmas.List.{append-nil}
@@ -17,7 +17,7 @@ use Rattle.zb_session.specs.Serving.{Began, Clocks, AreAt, Service, service_of, 
 use Rattle.zb_session.proofs.AnswerLemmas.{entries_more}
 use Rattle.zb_session.proofs.ListLemmas.{append_none, EachFrom_more}
 use Rattle.zb_rules.proofs.KindsLaws.{all_joined}
-use Rattle.zb_session.proofs.StreamLemmas.{IsBehind, length-lines, replies_of_more}
+use Rattle.zb_session.proofs.StreamLemmas.{IsBehind, replies_of_more}
 
 -- where a session stands before it reads
 abbrev first_stand : SourceView → Service → Stand
@@ -53,10 +53,6 @@ steady_then streams source source' source'' sink sink' sink'' first then = recor
   source_same = λ t. then.source_same t ∙ first.source_same t;
   sink_same = λ t. then.sink_same t ∙ first.sink_same t;
 }
-
--- a session has served no more lines than its source gave bytes
-pub few : (streams : Streams) (began : Began) (now : Stand) → IsServing streams began now → now.number ≤ now.source.given + 1
-few streams began now s = omega (arith, s.count, s.takes.given, ap length s.whole, length-lines s.lines now.held)
 
 module _ (streams : Streams) (began : Began) (old : Stand) (s : IsServing streams began old) where
   -- what lies behind the line that comes next

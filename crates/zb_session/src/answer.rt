@@ -3,6 +3,7 @@ ghost use Rattle.zb_outside.specs.Clock.{HasGoneOn};
 ghost use Rattle.zb_reply.specs.Reply.{line_of, IsSpoken};
 ghost use Rattle.zb_session.specs.Hours.{Hours};
 ghost use Rattle.zb_session.specs.Answer.{Answer};
+ghost use Rattle.zb_session.specs.Session.{CutsOff};
 ghost use Rattle.zb_session.specs.Serving.{clocks_of, facts_by, before_of, ComesNext, IsAnswered, IsUnanswered};
 
 use crate::dial::{Dial, read_for};
@@ -24,10 +25,7 @@ pub fn answer_line<A: Desk, C: Clock>(
     clock: &mut C,
     reply: &mut Vec<u8>,
 ) -> Result<(), End>
-    requires known { (begun : A.Begun) × (hours : Hours) × (answers : List Answer) × (line : List ℕ)
-        × ComesNext (before_of hours (A.basis begun) number answers)
-        (clocks_of dial.old C.tells (C.upcoming clock.old))
-        (facts_by A.Desk begun desk.old) line shown.now }
+    requires { A.goes_on desk.old }
     ensures answered { (begun : A.Begun) (hours : Hours) (answers : List Answer) (line : List ℕ)
         → ComesNext (before_of hours (A.basis begun) number answers)
         (clocks_of dial.old C.tells (C.upcoming clock.old))
@@ -41,6 +39,9 @@ pub fn answer_line<A: Desk, C: Clock>(
         (facts_by A.Desk begun desk.old) line shown.now
         → IfErr result (IsUnanswered (before_of hours (A.basis begun) number answers) line
         (facts_by A.Desk begun desk.new)) }
+    ensures still { OnOk result (A.goes_on desk.new) }
+    ensures uncut { IfErr result (λ end. (CutsOff end → ⊥) → A.goes_on desk.new) }
+    ensures many { A.many desk.new ≡ A.many desk.old }
     ensures kind { is_some dial.new ≡ is_some dial.old }
     ensures readings { HasGoneOn (C.upcoming clock.old) (C.upcoming clock.new) }
     ensures untouched { IsTrue (is_some dial.old) → clock.new ≡ clock.old }

@@ -1,6 +1,6 @@
 ghost use Rattle.std.specs.Prelude.{◌≡◌, ◌≤◌, ◌++◌, ℕ, List, Bool, take, IsTrue, is_some, IfErr, OnErr, OnOk, IsErrOf};
 ghost use Rattle.zb_outside.specs.Clock.{HasGoneOn};
-ghost use Rattle.zb_session.specs.Session.{streams_of};
+ghost use Rattle.zb_session.specs.Session.{streams_of, CutsOff};
 ghost use Rattle.zb_session.specs.Hours.{Hours};
 ghost use Rattle.zb_session.specs.Answer.{Answer};
 ghost use Rattle.zb_session.specs.Serving.{clocks_of, facts_by, service_of, before_of, ComesNext, IsLineEnd, IsReplied, IsSinkEnd};
@@ -24,10 +24,7 @@ pub fn serve_line<K: Sink, A: Desk, C: Clock>(
     dial: &mut Dial,
     clock: &mut C,
 ) -> Result<(), End>
-    requires known { (begun : A.Begun) × (hours : Hours) × (answers : List Answer) × (line : List ℕ)
-        × ComesNext (before_of hours (A.basis begun) number answers)
-        (clocks_of dial.old C.tells (C.upcoming clock.old))
-        (facts_by A.Desk begun desk.old) line shown.now }
+    requires { A.goes_on desk.old }
 
     // For every source, and all that may lie behind the line.
     ensures replied { (tells counts : Bool) (begun : A.Begun) (hours : Hours)
@@ -48,6 +45,9 @@ pub fn serve_line<K: Sink, A: Desk, C: Clock>(
         (before_of hours (A.basis begun) number answers) line (K.view sink.old)
         (service_of (K.view sink.new) (clocks_of dial.new C.tells (C.upcoming clock.new))
         (facts_by A.Desk begun desk.new))) }
+    ensures still { OnOk result (A.goes_on desk.new) }
+    ensures uncut { IfErr result (λ end. (CutsOff end → ⊥) → A.goes_on desk.new) }
+    ensures many { A.many desk.new ≡ A.many desk.old }
     ensures sink_later { (K.view sink.old).faults ≤ (K.view sink.new).faults }
     ensures sink_steady { IsTrue K.counts_failures → ¬ IsErrOf result End.SinkFault
         → (K.view sink.new).faults ≡ (K.view sink.old).faults }

@@ -1,8 +1,8 @@
-ghost use Rattle.std.specs.Prelude.{◌≡◌, ◌+◌, [], IsTrue, is_some, IfOk};
+ghost use Rattle.std.specs.Prelude.{◌≡◌, ◌<◌, ◌+◌, [], length, IsTrue, is_some, IfOk, IfErr, OnOk};
 ghost use Rattle.zb_outside.specs.Clock.{HasGoneOn};
 ghost use Rattle.zb_outside.specs.Stream.{SourceView, SinkView};
 ghost use Rattle.zb_session.specs.Hours.{Hours};
-ghost use Rattle.zb_session.specs.Session.{streams_of, most_taken, facts_of};
+ghost use Rattle.zb_session.specs.Session.{streams_of, most_taken, facts_of, CutsOff};
 ghost use Rattle.zb_session.specs.Serving.{AreAt, began_of, clocks_of, facts_by, service_of};
 ghost use Rattle.zb_session.specs.Serving.{stand_of, IsServing, IsOver, GoesOn, goes_on, source_end_of};
 
@@ -52,8 +52,7 @@ pub fn serve_session<S: Source, K: Sink, A: Desk, C: Clock>(
     dial: &mut Dial,
     clock: &mut C,
 ) -> End
-    requires { (begun : A.Begun) × (hours : Hours) × A.has begun [] desk.old
-        × AreAt hours [] (clocks_of dial.old C.tells (C.upcoming clock.old)) }
+    requires { A.goes_on desk.old }
 
     // For all that the desk may have begun with, and each clock that the run may go by.
     ensures over { (begun : A.Begun) (hours : Hours) → A.has begun [] desk.old
@@ -64,6 +63,9 @@ pub fn serve_session<S: Source, K: Sink, A: Desk, C: Clock>(
         (service_of (K.view session.new.sink) (clocks_of dial.new C.tells (C.upcoming clock.new))
         (facts_of (λ made. A.has begun made desk.new)
         (λ made left stop. A.stopped begun made left stop desk.new))) result }
+    ensures uncut { (CutsOff result → ⊥) → A.goes_on desk.new }
+    ensures many { A.many desk.new ≡ A.many desk.old }
+    ensures kind { is_some dial.new ≡ is_some dial.old }
     ensures readings { HasGoneOn (C.upcoming clock.old) (C.upcoming clock.new) }
     ensures untouched { IsTrue (is_some dial.old) → clock.new ≡ clock.old }
 {
@@ -91,13 +93,7 @@ fn serve_next<S: Source, K: Sink, A: Desk, C: Clock>(
     dial: &mut Dial,
     clock: &mut C,
 ) -> Result<bool, End>
-    requires { (begun : A.Begun) × (hours : Hours) × (source : SourceView) × (sink : SinkView)
-        × IsServing (streams_of S.tells S.counts_failures K.Sink)
-        (began_of hours (A.basis begun) source sink)
-        (stand_of (S.view session.old.source)
-        (service_of (K.view session.old.sink) (clocks_of dial.old C.tells (C.upcoming clock.old))
-        (facts_by A.Desk begun desk.old))
-        intake.old.reader intake.old.budget number) }
+    requires { A.goes_on desk.old }
     ensures goes_on { (begun : A.Begun) (hours : Hours) (source : SourceView) (sink : SinkView)
         → IsServing (streams_of S.tells S.counts_failures K.Sink)
         (began_of hours (A.basis begun) source sink)
@@ -111,6 +107,14 @@ fn serve_next<S: Source, K: Sink, A: Desk, C: Clock>(
         (service_of (K.view session.new.sink) (clocks_of dial.new C.tells (C.upcoming clock.new))
         (facts_by A.Desk begun desk.new))
         intake.new.reader intake.new.budget (number + 1)) result }
+    ensures still { OnOk result (A.goes_on desk.new) }
+    ensures uncut { IfErr result (λ end. (CutsOff end → ⊥) → A.goes_on desk.new) }
+    ensures many { A.many desk.new ≡ A.many desk.old }
+
+    // A line before others has taken a byte at least.
+    ensures fewer { IfOk result (λ more. IsTrue more
+        → length intake.new.reader + intake.new.budget
+        < length intake.old.reader + intake.old.budget) }
     ensures kind { is_some dial.new ≡ is_some dial.old }
     ensures readings { HasGoneOn (C.upcoming clock.old) (C.upcoming clock.new) }
     ensures untouched { IsTrue (is_some dial.old) → clock.new ≡ clock.old }

@@ -37,7 +37,7 @@ pub fn print_log<D: Disk, K: Sink>(
     ensures good { IsTrue D.tells → (all : List Batch)
         → HasClosedFrames (D.view (disk_of_log log.old)).contents log.old (bodies_of all) → AreBatches all
         → IfErr result (λ fault. IsBadLog fault → ⊥) }
-    ensures reads { OnlyReads D.tells D.tells_images D.view D.images D.since (disk_of_log log.old) (disk_of_log log.new) }
+    ensures reads { OnlyReads D.Disk (disk_of_log log.old) (disk_of_log log.new) }
     ensures cause { IfErr result (IsShowCause (D.view (disk_of_log log.old)).faults (D.view (disk_of_log log.new)).faults
         (K.view sink.old).faults (K.view sink.new).faults) }
 {
@@ -76,7 +76,7 @@ fn print_frame<D: Disk, K: Sink>(
         → IfErr result (λ fault. IsBadLog fault → ⊥) }
     ensures few { IfOk result (λ next. next ≤ position + 2 ^ 64) }
     ensures same { IsSameLog log.old log.new }
-    ensures reads { OnlyReads D.tells D.tells_images D.view D.images D.since (disk_of_log log.old) (disk_of_log log.new) }
+    ensures reads { OnlyReads D.Disk (disk_of_log log.old) (disk_of_log log.new) }
     ensures later { (K.view sink.old).faults ≤ (K.view sink.new).faults }
     ensures cause { IfErr result (IsShowCause (D.view (disk_of_log log.old)).faults (D.view (disk_of_log log.new)).faults
         (K.view sink.old).faults (K.view sink.new).faults) }
@@ -111,7 +111,7 @@ pub fn read_batch<D: Disk>(
         → HasClosedFrames (D.view (disk_of_log log.old)).contents log.old (bodies_of all) → AreBatches all
         → IfErr result (λ fault. (n : ℕ) → fault ≡ open_faults.BadLog n → ⊥) }
     ensures same { IsSameLog log.old log.new }
-    ensures reads { OnlyReads D.tells D.tells_images D.view D.images D.since (disk_of_log log.old) (disk_of_log log.new) }
+    ensures reads { OnlyReads D.Disk (disk_of_log log.old) (disk_of_log log.new) }
     ensures cause { IfErr result (λ fault. fault ≡ open_faults.DiskFault → Rose (D.view (disk_of_log log.old)).faults (D.view (disk_of_log log.new)).faults) }
 {
     log.frame(i, body)?;

@@ -66,7 +66,7 @@ pub fn show_log<D: Disk, K: Sink>(
     ensures sink { result.status ≡ 6 → StreamFaultsRose (K.view sink).faults (K.view result.sink).faults }
 
     // No log is put at risk: what a crash leaves is what one before might have left, or an opening.
-    ensures opens { OnlyOpens D.tells D.tells_images D.view D.images D.since volume.log result.volume.log }
+    ensures opens { OnlyOpens D.Disk volume.log result.volume.log }
     ensures slots { (result.volume.snap_a ≡ volume.snap_a) × (result.volume.snap_b ≡ volume.snap_b) }
 {
     let plan = match log_plan(alloc, words) {
@@ -92,7 +92,7 @@ fn show_volume<D: Disk, K: Sink>(
         × PrintsLog K.tells place (D.view volume.log).contents (K.view sink).written (K.view result.2).written left × OnOk result.0 (left ≡ []))) }
     ensures bad { IsTrue D.tells → IfErr result.0 (λ fault. IsBadLog fault → (frame : ℕ) × IsBadAt place (D.view volume.log).contents frame) }
     ensures cause { IfErr result.0 (IsShowCause (D.view volume.log).faults (D.view result.1.log).faults (K.view sink).faults (K.view result.2).faults) }
-    ensures opens { OnlyOpens D.tells D.tells_images D.view D.images D.since volume.log result.1.log }
+    ensures opens { OnlyOpens D.Disk volume.log result.1.log }
     ensures slots { (result.1.snap_a ≡ volume.snap_a) × (result.1.snap_b ≡ volume.snap_b) }
 {
     let partition = match Partition::open(alloc, volume, place, partitions, LIMIT) {
@@ -143,7 +143,7 @@ fn show<D: Disk, K: Sink>(
     ensures good { IsTrue D.tells → (all : List Batch)
         → Stands (D.view disk).contents (bodies_of all) → AreBatches all
         → IfErr result.0 (λ fault. IsBadLog fault → ⊥) }
-    ensures opens { OnlyOpens D.tells D.tells_images D.view D.images D.since disk result.1 }
+    ensures opens { OnlyOpens D.Disk disk result.1 }
     ensures cause { IfErr result.0 (IsShowCause (D.view disk).faults (D.view result.1).faults
         (K.view sink.old).faults (K.view sink.new).faults) }
 {

@@ -3,7 +3,7 @@ use Rattle.std.proofs.Common.{◌≡◌, ◌⊎◌, inl, inr, ℕ, ◌<◌, ◌�
 use Rattle.std.proofs.lemmas.Bool.{cases_lt}
 use Rattle.zb_disk.specs.Disk.{Elapses}
 use Rattle.zb_disk.specs.declared.disk.Disk.{Ghosts}
-use Rattle.zb_store.specs.Calls.{LeavesOnly, OnlyReads, OnlyOpens, Settles}
+use Rattle.zb_store.specs.Calls.{LeavesOnly, LeavesFiles, OnlyReads, OnlyOpens, Settles}
 
 -- no call leaves anything more
 pub leaves_none : (now : ℕ) (since : ℕ → List ℕ → Type 0) (P : List ℕ → Type 0) → LeavesOnly now now since since P
@@ -120,13 +120,22 @@ module _ {D : Type 0} (disks : Ghosts D) where
   abbrev pub CallsLeave : D → D → (List ℕ → Type 0) → Type 0
   CallsLeave old new P = LeavesOnly (disks.view old).moment (disks.view new).moment (disks.since old) (disks.since new) P
 
+  -- what is left has whatever follows from P
+  pub left_weaker : (old new : D) (P Q : List ℕ → Type 0) → ((c : List ℕ) → P c → Q c) → LeavesFiles disks old new P → LeavesFiles disks old new Q
+  left_weaker old new P Q so left = record {
+    file = λ told. so (disks.view new).contents (left.file told);
+    crash = λ told c image. so c (left.crash told c image);
+    since = λ told c was. so c (left.since told c was);
+    time = λ told. leaves_weaker (disks.view old).moment (disks.view new).moment (disks.since old) (disks.since new) P Q so (left.time told);
+  }
+
   -- a disk, and what it became by reading alone
   abbrev pub CallsRead : D → D → Type 0
-  CallsRead old new = OnlyReads disks.tells disks.tells_images disks.view disks.images disks.since old new
+  CallsRead old new = OnlyReads disks old new
 
   -- a disk, and what it became by an opening
   abbrev pub Opens : D → D → Type 0
-  Opens old new = OnlyOpens disks.tells disks.tells_images disks.view disks.images disks.since old new
+  Opens old new = OnlyOpens disks old new
 
   -- what reading leaves after other calls that leave no more than P, P is left of it all
   leaves_read : (old mid new : D) (P : List ℕ → Type 0) → ((c : List ℕ) → disks.images mid c → P c) → CallsLeave old mid P → CallsLeave mid new (disks.images mid) → CallsLeave old new P

@@ -21,7 +21,8 @@ IsCaused counts_failures before now Memory = IsTrue counts_failures → now ≡ 
 -- a log that is told to be full: these are its length, the frame's and its limit, and the frame has no room
 abbrev pub IsFullAt : ℕ → ℕ → ℕ → StoreFault → Type 0
 IsFullAt length frame limit DiskFault = Unit {0}
-IsFullAt length frame limit (LogFull l f m) = (l ≡ length) × (f ≡ frame) × (m ≡ limit) × (limit < length + frame)
+IsFullAt length frame limit (LogFull l f m) = (l ≡ length) × (f ≡ frame) × (m ≡ limit)
+    × (limit < length + frame)
 IsFullAt length frame limit Memory = Unit {0}
 
 -- what holds of a call unless the disk failed

@@ -6,3 +6,4 @@ pub mod Calls
 pub mod Window
 pub mod Scan
 pub mod GateLog
+pub mod Append

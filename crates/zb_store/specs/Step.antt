@@ -8,7 +8,8 @@ use Rattle.zb_store.specs.Stands.{next_gate, RunsPast}
 abbrev pub IsAtGate : List ℕ → ℕ → Step → Type 0
 IsAtGate file at Closed = slice_index file at ≡ 0
 IsAtGate file at Cut = RunsPast file at
-IsAtGate file at (Next next) = (slice_index file at ≢ 0) × (next ≡ next_gate file at) × (next < length file)
+IsAtGate file at (Next next) = (slice_index file at ≢ 0) × (next ≡ next_gate file at)
+    × (next < length file)
 
 -- a next gate is behind this one and inside the file
 abbrev pub LiesBehind : ℕ → ℕ → Step → Type 0

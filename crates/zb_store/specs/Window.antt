@@ -6,7 +6,8 @@ use Rattle.zb_store.specs.declared.step.Step.TheVariants.{Closed, Cut, Next}
 
 -- a window holds bytes of this file, from where it starts on
 abbrev pub IsPieceOf : List ℕ → Window → Type 0
-IsPieceOf file window = take window.filled window.bytes.items ≡ take window.filled (drop window.start file)
+IsPieceOf file window = take window.filled window.bytes.items ≡ take window.filled
+    (drop window.start file)
 
 -- it holds so many bytes from `at` on, or all that there are
 pub record Holds (at size : ℕ) (window : Window) : Type 0 where

@@ -1,8 +1,7 @@
 ghost use Rattle.std.specs.Prelude.{◌≡◌, ◌⊎◌, ◌<◌, ◌≤◌, ◌+◌, ◌^◌, ℕ, List, [], ◌∷◌, ◌++◌, length, take, slice_get, IsTrue, IsFalse, IfErr, IfOk, IsErrOf, OnOk, OnErr};
-ghost use Rattle.zb_disk.specs.Disk.{Only, overwritten};
-ghost use Rattle.zb_disk.specs.Cause.{Rose};
-ghost use Rattle.zb_store.specs.Cause.{IsCaused, IsFullAt, UnlessDiskFault};
-ghost use Rattle.zb_store.specs.Calls.{LeavesOnly, OnlyReads, OnlyOpens, IsAsOpened, Settles};
+ghost use Rattle.zb_disk.specs.Disk.{Only};
+ghost use Rattle.zb_store.specs.Cause.{IsCaused};
+ghost use Rattle.zb_store.specs.Calls.{LeavesFiles, OnlyReads, OnlyOpens, IsAsOpened, Settles};
 ghost use Rattle.zb_store.specs.Log.{framed};
 ghost use Rattle.zb_store.specs.Stands.{Leads, Stands, IsCutAfter, StandsWithOrWithout};
 
@@ -37,7 +36,8 @@ pub struct GateLog<D: Disk> {
 }
 
 impl<D: Disk> GateLog<D> {
-    ghost use Rattle.zb_store.specs.GateLog.{disk_of_log, limit_of_log, count_of, length_of, last_gate_of, is_whole_log, is_sound, HasFrames, HasClosedFrames, IsSameLog, disk_after_log};
+    ghost use Rattle.zb_store.specs.GateLog.{disk_of_log, limit_of_log, count_of, length_of, last_gate_of, is_whole_log, is_sound, HasFrames, HasClosedFrames, IsLogOf, IsSameLog, disk_after_log};
+    ghost use Rattle.zb_store.specs.Append.{IsGrownBy, IsKeptOut, IsCausedBy};
 
     /// Opens the log in a file, once all that was written to it is on the disk, by a `Scan`. A file of at most one byte becomes a closed gate; no frame is changed.
     pub fn open(alloc: Global, disk: D, limit: u64) -> Result<GateLog<D>, (StoreFault, D)>
@@ -45,31 +45,42 @@ impl<D: Disk> GateLog<D> {
 
         // Its frames are those that the file stood for. One that isn't whole has those before the cut.
         ensures whole { IsTrue D.tells → IfOk result (λ log. IsTrue (is_whole_log log)
-            → (bodies : List (List ℕ)) × Stands (D.view disk).contents bodies × HasClosedFrames (D.view (disk_of_log log)).contents log bodies) }
+            → (bodies : List (List ℕ)) × Stands (D.view disk).contents bodies
+            × HasClosedFrames (D.view (disk_of_log log)).contents log bodies) }
         ensures cut { IsTrue D.tells → IfOk result (λ log. IsFalse (is_whole_log log)
-            → (bodies : List (List ℕ)) × IsCutAfter (D.view disk).contents bodies × HasFrames (D.view (disk_of_log log)).contents log bodies) }
+            → (bodies : List (List ℕ)) × IsCutAfter (D.view disk).contents bodies
+            × HasFrames (D.view (disk_of_log log)).contents log bodies) }
         ensures limit { IfOk result (λ log. limit_of_log log ≡ limit) }
         ensures sound { IfOk result (λ log. IsTrue (is_sound log)) }
 
         // No frame is changed: the file goes on to stand for the same bodies, and so does what a crash at any
         // moment since leaves, if all that one before might have left does.
-        ensures frames { IsTrue D.tells → (bodies : List (List ℕ)) → Stands (D.view disk).contents bodies
+        ensures frames { IsTrue D.tells → (bodies : List (List ℕ))
+            → Stands (D.view disk).contents bodies
             → Stands (D.view (disk_after_log result)).contents bodies }
-        ensures since { IsTrue D.tells_images → (bodies : List (List ℕ)) → ((c : List ℕ) → D.images disk c → Stands c bodies)
-            → (c : List ℕ) → D.since (disk_after_log result) (D.view disk).moment c → Stands c bodies }
+        ensures since { IsTrue D.tells_images → (bodies : List (List ℕ))
+            → ((c : List ℕ) → D.images disk c → Stands c bodies)
+            → (c : List ℕ) → D.since (disk_after_log result) (D.view disk).moment c
+            → Stands c bodies }
 
         // What becomes of the file, and what a crash may leave of it at any moment.
-        ensures opens { OnlyOpens D.tells D.tells_images D.view D.images D.since disk (disk_after_log result) }
-        ensures gate { IsTrue D.tells → length (D.view disk).contents ≤ 1 → OnOk result ((D.view (disk_after_log result)).contents ≡ 0 ∷ []) }
-        ensures durable { IsTrue D.tells_images → OnOk result (Only (D.view (disk_after_log result)).contents (D.images (disk_after_log result))) }
+        ensures opens { OnlyOpens D.Disk disk (disk_after_log result) }
+        ensures gate { IsTrue D.tells → length (D.view disk).contents ≤ 1
+            → OnOk result ((D.view (disk_after_log result)).contents ≡ 0 ∷ []) }
+        ensures durable { IsTrue D.tells_images
+            → OnOk result
+            (Only (D.view (disk_after_log result)).contents (D.images (disk_after_log result))) }
 
         // From the first call of the disk on a crash leaves the file as it was, or at most one byte of one that had no more.
-        ensures settled { IsTrue D.tells_images → OnOk result (Settles (D.view disk).moment (D.view (disk_after_log result)).moment
+        ensures settled { IsTrue D.tells_images
+            → OnOk result (Settles (D.view disk).moment (D.view (disk_after_log result)).moment
             (D.images disk) (D.since (disk_after_log result)) (IsAsOpened (D.view disk).contents)) }
 
         ensures later { (D.view disk).faults ≤ (D.view (disk_after_log result)).faults }
-        ensures steady { IsTrue D.counts_failures → OnOk result ((D.view (disk_after_log result)).faults ≡ (D.view disk).faults) }
-        ensures cause { IfErr result (λ refused. IsCaused D.counts_failures (D.view disk).faults (D.view refused.1).faults refused.0) }
+        ensures steady { IsTrue D.counts_failures
+            → OnOk result ((D.view (disk_after_log result)).faults ≡ (D.view disk).faults) }
+        ensures cause { IfErr result (λ refused. IsCaused D.counts_failures (D.view disk).faults
+            (D.view refused.1).faults refused.0) }
     {
         match Scan::begin(alloc, disk, limit) {
             Ok(scan) => scan.run(),
@@ -145,17 +156,24 @@ impl<D: Disk> GateLog<D> {
     /// isn't later.
     pub fn frame(&mut self, i: u64, body: &mut Vec<u8>) -> Result<(), StoreFault>
         requires { i < count_of self.old }
-        ensures body { IsTrue D.tells → (bodies : List (List ℕ)) → HasFrames (D.view (disk_of_log self.old)).contents self.old bodies
+        ensures body { IsTrue D.tells → (bodies : List (List ℕ))
+            → HasFrames (D.view (disk_of_log self.old)).contents self.old bodies
             → OnOk result (slice_get bodies i ≡ Some body.new.items) }
-        ensures kept { IsTrue D.tells → (bodies : List (List ℕ)) → HasFrames (D.view (disk_of_log self.old)).contents self.old bodies
+        ensures kept { IsTrue D.tells → (bodies : List (List ℕ))
+            → HasFrames (D.view (disk_of_log self.old)).contents self.old bodies
             → HasFrames (D.view (disk_of_log self.new)).contents self.new bodies }
-        ensures kept_log { IsTrue D.tells → (bodies : List (List ℕ)) → HasClosedFrames (D.view (disk_of_log self.old)).contents self.old bodies
+        ensures kept_log { IsTrue D.tells → (bodies : List (List ℕ))
+            → HasClosedFrames (D.view (disk_of_log self.old)).contents self.old bodies
             → HasClosedFrames (D.view (disk_of_log self.new)).contents self.new bodies }
         ensures same { IsSameLog self.old self.new }
-        ensures reads { OnlyReads D.tells D.tells_images D.view D.images D.since (disk_of_log self.old) (disk_of_log self.new) }
+        ensures reads { OnlyReads D.Disk (disk_of_log self.old) (disk_of_log self.new) }
         ensures sound { is_sound self.new ≡ is_sound self.old }
-        ensures steady { IsTrue D.counts_failures → OnOk result ((D.view (disk_of_log self.new)).faults ≡ (D.view (disk_of_log self.old)).faults) }
-        ensures cause { IfErr result (IsCaused D.counts_failures (D.view (disk_of_log self.old)).faults (D.view (disk_of_log self.new)).faults) }
+        ensures steady { IsTrue D.counts_failures
+            → OnOk result
+            ((D.view (disk_of_log self.new)).faults ≡ (D.view (disk_of_log self.old)).faults) }
+        ensures cause { IfErr result
+            (IsCaused D.counts_failures (D.view (disk_of_log self.old)).faults
+            (D.view (disk_of_log self.new)).faults) }
     {
         let near = self.near(i);
         let gate = walk(&mut self.disk, near, i, self.last)?;
@@ -172,52 +190,22 @@ impl<D: Disk> GateLog<D> {
         requires form { (body : List ℕ) × (frame.now ≡ framed body) }
         requires whole { IsTrue (is_whole_log self.old) }
         requires sound { IsTrue (is_sound self.old) }
-
-        ensures appended { IsTrue D.tells → (bodies : List (List ℕ)) (body : List ℕ)
-            → HasClosedFrames (D.view (disk_of_log self.old)).contents self.old bodies → frame.now ≡ framed body
-            → OnOk result (HasClosedFrames (D.view (disk_of_log self.new)).contents self.new (bodies ++ body ∷ [])) }
-        ensures count { OnOk result (count_of self.new ≡ count_of self.old + 1) }
-        ensures length { OnOk result (length_of self.new ≡ length_of self.old + length frame.now) }
-        ensures fits { OnOk result (length_of self.old + length frame.now ≤ limit_of_log self.old) }
-        ensures limit { limit_of_log self.new ≡ limit_of_log self.old }
+        ensures grown { OnOk result (IsGrownBy frame.now self.old self.new) }
+        ensures kept_out { IfErr result (λ fault. IsKeptOut frame.now fault self.old self.new) }
+        ensures over { limit_of_log self.old < length_of self.old + length frame.now → result
+            ≡ Err (StoreFault.LogFull (length_of self.old) (length frame.now)
+            (limit_of_log self.old)) }
         ensures whole { IsTrue (is_whole_log self.new) }
-        ensures same { OnErr result (IsSameLog self.old self.new) }
+        ensures cause { IsCausedBy D.Disk (disk_of_log self.old) (disk_of_log self.new) result }
 
-        // The frame stands behind the gate that was the last one, which was opened by 1.
-        ensures written { IsTrue D.tells → OnOk result ((D.view (disk_of_log self.new)).contents
-            ≡ overwritten (overwritten (D.view (disk_of_log self.old)).contents (length_of self.old) frame.now) (last_gate_of self.old) (1 ∷ [])) }
-
-        // What it leaves, refused or not, and what a crash at any moment since the call began might have left.
-        ensures left { IsTrue D.tells → (bodies : List (List ℕ)) (body : List ℕ)
-            → HasClosedFrames (D.view (disk_of_log self.old)).contents self.old bodies → frame.now ≡ framed body
-            → StandsWithOrWithout bodies body (D.view (disk_of_log self.new)).contents }
-        ensures time { IsTrue D.tells_images → (bodies : List (List ℕ)) (body : List ℕ)
-            → HasClosedFrames (D.view (disk_of_log self.old)).contents self.old bodies
-            → Only (D.view (disk_of_log self.old)).contents (D.images (disk_of_log self.old)) → frame.now ≡ framed body
-            → LeavesOnly (D.view (disk_of_log self.old)).moment (D.view (disk_of_log self.new)).moment
-            (D.since (disk_of_log self.old)) (D.since (disk_of_log self.new)) (StandsWithOrWithout bodies body) }
-        ensures since { IsTrue D.tells_images → (bodies : List (List ℕ)) (body : List ℕ)
-            → HasClosedFrames (D.view (disk_of_log self.old)).contents self.old bodies
-            → Only (D.view (disk_of_log self.old)).contents (D.images (disk_of_log self.old)) → frame.now ≡ framed body
-            → (c : List ℕ) → D.since (disk_of_log self.new) (D.view (disk_of_log self.old)).moment c → StandsWithOrWithout bodies body c }
-        ensures crash { IsTrue D.tells_images → (bodies : List (List ℕ)) (body : List ℕ)
-            → HasClosedFrames (D.view (disk_of_log self.old)).contents self.old bodies
-            → Only (D.view (disk_of_log self.old)).contents (D.images (disk_of_log self.old)) → frame.now ≡ framed body
-            → (c : List ℕ) → D.images (disk_of_log self.new) c → StandsWithOrWithout bodies body c }
-        ensures durable { IsTrue D.tells_images → OnOk result (Only (D.view (disk_of_log self.new)).contents (D.images (disk_of_log self.new))) }
-
-        // Why it is refused. A full log leaves the disk alone; after another refusal the log takes no append any more.
-        ensures over { limit_of_log self.old < length_of self.old + length frame.now
-            → result ≡ Err (StoreFault.LogFull (length_of self.old) (length frame.now) (limit_of_log self.old)) }
-        ensures full { IfErr result (IsFullAt (length_of self.old) (length frame.now) (limit_of_log self.old)) }
-        ensures untouched { (n m k : ℕ) → IsErrOf result (StoreFault.LogFull n m k) → self.new ≡ self.old }
-        ensures sound { OnOk result (IsTrue (is_sound self.new)) }
-        ensures unsound { OnErr result (IsTrue (is_sound self.new) → self.new ≡ self.old) }
-        ensures steady { IsTrue D.counts_failures → UnlessDiskFault result ((D.view (disk_of_log self.new)).faults ≡ (D.view (disk_of_log self.old)).faults) }
-        ensures later { (D.view (disk_of_log self.old)).faults ≤ (D.view (disk_of_log self.new)).faults }
-        ensures failed { IsErrOf result StoreFault.DiskFault
-            → Rose (D.view (disk_of_log self.old)).faults (D.view (disk_of_log self.new)).faults }
-        ensures memory { IsErrOf result StoreFault.Memory → IsTrue D.takes_memory }
+        // A log that has these bodies has one more, and refused or not it leaves a file that stands for those, or for
+        // them with this one.
+        ensures added { (bodies : List (List ℕ)) (body : List ℕ) → IsLogOf bodies self.old
+            → frame.now ≡ framed body → OnOk result (IsLogOf (bodies ++ body ∷ []) self.new) }
+        ensures left { (bodies : List (List ℕ)) (body : List ℕ) → IsLogOf bodies self.old
+            → frame.now ≡ framed body
+            → LeavesFiles D.Disk (disk_of_log self.old) (disk_of_log self.new)
+            (StandsWithOrWithout bodies body) }
     {
         let gate = self.last;
         let size = frame.len() as u64;
@@ -261,7 +249,8 @@ impl<D: Disk> GateLog<D> {
     fn near(&self, i: u64) -> (u64, u64)
         ensures frame { result.0 ≤ i }
         ensures gate { result.1 ≤ last_gate_of self.now }
-        ensures leads { (file : List ℕ) (bodies : List (List ℕ)) → HasFrames file self.now bodies → Leads file 0 (take result.0 bodies) result.1 }
+        ensures leads { (file : List ℕ) (bodies : List (List ℕ)) → HasFrames file self.now bodies
+            → Leads file 0 (take result.0 bodies) result.1 }
     {
         if self.near_frame <= i {
             return (self.near_frame, self.near_gate);

@@ -52,7 +52,8 @@ pub struct Scan<D: Disk> {
     ghost going: { IsFalse over → IsFalse closed },
     ghost end: { IsTrue D.tells → window.end ≡ length (D.view disk).contents },
     ghost piece: { IsTrue D.tells → IsPieceOf (D.view disk).contents window },
-    ghost begun: { IsTrue D.tells → length (D.view disk).contents ≤ 1 → (D.view disk).contents ≡ 0 ∷ [] },
+    ghost begun: { IsTrue D.tells → length (D.view disk).contents ≤ 1
+        → (D.view disk).contents ≡ 0 ∷ [] },
 }
 
 impl<D: Disk> Scan<D> {
@@ -64,33 +65,44 @@ impl<D: Disk> Scan<D> {
         requires { limit ≤ 2 ^ 32 }
 
         // No frame was found yet.
-        ensures none { IsTrue D.tells → IfOk result (λ scan. HasFound (D.view (disk_of_scan scan)).contents scan []) }
+        ensures none { IsTrue D.tells
+            → IfOk result (λ scan. HasFound (D.view (disk_of_scan scan)).contents scan []) }
         ensures count { IfOk result (λ scan. count_of_scan scan ≡ 0) }
         ensures gate { IfOk result (λ scan. gate_of_scan scan ≡ 0) }
         ensures going { IfOk result (λ scan. IsFalse (is_over scan)) }
         ensures limit { IfOk result (λ scan. limit_of_scan scan ≡ limit) }
 
         // What is to be found is on the disk, and a crash leaves nothing else.
-        ensures durable { IsTrue D.tells_images → OnOk result (Only (D.view (disk_behind result)).contents (D.images (disk_behind result))) }
+        ensures durable { IsTrue D.tells_images
+            → OnOk result
+            (Only (D.view (disk_behind result)).contents (D.images (disk_behind result))) }
 
         // From the first call of the disk on a crash leaves the file as it was, or at most one byte of one that had no more.
-        ensures settled { IsTrue D.tells_images → OnOk result (Settles (D.view disk).moment (D.view (disk_behind result)).moment
+        ensures settled { IsTrue D.tells_images
+            → OnOk result (Settles (D.view disk).moment (D.view (disk_behind result)).moment
             (D.images disk) (D.since (disk_behind result)) (IsAsOpened (D.view disk).contents)) }
 
         // No frame is changed: the file stands for what it stood for, and so does what a crash at any moment since
         // leaves, if all that one before might have left does.
-        ensures stood { IsTrue D.tells → (bodies : List (List ℕ)) → Stands (D.view (disk_behind result)).contents bodies
+        ensures stood { IsTrue D.tells → (bodies : List (List ℕ))
+            → Stands (D.view (disk_behind result)).contents bodies
             → OnOk result (Stands (D.view disk).contents bodies) }
-        ensures was_cut { IsTrue D.tells → (bodies : List (List ℕ)) → IsCutAfter (D.view (disk_behind result)).contents bodies
+        ensures was_cut { IsTrue D.tells → (bodies : List (List ℕ))
+            → IsCutAfter (D.view (disk_behind result)).contents bodies
             → OnOk result (IsCutAfter (D.view disk).contents bodies) }
-        ensures frames { IsTrue D.tells → (bodies : List (List ℕ)) → Stands (D.view disk).contents bodies
+        ensures frames { IsTrue D.tells → (bodies : List (List ℕ))
+            → Stands (D.view disk).contents bodies
             → Stands (D.view (disk_behind result)).contents bodies }
-        ensures since { IsTrue D.tells_images → (bodies : List (List ℕ)) → ((c : List ℕ) → D.images disk c → Stands c bodies)
+        ensures since { IsTrue D.tells_images → (bodies : List (List ℕ))
+            → ((c : List ℕ) → D.images disk c → Stands c bodies)
             → (c : List ℕ) → D.since (disk_behind result) (D.view disk).moment c → Stands c bodies }
-        ensures opens { OnlyOpens D.tells D.tells_images D.view D.images D.since disk (disk_behind result) }
-        ensures short { IsTrue D.tells → length (D.view disk).contents ≤ 1 → OnOk result ((D.view (disk_behind result)).contents ≡ 0 ∷ []) }
-        ensures steady { IsTrue D.counts_failures → OnOk result ((D.view (disk_behind result)).faults ≡ (D.view disk).faults) }
-        ensures cause { IfErr result (λ refused. IsCaused D.counts_failures (D.view disk).faults (D.view refused.1).faults refused.0) }
+        ensures opens { OnlyOpens D.Disk disk (disk_behind result) }
+        ensures short { IsTrue D.tells → length (D.view disk).contents ≤ 1
+            → OnOk result ((D.view (disk_behind result)).contents ≡ 0 ∷ []) }
+        ensures steady { IsTrue D.counts_failures
+            → OnOk result ((D.view (disk_behind result)).faults ≡ (D.view disk).faults) }
+        ensures cause { IfErr result (λ refused. IsCaused D.counts_failures (D.view disk).faults
+            (D.view refused.1).faults refused.0) }
     {
         let mut disk = disk;
         match prepare(&mut disk) {
@@ -112,16 +124,21 @@ impl<D: Disk> Scan<D> {
     /// Finds what is behind the frames that were found. After an `Err` the scan is only good for its disk.
     pub fn advance(&mut self) -> Result<Found, StoreFault>
         requires { IsFalse (is_over self.old) }
-        ensures found { IsTrue D.tells → (bodies : List (List ℕ)) → HasFound (D.view (disk_of_scan self.old)).contents self.old bodies
+        ensures found { IsTrue D.tells → (bodies : List (List ℕ))
+            → HasFound (D.view (disk_of_scan self.old)).contents self.old bodies
             → IfOk result (IsFound (D.view (disk_of_scan self.new)).contents self.new bodies) }
         ensures goes { IfOk result (GoesTo self.old self.new) }
         ensures over { IfOk result (λ found. is_over self.new ≡ ends found) }
         ensures closed { IfOk result (λ found. is_closed self.new ≡ closes found) }
         ensures limit { limit_of_scan self.new ≡ limit_of_scan self.old }
         ensures small { gate_of_scan self.new < 2 ^ 58 }
-        ensures reads { OnlyReads D.tells D.tells_images D.view D.images D.since (disk_of_scan self.old) (disk_of_scan self.new) }
-        ensures steady { IsTrue D.counts_failures → OnOk result ((D.view (disk_of_scan self.new)).faults ≡ (D.view (disk_of_scan self.old)).faults) }
-        ensures cause { IfErr result (IsCaused D.counts_failures (D.view (disk_of_scan self.old)).faults (D.view (disk_of_scan self.new)).faults) }
+        ensures reads { OnlyReads D.Disk (disk_of_scan self.old) (disk_of_scan self.new) }
+        ensures steady { IsTrue D.counts_failures
+            → OnOk result ((D.view (disk_of_scan self.new)).faults
+            ≡ (D.view (disk_of_scan self.old)).faults) }
+        ensures cause { IfErr result
+            (IsCaused D.counts_failures (D.view (disk_of_scan self.old)).faults
+            (D.view (disk_of_scan self.new)).faults) }
     {
         match self.window.step(&mut self.disk, self.gate)? {
             Step::Closed => {
@@ -186,16 +203,24 @@ impl<D: Disk> Scan<D> {
     // The log, all of whose frames that are left are found.
     pub(crate) fn run(self) -> Result<GateLog<D>, (StoreFault, D)>
         requires { IsFalse (is_over self) }
-        ensures whole { IsTrue D.tells → (bodies : List (List ℕ)) → HasFound (D.view (disk_of_scan self)).contents self bodies
-            → IfOk result (λ log. IsTrue (gates.is_whole_log log) → (all : List (List ℕ)) × gates.HasClosedFrames (D.view (gates.disk_of_log log)).contents log all) }
-        ensures cut { IsTrue D.tells → (bodies : List (List ℕ)) → HasFound (D.view (disk_of_scan self)).contents self bodies
-            → IfOk result (λ log. IsFalse (gates.is_whole_log log) → (all : List (List ℕ)) × IsCutAfter (D.view (gates.disk_of_log log)).contents all
+        ensures whole { IsTrue D.tells → (bodies : List (List ℕ))
+            → HasFound (D.view (disk_of_scan self)).contents self bodies
+            → IfOk result (λ log. IsTrue (gates.is_whole_log log) → (all : List (List ℕ))
+            × gates.HasClosedFrames (D.view (gates.disk_of_log log)).contents log all) }
+        ensures cut { IsTrue D.tells → (bodies : List (List ℕ))
+            → HasFound (D.view (disk_of_scan self)).contents self bodies
+            → IfOk result (λ log. IsFalse (gates.is_whole_log log) → (all : List (List ℕ))
+            × IsCutAfter (D.view (gates.disk_of_log log)).contents all
             × gates.HasFrames (D.view (gates.disk_of_log log)).contents log all) }
         ensures limit { IfOk result (λ log. gates.limit_of_log log ≡ limit_of_scan self) }
         ensures sound { IfOk result (λ log. IsTrue (gates.is_sound log)) }
-        ensures reads { OnlyReads D.tells D.tells_images D.view D.images D.since (disk_of_scan self) (gates.disk_after_log result) }
-        ensures steady { IsTrue D.counts_failures → OnOk result ((D.view (gates.disk_after_log result)).faults ≡ (D.view (disk_of_scan self)).faults) }
-        ensures cause { IfErr result (λ refused. IsCaused D.counts_failures (D.view (disk_of_scan self)).faults (D.view refused.1).faults refused.0) }
+        ensures reads { OnlyReads D.Disk (disk_of_scan self) (gates.disk_after_log result) }
+        ensures steady { IsTrue D.counts_failures
+            → OnOk result ((D.view (gates.disk_after_log result)).faults
+            ≡ (D.view (disk_of_scan self)).faults) }
+        ensures cause { IfErr result
+            (λ refused. IsCaused D.counts_failures (D.view (disk_of_scan self)).faults
+            (D.view refused.1).faults refused.0) }
     {
         let mut scan = self;
         loop {
@@ -211,7 +236,8 @@ impl<D: Disk> Scan<D> {
     /// The log, once there are no more frames.
     pub fn finish(self) -> GateLog<D>
         requires { IsTrue (is_over self) }
-        ensures frames { IsTrue D.tells → (bodies : List (List ℕ)) → HasFound (D.view (disk_of_scan self)).contents self bodies
+        ensures frames { IsTrue D.tells → (bodies : List (List ℕ))
+            → HasFound (D.view (disk_of_scan self)).contents self bodies
             → gates.HasFrames (D.view (disk_of_scan self)).contents result bodies }
         ensures disk { gates.disk_of_log result ≡ disk_of_scan self }
         ensures limit { gates.limit_of_log result ≡ limit_of_scan self }

@@ -22,7 +22,8 @@ pub fn step_at(bytes: &[u8], at: u64, end: u64) -> Step
     requires inside { at + length bytes.now ≤ end }
     requires enough { length bytes.now < 9 → at + length bytes.now ≡ end }
     requires small { end < 2 ^ 58 }
-    ensures step { (file : List ℕ) → length file ≡ end → AreFrom file at bytes.now → IsAtGate file at result }
+    ensures step { (file : List ℕ) → length file ≡ end → AreFrom file at bytes.now
+        → IsAtGate file at result }
     ensures behind { LiesBehind at end result }
 {
     if bytes[0] == 0 {

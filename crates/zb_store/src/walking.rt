@@ -20,13 +20,16 @@ pub fn walk<D: Disk>(
     requires before { near.1 ≤ last }
     requires close { last < 2 ^ 58 }
     requires inside { IsTrue D.tells → last < length (D.view disk.old).contents }
-    ensures gate { IsTrue D.tells → (bodies : List (List ℕ)) → Leads (D.view disk.old).contents 0 bodies last
+    ensures gate { IsTrue D.tells → (bodies : List (List ℕ))
+        → Leads (D.view disk.old).contents 0 bodies last
         → Leads (D.view disk.old).contents 0 (take near.0 bodies) near.1 → frame < length bodies
         → IfOk result (Leads (D.view disk.old).contents 0 (take frame bodies)) }
     ensures inside { IfOk result (λ gate. gate ≤ last) }
-    ensures reads { OnlyReads D.tells D.tells_images D.view D.images D.since disk.old disk.new }
-    ensures steady { IsTrue D.counts_failures → OnOk result ((D.view disk.new).faults ≡ (D.view disk.old).faults) }
-    ensures cause { IfErr result (IsCaused D.counts_failures (D.view disk.old).faults (D.view disk.new).faults) }
+    ensures reads { OnlyReads D.Disk disk.old disk.new }
+    ensures steady { IsTrue D.counts_failures
+        → OnOk result ((D.view disk.new).faults ≡ (D.view disk.old).faults) }
+    ensures cause { IfErr result (IsCaused D.counts_failures (D.view disk.old).faults
+        (D.view disk.new).faults) }
 {
     let (first, mut gate) = near;
     for _passed in first..frame {
@@ -41,12 +44,15 @@ pub fn gate_behind<D: Disk>(disk: &mut D, gate: u64, last: u64) -> Result<u64, S
     requires before { gate ≤ last }
     requires close { last < 2 ^ 58 }
     requires inside { IsTrue D.tells → last < length (D.view disk.old).contents }
-    ensures next { IsTrue D.tells → IfOk result (λ next. next ≡ next_gate (D.view disk.old).contents gate) }
+    ensures next { IsTrue D.tells
+        → IfOk result (λ next. next ≡ next_gate (D.view disk.old).contents gate) }
     ensures behind { IfOk result (λ next. gate + 9 ≤ next) }
     ensures inside { IfOk result (λ next. next ≤ last) }
-    ensures reads { OnlyReads D.tells D.tells_images D.view D.images D.since disk.old disk.new }
-    ensures steady { IsTrue D.counts_failures → OnOk result ((D.view disk.new).faults ≡ (D.view disk.old).faults) }
-    ensures cause { IfErr result (IsCaused D.counts_failures (D.view disk.old).faults (D.view disk.new).faults) }
+    ensures reads { OnlyReads D.Disk disk.old disk.new }
+    ensures steady { IsTrue D.counts_failures
+        → OnOk result ((D.view disk.new).faults ≡ (D.view disk.old).faults) }
+    ensures cause { IfErr result (IsCaused D.counts_failures (D.view disk.old).faults
+        (D.view disk.new).faults) }
 {
     if last - gate < HEAD_BYTES {
         return Err(StoreFault::Memory);
@@ -70,10 +76,13 @@ pub fn read_part<D: Disk>(
     requires order { start ≤ end }
     requires close { end < 2 ^ 58 }
     requires inside { IsTrue D.tells → end ≤ length (D.view disk.old).contents }
-    ensures part { IsTrue D.tells → OnOk result (part.new.items ≡ slice_range (D.view disk.old).contents start end) }
-    ensures reads { OnlyReads D.tells D.tells_images D.view D.images D.since disk.old disk.new }
-    ensures steady { IsTrue D.counts_failures → OnOk result ((D.view disk.new).faults ≡ (D.view disk.old).faults) }
-    ensures cause { IfErr result (IsCaused D.counts_failures (D.view disk.old).faults (D.view disk.new).faults) }
+    ensures part { IsTrue D.tells
+        → OnOk result (part.new.items ≡ slice_range (D.view disk.old).contents start end) }
+    ensures reads { OnlyReads D.Disk disk.old disk.new }
+    ensures steady { IsTrue D.counts_failures
+        → OnOk result ((D.view disk.new).faults ≡ (D.view disk.old).faults) }
+    ensures cause { IfErr result (IsCaused D.counts_failures (D.view disk.old).faults
+        (D.view disk.new).faults) }
 {
     part.resize((end - start) as usize, 0)?;
     Ok(disk.read_at(start, part.as_mut_slice())?)

@@ -56,9 +56,11 @@ impl Window {
         ensures piece { IsTrue D.tells → IsPieceOf (D.view disk.new).contents self.new }
         ensures end { self.new.end ≡ self.old.end }
         ensures room { length self.old.bytes.items ≤ length self.new.bytes.items }
-        ensures reads { OnlyReads D.tells D.tells_images D.view D.images D.since disk.old disk.new }
-        ensures steady { IsTrue D.counts_failures → OnOk result ((D.view disk.new).faults ≡ (D.view disk.old).faults) }
-        ensures cause { IfErr result (IsCaused D.counts_failures (D.view disk.old).faults (D.view disk.new).faults) }
+        ensures reads { OnlyReads D.Disk disk.old disk.new }
+        ensures steady { IsTrue D.counts_failures
+            → OnOk result ((D.view disk.new).faults ≡ (D.view disk.old).faults) }
+        ensures cause { IfErr result (IsCaused D.counts_failures (D.view disk.old).faults
+            (D.view disk.new).faults) }
     {
         match self.look(disk, at)? {
             Step::Closed => Ok(Step::Closed),
@@ -80,9 +82,11 @@ impl Window {
         ensures piece { IsTrue D.tells → IsPieceOf (D.view disk.new).contents self.new }
         ensures end { self.new.end ≡ self.old.end }
         ensures room { length self.old.bytes.items ≤ length self.new.bytes.items }
-        ensures reads { OnlyReads D.tells D.tells_images D.view D.images D.since disk.old disk.new }
-        ensures steady { IsTrue D.counts_failures → OnOk result ((D.view disk.new).faults ≡ (D.view disk.old).faults) }
-        ensures cause { IfErr result (IsCaused D.counts_failures (D.view disk.old).faults (D.view disk.new).faults) }
+        ensures reads { OnlyReads D.Disk disk.old disk.new }
+        ensures steady { IsTrue D.counts_failures
+            → OnOk result ((D.view disk.new).faults ≡ (D.view disk.old).faults) }
+        ensures cause { IfErr result (IsCaused D.counts_failures (D.view disk.old).faults
+            (D.view disk.new).faults) }
     {
         self.hold(disk, at, HEAD_BYTES)?;
         let from = (at - self.start) as usize;
@@ -102,9 +106,11 @@ impl Window {
         ensures piece { IsTrue D.tells → IsPieceOf (D.view disk.new).contents self.new }
         ensures end { self.new.end ≡ self.old.end }
         ensures room { length self.old.bytes.items ≤ length self.new.bytes.items }
-        ensures reads { OnlyReads D.tells D.tells_images D.view D.images D.since disk.old disk.new }
-        ensures steady { IsTrue D.counts_failures → OnOk result ((D.view disk.new).faults ≡ (D.view disk.old).faults) }
-        ensures cause { IfErr result (IsCaused D.counts_failures (D.view disk.old).faults (D.view disk.new).faults) }
+        ensures reads { OnlyReads D.Disk disk.old disk.new }
+        ensures steady { IsTrue D.counts_failures
+            → OnOk result ((D.view disk.new).faults ≡ (D.view disk.old).faults) }
+        ensures cause { IfErr result (IsCaused D.counts_failures (D.view disk.old).faults
+            (D.view disk.new).faults) }
     {
         if self.holds(at, size) {
             return Ok(());
@@ -133,9 +139,11 @@ impl Window {
         ensures piece { IsTrue D.tells → IsPieceOf (D.view disk.new).contents self.new }
         ensures end { self.new.end ≡ self.old.end }
         ensures room { length self.old.bytes.items ≤ length self.new.bytes.items }
-        ensures reads { OnlyReads D.tells D.tells_images D.view D.images D.since disk.old disk.new }
-        ensures steady { IsTrue D.counts_failures → OnOk result ((D.view disk.new).faults ≡ (D.view disk.old).faults) }
-        ensures cause { IfErr result (IsCaused D.counts_failures (D.view disk.old).faults (D.view disk.new).faults) }
+        ensures reads { OnlyReads D.Disk disk.old disk.new }
+        ensures steady { IsTrue D.counts_failures
+            → OnOk result ((D.view disk.new).faults ≡ (D.view disk.old).faults) }
+        ensures cause { IfErr result (IsCaused D.counts_failures (D.view disk.old).faults
+            (D.view disk.new).faults) }
     {
         let size = (self.end - at).min(size.max(PIECE_BYTES)) as usize;
         self.filled = 0;
@@ -166,10 +174,13 @@ impl Window {
 fn fill<D: Disk>(disk: &mut D, at: u64, buffer: &mut Vec<u8>, size: usize) -> Result<(), Trouble>
     requires room { size ≤ length buffer.old.items }
     requires inside { IsTrue D.tells → at + size ≤ length (D.view disk.old).contents }
-    ensures bytes { IsTrue D.tells → OnOk result (take size buffer.new.items ≡ take size (drop at (D.view disk.old).contents)) }
+    ensures bytes { IsTrue D.tells
+        → OnOk result
+        (take size buffer.new.items ≡ take size (drop at (D.view disk.old).contents)) }
     ensures room { length buffer.new.items ≡ length buffer.old.items }
-    ensures reads { OnlyReads D.tells D.tells_images D.view D.images D.since disk.old disk.new }
-    ensures cause { HasCause D.counts_failures D.takes_memory (D.view disk.old).faults (D.view disk.new).faults result }
+    ensures reads { OnlyReads D.Disk disk.old disk.new }
+    ensures cause { HasCause D.counts_failures D.takes_memory (D.view disk.old).faults
+        (D.view disk.new).faults result }
 {
     fill_front(disk, at, buffer.as_mut_slice(), size)
 }
@@ -178,9 +189,11 @@ fn fill<D: Disk>(disk: &mut D, at: u64, buffer: &mut Vec<u8>, size: usize) -> Re
 fn fill_front<D: Disk>(disk: &mut D, at: u64, buffer: &mut [u8], size: usize) -> Result<(), Trouble>
     requires room { size ≤ length buffer.old }
     requires inside { IsTrue D.tells → at + size ≤ length (D.view disk.old).contents }
-    ensures bytes { IsTrue D.tells → OnOk result (take size buffer.new ≡ take size (drop at (D.view disk.old).contents)) }
-    ensures reads { OnlyReads D.tells D.tells_images D.view D.images D.since disk.old disk.new }
-    ensures cause { HasCause D.counts_failures D.takes_memory (D.view disk.old).faults (D.view disk.new).faults result }
+    ensures bytes { IsTrue D.tells
+        → OnOk result (take size buffer.new ≡ take size (drop at (D.view disk.old).contents)) }
+    ensures reads { OnlyReads D.Disk disk.old disk.new }
+    ensures cause { HasCause D.counts_failures D.takes_memory (D.view disk.old).faults
+        (D.view disk.new).faults result }
 {
     disk.read_at(at, &mut buffer[..size])
 }

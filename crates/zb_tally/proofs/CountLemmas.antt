@@ -8,9 +8,8 @@ use Rattle.zb_disk.specs.declared.disk.Disk.{Ghosts}
 use Rattle.zb_model.specs.declared.record.Batch.{Batch}
 use Rattle.zb_views.specs.View.{events_in, events_of}
 use Rattle.zb_views.proofs.ViewLaws.{events_of_more}
-use Rattle.zb_store.specs.Stands.{Stands}
 use Rattle.zb_store.specs.declared.volume.Volume.{Volume}
-use Rattle.zb_partition.specs.Log.{bodies_of, AreBatches}
+use Rattle.zb_partition.specs.Log.{StandsFor, AreBatches}
 use Rattle.zb_engine.proofs.ListLemmas.{range_with_len_more}
 use Rattle.zb_engine.proofs.MadeLemmas.{all_more}
 use Rattle.zb_tally.specs.Counts.{is_accepted, tally_with, no_tally, both_tallies, tally_of_log, tally_from}
@@ -119,7 +118,7 @@ tail_of i xs x ys is = sym (drop-drop 1 i xs) ∙ ap (drop 1) is
 module _ {D : Type 0} (disks : Ghosts D) where
   pub record IsFirstLog (volume : Volume D) (left : List (Volume D)) (index : ℕ) (logs : List (List Batch)) : Type 0 where
     pub log : List Batch
-    pub stands : Stands (disks.view volume.log).contents (bodies_of log)
+    pub stands : StandsFor (disks.view volume.log).contents log
     pub fits : AreBatches log
     pub rest : AreLogsOf disks left (drop (index + 1) logs)
     pub first : drop index logs ≡ log ∷ drop (index + 1) logs

@@ -1,21 +1,23 @@
 -- The run of a workload, the logs that it left, and how it ended.
-use Rattle.std.proofs.Common.{◌≡◌, ◌≢◌, ◌⊎◌, Bool, ℕ, zero, suc, List, [], ◌∷◌, length, Contains, IsTrue, Result, Ok, Err, IfErr, refl, sym, subst, inl, inr, arith}
+use Rattle.std.proofs.Common.{◌≡◌, ◌≢◌, ◌⊎◌, Bool, ℕ, zero, suc, ◌+◌, List, [], ◌∷◌, length, slice_get, Contains, IsTrue, Some, Result, Ok, Err, IfErr, refl, sym, ◌∙◌, subst, inl, inr, arith}
 use Rattle.std.specs.List.{AllByRecursion}
 use Rattle.std.proofs.lemmas.Bool.{false≢true}
 use Rattle.zb_disk.specs.declared.disk.Disk.{Ghosts}
 use Rattle.zb_model.specs.declared.record.Batch.{Batch}
-use Rattle.zb_store.specs.Stands.{Stands}
 use Rattle.zb_store.specs.declared.volume.Volume.{Volume}
-use Rattle.zb_partition.specs.Log.{bodies_of}
+use Rattle.zb_partition.specs.Log.{StandsFor, AreBatches}
 use Rattle.zb_desk.specs.Numbered.{EachFrom}
 use Rattle.zb_session.specs.Session.{SessionEnds}
-use Rattle.zb_serve.specs.Ends.{Told, Crashes, logs_ends}
-use Rattle.zb_serve.specs.Log.{Course, OpenedLog, IsLog, IsKept, IsDiskHurt, log_in, batch_of}
+use Rattle.zb_serve.specs.Ends.{Told, Crashes, VolumeEnds, RunEnds, volume_ends, volumes_ends}
+use Rattle.zb_serve.specs.Log.{Course, course_of, OpenedLog, IsVolume, IsLog, IsLogIn, IsKept, IsDiskHurt, log_in, batch_of}
 use Rattle.zb_serve.specs.Running.{ends_alone}
 use Rattle.zb_serve.specs.Served.{answer_of_run, IsRun}
 use Rattle.zb_serve.specs.Setting.{RunSetting}
 use Rattle.zb_serve.specs.declared.run.Cause.{Cause}
 use Rattle.zb_serve.specs.declared.run.Cause.TheVariants as causes
+use Rattle.zb_serve.proofs.ListLemmas.{member_at, place_within, of_number, each_length, first_at}
+use Rattle.zb_serve.proofs.LogLemmas.{ends_at, ends_many}
+use Rattle.zb_serve.proofs.GroundLemmas.{tails_of, runs_on_tails}
 use Rattle.zb_outside.specs.Cause.{StreamFaultsRose, HasStreamCause}
 use Rattle.zb_outside.specs.declared.trouble.Trouble.{Trouble}
 use Rattle.zb_outside.specs.declared.trouble.Trouble.TheVariants as troubles
@@ -34,37 +36,59 @@ use Rattle.zb_tally.specs.declared.fault.GenFault.TheVariants as faults
 
 module _ {D : Type 0} (disks : Ghosts D) (sound : (disk : D) → (disks.view disk).faults ≡ 0) where
   -- a sound disk wasn't hurt in a run that is done
-  not_hurt : (told : Told) (old new : D) → IsDiskHurt told (record { disk = disks.view old; disk_after = disks.view new }) causes.Done → ⊥
-  not_hurt told old new (inl rose) = let below = rose (omega (arith, sound old)) in let no : ⊥ = omega (arith, below, sound old, sound new) in no
+  not_hurt : (told : Told) (old new : Volume D) → IsDiskHurt told (volume_ends disks old new) causes.Done → ⊥
+  not_hurt told old new (inl rose) = let below = rose (omega (arith, sound old.log)) in let no : ⊥ = omega (arith, below, sound old.log, sound new.log) in no
   not_hurt told old new (inr memory) = absurd (false≢true memory.1)
 
   -- so its file stands for the log
-  module _ (course : Course) (crashes : Crashes) (done : course.cause ≡ causes.Done) (tells : IsTrue course.told.disk) where
-    stands_one : (number : ℕ) (old new : Volume D) (opened : OpenedLog) → IsLog course crashes number (record { disk = disks.view old.log; disk_after = disks.view new.log }) opened
-        → Stands (disks.view new.log).contents (bodies_of (log_in course number opened))
-    stands_one number old new opened is =
-        elim (subst (λ (cause : Cause). IsKept course.told (record { disk = disks.view old.log; disk_after = disks.view new.log }) cause (batch_of number course.unlogged) (log_in course number opened) (disks.view new.log).contents) done (is.contents tells)) [
+  module _ (course : Course) (ends : RunEnds) (crashes : Crashes) (done : course.cause ≡ causes.Done) (tells : IsTrue course.told.disk) where
+    stands_one : (number : ℕ) (old new : Volume D) (opened : OpenedLog) (log : List Batch) → IsLog course crashes number (volume_ends disks old new) opened log
+        → StandsFor (disks.view new.log).contents (log_in course number log)
+    stands_one number old new opened log is =
+        elim (subst (λ (cause : Cause). IsKept course.told (volume_ends disks old new) cause (batch_of number course.unlogged) (log_in course number log) (disks.view new.log).contents) done (is.contents tells)) [
           | inl stands ↦ stands
-          | inr hurt ↦ absurd (not_hurt course.told old.log new.log hurt.1)
+          | inr hurt ↦ absurd (not_hurt course.told old new hurt.1)
         ]
 
-    logs_left : (number : ℕ) (olds news : List (Volume D)) (opened : List OpenedLog) → length news ≡ length olds → EachFrom (IsLog course crashes) number (logs_ends disks olds news) opened
-        → (logs : List (List Batch)) × AreLogsOf disks news logs
-    logs_left number [] [] opened many each = ([], tt)
-    logs_left number (old ∷ olds) (new ∷ news) (one ∷ opened) many each =
-        let rest = logs_left (suc number) olds news opened (omega (arith, many)) each.1 in
-        (log_in course number one ∷ rest.0, ((stands_one number old new one each.0, each.0.fit), rest.1))
-    logs_left number (old ∷ olds) (new ∷ news) [] many each = absurd each
-    logs_left number [] (new ∷ news) opened many each = absurd (let no : ⊥ = omega (arith, many) in no)
-    logs_left number (old ∷ olds) [] opened many each = absurd (let no : ⊥ = omega (arith, many) in no)
+    -- those of all, where each is the one at its place
+    logs_from : (number : ℕ) (news : List (Volume D)) (logs : List (List Batch)) → length news ≡ length logs
+        → ((k : ℕ) (new : Volume D) (log : List Batch) → slice_get news k ≡ Some new → slice_get logs k ≡ Some log → StandsFor (disks.view new.log).contents (log_in course (number + k) log) × AreBatches (log_in course (number + k) log))
+        → (left : List (List Batch)) × AreLogsOf disks news left
+    logs_from number [] [] many each = ([], tt)
+    logs_from number (new ∷ news) (log ∷ logs) many each =
+        let here : number + 0 ≡ number = omega arith in
+        let rest = logs_from (suc number) news logs (omega (arith, many)) (λ k other its at_other at_its.
+        let on : number + suc k ≡ suc number + k = omega arith in
+        subst (λ (m : ℕ). StandsFor (disks.view other.log).contents (log_in course m its) × AreBatches (log_in course m its)) on (each (suc k) other its at_other at_its)) in
+        (log_in course number log ∷ rest.0, (subst (λ (m : ℕ). StandsFor (disks.view new.log).contents (log_in course m log) × AreBatches (log_in course m log)) here (each 0 new log refl refl), rest.1))
+    logs_from number [] (log ∷ logs) many each = absurd (let no : ⊥ = omega (arith, many) in no)
+    logs_from number (new ∷ news) [] many each = absurd (let no : ⊥ = omega (arith, many) in no)
+
+    logs_left : (olds news : List (Volume D)) (opened : List OpenedLog) (logs : List (List Batch)) → length news ≡ length olds → length news ≡ length opened → ends.volumes ≡ volumes_ends disks olds news
+        → EachFrom (IsLogIn course ends crashes) 1 opened logs → (left : List (List Batch)) × AreLogsOf disks news left
+    logs_left olds news opened logs many found are each =
+        let one_each : length opened ≡ length logs = each_length (IsLogIn course ends crashes) 1 opened logs each in
+        logs_from 1 news logs (found ∙ one_each) (λ k new log at_new at_log.
+        let within = place_within news k new at_new in
+        let old = member_at olds k (omega (arith, within, many)) in
+        let one = member_at opened k (omega (arith, within, found)) in
+        let volumes = subst (λ (volumes : List VolumeEnds). slice_get volumes k ≡ Some (volume_ends disks old.0 new)) (sym are) (ends_at disks olds news k old.0 new old.1 at_new) in
+        let is : IsLog course crashes (suc k) (volume_ends disks old.0 new) one.0 log =
+        of_number ends.volumes k (volume_ends disks old.0 new) (λ volume. IsLog course crashes (suc k) volume one.0 log) volumes (first_at (IsLogIn course ends crashes) opened logs k one.0 log each one.1 at_log) in
+        let number : suc k ≡ 1 + k = omega arith in
+        subst (λ (m : ℕ). StandsFor (disks.view new.log).contents (log_in course m log) × AreBatches (log_in course m log)) number (stands_one (suc k) old.0 new one.0 log is, is.fit))
 
   -- the logs that a run leaves that is done
   run_logs : (told : Told) (setting : RunSetting) (session : SessionEnds) (crashes : Crashes) (olds news : List (Volume D)) (stamps : List (List ℕ)) (units : ℕ) → IsTrue told.disk → length news ≡ length olds
-      → IsRun told setting (ends_alone session (logs_ends disks olds news)) crashes (answer_of_run causes.Done stamps units) → (logs : List (List Batch)) × AreLogsOf disks news logs
+      → IsRun told setting (ends_alone session (volumes_ends disks olds news)) crashes (answer_of_run causes.Done stamps units) → (logs : List (List Batch)) × AreLogsOf disks news logs
   run_logs told setting session crashes olds news [] units tells many run = absurd run.0
   run_logs told setting session crashes olds news (stamp ∷ stamps) units tells many run =
       let serves = run.2 in
-      logs_left _ crashes refl tells 1 olds news serves.logs many serves.are_logs
+      let ends = ends_alone session (volumes_ends disks olds news) in
+      let course = course_of told setting (length ends.volumes) run.0 run.1 causes.Done in
+      let opened = serves.parts.opened in
+      let found : length ends.volumes ≡ length opened = each_length (IsVolume course crashes) 1 ends.volumes opened serves.volumes in
+      logs_left course ends crashes refl tells olds news opened (tails_of opened) many (sym (ends_many disks olds news many) ∙ found) refl (runs_on_tails course crashes ends (stamp ∷ stamps) units serves).are_logs
 
   pub served_logs : (plan : GenPlan) (back : List (Volume D)) → IsWorkloadServed disks plan back → (logs : List (List Batch)) × AreLogsOf disks back logs
   served_logs plan back served = run_logs served.told workload_setting served.session (crashes_of disks served.volumes back) served.volumes back served.stamps served.units served.tells.2 served.same served.run
@@ -76,7 +100,7 @@ same_setting plan tells upcoming limit units clock = rw (limit, units, clock) re
 pub workload_run : {D : Type 0} (disks : Ghosts D) (plan : GenPlan) (told : Told) (setting : RunSetting) (session : SessionEnds) (olds news : List (Volume D)) (cause : Cause) (stamps : List (List ℕ)) (units : ℕ) → setting ≡ workload_setting
     → IsTrue told.source × IsTrue told.sink × IsTrue told.disk → session.source.left ≡ workload plan.number plan.requests → length olds ≡ plan.partitions
     → AllByRecursion (λ volume. (disks.view volume.log).contents ≡ []) olds → length news ≡ length olds
-    → IsRun told setting (ends_alone session (logs_ends disks olds news)) (crashes_of disks olds news) (answer_of_run cause stamps units) → IsWorkloadRun disks plan news cause
+    → IsRun told setting (ends_alone session (volumes_ends disks olds news)) (crashes_of disks olds news) (answer_of_run cause stamps units) → IsWorkloadRun disks plan news cause
 workload_run disks plan told setting session olds news cause stamps units goes_by tells input many empty same run = record {
   told = told;
   tells = tells;
@@ -88,7 +112,7 @@ workload_run disks plan told setting session olds news cause stamps units goes_b
   same = same;
   stamps = stamps;
   units = units;
-  run = subst (λ (s : RunSetting). IsRun told s (ends_alone session (logs_ends disks olds news)) (crashes_of disks olds news) (answer_of_run cause stamps units)) goes_by run;
+  run = subst (λ (s : RunSetting). IsRun told s (ends_alone session (volumes_ends disks olds news)) (crashes_of disks olds news) (answer_of_run cause stamps units)) goes_by run;
 }
 
 -- what the end of a run says of its cause

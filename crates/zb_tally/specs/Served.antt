@@ -3,16 +3,15 @@ use Rattle.std.specs.Prelude.{◌≡◌, ◌^◌, ℕ, List, [], length, Bool, I
 use Rattle.std.specs.List.{AllZip, AllByRecursion}
 use Rattle.zb_disk.specs.declared.disk.Disk.{Ghosts}
 use Rattle.zb_model.specs.declared.record.Batch.{Batch}
-use Rattle.zb_store.specs.Stands.{Stands}
 use Rattle.zb_store.specs.declared.volume.Volume.{Volume}
-use Rattle.zb_partition.specs.Log.{bodies_of, AreBatches}
+use Rattle.zb_partition.specs.Log.{StandsFor, AreBatches}
 use Rattle.zb_words.specs.Plan.{IsPlan}
 use Rattle.zb_words.specs.declared.plan.GenPlan.{GenPlan}
 use Rattle.zb_words.specs.declared.plan.Plan.TheVariants as plans
 use Rattle.zb_gen.specs.Workload.{workload}
 use Rattle.zb_session.specs.Hours.{manual}
 use Rattle.zb_session.specs.Session.{SessionEnds}
-use Rattle.zb_serve.specs.Ends.{Told, logs_ends, crashes_of}
+use Rattle.zb_serve.specs.Ends.{Told, volumes_ends, crashes_of}
 use Rattle.zb_serve.specs.Running.{ends_alone}
 use Rattle.zb_serve.specs.Served.{answer_of_run, IsRun}
 use Rattle.zb_serve.specs.Setting.{RunSetting}
@@ -40,7 +39,7 @@ pub record IsWorkloadRun {D : Type 0} (disks : Ghosts D) (plan : GenPlan) (back 
   pub same : length back ≡ length volumes
   pub stamps : List (List ℕ)
   pub units : ℕ
-  pub run : IsRun told workload_setting (ends_alone session (logs_ends disks volumes back)) (crashes_of disks volumes back) (answer_of_run cause stamps units)
+  pub run : IsRun told workload_setting (ends_alone session (volumes_ends disks volumes back)) (crashes_of disks volumes back) (answer_of_run cause stamps units)
 
 -- these volumes are left of the run of a workload that was done (own)
 abbrev pub IsWorkloadServed : {D : Type 0} → Ghosts D → GenPlan → List (Volume D) → Type 0
@@ -57,7 +56,7 @@ pub record IsWorkloadCut {D : Type 0} (disks : Ghosts D) (plan : GenPlan) : Type
 
 -- each of these logs is the one that the file of a volume stands for (own)
 abbrev pub AreLogsOf : {D : Type 0} → Ghosts D → List (Volume D) → List (List Batch) → Type 0
-AreLogsOf disks volumes logs = AllZip (λ volume log. Stands (disks.view volume.log).contents (bodies_of log) × AreBatches log) volumes logs
+AreLogsOf disks volumes logs = AllZip (λ volume log. StandsFor (disks.view volume.log).contents log × AreBatches log) volumes logs
 
 -- the words ask for a workload, and this is the summary of what came of it: the counts of the logs that its run left (own)
 pub record IsSummary {D : Type 0} (disks : Ghosts D) (words : List (List ℕ)) (text : List ℕ) : Type 0 where

@@ -6,8 +6,7 @@ ghost use Rattle.zb_views.specs.View.{events_in};
 ghost use Rattle.zb_views.specs.Messages.{is_buffered};
 ghost use Rattle.zb_rules.specs.Applies.{holds_of_game, has_cell};
 ghost use Rattle.zb_store.specs.GateLog.{disk_of_log, count_of, HasClosedFrames, IsSameLog};
-ghost use Rattle.zb_store.specs.Stands.{Stands};
-ghost use Rattle.zb_partition.specs.Log.{bodies_of, AreBatches};
+ghost use Rattle.zb_partition.specs.Log.{StandsFor, bodies_of, AreBatches};
 ghost use Rattle.zb_state.specs.State.{partition_of, IsStateOf};
 ghost use Rattle.zb_tally.specs.Counts.{cells_there, messages_there, tally_of_log, tally_from, tally_with};
 ghost use Rattle.zb_tally.specs.Served.{AreLogsOf};
@@ -44,7 +43,7 @@ pub fn count_all<D: Disk + Drop>(alloc: Global, mut volumes: Vec<Volume<D>>) -> 
 // What is counted in the log of this partition.
 fn count_log<D: Disk + Drop>(alloc: Global, place: PartitionId, disk: D) -> Option<Tally>
     ensures { IsTrue D.tells → (all : List Record)
-        → Stands (D.view disk).contents (bodies_of all) → AreBatches all
+        → StandsFor (D.view disk).contents all → AreBatches all
         → IfSome result (λ tally. tally ≡ tally_of_log place all) }
 {
     let mut log = open_log(alloc, disk)?;
@@ -67,7 +66,7 @@ fn count_log<D: Disk + Drop>(alloc: Global, place: PartitionId, disk: D) -> Opti
 
 // The log on this disk, which isn't cut off; `None` where memory was wanting.
 fn open_log<D: Disk + Drop>(alloc: Global, disk: D) -> Option<GateLog<D>>
-    ensures { IsTrue D.tells → (all : List Record) → Stands (D.view disk).contents (bodies_of all)
+    ensures { IsTrue D.tells → (all : List Record) → StandsFor (D.view disk).contents all
         → IfSome result (λ log. HasClosedFrames (D.view (disk_of_log log)).contents log (bodies_of all)) }
 {
     one_reading();

@@ -1,6 +1,6 @@
 use Rattle.std.proofs.Common.{◌++◌}
 use Rattle.std.proofs.lemmas.List.{length-map}
-use Rattle.zb_engine.specs.Ledger.{Opening}
+use Rattle.zb_partition.specs.Ledger.{Opening}
 use Rattle.zb_engine.proofs.AskingLemmas.{answered_by, cut_in_units}
 use Rattle.zb_engine.proofs.asking.answer.Goals as goal
 

@@ -1,4 +1,6 @@
 use Rattle.std.proofs.Common.{refl}
+use Rattle.std.proofs.lemmas.Result.{IfOk-weaker}
+use Rattle.zb_reply.proofs.ReplyLaws.{answer_of-spoken}
 use Rattle.zb_engine.proofs.AskingLemmas.{nothing_done}
 use Rattle.zb_engine.proofs.asking.carry_out.Goals as goal
 
@@ -13,3 +15,6 @@ returns-in-Advance-clause-done g c = λ start made has. rw c.in-Advance.is (noth
 
 pub returns-in-Settle-clause-done : goal.returns-in-Settle-clause-done
 returns-in-Settle-clause-done g c = λ start made has. rw c.in-Settle.is (nothing_done start made _ c.args.reading _ c.args.solo.now refl (refl, refl) has)
+
+pub returns-in_default-clause-spoken : goal.returns-in_default-clause-spoken
+returns-in_default-clause-spoken g c = IfOk-weaker c.command.result _ _ (λ reply told. answer_of-spoken told.0 reply told.1) c.command.ensures.told

@@ -2,34 +2,21 @@ use Rattle.std.proofs.Common.{◌≡◌, ℕ, ◌<◌, ◌∷◌, ◌++◌, [], 
 use Rattle.std.proofs.lemmas.List.{length-map}
 use Rattle.zb_model.specs.declared.stop.Stop.TheVariants as stops
 use Rattle.zb_world.specs.Entries.{as_entry}
-use Rattle.zb_wire.specs.Asked.{command_of, partition_asked}
-use Rattle.zb_model.specs.declared.record.Command.{Command}
-use Rattle.zb_desk.specs.Serial.{log_behind}
-use Rattle.zb_engine.specs.Ledger.{Opening}
-use Rattle.zb_engine.specs.Solo.{many_in, logs_in, partitions_in}
-use Rattle.zb_engine.proofs.AnswerLemmas.{asked_run, step_answered}
+use Rattle.zb_wire.specs.Asked.{partition_asked}
+use Rattle.zb_partition.specs.Ledger.{Opening}
+use Rattle.zb_engine.specs.Solo.{logs_in, partitions_in}
+use Rattle.zb_engine.proofs.AnswerLemmas.{asked_run}
 use Rattle.zb_engine.proofs.AskingLemmas.{asked_within, cut_asking, command_asked, command_done, command_cut}
 use Rattle.zb_engine.proofs.MadeLemmas.{ended_resting}
-use Rattle.zb_engine.proofs.NextLemmas.{command_is}
 use Rattle.zb_engine.proofs.asking.command.Goals as goal
 
-pub commit-requires-clause-known : goal.commit-requires-clause-known
-commit-requires-clause-known g c =
-    let k = c.requires.known in
-    let many = c.count.ensures.count k.0 k.1 k.2 in
+pub commit-requires-clause-there : goal.commit-requires-clause-there
+commit-requires-clause-there g c =
     let within = asked_within c.count.result c.args.request (c.count.ensures.some) in
-    (k.0, k.1, k.2, omega (arith, within, many, c.partition-partition.ensures))
+    omega (arith, within, c.count.ensures.many, c.partition-partition.ensures)
 
 pub commit-requires-clause-run : goal.commit-requires-clause-run
 commit-requires-clause-run g c = asked_run c.args.request c.in-Some.command (sym c.into_command.ensures ∙ c.in-Some.is)
-
-pub reply_of-requires : goal.reply_of-requires
-reply_of-requires g c =
-    let k = c.requires.known in
-    let placed = c.in-Ok.ensures.placed k.0 k.1 k.2 in
-    let same = command_is (logs_in k.0) c.partition-partition.result c.in-Some.command c.args.reading k.1 c.in-Ok.batch placed.by in
-    let asks : command_of c.args.request ≡ Some c.in-Ok.batch.command = sym c.into_command.ensures ∙ c.in-Some.is ∙ ap (λ (command : Command). Some command) same in
-    step_answered c.partition-partition.result (many_in k.0) (log_behind c.partition-partition.result placed.step.0 k.1) c.in-Ok.batch c.args.request asks placed.step.3
 
 pub returns-in-Err-clause-cut : goal.returns-in-Err-clause-cut
 returns-in-Err-clause-cut g c = λ start made has.
@@ -39,17 +26,17 @@ returns-in-Err-clause-cut g c = λ start made has.
     command_cut start made c.args.request c.args.reading c.in-Some.command c.partition-partition.result (sym c.into_command.ensures ∙ c.in-Some.is) at c.in-Err.stop c.commit.new.self
     (c.in-Err.ensures.stopped start made has)
 
-pub returns-in-Ok-reply_of-clause-done : goal.returns-in-Ok-reply_of-clause-done
-returns-in-Ok-reply_of-clause-done g c = λ start made has.
+pub returns-in-Ok-Some-clause-done : goal.returns-in-Ok-Some-clause-done
+returns-in-Ok-Some-clause-done g c = λ start made has.
     let many = length-map start.openings (λ (o : Opening g.row.D.Denot). o.batches) in
     let at : c.partition-partition.result ≡ partition_asked (length (logs_in start)) c.args.request =
     c.partition-partition.ensures ∙ ap (λ (n : ℕ). partition_asked n c.args.request) (c.count.ensures.count start made has ∙ sym many) in
-    command_done start made c.args.request c.args.reading c.in-Some.command c.partition-partition.result (sym c.into_command.ensures ∙ c.in-Some.is) at c.in-Ok.batch c.in-Ok-reply_of.reply
-    c.commit.new.self many (c.in-Ok.ensures.placed start made has) c.in-Ok-reply_of.ensures
+    command_done start made c.args.request c.args.reading c.in-Some.command c.partition-partition.result (sym c.into_command.ensures ∙ c.in-Some.is) at c.in-Ok.batch c.in-Ok-Some.reply
+    c.commit.new.self many (c.in-Ok.ensures.placed start made has) (sym c.in-Ok-Some.ensures.told ∙ c.in-Ok-Some.field-0-is)
 
 -- there was no memory for the reply
-pub returns-in-Err-reply_of-clause-cut : goal.returns-in-Err-reply_of-clause-cut
-returns-in-Err-reply_of-clause-cut g c = λ start made has.
+pub returns-in-Ok-None-clause-cut : goal.returns-in-Ok-None-clause-cut
+returns-in-Ok-None-clause-cut g c = λ start made has.
     let many = length-map start.openings (λ (o : Opening g.row.D.Denot). o.batches) in
     let at : c.partition-partition.result ≡ partition_asked (length (logs_in start)) c.args.request =
     c.partition-partition.ensures ∙ ap (λ (n : ℕ). partition_asked n c.args.request) (c.count.ensures.count start made has ∙ sym many) in

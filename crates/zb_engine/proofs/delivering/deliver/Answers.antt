@@ -1,30 +1,21 @@
 use Rattle.std.proofs.Common.{◌≡◌, ◌<◌, ◌++◌, ℕ, List, length, Some, refl, sym, ap, subst, ◌∙◌, arith}
-use Rattle.std.proofs.lemmas.List.{length-map}
 use Rattle.zb_model.specs.declared.record.Packet.{Packet}
 use Rattle.zb_model.specs.declared.stop.Stop.TheVariants as stops
 use Rattle.zb_views.specs.Standing.{begun_by}
 use Rattle.zb_record.specs.Answers.{answer_packet}
-use Rattle.zb_engine.specs.Ledger.{Opening}
 use Rattle.zb_desk.specs.Asking.{IsDelivered}
-use Rattle.zb_engine.specs.Solo.{basis_in, many_in, logs_in, partitions_in, HasPart, HasMade}
-use Rattle.zb_engine.proofs.DeliveryLemmas.{working_none, working_more, delivered_all, delivered_full, delivery_cut, delivery_cut_resting, working_runs, unit_is_within}
+use Rattle.zb_engine.specs.Solo.{basis_in, many_in, partitions_in, HasMade}
+use Rattle.zb_engine.proofs.DeliveryLemmas.{working_none, working_more, delivered_all, delivered_full, delivery_cut, delivery_cut_resting, unit_comes}
 use Rattle.zb_engine.proofs.MadeLemmas.{ended_resting}
-use Rattle.zb_engine.proofs.NumberLemmas.{each_from_length}
 use Rattle.zb_engine.proofs.delivering.deliver.Goals as goal
 
 pub loop-done-init : goal.loop-done-init
-loop-done-init g c = λ start made has. working_none start made c.args.reading c.new-hand.result.items c.args.solo.now c.new-hand.ensures.items has
-
-pub next_unit-requires : goal.next_unit-requires
-next_unit-requires g c =
-    let k = c.requires in
-    let w = c.loop-done.invariant k.0 k.1 k.2 in
-    (k.0, k.1 ++ w.are.more, w.are.holds)
+loop-done-init g c = (λ start made has. working_none start made c.args.reading c.new-hand.result.items c.args.solo.now c.new-hand.ensures.items has, c.requires, refl)
 
 -- there was no memory for what comes next
 pub returns-in-Err-clause-cut : goal.returns-in-Err-clause-cut
 returns-in-Err-clause-cut g c = λ start made has.
-    let w = c.loop-done.invariant start made has in
+    let w = c.loop-done.invariant.0 start made has in
     let within : 0 < length (partitions_in c.loop-done.solo) = omega (arith, c.loop-done.solo.some) in
     rw (c.keep.ensures.stop)
     (delivery_cut_resting start made c.args.reading c.loop-done.done c.loop-done.hand.items c.loop-done.solo c.keep.new.self w
@@ -34,51 +25,38 @@ returns-in-Err-clause-cut g c = λ start made has.
 -- nothing comes next
 pub returns-in_default-clause-delivered : goal.returns-in_default-clause-delivered
 returns-in_default-clause-delivered g c = λ start made has.
-    let w = c.loop-done.invariant start made has in
-    let next = c.in-Ok.ensures.next start (made ++ w.are.more) w.are.more w.are.holds w.in_hand in
-    delivered_all start made c.args.reading c.loop-done.done c.loop-done.hand.items c.loop-done.solo w (omega (arith, c.loop-done-test.true, has.bound)) (sym next ∙ c.in_default.is)
-
-pub do_unit-requires-clause-known : goal.do_unit-requires-clause-known
-do_unit-requires-clause-known g c =
-    let k = c.requires in
-    let start = k.0 in
-    let w = c.loop-done.invariant start k.1 k.2 in
-    let next = c.in-Ok.ensures.next start (k.1 ++ w.are.more) w.are.more w.are.holds w.in_hand in
-    let many = length-map start.openings (λ (o : Opening g.row.D.Denot). o.batches) in
-    let parts = each_from_length (HasPart (many_in start) (k.1 ++ w.are.more)) 1 start.openings (partitions_in c.loop-done.solo) w.are.holds.parts in
-    let within = unit_is_within (logs_in start) w.are.more (k.1 ++ w.are.more) (c.in-Some.next.0, c.in-Some.next.1) (omega (arith, many, parts, c.loop-done.solo.some)) (sym next ∙ c.in-Some.is) in
-    (start, k.1 ++ w.are.more, w.are.holds, (omega (arith, within, many)))
-
-pub do_unit-requires-clause-run : goal.do_unit-requires-clause-run
-do_unit-requires-clause-run g c =
-    let k = c.requires in
-    let w = c.loop-done.invariant k.0 k.1 k.2 in
-    let next = c.in-Ok.ensures.next k.0 (k.1 ++ w.are.more) w.are.more w.are.holds w.in_hand in
-    working_runs k.0 k.1 c.args.reading c.loop-done.done c.loop-done.hand.items c.loop-done.solo w c.in-Some.next.0 c.in-Some.next.1 (sym next ∙ c.in-Some.is)
+    let w = c.loop-done.invariant.0 start made has in
+    let comes = unit_comes start made w.are.more c.count.result c.in-Ok.next c.that_can-next.result (c.count.ensures.some) (c.count.ensures.count start (made ++ w.are.more) w.are.holds) (c.in-Ok.ensures.next start (made ++ w.are.more) w.are.more w.are.holds w.in_hand) c.that_can-next.ensures.same in
+    delivered_all start made c.args.reading c.loop-done.done c.loop-done.hand.items c.loop-done.solo w (omega (arith, c.loop-done-test.true, has.bound)) (sym comes ∙ c.in_default.is)
 
 -- the unit stopped the engine
 pub returns-in-Err-do_unit-clause-cut : goal.returns-in-Err-do_unit-clause-cut
 returns-in-Err-do_unit-clause-cut g c = λ start made has.
-    let w = c.loop-done.invariant start made has in
-    let next = c.in-Ok.ensures.next start (made ++ w.are.more) w.are.more w.are.holds w.in_hand in
+    let w = c.loop-done.invariant.0 start made has in
+    let comes = unit_comes start made w.are.more c.count.result c.in-Ok.next c.that_can-next.result (c.count.ensures.some) (c.count.ensures.count start (made ++ w.are.more) w.are.holds) (c.in-Ok.ensures.next start (made ++ w.are.more) w.are.more w.are.holds w.in_hand) c.that_can-next.ensures.same in
     let away = (c.in-Err-do_unit.ensures.stopped start (made ++ w.are.more) w.are.holds) in
     delivery_cut start made c.args.reading c.loop-done.done c.loop-done.hand.items c.loop-done.solo _ w c.in-Some.next.0 c.in-Some.next.1 c.in-Err-do_unit.stop
-    (omega (arith, c.loop-done-test.true, has.bound)) (sym next ∙ c.in-Some.is) away
+    (omega (arith, c.loop-done-test.true, has.bound)) (sym comes ∙ c.in-Some.is) away
 
 pub loop-done-preserved : goal.loop-done-preserved
-loop-done-preserved g c = λ start made has.
-    let w = c.loop-done.invariant start made has in
-    let next = c.in-Ok.ensures.next start (made ++ w.are.more) w.are.more w.are.holds w.in_hand in
-    let taken = rw c.in-Some.is at (c.in-Ok.ensures.taken (many_in start) w.are.more w.in_hand) in
-    let s = (c.in-Ok-do_unit.ensures.placed start (made ++ w.are.more) w.are.holds) in
-    working_more start made c.args.reading c.loop-done.done c.loop-done.hand.items _ c.loop-done.solo _ w c.in-Some.next.0 c.in-Some.next.1 s.0
-    (omega (arith, c.loop-done-test.true, has.bound)) (sym next ∙ c.in-Some.is) s.1
-    (s.2 ∙ ap (λ (hand : List Packet). hand ++ begun_by (answer_packet c.in-Some.next.0 (many_in start) s.0)) taken)
+loop-done-preserved g c = (
+  λ start made has.
+      let w = c.loop-done.invariant.0 start made has in
+      let comes = unit_comes start made w.are.more c.count.result c.in-Ok.next c.that_can-next.result (c.count.ensures.some) (c.count.ensures.count start (made ++ w.are.more) w.are.holds) (c.in-Ok.ensures.next start (made ++ w.are.more) w.are.more w.are.holds w.in_hand) c.that_can-next.ensures.same in
+      let its : c.in-Ok.next ≡ Some c.in-Some.next = rw c.in-Some.is at c.that_can-next.ensures.its in
+      let taken = rw its at (c.in-Ok.ensures.taken (many_in start) w.are.more w.in_hand) in
+      let s = (c.in-Ok-do_unit.ensures.placed start (made ++ w.are.more) w.are.holds) in
+      working_more start made c.args.reading c.loop-done.done c.loop-done.hand.items _ c.loop-done.solo _ w c.in-Some.next.0 c.in-Some.next.1 s.0
+      (omega (arith, c.loop-done-test.true, has.bound)) (sym comes ∙ c.in-Some.is) s.1
+      (s.2 ∙ ap (λ (hand : List Packet). hand ++ begun_by (answer_packet c.in-Some.next.0 (many_in start) s.0)) taken),
+  c.in-Ok-do_unit.ensures.still,
+  c.do_unit.ensures.many ∙ c.loop-done.invariant.2,
+)
 
 -- as many as may be
 pub returns-clause-delivered : goal.returns-clause-delivered
 returns-clause-delivered g c = λ start made has.
-    let w = c.loop-done.invariant start made has in
+    let w = c.loop-done.invariant.0 start made has in
     let full : c.loop-done.done ≡ c.loop-done.solo.units = omega (arith, c.loop-done-test.false, c.loop-done.auto.done-end, has.bound, w.are.holds.bound) in
     subst (λ (n : ℕ). IsDelivered (basis_in start) c.args.reading made (λ es. HasMade start es c.loop-done.solo) n) full
     (delivered_full start made c.args.reading c.loop-done.done c.loop-done.hand.items c.loop-done.solo w (omega (arith, c.loop-done-test.false, has.bound)))

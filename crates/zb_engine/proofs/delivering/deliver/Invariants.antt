@@ -1,9 +1,10 @@
-use Rattle.std.proofs.Common.{List}
+use Rattle.std.proofs.Common.{◌≡◌, List, length, None}
 use Rattle.zb_world.specs.declared.entry.Entry.{Entry}
-use Rattle.zb_engine.specs.Solo.{Start, HasMade}
+use Rattle.zb_engine.specs.Solo.{Start, partitions_in, kept_in, HasMade}
 use Rattle.zb_engine.proofs.DeliveryLemmas.{IsWorking}
 use Rattle.zb_engine.proofs.delivering.deliver.Given as goal
 
--- so many units were done, and their answers are in hand
+-- so many units were done, and their answers are in hand; it goes on
 abbrev pub invariant-loop-done : goal.invariant-loop-done
-invariant-loop-done g l = (start : Start g.row.D.Denot) (made : List Entry) → HasMade start made l.fn.solo → IsWorking start made l.reading l.done l.hand.items l.solo
+invariant-loop-done g l = ((start : Start g.row.D.Denot) (made : List Entry) → HasMade start made l.fn.solo → IsWorking start made l.reading l.done l.hand.items l.solo)
+    × (kept_in l.solo ≡ None) × (length (partitions_in l.solo) ≡ length (partitions_in l.fn.solo))

@@ -13,7 +13,7 @@ invariant-loop-known g l =
       read : (log : List Batch) × IsRead l.fn.place (disks.view (disk_of_scan l.scan)).contents l.scan log l.known;
       going : IsFalse (is_over l.scan);
       limit : limit_of_scan l.scan ≡ limit_of_scan l.fn.scan;
-      reads : OnlyReads disks.tells disks.tells_images disks.view disks.images disks.since (disk_of_scan l.fn.scan) (disk_of_scan l.scan);
+      reads : OnlyReads disks (disk_of_scan l.fn.scan) (disk_of_scan l.scan);
       steady : IsTrue disks.counts_failures → (disks.view (disk_of_scan l.scan)).faults ≡ (disks.view (disk_of_scan l.fn.scan)).faults;
     }
 

@@ -1,6 +1,5 @@
 use Rattle.std.proofs.Common.{◌∙◌, refl, sym, subst, length, arith}
-use Rattle.zb_engine.specs.Ledger.{IsOpen}
-use Rattle.zb_serve.specs.Ends.{logs_ends}
+use Rattle.zb_serve.specs.Ends.{volumes_ends}
 use Rattle.zb_serve.specs.Served.{FailsToOpen}
 use Rattle.zb_serve.proofs.ListLemmas.{no_members}
 use Rattle.zb_serve.proofs.OpeningLemmas.{first_removed, opened_over, HasOpened, none_opened, opened_more, all_opened, all_same_back, fails_untouched, refused_back, fails_refused}
@@ -42,7 +41,7 @@ returns-in-Err-clause-unopened g c = λ told tells.
     let split = first_removed c.loop-index.volumes.items left c.remove-volume.result (omega (arith, c.loop-index-test.true, c.len-count.ensures, c.loop-index.invariant.many, c.loop-index.volumes.ok)) c.remove-volume.ensures.value c.remove-volume.ensures.items in
     let has = subst (λ volumes. HasOpened n c.args.limit c.args.volumes.items volumes partitions) split c.loop-index.invariant.has in
     let said = c.in-Err.ensures in
-    subst (λ cause. FailsToOpen told (logs_ends g.D.Disk c.args.volumes.items c.hand_back-volumes.result.items) cause) (sym c.open_cause.ensures)
+    subst (λ cause. FailsToOpen told (volumes_ends g.D.Disk c.args.volumes.items c.hand_back-volumes.result.items) cause) (sym c.open_cause.ensures)
     (fails_refused g.D.Disk n c.args.limit c.args.volumes.items left partitions c.remove-volume.result c.in-Err.volume c.partition_at-place.result c.in-Err.fault has
     (omega (arith, c.partition_at-place.ensures, c.loop-index.invariant.opened, c.loop-index.partitions.ok)) (record { opens = said.opens; slots = said.slots }) (λ t frame e. said.bad t frame e) said.cause
     c.hand_back-volumes.result.items c.hand_back-volumes.ensures told tells)
@@ -56,10 +55,10 @@ loop-index-preserved g c =
     let split = first_removed c.loop-index.volumes.items left c.remove-volume.result (omega (arith, c.loop-index-test.true, c.len-count.ensures, c.loop-index.invariant.many, c.loop-index.volumes.ok)) c.remove-volume.ensures.value c.remove-volume.ensures.items in
     let has = subst (λ volumes. HasOpened n c.args.limit c.args.volumes.items volumes partitions) split c.loop-index.invariant.has in
     let said = c.in-Ok-open.ensures in
-    let is_open : IsOpen (record { place = number; partitions = n; volume = c.remove-volume.result; limit = c.args.limit; batches = said.opened.0; moment = 0 }) c.in-Ok-open.partition said.opened.0 =
-    record { has = said.opened.1.has; live = said.live; place = said.place; partitions = omega (arith, said.partitions, c.len-count.ensures, c.args.volumes.ok, c.requires.few); most = said.limit } in
-    let opened = opened_over c.remove-volume.result n c.args.limit number said.opened.0 c.in-Ok-open.partition is_open said.opened.1.stood said.opened.1.applied said.opens said.steady
-    (λ tells. said.settled tells said.opened.0 (said.opened.1.stood (g.met.D.Disk.images_told tells))) said.slots in
+    let is = said.opened.1 in
+    let many = is.partitions_are ∙ omega (arith, c.len-count.ensures, c.args.volumes.ok, c.requires.few) in
+    let opened = opened_over c.remove-volume.result n c.args.limit number c.in-Ok-open.partition said.opened.0
+    (record { volume_is = is.volume_is; place_is = is.place_is; partitions_are = many; limit_is = is.limit_is }) said.opened.2 said.opened.3 said.opens in
     let more = opened_more n c.args.limit c.args.volumes.items partitions c.remove-volume.result left c.in-Ok-open.partition number has (omega (arith, c.partition_at-place.ensures, c.loop-index.invariant.opened, c.loop-index.partitions.ok)) opened in
     record {
       many = omega (arith, c.loop-index.invariant.many, c.remove-volume.ensures.len);

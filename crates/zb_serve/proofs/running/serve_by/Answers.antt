@@ -1,13 +1,8 @@
-use Rattle.std.proofs.Common.{◌∙◌, ap, refl, arith}
+use Rattle.std.proofs.Common.{◌∙◌, refl, subst}
 use Rattle.zb_serve.specs.Ends.{all_told}
-use Rattle.zb_serve.specs.Served.{slots_of_all}
+use Rattle.zb_serve.specs.Slots.{AreAllSlotsLeft}
 use Rattle.zb_serve.proofs.OpeningLemmas.{begun_count, all_spared, all_safe, all_many, all_slots}
 use Rattle.zb_serve.proofs.running.serve_by.Goals as goal
-
-pub serve_engine-requires-clause-made : goal.serve_engine-requires-clause-made
-serve_engine-requires-clause-made g c =
-    let o = c.in-Ok.ensures.opened in
-    (o.0, o.2, omega (arith, begun_count c.args.plan.now.limit c.args.plan.now.units c.args.volumes.items o.0 o.1, c.in-Ok.ensures.room))
 
 pub returns-in-Ok-clause-unread : goal.returns-in-Ok-clause-unread
 returns-in-Ok-clause-unread g c = λ none. absurd (c.serve_engine.ensures.some none)
@@ -15,12 +10,12 @@ returns-in-Ok-clause-unread g c = λ none. absurd (c.serve_engine.ensures.some n
 pub returns-in-Ok-clause-same : goal.returns-in-Ok-clause-same
 returns-in-Ok-clause-same g c =
     let o = c.in-Ok.ensures.opened in
-    c.serve_engine.ensures.same o.0 o.2 ∙ begun_count c.args.plan.now.limit c.args.plan.now.units c.args.volumes.items o.0 o.1
+    c.serve_engine.ensures.same o.0 o.2 ∙ begun_count g.D.Disk c.args.plan.now.limit c.args.plan.now.units c.args.volumes.items o.0 o.1
 
 pub returns-in-Ok-clause-slots : goal.returns-in-Ok-clause-slots
 returns-in-Ok-clause-slots g c =
     let o = c.in-Ok.ensures.opened in
-    c.serve_engine.ensures.slots o.0 o.2 ∙ ap slots_of_all o.1.over
+    subst (λ volumes. AreAllSlotsLeft volumes c.serve_engine.result.volumes.items) o.1.over (c.serve_engine.ensures.slots o.0 o.2)
 
 pub returns-in-Ok-clause-spared : goal.returns-in-Ok-clause-spared
 returns-in-Ok-clause-spared g c = λ none tells. absurd (c.serve_engine.ensures.some none)

@@ -1,53 +1,26 @@
-use Rattle.std.proofs.Common.{◌++◌, map, length, ◌∙◌, ap, arith}
+use Rattle.std.proofs.Common.{◌++◌, map, length, IsTrue, ◌∙◌, sym, ap, subst, arith}
+use Rattle.std.proofs.lemmas.List.{length-map}
 use Rattle.zb_outside.proofs.ClockLaws.{gone_further}
 use Rattle.zb_session.specs.Answer.{found_in, entries_made}
 use Rattle.zb_session.specs.Session.{streams_of, session_ends}
 use Rattle.zb_engine.specs.Solo.{basis_in, partitions_in, stamps_in}
-use Rattle.zb_serve.specs.Served.{slots_of_all}
+use Rattle.zb_serve.specs.Opening.{volumes_in}
+use Rattle.zb_serve.specs.Slots.{AreAllSlotsLeft}
 use Rattle.zb_serve.specs.Setting.{hours_of}
 use Rattle.zb_serve.specs.WorkOff.{behind_of}
-use Rattle.zb_serve.proofs.ClockLemmas.{at_first, by_hand_is, still_by_hand}
+use Rattle.zb_serve.proofs.ClockLemmas.{at_first, by_hand_is}
 use Rattle.zb_serve.proofs.ClosingLemmas.{files_count, some_stamps}
 use Rattle.zb_serve.proofs.HaltLemmas.{closed_over, left_over}
 use Rattle.zb_serve.proofs.WorkLemmas.{not_cut}
 use Rattle.zb_serve.proofs.running.serve_engine.Goals as goal
 
-pub serve_solo-end-requires : goal.serve_solo-end-requires
-serve_solo-end-requires g c =
-    let m = c.requires.made in (
-      m.0,
-      hours_of c.args.plan.now.clock g.C.Clock.tells (g.C.Clock.upcoming c.args.clock.now),
-      m.1,
-      at_first c.args.plan.now.clock g.C.Clock.tells (g.C.Clock.upcoming c.args.clock.now) c.new-dial.result c.goes_by_hand.result c.new-dial.ensures c.goes_by_hand.ensures,
-    )
-
 pub work_off-end-requires : goal.work_off-end-requires
-work_off-end-requires g c =
-    let m = c.requires.made in
-    let hours = hours_of c.args.plan.now.clock g.C.Clock.tells (g.C.Clock.upcoming c.args.clock.now) in
-    let over = c.serve_solo-end.ensures.over m.0 hours m.1
-    (at_first c.args.plan.now.clock g.C.Clock.tells (g.C.Clock.upcoming c.args.clock.now) c.new-dial.result c.goes_by_hand.result c.new-dial.ensures c.goes_by_hand.ensures) in
-    record { left = (m.0, hours, found_in over.run.answers, entries_made over.run.answers ++ over.rest, over.unlogged, over.leaves, λ uncut. over.clock (not_cut c.serve_solo-end.result uncut)) }
-
-pub close_run-requires-clause-room : goal.close_run-requires-clause-room
-close_run-requires-clause-room g c =
-    let m = c.requires.made in
-    let hours = hours_of c.args.plan.now.clock g.C.Clock.tells (g.C.Clock.upcoming c.args.clock.now) in
-    let over = c.serve_solo-end.ensures.over m.0 hours m.1
-    (at_first c.args.plan.now.clock g.C.Clock.tells (g.C.Clock.upcoming c.args.clock.now) c.new-dial.result c.goes_by_hand.result c.new-dial.ensures c.goes_by_hand.ensures) in
-    let worked = c.work_off-end.ensures.worked m.0 hours (found_in over.run.answers) (entries_made over.run.answers ++ over.rest) over.unlogged over.leaves (λ uncut. over.clock (not_cut c.serve_solo-end.result uncut)) in
-    let left = left_over m.0 c.work_off-end.new.solo (basis_in m.0) (behind_of hours (found_in over.run.answers) (entries_made over.run.answers ++ over.rest) over.unlogged c.serve_solo-end.result) c.work_off-end.result worked in
-    omega (arith, left.many, m.2)
+work_off-end-requires g c = λ uncut. c.serve_solo-end.ensures.uncut (not_cut c.serve_solo-end.result uncut)
 
 pub returns-clause-some : goal.returns-clause-some
 returns-clause-some g c =
-    let m = c.requires.made in
-    let hours = hours_of c.args.plan.now.clock g.C.Clock.tells (g.C.Clock.upcoming c.args.clock.now) in
-    let over = c.serve_solo-end.ensures.over m.0 hours m.1
-    (at_first c.args.plan.now.clock g.C.Clock.tells (g.C.Clock.upcoming c.args.clock.now) c.new-dial.result c.goes_by_hand.result c.new-dial.ensures c.goes_by_hand.ensures) in
-    let worked = c.work_off-end.ensures.worked m.0 hours (found_in over.run.answers) (entries_made over.run.answers ++ over.rest) over.unlogged over.leaves (λ uncut. over.clock (not_cut c.serve_solo-end.result uncut)) in
-    let left = left_over m.0 c.work_off-end.new.solo (basis_in m.0) (behind_of hours (found_in over.run.answers) (entries_made over.run.answers ++ over.rest) over.unlogged c.serve_solo-end.result) c.work_off-end.result worked in
-    some_stamps (λ list. list.items) c.close_run.result.stamps.items (stamps_in c.work_off-end.new.solo) c.close_run.ensures.stamps (omega (arith, left.many, left.stamps, c.work_off-end.new.solo.some))
+    let solo = c.work_off-end.new.solo in
+    some_stamps (λ list. list.items) c.close_run.result.stamps.items (stamps_in solo) c.close_run.ensures.stamps (omega (arith, length-map solo.stamps.items (λ list. list.items), solo.same, solo.some))
 
 pub returns-clause-same : goal.returns-clause-same
 returns-clause-same g c = λ start made.
@@ -65,7 +38,7 @@ returns-clause-slots g c = λ start made.
     (at_first c.args.plan.now.clock g.C.Clock.tells (g.C.Clock.upcoming c.args.clock.now) c.new-dial.result c.goes_by_hand.result c.new-dial.ensures c.goes_by_hand.ensures) in
     let worked = c.work_off-end.ensures.worked start hours (found_in over.run.answers) (entries_made over.run.answers ++ over.rest) over.unlogged over.leaves (λ uncut. over.clock (not_cut c.serve_solo-end.result uncut)) in
     let left = left_over start c.work_off-end.new.solo (basis_in start) (behind_of hours (found_in over.run.answers) (entries_made over.run.answers ++ over.rest) over.unlogged c.serve_solo-end.result) c.work_off-end.result worked in
-    ap slots_of_all c.close_run.ensures.volumes ∙ left.slots
+    subst (AreAllSlotsLeft (volumes_in start)) (sym c.close_run.ensures.volumes) left.slots
 
 pub returns-clause-run : goal.returns-clause-run
 returns-clause-run g c = λ start volumes made begun.
@@ -82,14 +55,8 @@ returns-clause-run g c = λ start volumes made begun.
 
 pub returns-clause-untouched : goal.returns-clause-untouched
 returns-clause-untouched g c = λ manual.
-    let m = c.requires.made in
-    let hours = hours_of c.args.plan.now.clock g.C.Clock.tells (g.C.Clock.upcoming c.args.clock.now) in
-    let over = c.serve_solo-end.ensures.over m.0 hours m.1
-    (at_first c.args.plan.now.clock g.C.Clock.tells (g.C.Clock.upcoming c.args.clock.now) c.new-dial.result c.goes_by_hand.result c.new-dial.ensures c.goes_by_hand.ensures) in
-    c.work_off-end.ensures.untouched (λ uncut.
-    still_by_hand c.args.plan.now.clock g.C.Clock.tells (g.C.Clock.upcoming c.args.clock.now) (found_in over.run.answers) c.serve_solo-end.new.dial g.C.Clock.tells (g.C.Clock.upcoming c.serve_solo-end.new.clock) manual
-    (over.clock (not_cut c.serve_solo-end.result uncut)))
-    ∙ c.serve_solo-end.ensures.untouched (by_hand_is c.args.plan.now.clock c.new-dial.result c.goes_by_hand.result c.new-dial.ensures c.goes_by_hand.ensures manual)
+    let by_hand = by_hand_is c.args.plan.now.clock c.new-dial.result c.goes_by_hand.result c.new-dial.ensures c.goes_by_hand.ensures manual in
+    c.work_off-end.ensures.untouched (λ uncut. subst IsTrue (sym c.serve_solo-end.ensures.kind) by_hand) ∙ c.serve_solo-end.ensures.untouched by_hand
 
 pub returns-clause-readings : goal.returns-clause-readings
 returns-clause-readings g c =

@@ -4,9 +4,7 @@ use Rattle.zb_serve.proofs.WorkLemmas.{cuts_where, uncut_where, left_has}
 use Rattle.zb_serve.proofs.running.work_off.Goals as goal
 
 pub deliver-requires : goal.deliver-requires
-deliver-requires g c =
-    let k = c.requires.left in
-    (k.0, k.3, (left_has (facts_in k.0 c.args.solo.now) k.3 k.4 c.args.end c.is_cut.result c.is_cut.ensures c.if-is_cut.false k.5).0)
+deliver-requires g c = c.requires (sym c.is_cut.ensures ∙ c.if-is_cut.false)
 
 pub returns-then-is_cut-clause-worked : goal.returns-then-is_cut-clause-worked
 returns-then-is_cut-clause-worked g c = λ opening hours found entries unlogged leaves at.

@@ -5,10 +5,10 @@ use Rattle.zb_words.specs.declared.plan.ServePlan.{ServePlan}
 use Rattle.zb_serve.specs.Words.{IsPlanned}
 use Rattle.zb_serve.specs.declared.run.Cause.TheVariants as causes
 use Rattle.zb_serve.specs.Ends.{devices_of, IsSafe}
-use Rattle.zb_serve.specs.Served.{slots_of_all}
+use Rattle.zb_serve.specs.Slots.{AreAllSlotsLeft}
 use Rattle.zb_serve.specs.Setting.{setting_of}
 use Rattle.zb_serve.proofs.SessionLemmas.{one_member, one_set, run_single, not_usage, usage_fault, memory_fault, one_served}
-use Rattle.zb_serve.proofs.OpeningLemmas.{same_safe}
+use Rattle.zb_serve.proofs.OpeningLemmas.{same_safe, same_slots}
 use Rattle.zb_serve.proofs.top.serve_alone.Goals as goal
 
 pub returns-clause-closed : goal.returns-clause-closed
@@ -30,7 +30,7 @@ returns-clause-closed g c =
       spared = λ none tells. subst (λ back. AllZip (IsSafe g.D.Disk) c.args.volumes.items back) (sym volumes) (said.spared (sym stamps ∙ none) tells);
       same_sessions = ap length sessions ∙ sym (ap length session);
       same_volumes = ap length volumes ∙ said.same;
-      slots = ap slots_of_all volumes ∙ said.slots;
+      slots = subst (AreAllSlotsLeft c.args.volumes.items) (sym volumes) said.slots;
       run = λ other. inr (
         c.in-Ok.plan,
         planned,
@@ -54,7 +54,7 @@ returns-in-Err-clause-closed g c =
       spared = λ none tells. subst (λ back. AllZip (IsSafe g.D.Disk) c.args.volumes.items back) (sym volumes) (same_safe g.D.Disk (λ disk left was. g.met.D.Disk.only_now disk left tells was) c.args.volumes.items);
       same_sessions = ap (λ v. length v.items) c.closed.ensures.sessions;
       same_volumes = ap (λ v. length v.items) c.closed.ensures.volumes;
-      slots = ap (λ v. slots_of_all v.items) c.closed.ensures.volumes;
+      slots = subst (AreAllSlotsLeft c.args.volumes.items) (sym volumes) (same_slots g.D.Disk c.args.volumes.items);
       run = λ other. inl (record {
         memory = cause ∙ memory_fault c.in-Err.fault (λ is. other (cause ∙ is));
         unopened = (ap (λ v. v.items) c.closed.ensures.stamps ∙ c.new.ensures.items, c.closed.ensures.units);

@@ -1,5 +1,5 @@
 use Rattle.std.proofs.Common.{◌++◌, take, refl, ap, ◌∙◌, inl, inr}
-use Rattle.std.proofs.lemmas.Result.{on_ok_weaker}
+use Rattle.std.proofs.lemmas.Result.{on_ok_weaker, IfErr-weaker}
 use Rattle.zb_session.proofs.ResultLemmas.{on_ok_under, if_err_both}
 use Rattle.zb_session.proofs.line.serve_line.Goals as goal
 
@@ -23,3 +23,9 @@ returns-in-Ok-clause-over g c = λ tells counts begun hours answers line next.
       sent = λ t. ((part t).0, (part t).1 ∙ ap (λ reply. (g.K.Sink.view c.args.sink.now).written ++ take (part t).0 reply) c.deref.ensures.value);
       named = named;
     }))
+
+pub returns-in-Ok-clause-still : goal.returns-in-Ok-clause-still
+returns-in-Ok-clause-still g c = on_ok_weaker c.deliver.result (λ sent. c.in-Ok.ensures.still) (on_ok_under c.deliver.result _ _ c.deliver.ensures.sent)
+
+pub returns-in-Ok-clause-uncut : goal.returns-in-Ok-clause-uncut
+returns-in-Ok-clause-uncut g c = IfErr-weaker c.deliver.result _ _ (λ end named uncut. c.in-Ok.ensures.still) c.deliver.ensures.end

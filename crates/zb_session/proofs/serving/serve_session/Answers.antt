@@ -1,9 +1,9 @@
-use Rattle.std.proofs.Common.{arith, refl, ◌+◌, ◌∙◌, sym, subst, IsTrue}
+use Rattle.std.proofs.Common.{arith, length, refl, ◌+◌, ◌∙◌, sym, ap, subst, IsTrue}
 use Rattle.zb_lines.proofs.TakenLaws.{takes_nothing}
 use Rattle.zb_outside.proofs.ClockLaws.{gone_nowhere, gone_further}
 use Rattle.zb_session.specs.Session.{most_taken, streams_of}
 use Rattle.zb_session.specs.Serving.{began_of, clocks_of, facts_by, service_of, stand_of}
-use Rattle.zb_session.proofs.TurnLemmas.{few, serving_first}
+use Rattle.zb_session.proofs.TurnLemmas.{serving_first}
 use Rattle.zb_session.proofs.EndLemmas.{stops_memory, goes_over, goes_next}
 use Rattle.zb_session.proofs.serving.serve_session.Goals as goal
 
@@ -20,15 +20,13 @@ loop-number-init g c = (
       rw (c.in-Ok.ensures.reader, c.in-Ok.ensures.budget) (serving_first (streams_of g.S.Source.tells g.S.Source.counts_failures g.K.Sink)
       (began_of hours (g.A.Desk.basis begun) (g.S.Source.view c.args.session.now.source) (g.K.Sink.view c.args.session.now.sink))
       (clocks_of c.args.dial.now g.C.Clock.tells (g.C.Clock.upcoming c.args.clock.now)) (facts_by g.A.Desk begun c.args.desk.now) has at),
+  c.requires,
+  refl,
+  (omega (arith, ap length c.in-Ok.ensures.reader, c.in-Ok.ensures.budget)),
   refl,
   gone_nowhere (g.C.Clock.upcoming c.args.clock.now),
   λ by_hand. refl,
 )
-
-pub serve_next-requires : goal.serve_next-requires
-serve_next-requires g c =
-    let k = c.requires in
-    (k.0, k.1, _, _, c.loop-number.invariant.0 k.0 k.1 k.2 k.3)
 
 pub returns-in-Ok-false-clause-over : goal.returns-in-Ok-false-clause-over
 returns-in-Ok-false-clause-over g c = λ begun hours has at.
@@ -41,23 +39,23 @@ returns-in-Ok-false-clause-over g c = λ begun hours has at.
 
 pub returns-in-Ok-false-clause-readings : goal.returns-in-Ok-false-clause-readings
 returns-in-Ok-false-clause-readings g c =
-    gone_further (g.C.Clock.upcoming c.args.clock.now) (g.C.Clock.upcoming c.loop-number.clock) (g.C.Clock.upcoming c.serve_next.new.clock) c.loop-number.invariant.2 c.in-Ok-false.ensures.readings
+    gone_further (g.C.Clock.upcoming c.args.clock.now) (g.C.Clock.upcoming c.loop-number.clock) (g.C.Clock.upcoming c.serve_next.new.clock) c.loop-number.invariant.5 c.in-Ok-false.ensures.readings
 
 pub unreachable-requires : goal.unreachable-requires
-unreachable-requires g c =
-    let k = c.requires in
-    let s = c.loop-number.invariant.0 k.0 k.1 k.2 k.3 in
-    let bound = g.met.S.Source.bounded c.loop-number.session.source in
-    omega (arith, few _ _ _ s)
+unfolding most_taken
+unreachable-requires g c = omega (arith, c.loop-number.invariant.3, c.loop-number-test.false)
 
 pub loop-number-preserved : goal.loop-number-preserved
 loop-number-preserved g c =
     let i = c.loop-number.invariant in
     let said = c.in-Ok-true.ensures in (
       λ begun hours has at. goes_next _ _ _ _ c.in-Ok-true.field-0-test (said.goes_on begun hours _ _ (i.0 begun hours has at)),
-      said.kind ∙ i.1,
-      gone_further (g.C.Clock.upcoming c.args.clock.now) (g.C.Clock.upcoming c.loop-number.clock) (g.C.Clock.upcoming c.serve_next.new.clock) i.2 said.readings,
-      λ by_hand. said.untouched (subst IsTrue (sym i.1) by_hand) ∙ i.3 by_hand,
+      said.still,
+      said.many ∙ i.2,
+      (omega (arith, i.3, said.fewer c.in-Ok-true.field-0-test)),
+      said.kind ∙ i.4,
+      gone_further (g.C.Clock.upcoming c.args.clock.now) (g.C.Clock.upcoming c.loop-number.clock) (g.C.Clock.upcoming c.serve_next.new.clock) i.5 said.readings,
+      λ by_hand. said.untouched (subst IsTrue (sym i.4) by_hand) ∙ i.6 by_hand,
     )
 
 -- the run is over
@@ -66,4 +64,4 @@ returns-in-Err-serve_next-clause-over g c = λ begun hours has at. c.in-Err-serv
 
 pub returns-in-Err-serve_next-clause-readings : goal.returns-in-Err-serve_next-clause-readings
 returns-in-Err-serve_next-clause-readings g c =
-    gone_further (g.C.Clock.upcoming c.args.clock.now) (g.C.Clock.upcoming c.loop-number.clock) (g.C.Clock.upcoming c.serve_next.new.clock) c.loop-number.invariant.2 c.in-Err-serve_next.ensures.readings
+    gone_further (g.C.Clock.upcoming c.args.clock.now) (g.C.Clock.upcoming c.loop-number.clock) (g.C.Clock.upcoming c.serve_next.new.clock) c.loop-number.invariant.5 c.in-Err-serve_next.ensures.readings

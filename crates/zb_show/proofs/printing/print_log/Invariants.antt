@@ -14,7 +14,7 @@ invariant-loop-i g l =
     let sinks = g.K.Sink in
     record {
       same : IsSameLog l.fn.log l.log;
-      reads : OnlyReads disks.tells disks.tells_images disks.view disks.images disks.since (disk_of_log l.fn.log) (disk_of_log l.log);
+      reads : OnlyReads disks (disk_of_log l.fn.log) (disk_of_log l.log);
       later : (sinks.view l.fn.sink).faults ≤ (sinks.view l.sink).faults;
       most : l.position ≤ 1 + l.i * 2 ^ 64;
       kept : IsTrue disks.tells → (bodies : List (List ℕ)) → HasClosedFrames (disks.view (disk_of_log l.fn.log)).contents l.fn.log bodies

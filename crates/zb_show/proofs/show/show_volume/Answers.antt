@@ -1,6 +1,7 @@
 use Rattle.std.proofs.Common.{◌≡◌, ◌≤◌, inl, inr, refl, ap, sym, ◌∙◌, subst, arith}
 use Rattle.zb_partition.specs.Log.{bodies_of}
-use Rattle.zb_store.specs.GateLog.{disk_of_log}
+use Rattle.zb_partition.proofs.OpeningLemmas.{has_found}
+use Rattle.zb_store.specs.GateLog.{disk_of_log, file_of_log}
 use Rattle.zb_store.proofs.GateLogLaws.{log_stands}
 use Rattle.zb_store.specs.Stands.{Stands}
 use Rattle.zb_store.proofs.CallLaws.{Opens}
@@ -28,9 +29,12 @@ returns-in-Err-clause-slots g c =
 -- the log that was opened is the one that is shown
 pub returns-clause-opened : goal.returns-clause-opened
 returns-clause-opened g c = λ tells.
-    let log = c.in-Ok.ensures.opened.0 in
-    let is = c.in-Ok.ensures.opened.1 in
-    let stands = log_stands (g.D.Disk.view (disk_of_log c.in-Ok.partition.log)).contents c.in-Ok.partition.log (bodies_of log) (is.has.file tells) in
+    let opened = c.in-Ok.ensures.opened in
+    let log = opened.0.found.tail in
+    let is = opened.2 in
+    let file = (g.D.Disk.view c.args.volume.log).contents in
+    let has = has_found c.args.place file opened.0 c.in-Ok.partition is opened.3 in
+    let stands = log_stands (file_of_log c.in-Ok.partition.log) c.in-Ok.partition.log (bodies_of log) (has.frames.file tells) in
     let there : Stands (g.D.Disk.view c.stopped-volume.result.volume.log).contents (bodies_of log) =
     subst (λ d. Stands (g.D.Disk.view d).contents (bodies_of log)) (sym c.stopped-volume.ensures.log) stands in
     let shown = c.show-shown.result.0 in
@@ -42,9 +46,12 @@ returns-clause-opened g c = λ tells.
 
 pub returns-clause-bad : goal.returns-clause-bad
 returns-clause-bad g c = λ tells.
-    let log = c.in-Ok.ensures.opened.0 in
-    let is = c.in-Ok.ensures.opened.1 in
-    let stands = log_stands (g.D.Disk.view (disk_of_log c.in-Ok.partition.log)).contents c.in-Ok.partition.log (bodies_of log) (is.has.file tells) in
+    let opened = c.in-Ok.ensures.opened in
+    let log = opened.0.found.tail in
+    let is = opened.2 in
+    let file = (g.D.Disk.view c.args.volume.log).contents in
+    let has = has_found c.args.place file opened.0 c.in-Ok.partition is opened.3 in
+    let stands = log_stands (file_of_log c.in-Ok.partition.log) c.in-Ok.partition.log (bodies_of log) (has.frames.file tells) in
     let there : Stands (g.D.Disk.view c.stopped-volume.result.volume.log).contents (bodies_of log) =
     subst (λ d. Stands (g.D.Disk.view d).contents (bodies_of log)) (sym c.stopped-volume.ensures.log) stands in
     err_then c.show-shown.result.0 (λ fault none bad. absurd (none bad)) (c.show-shown.ensures.good tells log there is.fits)

@@ -9,7 +9,7 @@ invariant-loop-passed g l =
     let file = (disks.view l.fn.disk).contents in
     record {
       inside : l.gate ≤ l.last;
-      reads : OnlyReads disks.tells disks.tells_images disks.view disks.images disks.since l.fn.disk l.disk;
+      reads : OnlyReads disks l.fn.disk l.disk;
       steady : IsTrue disks.counts_failures → (disks.view l.disk).faults ≡ (disks.view l.fn.disk).faults;
       leads : IsTrue disks.tells → (bodies : List (List ℕ)) → Leads file 0 bodies l.last → Leads file 0 (take l.fn.near.0 bodies) l.fn.near.1 → l.frame < length bodies
           → Leads file 0 (take l._passed bodies) l.gate;

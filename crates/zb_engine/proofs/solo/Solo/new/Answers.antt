@@ -9,6 +9,7 @@ invariant_of-result g c = record {
   some = c.requires.some;
   few = c.requires.few;
   same = sym (length-map c.in-Ok.stamps.items (λ places. places.items)) ∙ (ap length c.in-Ok.ensures ∙ (length-replicate c.len.result [] ∙ (c.len.ensures ∙ c.args.partitions.ok.0)));
+  live = λ none. c.requires.live;
 }
 
 pub returns-clause-made : goal.returns-clause-made

@@ -9,7 +9,7 @@ invariant-loop-scan g l =
     record {
       going : IsFalse (is_over l.scan);
       limit : limit_of_scan l.scan ≡ limit_of_scan l.fn.self;
-      reads : OnlyReads disks.tells disks.tells_images disks.view disks.images disks.since (disk_of_scan l.fn.self) (disk_of_scan l.scan);
+      reads : OnlyReads disks (disk_of_scan l.fn.self) (disk_of_scan l.scan);
       steady : IsTrue disks.counts_failures → (disks.view (disk_of_scan l.scan)).faults ≡ (disks.view (disk_of_scan l.fn.self)).faults;
       found : IsTrue disks.tells → (bodies : List (List ℕ)) → HasFound (disks.view (disk_of_scan l.fn.self)).contents l.fn.self bodies
           → (all : List (List ℕ)) × HasFound (disks.view (disk_of_scan l.scan)).contents l.scan all;
