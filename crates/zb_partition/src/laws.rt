@@ -1,8 +1,7 @@
 // Laws of the log in a file.
 ghost use Rattle.std.specs.Prelude.{◌≡◌, ℕ, List};
 ghost use Rattle.zb_model.specs.declared.record.Batch.{Batch};
-ghost use Rattle.zb_store.specs.Stands.{Stands};
-ghost use Rattle.zb_partition.specs.Log.{bodies_of, AreBatches, IsApplied, IsBadAt};
+ghost use Rattle.zb_partition.specs.Log.{StandsFor, AreBatches, IsApplied, IsBadAt};
 
 use zb_store::one_reading;
 
@@ -10,10 +9,10 @@ use zb_store::one_reading;
 /// and of a file with a bad frame only one is the first.
 pub fn one_log()
     ensures one { (file : List ℕ) (a b : List Batch) → AreBatches a → AreBatches b
-        → Stands file (bodies_of a) → Stands file (bodies_of b) → a ≡ b }
+        → StandsFor file a → StandsFor file b → a ≡ b }
     ensures not_both { (p : ℕ) (file : List ℕ) (log : List Batch) (frame : ℕ) → AreBatches log
         → IsApplied p log
-        → Stands file (bodies_of log) → IsBadAt p file frame → ⊥ }
+        → StandsFor file log → IsBadAt p file frame → ⊥ }
     ensures one_frame { (p : ℕ) (file : List ℕ) (m n : ℕ) → IsBadAt p file m → IsBadAt p file n
         → m ≡ n }
 {

@@ -1,8 +1,7 @@
 -- What it means that a log is shown.
 use Rattle.std.specs.Prelude.{◌≡◌, ℕ, List, [], ◌++◌, Bool, IsTrue, Result, OnOk}
 use Rattle.zb_model.specs.declared.record.Batch.{Batch}
-use Rattle.zb_store.specs.Stands.{Stands}
-use Rattle.zb_partition.specs.Log.{bodies_of, AreBatches, IsApplied, IsBadAt}
+use Rattle.zb_partition.specs.Log.{StandsFor, AreBatches, IsApplied, IsBadAt}
 use Rattle.zb_words.specs.Plan.{IsPlan}
 use Rattle.zb_words.specs.declared.plan.LogPlan.{LogPlan}
 use Rattle.zb_words.specs.declared.plan.Plan.TheVariants as plans
@@ -20,7 +19,7 @@ Writes result bytes before after = (left : List ℕ) × IsWritten bytes before a
 -- the bytes that are left were written behind what stood there (own)
 pub record PrintsLog (told : Bool) (p : ℕ) (file before after left : List ℕ) : Type 0 where
   pub log : List Batch
-  pub stood : Stands file (bodies_of log)
+  pub stood : StandsFor file log
   pub fits : AreBatches log
   pub applied : IsApplied p log
   pub lines : IsTrue told → IsWritten (log_lines p log) before after left

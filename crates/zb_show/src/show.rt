@@ -2,9 +2,8 @@ ghost use Rattle.std.specs.Prelude.{◌≡◌, ◌≢◌, ◌⊎◌, ◌≤◌, 
 ghost use Rattle.zb_disk.specs.Cause.{Rose};
 ghost use Rattle.zb_model.specs.declared.record.Batch.{Batch};
 ghost use Rattle.zb_outside.specs.Cause.{StreamFaultsRose};
-ghost use Rattle.zb_partition.specs.Log.{bodies_of, AreBatches, IsBadAt};
+ghost use Rattle.zb_partition.specs.Log.{StandsFor, AreBatches, IsBadAt};
 ghost use Rattle.zb_store.specs.Calls.{OnlyOpens};
-ghost use Rattle.zb_store.specs.Stands.{Stands};
 ghost use Rattle.zb_words.specs.Plan.{IsPlan};
 ghost use Rattle.zb_words.specs.declared.plan.LogPlan.{LogPlan};
 ghost use Rattle.zb_words.specs.declared.plan.Plan.TheVariants as plans;
@@ -138,10 +137,10 @@ fn show<D: Disk, K: Sink>(
     sink: &mut K,
 ) -> (Result<(), ShowFault>, D)
     ensures shown { IsTrue D.tells → IsTrue K.tells → (all : List Batch)
-        → Stands (D.view disk).contents (bodies_of all) → AreBatches all
+        → StandsFor (D.view disk).contents all → AreBatches all
         → Writes result.0 (log_lines place all) (K.view sink.old).written (K.view sink.new).written }
     ensures good { IsTrue D.tells → (all : List Batch)
-        → Stands (D.view disk).contents (bodies_of all) → AreBatches all
+        → StandsFor (D.view disk).contents all → AreBatches all
         → IfErr result.0 (λ fault. IsBadLog fault → ⊥) }
     ensures opens { OnlyOpens D.Disk disk result.1 }
     ensures cause { IfErr result.0 (IsShowCause (D.view disk).faults (D.view result.1).faults

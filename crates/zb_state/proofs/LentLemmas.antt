@@ -12,7 +12,7 @@ use Rattle.zb_views.specs.Jobs.{is_activatable, is_offered}
 use Rattle.zb_lists.specs.Listed.{is_label}
 use Rattle.zb_rules.specs.Publish.{is_same}
 use Rattle.zb_state.specs.Listing.{offered_as}
-use Rattle.zb_state.specs.Messages.{is_addressed}
+use Rattle.zb_tables.specs.Messages.{is_addressed}
 
 -- the jobs that are listed under a type are those that are offered as it
 pub offered_listed : (kind : List ℕ) (js : List Job) → filter (λ j. is_label kind [] (offered_as j)) js ≡ filter (is_offered kind) js

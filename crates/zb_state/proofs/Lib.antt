@@ -1,11 +1,8 @@
 pub mod DueLemmas
 pub mod JobLemmas
-pub mod KeyLemmas
-pub mod MessageLemmas
 pub mod PacketLemmas
 pub mod StateLemmas
 pub mod ListingLemmas
-pub mod NamedLemmas
 pub mod LentLemmas
 pub mod StartLemmas
 pub mod StarterLemmas

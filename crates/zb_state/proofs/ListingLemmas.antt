@@ -8,11 +8,11 @@ use Rattle.zb_views.specs.declared.job.Job.{Job}
 use Rattle.zb_views.specs.declared.timer.Timer.{Timer}
 use Rattle.zb_jobs.specs.Table.{HaveOwnCells}
 use Rattle.zb_state.specs.declared.facts.Facts.{Facts}
-use Rattle.zb_state.specs.declared.named.Named.{Named}
+use Rattle.zb_tables.specs.declared.named.Named.{Named}
 use Rattle.zb_state.specs.Listing.{IsSameElse, message_in, job_in, timer_in}
-use Rattle.zb_state.specs.Named.{named_message, named_job, named_timer}
+use Rattle.zb_tables.specs.Named.{named_message, named_job, named_timer}
 use Rattle.zb_state.specs.State.{HasTakenRows}
-use Rattle.zb_state.proofs.NamedLemmas.{messages_else, jobs_else, timers_else}
+use Rattle.zb_tables.proofs.NamedLemmas.{messages_else, jobs_else, timers_else}
 
 -- an event leaves the rows that it doesn't name
 pub same_else : (e : Event) (named : Named) (before after : Facts) → named.message ≡ named_message e → named.job ≡ named_job before.tables.jobs e → named.timer ≡ named_timer e → HaveOwnCells before.tables.jobs

@@ -40,14 +40,14 @@ use Rattle.zb_rules.proofs.ProcessLaws.{model_there}
 use Rattle.zb_starts.specs.Change.{begins_last, locks_by, instances_by}
 use Rattle.zb_starts.specs.declared.change.Change.{Change}
 use Rattle.zb_starts.specs.declared.change.Change.TheVariants as changes
-use Rattle.zb_state.specs.Messages.{is_addressed}
+use Rattle.zb_tables.specs.Messages.{is_addressed}
 use Rattle.zb_state.specs.Changes.{change_by}
 use Rattle.zb_state.proofs.SubscriptionLemmas.{begun_locks, given_up_frees}
 use Rattle.zb_state.specs.Starts.{root_left, starter_among, locked_by, lock_of, begun_with, begin_by, root_told, BeginsRoot, IsChangeOf, are_starts_below}
 use Rattle.zb_state.specs.State.{IsStateOf}
-use Rattle.zb_state.specs.Tables.{HaveTaken, Draws}
+use Rattle.zb_tables.specs.Tables.{HaveTaken, Draws}
 use Rattle.zb_state.specs.declared.facts.Facts.{Facts}
-use Rattle.zb_state.specs.declared.tables.Tables.{Tables}
+use Rattle.zb_tables.specs.declared.tables.Tables.{Tables}
 
 abbrev instance_of : Started → ℕ
 instance_of s = s.instance

@@ -1,11 +1,6 @@
 -- A state with an event more.
-use Rattle.std.proofs.Common.{◌≡◌, ℕ, ◌+◌, ◌<◌, ◌^◌, max, Option, Some, None, option_map, true, List, [], ◌∷◌, ◌++◌, IsTrue, refl, sym, ap, subst, ◌∙◌, append-nil}
+use Rattle.std.proofs.Common.{◌≡◌, ℕ, ◌+◌, max, Option, Some, None, option_map, true, List, [], ◌∷◌, ◌++◌, IsTrue, refl, sym, ap, subst, ◌∙◌, append-nil}
 use Rattle.std.specs.Cmp.Derive.{both_true}
-use Rattle.std.proofs.Math.Bool.{Bool-set}
-use Rattle.std.proofs.Math.Bridge.{le_prop}
-use Rattle.zb_base.specs.Key.{key_of}
-use Rattle.zb_exchange_records.specs.declared.message.MessagePublished.{MessagePublished}
-use Rattle.zb_views.specs.declared.left.Left.{Left}
 use Rattle.zb_model.specs.declared.record.Event.{Event}
 use Rattle.zb_views.specs.View.{keys_in, greatest_among, greatest_counter, next_key}
 use Rattle.zb_views.specs.Messages.{message_sort}
@@ -36,9 +31,8 @@ use Rattle.zb_definitions.specs.declared.definitions.Definitions.{Definitions}
 use Rattle.zb_state.specs.declared.turn.Turn.{Turn}
 use Rattle.zb_state.specs.State.{IsStateOf, IsSameBeside, HasTaken}
 use Rattle.zb_state.specs.declared.facts.Facts.{Facts}
-use Rattle.zb_state.specs.declared.tables.Tables.{Tables}
-use Rattle.zb_state.specs.Starts.{IsChangeOf, are_starts_below}
-use Rattle.zb_state.specs.Tables.{are_all_below, are_waiting_below}
+use Rattle.zb_tables.specs.declared.tables.Tables.{Tables}
+use Rattle.zb_state.specs.Starts.{IsChangeOf}
 use Rattle.zb_starts.specs.declared.change.Change.{Change}
 
 -- the greatest counter
@@ -99,50 +93,3 @@ no_turn_told p moment es b game mover key same drawn is_move =
 -- what is kept of the definitions whose models stand is kept of those that the events made
 pub keeps_told : (es : List Event) (s : Facts) (kept : Definitions) → IsStateOf es s → KeepsDefinitions (definitions_on s.game) kept → KeepsDefinitions (definitions es) kept
 keeps_told es s kept is keeps = subst (λ (ds : List Definition). KeepsDefinitions ds kept) (defined_there s.place es s.game is.applied is.game) keeps
-
--- the parts of a state
-abbrev Parts : Type 0
-Parts = ℕ × (ℕ × (List MessagePublished × (Tables × (Left × Board))))
-
-abbrev AreDrawn : Parts → Type 0
-AreDrawn x = x.1.0 < 2 ^ 51
-
-abbrev AreBelow : Parts → Type 0
-AreBelow x = IsTrue (are_all_below (key_of x.0 (x.1.0 + 1)) x.1.1.0 x.1.1.1.0.jobs x.1.1.1.0.timers)
-
-abbrev AreBegun : Parts → Type 0
-AreBegun x = IsTrue (are_starts_below (key_of x.0 (x.1.0 + 1)) x.1.1.1.1.0 x.1.1.1.0.starts.starts)
-
-abbrev AreWaiting : Parts → Type 0
-AreWaiting x = IsTrue (are_waiting_below (key_of x.0 (x.1.0 + 1)) x.1.1.1.0.process_subscriptions)
-
-abbrev put_together : (x : Parts) → AreDrawn x → AreBelow x → AreWaiting x → AreBegun x → Facts
-put_together x drawn below waiting begun =
-    record { place = x.0; counter = x.1.0; messages = x.1.1.0; tables = x.1.1.1.0; left = x.1.1.1.1.0; game = x.1.1.1.1.1; drawn = drawn; in_order = below; waiting = waiting; begun = begun }
-
-abbrev parts_of : Facts → Parts
-parts_of f = (f.place, (f.counter, (f.messages, (f.tables, (f.left, f.game)))))
-
-same_parts : (x y : Parts) → x ≡ y → (d : AreDrawn x) (o : AreBelow x) (w : AreWaiting x) (b : AreBegun x) (d' : AreDrawn y) (o' : AreBelow y) (w' : AreWaiting y) (b' : AreBegun y) → put_together x d o w b ≡ put_together y d' o' w' b'
-same_parts x y same d o w b =
-    subst (λ (y : Parts). (d' : AreDrawn y) (o' : AreBelow y) (w' : AreWaiting y) (b' : AreBegun y) → put_together x d o w b ≡ put_together y d' o' w' b') same
-    (λ d' o' w' b'. ap (λ (t : AreDrawn x). put_together x t o w b) (le_prop d d') ∙ (ap (λ (t : AreBelow x). put_together x d' t w b) (Bool-set _ true o o')
-    ∙ (ap (λ (t : AreWaiting x). put_together x d' o' t b) (Bool-set _ true w w') ∙ ap (λ (t : AreBegun x). put_together x d' o' w' t) (Bool-set _ true b b'))))
-
--- two states of one list of events and one partition are equal
-pub same_state : (es : List Event) (a b : Facts) → IsStateOf es a → IsStateOf es b → a.place ≡ b.place → a ≡ b
-same_state es a b one other place =
-    let counter : a.counter ≡ b.counter = sym one.counter ∙ (ap (λ (p : ℕ). greatest_counter p es) place ∙ other.counter) in
-    let messages : a.messages ≡ b.messages = sym one.messages ∙ other.messages in
-    let sendings : a.tables.sendings ≡ b.tables.sendings = sym one.sendings ∙ other.sendings in
-    let jobs : a.tables.jobs ≡ b.tables.jobs = sym one.jobs ∙ other.jobs in
-    let timers : a.tables.timers ≡ b.tables.timers = sym one.timers ∙ other.timers in
-    let locks : a.tables.starts.locks ≡ b.tables.starts.locks = sym one.locks ∙ other.locks in
-    let starts : a.tables.starts.starts ≡ b.tables.starts.starts = sym one.starts ∙ other.starts in
-    let subscriptions : a.tables.subscriptions ≡ b.tables.subscriptions = sym one.subscriptions ∙ other.subscriptions in
-    let left : a.left ≡ b.left = sym one.left ∙ other.left in
-    let game : a.game ≡ b.game = same_board (board_of es) a.game b.game one.game other.game in
-    let process_subscriptions : a.tables.process_subscriptions ≡ b.tables.process_subscriptions = sym one.process_subscriptions ∙ other.process_subscriptions in
-    let tables : a.tables ≡ b.tables = rw (sendings, jobs, timers, locks, starts, subscriptions, process_subscriptions) refl in
-    let same : parts_of a ≡ parts_of b = rw (place, counter, messages, tables, left, game) refl in
-    same_parts (parts_of a) (parts_of b) same a.drawn a.in_order a.waiting a.begun b.drawn b.in_order b.waiting b.begun

@@ -1,10 +1,7 @@
 pub mod Changes
 pub mod Alarms
 pub mod Listing
-pub mod Messages
-pub mod Named
 pub mod Refusal
 pub mod Sound
 pub mod Starts
 pub mod State
-pub mod Tables

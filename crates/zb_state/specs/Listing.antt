@@ -9,7 +9,7 @@ use Rattle.zb_views.specs.Jobs.{is_activated, is_activatable}
 use Rattle.zb_lists.specs.Listed.{row_found, without_named, AreListed}
 use Rattle.zb_state.specs.declared.facts.Facts.{Facts}
 use Rattle.zb_state.specs.declared.listing.Listing.{Listing}
-use Rattle.zb_state.specs.declared.named.Named.{Named}
+use Rattle.zb_tables.specs.declared.named.Named.{Named}
 
 -- the message with a key, if it is buffered (own)
 abbrev pub message_in : Facts → ℕ → Option MessagePublished

@@ -17,7 +17,7 @@ use Rattle.zb_record.specs.Sendings.{sendings}
 use Rattle.zb_rules.specs.Applies.{all_apply}
 use Rattle.zb_rules.specs.Making.{Making}
 use Rattle.zb_rules.specs.Shown.{board_of}
-use Rattle.zb_state.specs.Tables.{HaveTaken}
+use Rattle.zb_tables.specs.Tables.{HaveTaken}
 
 -- the partition that the state is of
 abbrev pub partition_of : Facts → ℕ

@@ -23,7 +23,7 @@ ghost use Rattle.zb_tokens.specs.Forced.{next_mover};
 ghost use Rattle.zb_rules.specs.Shown.{shown, after_shown, board_of};
 ghost use Rattle.zb_state.specs.Sound.{HasSoundModel};
 ghost use Rattle.zb_subscriptions.specs.Opened.{is_new};
-ghost use Rattle.zb_state.specs.Tables.{IsNext, Draws, are_all_below, are_waiting_below};
+ghost use Rattle.zb_tables.specs.Tables.{IsNext, Draws, are_all_below, are_waiting_below};
 ghost use Rattle.zb_state.specs.Starts.{BeginsRoot, IsChangeOf, root_left, root_told, are_starts_below};
 
 mod jobs;
@@ -32,9 +32,6 @@ mod subscriptions;
 mod timers;
 mod waiting;
 
-use crate::keys::greatest_counter_of;
-use crate::messages::Messages;
-use crate::tables::Tables;
 use std::alloc::{AllocError, Global};
 use zb_check::{ModelFault, check};
 use zb_course::Course;
@@ -44,6 +41,7 @@ use zb_model::{
     PartitionId, Role, TableFault,
 };
 use zb_starts::Change;
+use zb_tables::{Messages, Tables, greatest_counter_of};
 use zb_tokens::Mover;
 use zb_values::phase_of;
 use zb_views::{Begun, Left};
@@ -143,6 +141,17 @@ impl Facts {
     {
         let place = u64::from(self.place.number());
         Key::new(place * Key::COUNTERS + self.counter + 1)
+    }
+
+    /// Leaves no messages, no jobs and no timers; after want of memory, when the facts are only dropped.
+    pub(crate) fn clear(&mut self, alloc: Global)
+        ensures place { partition_of self.new ≡ partition_of self.old }
+        ensures messages { self.new.messages ≡ [] }
+        ensures jobs { self.new.tables.jobs ≡ [] }
+        ensures timers { self.new.tables.timers ≡ [] }
+    {
+        self.messages.clear(alloc);
+        self.tables.clear_listed(alloc);
     }
 
     /// Who moves next; `None` where the game is quiet. It costs what `zb_game::next_mover` does, and nothing where nobody

@@ -6,9 +6,9 @@ ghost use Rattle.zb_state.specs.Listing.{IsListingOf, IsListingBut, IsSameElse};
 ghost use Rattle.zb_state.specs.State.{partition_of};
 
 use crate::facts::Facts;
-use crate::named::Named;
 use std::alloc::{AllocError, Global};
 use zb_lists::Lists;
+use zb_tables::Named;
 
 /// The lists of the messages, of the jobs and of the timers.
 #[derive(Drop)]
@@ -67,7 +67,7 @@ impl Listing {
     }
 }
 
-/// Lists the rows that an event names, as they are now. After a refusal the facts are those of no events.
+/// Lists the rows that an event names, as they are now. After a refusal the facts are only dropped.
 pub fn relist(
     alloc: Global,
     named: &Named,
@@ -87,11 +87,11 @@ pub fn relist(
     }
 }
 
-/// Leaves the facts of no events, and their lists.
+/// Leaves no messages, no jobs and no timers, and their lists.
 pub fn clear(alloc: Global, facts: &mut Facts, listing: &mut Listing)
     ensures listing { IsListingOf facts.new listing.new }
     ensures place { partition_of facts.new ≡ partition_of facts.old }
 {
-    *facts = Facts::empty(alloc, facts.place);
+    facts.clear(alloc);
     *listing = Listing::empty(alloc);
 }

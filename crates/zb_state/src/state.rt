@@ -24,8 +24,6 @@ mod subscriptions;
 
 use crate::facts::Facts;
 use crate::listing::{Listing, clear, relist};
-use crate::messages::Messages;
-use crate::named::Named;
 use crate::turn::{Turn, turn_by};
 use std::alloc::{AllocError, Global};
 use std::marker::Model;
@@ -35,6 +33,7 @@ use zb_game::move_of;
 use zb_jobs::Jobs;
 use zb_model::{Event, Key, Moment, PartitionId, TableFault};
 use zb_subscriptions::ProcessSubscriptions;
+use zb_tables::{Messages, Named};
 use zb_timers::Timers;
 use zb_tokens::Mover;
 
@@ -80,8 +79,13 @@ impl State {
     pub fn of(alloc: Global, facts: Facts) -> Result<State, AllocError>
         ensures { IfOk result (λ state. state ≡ facts) }
     {
-        let listing = Listing::of(alloc, &facts)?;
-        Ok(State { facts, listing })
+        match Listing::of(alloc, &facts) {
+            Ok(listing) => Ok(State { facts, listing }),
+            Err(AllocError) => {
+                drop(facts);
+                Err(AllocError)
+            }
+        }
     }
 
     /// Takes in an event that applies to those before it. At `NotApplicable`, exactly where it doesn't,

@@ -157,7 +157,6 @@ impl Maker for Unsubscribed<'_> {
         out: &mut Out,
     ) -> Result<(), Refusal> {
         let subscription = self.0.subscription;
-        let deleted = Event::MessageSubscriptionDeleted(subscription);
         match given_up(alloc, state, self.0)? {
             Some(next) => {
                 let message = next.message;
@@ -165,13 +164,14 @@ impl Maker for Unsubscribed<'_> {
                     subscription,
                     message,
                 };
+                let deleted = Event::MessageSubscriptionDeleted(subscription);
                 (
                     Event::MessageSubscriptionRejected(told),
                     (deleted, Found(next)),
                 )
                     .put(alloc, state, moment, out)
             }
-            None => deleted.put(alloc, state, moment, out),
+            None => Event::MessageSubscriptionDeleted(subscription).put(alloc, state, moment, out),
         }
     }
 }

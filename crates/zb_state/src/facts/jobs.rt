@@ -10,7 +10,7 @@ ghost use Rattle.zb_rules.specs.Applies.{is_fresh};
 ghost use Rattle.zb_rules.specs.Shown.{holds_of_game};
 ghost use Rattle.zb_rules.specs.JobEvents.{has_job, is_job_in, begins_job, hands_out, are_jobs, has_cause};
 ghost use Rattle.zb_state.specs.State.{partition_of, IsStateOf};
-ghost use Rattle.zb_state.specs.Tables.{Draws};
+ghost use Rattle.zb_tables.specs.Tables.{Draws};
 
 use crate::Facts;
 use zb_jobs::Jobs;

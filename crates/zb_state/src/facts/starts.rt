@@ -12,7 +12,7 @@ ghost use Rattle.zb_state.specs.Changes.{change_by};
 ghost use Rattle.zb_views.specs.Subscriptions as subscriptions;
 ghost use Rattle.zb_starts.specs.declared.change.Change.TheVariants as changes;
 ghost use Rattle.zb_state.specs.Starts.{starter_among, locked_by, lock_of, begin_by};
-ghost use Rattle.zb_state.specs.Tables.{IsNext};
+ghost use Rattle.zb_tables.specs.Tables.{IsNext};
 
 use crate::Facts;
 use std::alloc::{AllocError, Global};
@@ -88,10 +88,10 @@ impl Facts {
                 self.locked_by(alloc, start.message, start.definition)
             }
             Event::MessageSubscriptionCorrelating(begun) => {
-                Ok(locks(self.lock_of(alloc, begun.subscription, begun.message)?))
+                self.locking(alloc, begun.subscription, begun.message)
             }
             Event::MessageSubscriptionRejected(told) => {
-                Ok(frees(self.lock_of(alloc, told.subscription, told.message)?))
+                self.freeing(alloc, told.subscription, told.message)
             }
             Event::MessageExpired(message) => Ok(Change::Expired(*message)),
             Event::ElementActivating(element) => self.begun_by(alloc, element),
@@ -111,6 +111,26 @@ impl Facts {
                 process: graph.model().process.copy(alloc)?,
             })),
             None => Ok(Change::Nothing),
+        }
+    }
+
+    // A message is locked for the process of a subscription, if that is there.
+    fn locking(&self, alloc: Global, subscription: Key, message: Key) -> Result<Change, AllocError>
+        ensures { IfOk result (λ change. change ≡ option_map_or (λ l. changes.Locked l) (lock_of self.now.tables.subscriptions subscription message) changes.Nothing) }
+    {
+        match self.lock_of(alloc, subscription, message) {
+            Ok(lock) => Ok(locks(lock)),
+            Err(AllocError) => Err(AllocError),
+        }
+    }
+
+    // The lock of a message for the process of a subscription is freed, if that is there.
+    fn freeing(&self, alloc: Global, subscription: Key, message: Key) -> Result<Change, AllocError>
+        ensures { IfOk result (λ change. change ≡ option_map_or (λ l. changes.Freed l) (lock_of self.now.tables.subscriptions subscription message) changes.Nothing) }
+    {
+        match self.lock_of(alloc, subscription, message) {
+            Ok(lock) => Ok(frees(lock)),
+            Err(AllocError) => Err(AllocError),
         }
     }
 

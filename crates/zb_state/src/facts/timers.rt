@@ -5,7 +5,7 @@ ghost use Rattle.zb_rules.specs.Applies.{is_fresh};
 ghost use Rattle.zb_rules.specs.Shown.{holds_of_game};
 ghost use Rattle.zb_rules.specs.TimerEvents.{has_timer, may_open};
 ghost use Rattle.zb_state.specs.State.{partition_of, IsStateOf};
-ghost use Rattle.zb_state.specs.Tables.{IsNext};
+ghost use Rattle.zb_tables.specs.Tables.{IsNext};
 
 use crate::Facts;
 use zb_game::may_open;

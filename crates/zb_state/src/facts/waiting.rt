@@ -8,7 +8,7 @@ ghost use Rattle.zb_rules.specs.Applies.{is_fresh};
 ghost use Rattle.zb_rules.specs.Shown.{holds_of_game};
 ghost use Rattle.zb_rules.specs.WaitEvents.{may_subscribe, is_waiting, is_open};
 ghost use Rattle.zb_state.specs.State.{partition_of, IsStateOf};
-ghost use Rattle.zb_state.specs.Tables.{IsNext};
+ghost use Rattle.zb_tables.specs.Tables.{IsNext};
 
 use crate::Facts;
 use zb_game::may_open;

@@ -7,13 +7,12 @@ ghost use Rattle.zb_table.specs.Earliest.{is_earlier, earlier_of, earlier_option
 ghost use Rattle.zb_rules.specs.Due.{place_of_alarm, due_command};
 ghost use Rattle.zb_rules.specs.Trigger.{waits_for};
 ghost use Rattle.zb_state.specs.State.{IsStateOf};
-ghost use Rattle.zb_state.specs.Alarms.{expiry_at, time_out_at, trigger_at};
+ghost use Rattle.zb_state.specs.Alarms.{expiry_at, time_out_at, trigger_at, alarm_of, command_for};
 
 use crate::State;
 use zb_board::Game;
 use zb_game::waits_at;
 use zb_model::{Command, Key, Moment};
-use zb_rules::Alarm;
 use zb_table::Query;
 use zb_timers::Timers;
 
@@ -54,48 +53,55 @@ impl<'a> Query<Key> for Awaited<'a> {
     }
 }
 
+// What is due: at which moment, for which key, and as what.
+#[derive(Clone, Copy)]
+struct Due {
+    moment: Moment,
+    key: Key,
+    kind: DueKind,
+}
+
+#[derive(Clone, Copy)]
+enum DueKind {
+    Expiry,
+    TimeOut,
+    Trigger,
+}
+
 // The expiry of a message at its deadline.
-fn expiry_of(due: Option<(Moment, Key)>) -> Option<Alarm>
-    ensures { result ≡ option_map expiry_at due }
+fn expiry_of(due: Option<(Moment, Key)>) -> Option<Due>
+    ensures { option_map alarm_of result ≡ option_map expiry_at due }
 {
-    let (moment, key) = due?;
-    let command = Command::MessageExpire(key);
-    Some(Alarm {
-        moment,
-        key,
-        command,
-    })
+    due_as(due, DueKind::Expiry)
 }
 
 // The time-out of a job at its deadline.
-fn time_out_of(due: Option<(Moment, Key)>) -> Option<Alarm>
-    ensures { result ≡ option_map time_out_at due }
+fn time_out_of(due: Option<(Moment, Key)>) -> Option<Due>
+    ensures { option_map alarm_of result ≡ option_map time_out_at due }
 {
-    let (moment, key) = due?;
-    let command = Command::JobTimeOut(key);
-    Some(Alarm {
-        moment,
-        key,
-        command,
-    })
+    due_as(due, DueKind::TimeOut)
 }
 
 // The trigger of a timer once it is due.
-fn trigger_of(due: Option<(Moment, Key)>) -> Option<Alarm>
-    ensures { result ≡ option_map trigger_at due }
+fn trigger_of(due: Option<(Moment, Key)>) -> Option<Due>
+    ensures { option_map alarm_of result ≡ option_map trigger_at due }
 {
-    let (moment, key) = due?;
-    let command = Command::TimerTrigger(key);
-    Some(Alarm {
-        moment,
-        key,
-        command,
-    })
+    due_as(due, DueKind::Trigger)
+}
+
+// What is due as this, if anything is.
+fn due_as(due: Option<(Moment, Key)>, kind: DueKind) -> Option<Due>
+    ensures { result ≡ option_map (λ at. record { moment = at.0; key = at.1; kind = kind }) due }
+{
+    match due {
+        Some((moment, key)) => Some(Due { moment, key, kind }),
+        None => None,
+    }
 }
 
 // Of two, if they are there, the earlier one: by the moment, and at one moment by the key.
-fn earlier(one: Option<Alarm>, other: Option<Alarm>) -> Option<Alarm>
-    ensures { result ≡ earlier_option place_of_alarm one other }
+fn earlier(one: Option<Due>, other: Option<Due>) -> Option<Due>
+    ensures { option_map alarm_of result ≡ earlier_option place_of_alarm (option_map alarm_of one) (option_map alarm_of other) }
 {
     match (one, other) {
         (None, other) => other,
@@ -105,29 +111,40 @@ fn earlier(one: Option<Alarm>, other: Option<Alarm>) -> Option<Alarm>
 }
 
 // Of two the earlier one; the first where neither comes before the other.
-fn earlier_of(one: Alarm, other: Alarm) -> Alarm
-    ensures { Some result ≡ earlier_of place_of_alarm one (Some other) }
+fn earlier_of(one: Due, other: Due) -> Due
+    ensures { Some (alarm_of result) ≡ earlier_of place_of_alarm (alarm_of one) (Some (alarm_of other)) }
 {
     if comes_before(&other, &one) {
-        drop(one);
         other
     } else {
-        drop(other);
         one
     }
 }
 
 // Whether one is due before another.
-fn comes_before(one: &Alarm, other: &Alarm) -> bool
-    ensures { result ≡ is_earlier (place_of_alarm one.now) (place_of_alarm other.now) }
+fn comes_before(one: &Due, other: &Due) -> bool
+    ensures { result ≡ is_earlier (place_of_alarm (alarm_of one.now)) (place_of_alarm (alarm_of other.now)) }
 {
     one.moment < other.moment || (one.moment == other.moment && one.key < other.key)
 }
 
-// The command of an alarm.
-fn command_of(alarm: Option<Alarm>) -> Option<Command>
-    ensures { result ≡ option_map (λ a. a.command) alarm }
+// The command of what is due.
+fn command_of(due: Option<Due>) -> Option<Command>
+    ensures { result ≡ option_map (λ a. a.command) (option_map alarm_of due) }
 {
-    let alarm = alarm?;
-    Some(alarm.command)
+    match due {
+        Some(due) => Some(command_for(due.kind, due.key)),
+        None => None,
+    }
+}
+
+// The command by which it comes about.
+fn command_for(kind: DueKind, key: Key) -> Command
+    ensures { result ≡ command_for kind key }
+{
+    match kind {
+        DueKind::Expiry => Command::MessageExpire(key),
+        DueKind::TimeOut => Command::JobTimeOut(key),
+        DueKind::Trigger => Command::TimerTrigger(key),
+    }
 }

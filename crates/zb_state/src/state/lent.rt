@@ -10,13 +10,13 @@ ghost use Rattle.zb_views.specs.Timers.{timers};
 ghost use Rattle.zb_lists.specs.Listed.{AreInTime};
 ghost use Rattle.zb_rules.specs.Publish.{is_same};
 ghost use Rattle.zb_state.specs.Listing.{given_until};
-ghost use Rattle.zb_state.specs.Messages.{is_addressed};
+ghost use Rattle.zb_tables.specs.Messages.{is_addressed};
 ghost use Rattle.zb_state.specs.State.{IsStateOf};
 
 use crate::State;
-use crate::messages::Messages;
 use std::alloc::{AllocError, Global};
 use zb_model::{Key, List, MessagePublish, Moment};
+use zb_tables::Messages;
 
 impl State {
     /// The keys of the jobs of a type that a worker may be given, ascending. It takes constant time on average.

@@ -22,8 +22,10 @@ impl State {
     {
         let mut packets = Vec::new(alloc);
         for sending in self.facts.tables.sendings.sent() {
-            if let Some(packet) = self.packet_for(alloc, partitions, sending)? {
-                packets.push(packet)?;
+            match self.packet_for(alloc, partitions, sending) {
+                Ok(Some(packet)) => packets.push(packet)?,
+                Ok(None) => {}
+                Err(AllocError) => return Err(AllocError),
             }
         }
         Ok(packets)
@@ -36,8 +38,10 @@ impl State {
             → IfOk result (λ packet. packet ≡ first_packet (partition_of self.now) partitions es) }
     {
         for sending in self.facts.tables.sendings.sent() {
-            if let Some(packet) = self.packet_for(alloc, partitions, sending)? {
-                return Ok(Some(packet));
+            match self.packet_for(alloc, partitions, sending) {
+                Ok(Some(packet)) => return Ok(Some(packet)),
+                Ok(None) => {}
+                Err(AllocError) => return Err(AllocError),
             }
         }
         Ok(None)
@@ -73,11 +77,10 @@ impl State {
                 self.packet_of_definition(alloc, partitions, *distribution)
             }
             Sending::Opening(_) | Sending::Correlating(_) | Sending::Closing(_) => {
-                Ok(
-                    sending
-                        .copy(alloc)?
-                        .into_packet(self.facts.place, partitions),
-                )
+                match sending.copy(alloc) {
+                    Ok(sending) => Ok(sending.into_packet(self.facts.place, partitions)),
+                    Err(AllocError) => Err(AllocError),
+                }
             }
         }
     }
@@ -100,13 +103,16 @@ impl State {
         let Some(graph) = self.facts.game.board().model(key) else {
             return Ok(None);
         };
-        Ok(Some(distribute(
+        match distribute(
             alloc,
             self.facts.place,
             partitions,
             distribution,
             version,
             graph.model(),
-        )?))
+        ) {
+            Ok(packet) => Ok(Some(packet)),
+            Err(AllocError) => Err(AllocError),
+        }
     }
 }

@@ -3,8 +3,8 @@ use Rattle.zb_views.specs.Standing.{standing_by}
 use Rattle.zb_views.specs.Jobs.{job_sort}
 use Rattle.zb_views.specs.Messages.{message_sort}
 use Rattle.zb_views.specs.Timers.{timer_sort}
-use Rattle.zb_state.specs.declared.tables.Tables.{Tables}
-use Rattle.zb_state.proofs.KeyLemmas.{has_place_in_messages, messages_below}
+use Rattle.zb_tables.specs.declared.tables.Tables.{Tables}
+use Rattle.zb_tables.proofs.KeyLemmas.{has_place_in_messages, messages_below}
 use Rattle.zb_state.proofs.StateLemmas.{state_more}
 use Rattle.zb_state.proofs.facts.Facts.apply_as.Goals as goal
 

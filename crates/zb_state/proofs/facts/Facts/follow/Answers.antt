@@ -1,7 +1,7 @@
 use Rattle.std.proofs.Common.{◌≡◌, ◌+◌, max, arith}
 use Rattle.zb_base.specs.Key.{key_of}
 use Rattle.zb_views.specs.View.{greatest_among, keys_in}
-use Rattle.zb_state.proofs.KeyLemmas.{has_place_in_jobs, has_place_in_waiting, tables_below, waiting_below}
+use Rattle.zb_tables.proofs.KeyLemmas.{has_place_in_jobs, has_place_in_waiting, tables_below, waiting_below}
 use Rattle.zb_state.proofs.StartLemmas.{has_place_in_starts, starts_below}
 use Rattle.zb_state.proofs.facts.Facts.follow.Goals as goal
 

@@ -1,7 +1,7 @@
 use Rattle.std.proofs.Common.{[], ap, ◌∙◌}
 use Rattle.zb_views.specs.Standing.{standing_by}
 use Rattle.zb_views.specs.Messages.{message_sort}
-use Rattle.zb_state.proofs.KeyLemmas.{has_place_in_messages, messages_below}
+use Rattle.zb_tables.proofs.KeyLemmas.{has_place_in_messages, messages_below}
 use Rattle.zb_state.proofs.StateLemmas.{state_more}
 use Rattle.zb_state.proofs.facts.Facts.take_in.Goals as goal
 

@@ -5,7 +5,7 @@ use Rattle.zb_exchange_records.specs.declared.message.MessagePublished.{MessageP
 use Rattle.zb_views.specs.Messages.{buffered}
 use Rattle.zb_rules.specs.Publish.{is_same}
 use Rattle.zb_state.specs.declared.facts.Facts.{Facts}
-use Rattle.zb_state.specs.Messages.{is_addressed}
+use Rattle.zb_tables.specs.Messages.{is_addressed}
 use Rattle.zb_state.specs.State.{IsStateOf}
 use Rattle.zb_state.proofs.LentLemmas.{same_there}
 use Rattle.zb_state.proofs.state.State.holds_same.Goals as goal

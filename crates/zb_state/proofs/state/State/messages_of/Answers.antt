@@ -4,7 +4,7 @@ use Rattle.zb_model.specs.declared.record.Event.{Event}
 use Rattle.zb_views.specs.Messages.{buffered}
 use Rattle.zb_lists.proofs.ListedLemmas.{keys_listed}
 use Rattle.zb_state.specs.declared.facts.Facts.{Facts}
-use Rattle.zb_state.specs.Messages.{is_addressed}
+use Rattle.zb_tables.specs.Messages.{is_addressed}
 use Rattle.zb_state.specs.State.{IsStateOf}
 use Rattle.zb_state.proofs.state.State.messages_of.Goals as goal
 

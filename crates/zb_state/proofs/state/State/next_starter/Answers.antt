@@ -5,7 +5,7 @@ use Rattle.zb_exchange_records.specs.declared.message.MessagePublished.{MessageP
 use Rattle.zb_views.specs.Messages.{buffered}
 use Rattle.zb_views.specs.Subscriptions.{is_lock}
 use Rattle.zb_state.specs.declared.facts.Facts.{Facts}
-use Rattle.zb_state.specs.Messages.{is_addressed}
+use Rattle.zb_tables.specs.Messages.{is_addressed}
 use Rattle.zb_state.specs.State.{IsStateOf}
 use Rattle.zb_state.proofs.StartLemmas.{next_there}
 use Rattle.zb_state.proofs.state.State.next_starter.Goals as goal

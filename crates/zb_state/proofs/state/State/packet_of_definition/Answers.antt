@@ -19,10 +19,10 @@ returns-in_default-model c =
     subst (λ (f : Facts). (es : List Event) → IsStateOf es f → None ≡ packet_of_definition (partition_of f) c.args.partitions es c.args.distribution) c.self.view_is
     (λ es is. sym (none_without_model (partition_of s) c.args.partitions es s.game is.game is.applied c.args.distribution (search rules)))
 
-pub returns : goal.returns
-returns c =
+pub returns-in-Ok : goal.returns-in-Ok
+returns-in-Ok c =
     let s = c.self.inside.facts in
-    subst (λ (f : Facts). (es : List Event) → IsStateOf es f → Some c.in_ok-distribute.field-0 ≡ packet_of_definition (partition_of f) c.args.partitions es c.args.distribution) c.self.view_is
+    subst (λ (f : Facts). (es : List Event) → IsStateOf es f → Some c.in-Ok.packet ≡ packet_of_definition (partition_of f) c.args.partitions es c.args.distribution) c.self.view_is
     (λ es is.
     let told = packet_is (partition_of s) c.args.partitions es s.game is.game is.applied c.args.distribution c.in-Some.version c.model-2.result.now (sym (c.version_under.ensures.version _ (keeps_told es s c.definitions.result.now is c.definitions.ensures)) ∙ c.in-Some.is) (search rules) in
     search rules)

@@ -17,7 +17,7 @@ use Rattle.zb_views.specs.Subscriptions.{subscription_sort}
 use Rattle.zb_record.specs.Sendings.{sending_sort}
 use Rattle.zb_starts.specs.Change.{locks_by, instances_by}
 use Rattle.zb_starts.specs.declared.change.Change.{Change}
-use Rattle.zb_state.specs.declared.tables.Tables.{Tables}
+use Rattle.zb_tables.specs.declared.tables.Tables.{Tables}
 
 -- each table has taken an event in, which changes this of locks and of instances that messages have started (own)
 pub record HaveTaken (e : Event) (change : Change) (old new : Tables) : Type 0 where

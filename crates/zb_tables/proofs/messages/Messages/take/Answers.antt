@@ -5,8 +5,8 @@ use Rattle.zb_exchange_records.specs.declared.message.MessagePublished.{MessageP
 use Rattle.zb_model.specs.declared.record.Event.{Event}
 use Rattle.zb_model.specs.declared.record.Event.TheVariants as events
 use Rattle.zb_views.specs.Messages.{message_told, expiry_told}
-use Rattle.zb_state.proofs.MessageLemmas.{published, expired}
-use Rattle.zb_state.proofs.messages.Messages.take.Goals as goal
+use Rattle.zb_tables.proofs.MessageLemmas.{published, expired}
+use Rattle.zb_tables.proofs.messages.Messages.take.Goals as goal
 
 pub returns-in-MessagePublished-clause-ok : goal.returns-in-MessagePublished-clause-ok
 returns-in-MessagePublished-clause-ok c = λ before.

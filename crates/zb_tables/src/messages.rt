@@ -6,7 +6,7 @@ ghost use Rattle.zb_model.specs.declared.record.Event.{Event};
 ghost use Rattle.zb_table.specs.Rows.{Ascend, are_below};
 ghost use Rattle.zb_views.specs.Standing.{standing_by};
 ghost use Rattle.zb_views.specs.Messages.{message_told, expiry_told, message_sort, is_past_deadline};
-ghost use Rattle.zb_state.specs.Messages.{has_place_for_message};
+ghost use Rattle.zb_tables.specs.Messages.{has_place_for_message};
 
 use std::alloc::{AllocError, Global};
 use std::marker::Model;
@@ -80,7 +80,7 @@ impl Messages {
     }
 
     /// The rows.
-    pub(crate) fn rows(&self) -> &Rows<Buffered>
+    pub fn rows(&self) -> &Rows<Buffered>
         ensures rows { result.now ≡ self.now }
         ensures order { Ascend (λ m. m.key) 0 self.now }
     {
@@ -95,7 +95,10 @@ impl Messages {
         ensures err { OnErr result (self.new ≡ self.old) }
     {
         match message_in(event) {
-            Some(message) => self.add(message.copy(alloc)?),
+            Some(message) => match message.copy(alloc) {
+                Ok(message) => self.add(message),
+                Err(AllocError) => Err(AllocError),
+            },
             None => {
                 self.end(expiry_in(event));
                 Ok(())
@@ -119,6 +122,13 @@ impl Messages {
         }
     }
 
+    /// Leaves no messages.
+    pub fn clear(&mut self, alloc: Global)
+        ensures { self.new ≡ [] }
+    {
+        self.rows = Rows::empty(alloc);
+    }
+
     // Adds a message.
     fn add(&mut self, message: MessagePublished) -> Result<(), AllocError>
         requires { IsTrue (are_below (λ m. m.key) message.key self.old) }
@@ -140,7 +150,7 @@ impl Messages {
 
 /// A buffered message. Contracts see the message.
 #[derive(Drop)]
-pub(crate) struct Buffered {
+pub struct Buffered {
     message: MessagePublished,
 }
 

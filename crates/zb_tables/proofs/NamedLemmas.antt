@@ -16,7 +16,7 @@ use Rattle.zb_views.specs.Messages.{message_sort, message_told}
 use Rattle.zb_views.specs.Jobs.{job_sort, job_told}
 use Rattle.zb_views.specs.Timers.{timer_sort, timer_told}
 use Rattle.zb_jobs.specs.Table.{job_of_cell, HaveOwnCells}
-use Rattle.zb_state.specs.Named.{named_message, named_job, named_timer}
+use Rattle.zb_tables.specs.Named.{named_message, named_job, named_timer}
 
 -- what holds of all holds of each of some
 pub each : {A : Type 0} (P : A → Type 0) → ((x : A) → P x) → (xs : List A) → All P xs

@@ -1,6 +1,6 @@
 // The rows that an event names.
 ghost use Rattle.std.specs.Prelude.{◌≡◌};
-ghost use Rattle.zb_state.specs.Named.{named_message, named_job, named_timer};
+ghost use Rattle.zb_tables.specs.Named.{named_message, named_job, named_timer};
 
 use zb_jobs::Jobs;
 use zb_model::{Event, Key};

@@ -3,8 +3,8 @@ use Rattle.std.proofs.lemmas.Result.{on_ok_weaker}
 use Rattle.zb_exchange_records.specs.declared.message.MessagePublished.{MessagePublished}
 use Rattle.zb_table.proofs.Growing.{with_last}
 use Rattle.zb_pairs.proofs.FoundLemmas.{none_below}
-use Rattle.zb_state.proofs.MessageLemmas.{ascend_with}
-use Rattle.zb_state.proofs.messages.Messages.add.Goals as goal
+use Rattle.zb_tables.proofs.MessageLemmas.{ascend_with}
+use Rattle.zb_tables.proofs.messages.Messages.add.Goals as goal
 
 pub add-requires : goal.add-requires
 add-requires c = none_below (λ (m : MessagePublished). m.key) c.args.message.key c.self.inside.rows (rw c.self.view_is c.requires)

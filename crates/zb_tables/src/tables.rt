@@ -10,7 +10,7 @@ use std::alloc::{AllocError, Global};
 use zb_jobs::Jobs;
 use zb_model::Event;
 use zb_outbox::Outbox;
-use zb_starts::{Change, MessageStarts};
+use zb_starts::{Change, MessageStarts, Starts};
 use zb_subscriptions::{ProcessSubscriptions, Subscriptions};
 use zb_timers::Timers;
 
@@ -32,7 +32,7 @@ pub struct Tables {
 }
 
 impl Tables {
-    ghost use Rattle.zb_state.specs.Tables.{HaveTaken};
+    ghost use Rattle.zb_tables.specs.Tables.{HaveTaken};
 
     /// The tables of no events. They take no memory.
     pub fn empty(alloc: Global) -> Tables
@@ -55,7 +55,7 @@ impl Tables {
     }
 
     /// Takes an event in, and what it changes of locks and of instances that messages have started. It costs what `apply` of
-    /// each table does. After a refusal the tables are those of no events.
+    /// each table does. After a refusal no rows are left whose keys are to be below the next one, and the tables are only dropped.
     pub fn apply(&mut self, alloc: Global, event: &Event, change: Change) -> Result<(), AllocError>
         requires jobs { IsTrue (has_place_for self.old.jobs event.now) }
         requires timers { IsTrue (has_place_for_timer self.old.timers event.now) }
@@ -93,13 +93,26 @@ impl Tables {
         Ok(())
     }
 
-    // Leaves the tables of no events.
+    /// Leaves no jobs and no timers.
+    pub fn clear_listed(&mut self, alloc: Global)
+        ensures jobs { self.new.jobs ≡ [] }
+        ensures timers { self.new.timers ≡ [] }
+        ensures starts { self.new.starts ≡ self.old.starts }
+        ensures waiting { self.new.process_subscriptions ≡ self.old.process_subscriptions }
+    {
+        self.jobs = Jobs::empty(alloc);
+        self.timers = Timers::empty(alloc);
+    }
+
+    // Leaves no rows whose keys are to be below the next one.
     fn clear(&mut self, alloc: Global)
         ensures jobs { self.new.jobs ≡ [] }
         ensures timers { self.new.timers ≡ [] }
         ensures starts { self.new.starts.starts ≡ [] }
         ensures process_subscriptions { self.new.process_subscriptions ≡ [] }
     {
-        *self = Tables::empty(alloc);
+        self.clear_listed(alloc);
+        self.starts.starts = Starts::empty(alloc);
+        self.process_subscriptions = ProcessSubscriptions::empty(alloc);
     }
 }

@@ -22,9 +22,9 @@ use Rattle.zb_views.specs.ProcessSubscriptions.{process_subscription_of, process
 use Rattle.zb_jobs.specs.Table.{has_place_for}
 use Rattle.zb_timers.specs.Table.{has_place_for_timer}
 use Rattle.zb_subscriptions.specs.Waiting.{has_place_for_waiting}
-use Rattle.zb_state.specs.Messages.{has_place_for_message}
-use Rattle.zb_state.specs.Tables.{HaveTaken, IsNext, Draws, are_all_below, are_waiting_below}
-use Rattle.zb_state.specs.declared.tables.Tables.{Tables}
+use Rattle.zb_tables.specs.Messages.{has_place_for_message}
+use Rattle.zb_tables.specs.Tables.{HaveTaken, IsNext, Draws, are_all_below, are_waiting_below}
+use Rattle.zb_tables.specs.declared.tables.Tables.{Tables}
 use Rattle.zb_starts.specs.declared.change.Change.{Change}
 
 abbrev message_key : MessagePublished → ℕ

@@ -2,7 +2,7 @@ use Rattle.std.proofs.Common.{◌==◌, List, not, sym, subst}
 use Rattle.zb_exchange_records.specs.declared.message.MessagePublished.{MessagePublished}
 use Rattle.zb_table.specs.Rows.{Ascend}
 use Rattle.zb_pairs.proofs.FoundLemmas.{ascend_kept, filter_all}
-use Rattle.zb_state.proofs.messages.Messages.end.Goals as goal
+use Rattle.zb_tables.proofs.messages.Messages.end.Goals as goal
 
 pub returns-in_default : goal.returns-in_default
 returns-in_default c = rw c.in_default.is (sym (filter_all c.args.self.now))

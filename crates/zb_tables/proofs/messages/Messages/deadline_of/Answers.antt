@@ -3,8 +3,8 @@ use Rattle.std.specs.List.{list_any}
 use Rattle.std.specs.Option.{option_map_or}
 use Rattle.zb_exchange_records.specs.declared.message.MessagePublished.{MessagePublished}
 use Rattle.zb_views.specs.Messages.{is_past_deadline}
-use Rattle.zb_state.proofs.MessageLemmas.{has_by_deadline, due_by_deadline}
-use Rattle.zb_state.proofs.messages.Messages.deadline_of.Goals as goal
+use Rattle.zb_tables.proofs.MessageLemmas.{has_by_deadline, due_by_deadline}
+use Rattle.zb_tables.proofs.messages.Messages.deadline_of.Goals as goal
 
 pub returns-clause-buffered : goal.returns-clause-buffered
 returns-clause-buffered c =

@@ -1,0 +1,3 @@
+pub mod KeyLemmas
+pub mod MessageLemmas
+pub mod NamedLemmas
