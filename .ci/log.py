@@ -8,7 +8,8 @@ Behind the last one stands END, the closed gate. Which byte is which record, and
 read from the page. A key is written as #6, the sixth of partition 1, or 2#6, of partition 2, and as - where it is 0. A
 text stands as it is, or as JSON has it where blanks or signs are in it; values, variables and models stand as in
 requests, and expressions with all their parentheses. With which correlation key an instance was started is shown where
-there is one. Bytes that aren't spelled as the page says are refused.
+there is one, and so are the items of a body, and the role of an element that isn't plain. Bytes that aren't spelled as
+the page says are refused.
 """
 import json
 import os
@@ -30,7 +31,8 @@ the name and the correlation key, texts = name text, correlationKey text; the id
 the name, the correlation key and the id, texts = name text, correlationKey text, id text
 the time to live, a duration = timeToLive long; the deadline, a timestamp = deadline long; when it is due, a timestamp = due long
 the partition that has it, a number = partition number; the other partition, a number = partition number
-four bytes 0 = nothing zeros; the byte 0 = nothing zero; a byte for its kind = kind incident
+its items, a list of whole numbers, each 8 bytes in two's complement = items items; its role, a byte = role role
+a byte for its kind = kind incident
 the flows to take, a list of their ids, texts = flows texts; the jobs, a list of their keys = jobs keys
 the key of the element that is left = element key; the flow's id, a text = flow text; the key of its element = element key
 its type, a text = type text; the worker, a text = worker text; all variables that its element sees = variables variables
@@ -104,7 +106,7 @@ def layout(page):
             raise SystemExit(f".ci/log.py: docs/FORMAT.md has a field that has no name here: {phrase}")
         return phrases[phrase]
 
-    found = {"command": {}, "event": {}, "kind of incident": {}, "kind of node": {}}
+    found = {"command": {}, "event": {}, "kind of incident": {}, "kind of node": {}, "role of an element": {}}
     activating = []
     for head, row in tables(page):
         if head[0] == "byte" and len(row) == 3:
@@ -192,6 +194,10 @@ class Reader:
     def mapping(self):
         return {"source": self.source(), "target": self.plain()}
 
+    def several(self):
+        sequential = {"isSequential": True} if self.truth() else {}
+        return {**sequential, "inputCollection": self.source(), "inputElement": self.plain()}
+
     def node(self):
         node = {"id": self.plain()}
         kind, *event = NODES[self.of(LAYOUT["kind of node"], "kind of node")]
@@ -207,7 +213,9 @@ class Reader:
         about = {"name": named, **source} if keyed else source or ({event[1]: named} if message or (error and named) else {})
         retries = self.unsigned(4)
         self.wants(task or retries == 0, f"retries at {node}")
-        self.wants(self.take(2) == b"\0\0", f"fields of no kind at {node}")
+        self.zero()
+        several = self.several() if self.truth() else {}
+        self.wants(not several or kind in ("serviceTask", "receiveTask", "subProcess"), f"several instances at {node}")
         inputs, outputs = self.members(self.mapping), self.members(self.mapping)
         more = {"parent": parent, "attachedToRef": attached, "default": default, "type": named if task else "", "retries": retries}
         node.update({name: value for name, value in more.items() if value})
@@ -215,6 +223,8 @@ class Reader:
             node["cancelActivity"] = False
         if event:
             node[event[0]] = about
+        if several:
+            node["multiInstanceLoopCharacteristics"] = several
         node.update({name: value for name, value in {"inputs": inputs, "outputs": outputs}.items() if value})
         return node
 
@@ -263,14 +273,19 @@ class Reader:
     def flag(self):
         return compact(self.truth())
 
+    def items(self):
+        """The items of a body, which are shown where there are any."""
+        return compact(found) if (found := self.members(self.whole)) else None
+
+    def role(self):
+        """A role, which is shown where it isn't plain."""
+        return None if (found := self.of(LAYOUT["role of an element"], "role of an element")) == "plain" else found
+
     def incident(self):
         return self.of(LAYOUT["kind of incident"], "kind of incident")
 
     def zero(self, count=1):
         self.wants(not any(self.take(count)), "a byte that isn't 0")
-
-    def zeros(self):
-        self.zero(4)
 
     def record(self, kind):
         """A command or an event: its name, and its fields."""

@@ -1,7 +1,6 @@
 -- What a game keeps beside its board, so that a move needs no walk.
-use Rattle.std.specs.Prelude.{◌≡◌, ℕ, ◌<◌, ◌≤◌, List, All, Bool, true, false, ◌&&◌, ◌||◌, not, is_some, if◌then◌else◌, Some, option_map}
+use Rattle.std.specs.Prelude.{◌≡◌, ℕ, ◌<◌, ◌≤◌, List, All, Bool, true, false, ◌&&◌, ◌||◌, not, is_some, Some, option_map}
 use Rattle.std.specs.Option.{option_map_or}
-use Rattle.zb_process.specs.declared.model.Model.{Model}
 use Rattle.std.specs.BTreeSet.{BTreeSet}
 use Rattle.zb_table.specs.Rows.{Ascend}
 use Rattle.zb_pairs.specs.Pairs.{IsIndex}
@@ -11,24 +10,20 @@ use Rattle.zb_tokens.specs.declared.board.Token.{Token}
 use Rattle.zb_tokens.specs.declared.board.Phase.{Phase}
 use Rattle.zb_tokens.specs.declared.board.Phase.TheVariants as phases
 use Rattle.zb_tokens.specs.Edits.{is_none_of}
-use Rattle.zb_tokens.specs.Board.{Board, cell_at, model_under, is_at, is_scope_in, is_empty, has_child}
+use Rattle.zb_tokens.specs.Board.{Board, cell_at, model_under, has_child}
 use Rattle.zb_tokens.specs.Doom.{calls_off, is_doomed}
 use Rattle.zb_tokens.specs.Forced.{ends_in}
 use Rattle.zb_tokens.specs.Incidents.{incident_on, is_stuck}
-use Rattle.zb_tokens.specs.Marks.{error_of, has_come_about}
-use Rattle.zb_tokens.specs.MoveFinish.{rests_at}
+use Rattle.zb_tokens.specs.Marks.{error_of}
+use Rattle.zb_tokens.specs.MoveFinish.{acts_in}
 use Rattle.zb_places.specs.Places.{comes_in, IsFirst}
 pub use Rattle.zb_places.specs.Places.{is_kept}
 use Rattle.zb_board.specs.Kept.{number_under}
 use Rattle.zb_board.specs.Tallies.{incidents_on}
 
--- in a model nothing is left that an active cell waits for (BPMN 2.0.2, 13.2, 13.3.3 and 13.3.4)
-abbrev pub is_done_in : Model → Board → Cell → Bool
-is_done_in m b c = if is_scope_in m c then is_empty b c.key else has_come_about c.mark || is_at m c.node (rests_at c)
-
 -- an active cell rests, whatever models come: no error was thrown in it, its model is there, and it waits for something (own)
 abbrev pub stays_active : Board → Cell → Bool
-stays_active b c = not (is_some (error_of c.mark)) && option_map_or (λ m. not (is_done_in m b c)) (model_under b c.definition) false
+stays_active b c = not (is_some (error_of c.mark)) && option_map_or (λ m. not (acts_in m b c)) (model_under b c.definition) false
 
 -- in a phase a cell rests, whatever models come, where nobody is called off (own)
 abbrev pub rests_in : Board → Cell → Phase → Bool
@@ -74,3 +69,10 @@ pub record IsIndexed (b : Board) (rows : List (Held Token)) (children : BTreeSet
   pub ending : All (λ c. is_ending b c ≡ true → is_kept ready c.key ≡ true) b.cells
   pub called : All (λ c. calls_off c ≡ true → is_kept calling c.key ≡ true) b.cells
   pub awaited : (h : Held Token) → IsFirst rows h → stays_out b h.row ≡ false → is_kept coming h.number ≡ true
+
+-- what is made of a cell stays where that was: it has its key, scope and definition, and calls off what is in it only where that did (own)
+pub record StaysThere (c made : Cell) : Type 0 where
+  pub key : made.key ≡ c.key
+  pub scope : made.scope ≡ c.scope
+  pub definition : made.definition ≡ c.definition
+  pub calls : calls_off made ≡ true → calls_off c ≡ true

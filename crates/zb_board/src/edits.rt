@@ -3,7 +3,9 @@ ghost use Rattle.std.specs.Prelude.{◌≡◌};
 ghost use Rattle.zb_tokens.specs.Board.{in_phase, new_cell};
 ghost use Rattle.zb_tokens.specs.Marks.{with_mark};
 ghost use Rattle.zb_tokens.specs.MoveAssign.{with_variable};
+ghost use Rattle.zb_tokens.specs.MoveInner.{one_taken};
 ghost use Rattle.zb_tokens.specs.MoveLeave.{with_end};
+ghost use Rattle.zb_tokens.specs.MoveOpen.{with_items};
 
 use std::alloc::{AllocError, Global};
 use zb_base::{Key, List, Text, Value, Vars};
@@ -18,16 +20,17 @@ pub fn new_cell(
     scope: Key,
     definition: Key,
     node: Text,
+    role: Role,
     before: bool,
 ) -> Cell
-    ensures { result ≡ new_cell key scope definition node before }
+    ensures { result ≡ new_cell key scope definition node role before }
 {
     Cell {
         key,
         scope,
         definition,
         node,
-        role: Role::Plain,
+        role,
         phase: Phase::Activating,
         mark: Mark::Unset,
         before,
@@ -69,6 +72,40 @@ impl Edit<Cell> for WithMark {
     fn edit(self, mut row: Cell) -> Result<Cell, AllocError> {
         row.mark = self.mark;
         Ok(row)
+    }
+}
+
+/// A cell becomes active, and keeps these items.
+#[derive(Drop)]
+pub struct WithItems {
+    pub items: List<i64>,
+}
+
+impl Edit<Cell> for WithItems {
+    ghost edits = { λ e c. with_items e.items c };
+
+    fn edit(self, mut row: Cell) -> Result<Cell, AllocError> {
+        row.phase = Phase::Active;
+        row.items = self.items;
+        Ok(row)
+    }
+}
+
+/// One more of a cell's items is taken. A count at its type's end counts as want of memory.
+#[derive(Drop)]
+pub struct OneTaken;
+
+impl Edit<Cell> for OneTaken {
+    ghost edits = { λ _ c. one_taken c };
+
+    fn edit(self, mut row: Cell) -> Result<Cell, AllocError> {
+        match row.taken.checked_add(1) {
+            Some(taken) => {
+                row.taken = taken;
+                Ok(row)
+            }
+            None => Err(AllocError),
+        }
     }
 }
 

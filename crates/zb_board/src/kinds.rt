@@ -1,28 +1,67 @@
 // What kinds of nodes stand in a model.
 ghost use Rattle.std.specs.Prelude.{◌≡◌, is_some};
-ghost use Rattle.zb_faults.specs.Elements.{is_at, is_event_gateway, is_service_task, is_terminate_end};
-ghost use Rattle.zb_tokens.specs.Board.{is_scope_in};
+ghost use Rattle.zb_faults.specs.Elements.{is_at, is_event_gateway, is_service_task, is_subprocess, is_terminate_end};
+ghost use Rattle.std.specs.Option.{option_copied};
+ghost use Rattle.zb_tokens.specs.Bodies.{is_sequential, multi_at, role_at};
+ghost use Rattle.zb_tokens.specs.Board.{holds_tokens};
 ghost use Rattle.zb_tokens.specs.Choice.{gateway_in};
 ghost use Rattle.zb_tokens.specs.MoveFinish.{rests_at, waits_for_nothing};
 
-use zb_base::Key;
+use crate::roles::{is_body, is_root};
 use zb_faults::{
-    is_catch, is_event_gateway, is_exclusive_gateway, is_service_task, is_subprocess,
+    is_activity, is_catch, is_event_gateway, is_exclusive_gateway, is_service_task, is_subprocess,
     is_terminate_end,
 };
 use zb_graph::Graph;
-use zb_process::NodeKind;
+use zb_instance_records::Role;
+use zb_process::{Multi, NodeKind};
 use zb_tokens::Cell;
 
-/// Whether a cell is a scope: a root, or one at a subprocess.
-pub fn is_scope_in(model: &Graph, cell: &Cell) -> bool
-    ensures { result ≡ is_scope_in model.now cell.now }
+/// Whether a cell is a scope, in which tokens move: no body, but a root, or one at a subprocess.
+pub fn holds_tokens(model: &Graph, cell: &Cell) -> bool
+    ensures { result ≡ holds_tokens model.now cell.now }
 {
-    if cell.scope == Key::new(0) {
-        return true;
-    }
-    match model.node_with(cell.node.as_str()) {
+    !is_body(cell) && (is_root(cell) || is_subprocess_at(model, cell.node.as_str()))
+}
+
+// Whether the node with an id is a subprocess.
+fn is_subprocess_at(model: &Graph, id: &str) -> bool
+    ensures { result ≡ is_at model.now id.now is_subprocess }
+{
+    match model.node_with(id) {
         Some(node) => is_subprocess(node.kind),
+        None => false,
+    }
+}
+
+/// How an activity has several instances, by the id of its node, if it has.
+pub fn multi_at<'a>(model: &'a Graph, id: &str) -> Option<&'a Multi>
+    ensures { option_copied result ≡ multi_at model.now id.now }
+{
+    let node = model.node_with(id)?;
+    if is_activity(node.kind) {
+        node.multi.as_ref()
+    } else {
+        None
+    }
+}
+
+/// The role of a cell that a token begins at a node.
+pub fn role_at(model: &Graph, id: &str) -> Role
+    ensures { result ≡ role_at model.now id.now }
+{
+    match multi_at(model, id) {
+        Some(_multi) => Role::Body,
+        None => Role::Plain,
+    }
+}
+
+/// Whether the runs of a body come one after the other.
+pub fn is_sequential(model: &Graph, cell: &Cell) -> bool
+    ensures { result ≡ is_sequential model.now cell.now }
+{
+    match multi_at(model, cell.node.as_str()) {
+        Some(multi) => multi.sequential,
         None => false,
     }
 }

@@ -2,8 +2,9 @@
 #![tactic(auto)]
 
 mod course;
+mod events;
 mod moves;
 mod versions;
 
 pub use course::Course;
-pub use moves::event_of;
+pub use events::{event_of, role_on};

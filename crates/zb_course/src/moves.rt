@@ -5,7 +5,7 @@ ghost use Rattle.zb_views.specs.declared.job.Job.{Job};
 ghost use Rattle.zb_model.specs.declared.record.Event.TheVariants as events;
 ghost use Rattle.zb_rules.specs.Applies.{may_fit};
 ghost use Rattle.zb_tokens.specs.Game.{fits, played};
-ghost use Rattle.zb_rules.specs.Shown.{shown_by, after_shown, event_of};
+ghost use Rattle.zb_rules.specs.Shown.{shown_by, after_shown, move_of_cell};
 ghost use Rattle.zb_tokens.specs.declared.board.Move.TheVariants as moves;
 ghost use Rattle.zb_course.specs.Shows.{may_show};
 
@@ -15,11 +15,12 @@ use zb_game::make as make_move;
 use zb_jobs::Jobs;
 use zb_model::{
     ElementActivated, ElementActivating, ElementCompleted, Event, IncidentCreated, JobError, Key,
-    List, Model, ProcessDefinition, ProcessEventTriggered, Role, ScopeVariable, SequenceFlowTaken,
-    TableFault, Text, TryCopy,
+    Model, ProcessDefinition, ProcessEventTriggered, Role, ScopeVariable, SequenceFlowTaken,
+    TableFault, TryCopy,
 };
 use zb_tokens::{
-    Assigned, BoxedModel, Deployed, Enter, Incident, Leave, Move, Start, Take, Thrown, Triggered,
+    Assigned, BoxedModel, Deployed, Enter, Incident, Inner, Leave, Move, Open, Start, Take, Thrown,
+    Triggered,
 };
 
 /// Makes the move that the event shows, if it shows one. At `NotApplicable`, exactly where it doesn't fit,
@@ -83,7 +84,7 @@ fn shown(alloc: Global, event: &Event, jobs: &Jobs) -> Result<Option<Move>, Allo
     match event {
         Event::ProcessCreated(process) => stand_of(alloc, process),
         Event::ElementActivating(element) => entry_of(alloc, element),
-        Event::ElementActivated(element) => Ok(Some(Move::Open(element.key))),
+        Event::ElementActivated(element) => open_of(alloc, element),
         Event::ElementCompleting(key) => Ok(Some(Move::Finish(*key))),
         Event::ElementCompleted(element) => leave_of(alloc, element),
         Event::ElementTerminating(key) => Ok(Some(Move::Halt(*key))),
@@ -132,11 +133,36 @@ fn entry_of(alloc: Global, element: &ElementActivating) -> Result<Option<Move>, 
             definition: element.definition,
         })));
     }
-    Ok(Some(Move::Enter(Enter {
+    match move_of_cell(alloc, element) {
+        Ok(entry) => Ok(Some(entry)),
+        Err(AllocError) => Err(AllocError),
+    }
+}
+
+// A body begins a run, or a token enters a node.
+fn move_of_cell(alloc: Global, element: &ElementActivating) -> Result<Move, AllocError>
+    ensures { IfOk result (λ move. move ≡ move_of_cell element.now element.now.role) }
+{
+    match element.role {
+        Role::Inner => Ok(Move::Inner(Inner {
+            key: element.key,
+            body: element.scope,
+        })),
+        Role::Plain | Role::Body | Role::Handler => Ok(Move::Enter(Enter {
+            key: element.key,
+            scope: element.scope,
+            node: element.node.copy(alloc)?,
+            via: element.via.copy(alloc)?,
+        })),
+    }
+}
+
+fn open_of(alloc: Global, element: &ElementActivated) -> Result<Option<Move>, AllocError>
+    ensures { IfOk result (λ move. move ≡ shown_by [] (events.ElementActivated element.now)) }
+{
+    Ok(Some(Move::Open(Open {
         key: element.key,
-        scope: element.scope,
-        node: element.node.copy(alloc)?,
-        via: element.via.copy(alloc)?,
+        items: element.items.copy(alloc)?,
     })))
 }
 
@@ -212,56 +238,4 @@ fn incident_of(alloc: Global, made: &IncidentCreated) -> Result<Option<Move>, Al
         job: made.job,
         text: made.text.copy(alloc)?,
     })))
-}
-
-/// The event that shows a forced move; `None` of a move that is never forced. It costs what
-/// `Game::definition_of` does.
-pub fn event_of(alloc: Global, shown: Move, game: &Game) -> Option<Event>
-    ensures { result ≡ event_of game.now shown }
-{
-    match shown {
-        Move::Enter(entry) => entered(alloc, entry, game),
-        Move::Open(key) => Some(Event::ElementActivated(ElementActivated {
-            key,
-            items: List::empty(alloc),
-        })),
-        Move::Finish(key) => Some(Event::ElementCompleting(key)),
-        Move::Halt(key) => Some(Event::ElementTerminating(key)),
-        Move::Gone(key) => Some(Event::ElementTerminated(key)),
-        Move::Leave(leave) => Some(Event::ElementCompleted(ElementCompleted {
-            key: leave.key,
-            owed: leave.owed,
-        })),
-        Move::Take(take) => Some(Event::SequenceFlowTaken(SequenceFlowTaken {
-            key: take.key,
-            flow: take.flow,
-        })),
-        Move::Trigger(told) => Some(Event::ProcessEventTriggered(ProcessEventTriggered {
-            cell: told.cell,
-            node: told.node,
-        })),
-        Move::Incident(incident) => Some(Event::IncidentCreated(IncidentCreated {
-            key: incident.key,
-            kind: incident.kind,
-            cell: incident.cell,
-            job: incident.job,
-            text: incident.text,
-        })),
-        _ => None,
-    }
-}
-
-fn entered(alloc: Global, entry: Enter, game: &Game) -> Option<Event>
-    ensures { result ≡ event_of game.now (moves.Enter entry) }
-{
-    let definition = game.definition_of(entry.scope)?;
-    Some(Event::ElementActivating(ElementActivating {
-        key: entry.key,
-        scope: entry.scope,
-        definition,
-        node: entry.node,
-        role: Role::Plain,
-        via: entry.via,
-        started: Text::empty(alloc),
-    }))
 }

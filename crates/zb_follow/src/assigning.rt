@@ -1,6 +1,7 @@
 // Variables that are set one after the other.
 ghost use Rattle.std.specs.Prelude.{◌≡◌, List, [], ◌∷◌, IfOk};
 ghost use Rattle.zb_model.specs.declared.record.Event.{Event};
+ghost use Rattle.zb_rules.specs.Behind.{run_set_on};
 ghost use Rattle.zb_rules.specs.InFront.{set_all};
 ghost use Rattle.zb_rules.specs.Update.{place_of, set_in, set_by};
 ghost use Rattle.zb_state.specs.State.{IsStateOf};
@@ -11,7 +12,7 @@ use std::alloc::{AllocError, Global};
 use zb_model::{Event, Key, Moment, ScopeVariable, TryCopy, Variable};
 use zb_state::{Out, Refusal, State};
 use zb_tokens::Assignments;
-use zb_values::{has_name, holder_of};
+use zb_values::{has_name, holder_of, run_variables_at};
 
 /// Where variables are set: in a scope where they are local, else from it on up.
 #[derive(Clone, Copy)]
@@ -89,6 +90,32 @@ impl Maker for Assignments {
         };
         let finder = &place;
         let things = self.variables.as_slice();
+        Each { finder, things }.put(alloc, state, moment, out)
+    }
+}
+
+/// The variables of a run of a body are set in it as it begins, one after the other; another cell has none. It costs what
+/// `run_variables_at` does, and what `Place` does for each.
+#[derive(Drop)]
+pub struct RunSet(pub Key);
+
+impl Maker for RunSet {
+    ghost making = { λ it p moment. run_set_on it.0 };
+
+    fn put(
+        self,
+        alloc: Global,
+        state: &mut State,
+        moment: Moment,
+        out: &mut Out,
+    ) -> Result<(), Refusal> {
+        let variables = run_variables_at(state.game(), alloc, self.0)?;
+        let place = Place {
+            local: true,
+            scope: self.0,
+        };
+        let finder = &place;
+        let things = variables.as_slice();
         Each { finder, things }.put(alloc, state, moment, out)
     }
 }

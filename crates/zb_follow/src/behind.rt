@@ -6,6 +6,7 @@ ghost use Rattle.zb_rules.specs.Starts.{started_behind};
 ghost use Rattle.zb_state.specs.State.{partition_of, IsStateOf};
 ghost use Rattle.zb_follow.specs.Behind.{made_behind, job_canceled, ended_with, restarted};
 
+use crate::assigning::RunSet;
 use crate::catches::{ClosedCatches, OpenedCatches};
 use crate::making::{Find, Found, Maker};
 use crate::starting::{Restarted, copied};
@@ -17,9 +18,9 @@ use zb_tokens::{Incident, Triggered};
 use zb_values::work_at;
 use zb_views::Started;
 
-/// An event, and those behind it. It costs what `Out::put` does for each; where a cell becomes active what
-/// `work_at` and `openings_at` do, where it begins to complete what `ClosedCatches` does, and where it begins to
-/// terminate what that, `Jobs::on` and `Game::incident_on` do; where a node's event has come about what
+/// An event, and those behind it. It costs what `Out::put` does for each; where a cell begins what `RunSet` does, where it
+/// becomes active what `work_at` and `openings_at` do, where it begins to complete what `ClosedCatches` does, and where it
+/// begins to terminate what that, `Jobs::on` and `Game::incident_on` do; where a node's event has come about what
 /// `is_interrupting` does too, and where an instance ends what `State::started` and `Restarted` do.
 #[derive(Drop)]
 pub struct WithBehind(pub Event);
@@ -51,6 +52,8 @@ impl Maker for WithBehind {
 #[derive(Drop)]
 pub enum Behind {
     Nothing,
+    /// The cell that begins may be a run of a body, which has its variables set.
+    Begin(Key),
     /// The cell that becomes active may have a job, and what it waits for.
     Work(Key),
     /// The cell begins to complete, and what it waited for closes.
@@ -69,6 +72,7 @@ fn behind_of(alloc: Global, state: &State, event: &Event) -> Result<Behind, Allo
         → events_behind p moment seen event.now es ≡ made_behind p moment behind es) }
 {
     match event {
+        Event::ElementActivating(element) => Ok(Behind::Begin(element.key)),
         Event::ElementActivated(element) => Ok(Behind::Work(element.key)),
         Event::ElementCompleting(cell) => Ok(Behind::Close(*cell)),
         Event::ElementTerminating(cell) => Ok(Behind::End(waiting_for(state, *cell))),
@@ -106,6 +110,7 @@ impl Maker for Behind {
     ) -> Result<(), Refusal> {
         match self {
             Behind::Nothing => Ok(()),
+            Behind::Begin(cell) => RunSet(cell).put(alloc, state, moment, out),
             Behind::Work(cell) => {
                 (Found(JobOf(cell)), OpenedCatches(cell)).put(alloc, state, moment, out)
             }

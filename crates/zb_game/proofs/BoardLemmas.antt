@@ -1,12 +1,14 @@
 -- What moves make of a board, from what was changed on it.
-use Rattle.std.proofs.Common.{◌≡◌, ℕ, ◌==◌, List, [], ◌++◌, Option, Some, None, option_map, is_some, IsTrue, ap, ◌∙◌, subst}
+use Rattle.std.proofs.Common.{◌≡◌, ℕ, ◌==◌, List, [], ◌∷◌, ◌++◌, Option, Some, None, option_map, is_some, IsTrue, ap, ◌∙◌}
 use Rattle.zb_tokens.specs.Edits.{edited}
 use Rattle.zb_tokens.specs.declared.board.Cell.{Cell}
 use Rattle.zb_tokens.specs.declared.board.Token.{Token}
 use Rattle.zb_tokens.specs.declared.board.Move.{Move}
-use Rattle.zb_tokens.specs.declared.board.Phase.TheVariants as phases
-use Rattle.zb_tokens.specs.Board.{Board, cell_at, in_phase}
-use Rattle.zb_tokens.specs.MoveOpen.{first_tokens, play_open}
+use Rattle.zb_tokens.specs.declared.board.Inner.{Inner}
+use Rattle.zb_tokens.specs.declared.board.Open.{Open}
+use Rattle.zb_tokens.specs.Board.{Board, cell_at}
+use Rattle.zb_tokens.specs.MoveOpen.{first_tokens, play_open, with_items}
+use Rattle.zb_tokens.specs.MoveInner.{one_taken, play_inner, run_in}
 use Rattle.zb_tokens.specs.Game.{fits, played}
 use Rattle.zb_tokens.proofs.GameLaws.{fitting_is_played}
 use Rattle.zb_arrivals.proofs.EditLemmas.{mapped_from}
@@ -20,23 +22,30 @@ none_some (Some b) some none = cc
 pub never_illegal : (b : Board) (move : Move) → IsTrue (fits b move) → played b move ≡ None → ⊥
 never_illegal b move fit none = none_some (played b move) (fitting_is_played b move fit) none
 
-module _ (b : Board) (key : ℕ) where
+module _ (b : Board) where
   -- the board with other cells
   abbrev pub with_cells : List Cell → Board
   with_cells cells = record b { cells = cells }
 
-  -- a cell is active, and its tokens are there
-  pub opened : (mid : Board) (c : Cell) (more : List Token) (owed : List (List ℕ)) → cell_at b key ≡ Some c → first_tokens b c ≡ Some more → owed ≡ []
-      → option_map with_cells (edited (λ x. x.key == key) (in_phase phases.Active owed) b.cells) ≡ Some mid
-      → play_open b key ≡ Some (record mid { tokens = mid.tokens ++ more })
-  opened mid c more owed cell tokens is_owed put =
-      let put' : option_map with_cells (edited (λ x. x.key == key) (in_phase phases.Active []) b.cells) ≡ Some mid = subst (λ (o : List (List ℕ)). option_map with_cells (edited (λ x. x.key == key) (in_phase phases.Active o) b.cells) ≡ Some mid) is_owed put in
-      let r = mapped_from with_cells (edited (λ x. x.key == key) (in_phase phases.Active []) b.cells) mid put' in
+  -- a cell is active with its items, and its tokens are there
+  pub opened : (o : Open) (mid : Board) (c : Cell) (more : List Token) → cell_at b o.key ≡ Some c → first_tokens b c ≡ Some more
+      → option_map with_cells (edited (λ x. x.key == o.key) (with_items o.items) b.cells) ≡ Some mid
+      → play_open b o ≡ Some (record mid { tokens = mid.tokens ++ more })
+  opened o mid c more cell tokens put =
+      let r = mapped_from with_cells (edited (λ x. x.key == o.key) (with_items o.items) b.cells) mid put in
       let cells = r.1 in
       rw (cell, tokens, cells) (ap (λ (x : Board). Some (record x { tokens = x.tokens ++ more })) r.2)
 
   -- a cell that gets no token is active
-  pub opened_alone : (mid : Board) (c : Cell) (owed : List (List ℕ)) → cell_at b key ≡ Some c → first_tokens b c ≡ Some [] → owed ≡ []
-      → option_map with_cells (edited (λ x. x.key == key) (in_phase phases.Active owed) b.cells) ≡ Some mid → play_open b key ≡ Some mid
-  opened_alone mid c owed cell tokens is_owed put =
-      opened mid c [] owed cell tokens is_owed put ∙ ap (λ (ts : List Token). Some (record mid { tokens = ts })) (append-nil mid.tokens)
+  pub opened_alone : (o : Open) (mid : Board) (c : Cell) → cell_at b o.key ≡ Some c → first_tokens b c ≡ Some []
+      → option_map with_cells (edited (λ x. x.key == o.key) (with_items o.items) b.cells) ≡ Some mid → play_open b o ≡ Some mid
+  opened_alone o mid c cell tokens put =
+      opened o mid c [] cell tokens put ∙ ap (λ (ts : List Token). Some (record mid { tokens = ts })) (append-nil mid.tokens)
+
+  -- a run begins, where its body has taken its item
+  pub begun : (i : Inner) (mid : Board) (c : Cell) → cell_at b i.body ≡ Some c → option_map with_cells (edited (λ x. x.key == i.body) one_taken b.cells) ≡ Some mid
+      → play_inner b i ≡ Some (record mid { cells = mid.cells ++ run_in i c ∷ [] })
+  begun i mid c cell put =
+      let r = mapped_from with_cells (edited (λ x. x.key == i.body) one_taken b.cells) mid put in
+      let cells = r.1 in
+      rw (cell, cells) (ap (λ (x : Board). Some (record x { cells = x.cells ++ run_in i c ∷ [] })) r.2)

@@ -19,10 +19,10 @@ use Rattle.zb_tokens.specs.Board.{Board, cell_at, model_under, has_child, is_pha
 use Rattle.zb_tokens.specs.Doom.{is_doomed}
 use Rattle.zb_tokens.specs.Incidents.{is_stuck}
 use Rattle.zb_tokens.specs.Marks.{error_of}
-use Rattle.zb_tokens.specs.MoveFinish.{is_done}
+use Rattle.zb_tokens.specs.MoveFinish.{acts, acts_in}
 use Rattle.zb_tokens.specs.Forced.{ends_in, goes_on_in, is_forced, greatest}
 use Rattle.zb_process.specs.declared.model.Model.{Model}
-use Rattle.zb_board.specs.Indexed.{is_done_in, rests_in, is_resting, is_ending, is_kept}
+use Rattle.zb_board.specs.Indexed.{rests_in, is_resting, is_ending, is_kept}
 use Rattle.zb_game.specs.Searches.{comes_about_at, is_forced_at, newest_key}
 use Rattle.zb_table.proofs.Ascending.{finds_own}
 
@@ -35,11 +35,11 @@ goes_not_rests : (b : Board) (c : Cell) (phase : Phase) → goes_on_in b c phase
 goes_not_rests b c phases.Activating goes = refl
 goes_not_rests b c phases.Active goes = by_error (is_some (error_of c.mark)) goes
   where
-    by_model : (found : Option Model) → option_map_or (λ m. is_done_in m b c) found false ≡ true → option_map_or (λ m. not (is_done_in m b c)) found false ≡ false
+    by_model : (found : Option Model) → option_map_or (λ m. acts_in m b c) found false ≡ true → option_map_or (λ m. not (acts_in m b c)) found false ≡ false
     by_model None goes = refl
     by_model (Some m) goes = ap not goes
 
-    by_error : (t : Bool) → (t || is_done b c) ≡ true → (not t && option_map_or (λ m. not (is_done_in m b c)) (model_under b c.definition) false) ≡ false
+    by_error : (t : Bool) → (t || acts b c) ≡ true → (not t && option_map_or (λ m. not (acts_in m b c)) (model_under b c.definition) false) ≡ false
     by_error true goes = refl
     by_error false goes = by_model (model_under b c.definition) goes
 goes_not_rests b c phases.Completing goes = refl

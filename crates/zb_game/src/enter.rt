@@ -6,7 +6,8 @@ ghost use Rattle.zb_tokens.specs.MoveEnter.{fits_enter, play_enter, stands_at};
 
 use std::alloc::Global;
 use zb_base::Key;
-use zb_board::{Game, GameFault, new_cell};
+use zb_board::{Game, GameFault, new_cell, role_at};
+use zb_instance_records::Role;
 use zb_places::{are_on_each, has_come, joins, stands_coming};
 use zb_tokens::Enter;
 use zb_values::flows_in;
@@ -39,24 +40,31 @@ pub fn enter(game: &mut Game, alloc: Global, e: Enter) -> Result<(), GameFault>
     let Some(model) = game.model(definition) else {
         return Err(GameFault::Illegal);
     };
+    let role = role_at(model, e.node.as_str());
     if !joins(model, e.node.as_str()) {
-        return enter_alone(game, alloc, definition, e);
+        return enter_alone(game, alloc, definition, role, e);
     }
     if !are_on_each(model, e.scope, e.node.as_str(), game.tokens()) {
         return Err(GameFault::Illegal);
     }
     let flows = flows_in(alloc, model, e.node.as_str())?;
     game.take_each(e.scope, flows.as_slice())?;
-    let cell = new_cell(alloc, e.key, e.scope, definition, e.node, false);
+    let cell = new_cell(alloc, e.key, e.scope, definition, e.node, role, false);
     game.add_cell(cell)?;
     Ok(())
 }
 
-// Plays that one token enters a node.
-fn enter_alone(game: &mut Game, alloc: Global, definition: Key, e: Enter) -> Result<(), GameFault>
+// Plays that one token enters a node, where a cell begins in this role.
+fn enter_alone(
+    game: &mut Game,
+    alloc: Global,
+    definition: Key,
+    role: Role,
+    e: Enter,
+) -> Result<(), GameFault>
     ensures stood { OnOk result (list_any (stands_at e.scope (spot_of e.via e.node)) game.old.tokens ≡ true) }
     ensures entered { OnOk result (game.new ≡ record game.old {
-      cells = game.old.cells ++ new_cell e.key e.scope definition e.node (is_none_of e.via) ∷ [];
+      cells = game.old.cells ++ new_cell e.key e.scope definition e.node role (is_none_of e.via) ∷ [];
       tokens = without_first (stands_at e.scope (spot_of e.via e.node)) game.old.tokens;
     }) }
     ensures illegal { IsErrOf result GameFault.Illegal → list_any (stands_at e.scope (spot_of e.via e.node)) game.old.tokens ≡ false }
@@ -66,7 +74,7 @@ fn enter_alone(game: &mut Game, alloc: Global, definition: Key, e: Enter) -> Res
         return Err(GameFault::Illegal);
     }
     let before = comes_by_none(&e);
-    let cell = new_cell(alloc, e.key, e.scope, definition, e.node, before);
+    let cell = new_cell(alloc, e.key, e.scope, definition, e.node, role, before);
     game.enter_coming(e.via.as_str(), cell)?;
     Ok(())
 }

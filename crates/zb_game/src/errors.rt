@@ -8,7 +8,7 @@ ghost use Rattle.zb_tokens.specs.MoveTrigger.{comes_about_by};
 ghost use Rattle.zb_game.specs.Searches.{comes_about_at, error_event_in};
 
 use zb_base::{Key, Text};
-use zb_board::{Game, error_of};
+use zb_board::{Game, error_of, is_inner, is_root};
 use zb_faults::{is_activity, is_error_boundary};
 use zb_graph::Graph;
 use zb_process::Node;
@@ -76,13 +76,13 @@ pub fn catcher<'a>(game: &'a Game, code: &str, thrown: Key) -> Option<(Key, &'a 
     Some((cell.key, &event.id))
 }
 
-// The event at the boundary of a cell that catches an error; a root has none.
+// The event at the boundary of a cell that catches an error; a root has none, nor has a run of a body.
 fn error_event_of<'a>(game: &'a Game, code: &str, cell: &Cell) -> Option<&'a Node>
     ensures { option_copied result ≡ error_event_of game.now code.now cell.now }
 {
     match game.model(cell.definition) {
         Some(model) => {
-            if cell.scope == Key::new(0) {
+            if is_inner(cell) || is_root(cell) {
                 return None;
             }
             error_event_in(model, code, cell.node.as_str())

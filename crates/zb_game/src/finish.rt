@@ -1,9 +1,9 @@
 ghost use Rattle.std.specs.Prelude.{◌≡◌, Some, None, OnOk, IsErrOf};
-ghost use Rattle.zb_tokens.specs.MoveFinish.{fits_finish, is_done, play_finish};
+ghost use Rattle.zb_tokens.specs.MoveFinish.{acts, fits_finish, is_done, play_finish};
 
 use std::alloc::Global;
 use zb_base::{Key, List};
-use zb_board::{Game, GameFault};
+use zb_board::{Game, GameFault, has_item, is_body};
 use zb_tokens::{Cell, Phase};
 
 /// Whether a cell may begin to complete.
@@ -16,12 +16,19 @@ pub fn fits_finish(game: &Game, key: Key) -> bool
     }
 }
 
-/// Whether nothing is left that a cell waits for.
-pub fn is_done(game: &Game, cell: &Cell) -> bool
+// Whether nothing is left that a cell waits for, and no item for which it runs.
+fn is_done(game: &Game, cell: &Cell) -> bool
     ensures { result ≡ is_done game.now cell.now }
 {
+    acts(game, cell) && !(is_body(cell) && has_item(cell))
+}
+
+/// Whether an active cell acts: nothing is left that it waits for, or a body may begin a run.
+pub fn acts(game: &Game, cell: &Cell) -> bool
+    ensures { result ≡ acts game.now cell.now }
+{
     match game.model(cell.definition) {
-        Some(model) => game.is_done_in(model, cell),
+        Some(model) => game.acts_in(model, cell),
         None => false,
     }
 }

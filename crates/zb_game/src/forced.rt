@@ -3,7 +3,7 @@ ghost use Rattle.std.specs.Option.{option_copied};
 ghost use Rattle.zb_tokens.specs.Forced.{goes_on_in, is_forced, next_mover};
 ghost use Rattle.zb_game.specs.Searches.{is_forced_at, newest_key};
 
-use crate::finish::is_done;
+use crate::finish::acts;
 use crate::open::opens;
 use std::alloc::{AllocError, Global};
 use zb_base::{Key, TryCopy};
@@ -73,7 +73,7 @@ fn goes_on_by_itself(game: &Game, cell: &Cell) -> bool
 {
     match cell.phase {
         Phase::Activating => opens(game, cell),
-        Phase::Active => error_of(&cell.mark).is_some() || is_done(game, cell),
+        Phase::Active => error_of(&cell.mark).is_some() || acts(game, cell),
         Phase::Completing => true,
         Phase::Leaving => !cell.owed.as_slice().is_empty(),
         Phase::Terminating => !game.has_child(cell.key),

@@ -7,7 +7,7 @@ ghost use Rattle.zb_game.specs.Searches.{interrupts_among};
 
 use std::alloc::Global;
 use zb_base::{Key, List};
-use zb_board::{Game, GameFault};
+use zb_board::{Game, GameFault, is_inner, is_root};
 use zb_graph::Graph;
 use zb_groups::Groups;
 use zb_places::stands_coming;
@@ -20,15 +20,18 @@ pub fn fits_halt(game: &Game, key: Key) -> bool
 {
     match game.cell(key) {
         Some(cell) => is_alive(cell)
-            && (cell.scope == Key::new(0) || game.is_doomed(cell) || is_interrupted(game, cell)),
+            && (is_root(cell) || game.is_doomed(cell) || is_interrupted(game, cell)),
         None => false,
     }
 }
 
-// Whether a boundary event interrupts a cell.
+// Whether a boundary event interrupts a cell; that of a body doesn't interrupt a run in it.
 fn is_interrupted(game: &Game, cell: &Cell) -> bool
     ensures { result ≡ is_interrupted game.now cell.now }
 {
+    if is_inner(cell) {
+        return false;
+    }
     match game.model(cell.definition) {
         Some(model) => is_interrupted_in(model, game.tokens(), cell),
         None => false,

@@ -4,7 +4,7 @@ ghost use Rattle.zb_tokens.specs.MoveLeave.{are_among, ends_scope, fits_leave, f
 
 use std::alloc::{AllocError, Global};
 use zb_base::{Key, List, Text};
-use zb_board::{Game, GameFault, chooses, terminates_at};
+use zb_board::{Game, GameFault, chooses, is_root, owes_none, terminates_at};
 use zb_tokens::{Cell, Leave, Phase};
 use zb_values::are_among_flows;
 
@@ -30,7 +30,7 @@ fn may_owe(game: &Game, cell: &Cell, ids: &[Text]) -> bool
 fn are_among_its(game: &Game, cell: &Cell, ids: &[Text]) -> bool
     ensures { result ≡ are_among ids.now (flows_of game.now cell.now) }
 {
-    if cell.scope == Key::new(0) {
+    if owes_none(cell) {
         return ids.is_empty();
     }
     match game.model(cell.definition) {
@@ -39,11 +39,11 @@ fn are_among_its(game: &Game, cell: &Cell, ids: &[Text]) -> bool
     }
 }
 
-// Whether a cell is at an exclusive gateway.
+// Whether a cell that flows leave is at an exclusive gateway.
 fn is_at_gateway(game: &Game, cell: &Cell) -> bool
     ensures { result ≡ is_some (gateway_of game.now cell.now) }
 {
-    if cell.scope == Key::new(0) {
+    if owes_none(cell) {
         return false;
     }
     match game.model(cell.definition) {
@@ -74,7 +74,7 @@ pub fn leave(game: &mut Game, alloc: Global, l: Leave) -> Result<(), GameFault>
 fn ends_scope(game: &Game, cell: &Cell) -> bool
     ensures { result ≡ ends_scope game.now cell.now }
 {
-    if cell.scope == Key::new(0) {
+    if is_root(cell) {
         return false;
     }
     match game.model(cell.definition) {

@@ -10,6 +10,7 @@ mod forced;
 mod gone;
 mod halt;
 mod incident;
+mod inner;
 mod leave;
 mod moves;
 mod open;

@@ -1,16 +1,16 @@
 ghost use Rattle.std.specs.Prelude.{◌≡◌, IfOk};
 ghost use Rattle.zb_tokens.specs.Marks.{error_of};
 ghost use Rattle.zb_tokens.specs.Errors.{caught};
-ghost use Rattle.zb_tokens.specs.Forced.{catch_by, end_in, entry_at, entry_of, finish_by, move_at, move_in, move_of, take_first};
+ghost use Rattle.zb_tokens.specs.Forced.{act_by, catch_by, end_in, entry_at, entry_of, finish_by, move_at, move_in, move_of, take_first};
 ghost use Rattle.zb_game.specs.Searches.{entry_by};
 
 use crate::errors::caught;
 use std::alloc::{AllocError, Global};
 use zb_base::{Key, Moment, Text, TryCopy};
-use zb_board::{Game, error_of};
+use zb_board::{Game, error_of, has_item, is_body};
 use zb_graph::Graph;
 use zb_places::way_by;
-use zb_tokens::{Cell, Enter, Move, Mover, Phase, Spot, Take, Token, Triggered};
+use zb_tokens::{Cell, Enter, Inner, Move, Mover, Phase, Spot, Take, Token, Triggered};
 use zb_values::{complete_by, open_by, uncaught};
 
 /// The move of a mover, where a cell that begins, or an incident, gets this key; `None` where the mover isn't there
@@ -74,14 +74,26 @@ fn move_in(
     }
 }
 
-// How an active cell begins to complete, or how an error that was thrown in it comes about where it is caught, or the
+// How an active cell begins a run or begins to complete, or how an error that was thrown in it comes about where it is caught, or the
 // incident under this key that tells of it.
 fn finish_by(game: &Game, alloc: Global, key: Key, cell: &Cell) -> Result<Move, AllocError>
     ensures { IfOk result (λ move. move ≡ finish_by key cell.now (caught game.now cell.now) (error_of cell.now.mark)) }
 {
     match error_of(&cell.mark) {
         Some(code) => catch_by(game, alloc, key, cell, code.as_str()),
-        None => Ok(Move::Finish(cell.key)),
+        None => Ok(act_by(key, cell)),
+    }
+}
+
+// How an active cell begins a run for its next item under this key, or begins to complete where none is left.
+fn act_by(key: Key, cell: &Cell) -> Move
+    ensures { result ≡ act_by key cell.now }
+{
+    if is_body(cell) && has_item(cell) {
+        let body = cell.key;
+        Move::Inner(Inner { key, body })
+    } else {
+        Move::Finish(cell.key)
     }
 }
 

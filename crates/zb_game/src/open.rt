@@ -1,21 +1,34 @@
 ghost use Rattle.std.specs.Prelude.{◌≡◌, ◌∷◌, [], Some, None, IfOk, OnOk, IsErrOf};
 ghost use Rattle.std.specs.Option.{option_map_or};
 ghost use Rattle.zb_tokens.specs.Board.{scope_id};
+ghost use Rattle.zb_tokens.specs.Edits.{is_none_of};
 ghost use Rattle.zb_tokens.specs.MoveOpen.{fits_open, first_tokens, opens, play_open};
 
 use std::alloc::Global;
-use zb_base::{Key, List, TryCopy};
-use zb_board::{Game, GameFault, is_scope_in};
-use zb_tokens::{Cell, Phase, Spot, Token};
+use zb_base::TryCopy;
+use zb_board::{Game, GameFault, holds_tokens, is_body, is_root};
+use zb_tokens::{Cell, Open, Phase, Spot, Token};
 
-/// Whether a cell may become active.
-pub fn fits_open(game: &Game, key: Key) -> bool
-    ensures { result ≡ fits_open game.now key }
+/// Whether a cell may become active, with these items.
+pub fn fits_open(game: &Game, opening: &Open) -> bool
+    ensures { result ≡ fits_open game.now opening.now }
 {
-    match game.cell(key) {
-        Some(cell) => cell.phase == Phase::Activating && opens(game, cell),
+    match game.cell(opening.key) {
+        Some(cell) => {
+            cell.phase == Phase::Activating
+                && opens(game, cell)
+                && (is_body(cell) || has_none(opening))
+        }
         None => false,
     }
+}
+
+// Whether there are no items.
+#[tactic(auto, using(zb_board::proofs::AskingLemmas::compared))]
+fn has_none(opening: &Open) -> bool
+    ensures { result ≡ is_none_of opening.now.items }
+{
+    opening.items.as_slice().is_empty()
 }
 
 /// Whether the model of a cell is there.
@@ -25,17 +38,18 @@ pub fn opens(game: &Game, cell: &Cell) -> bool
     game.model(cell.definition).is_some()
 }
 
-/// Plays that a cell becomes active.
-pub fn open(game: &mut Game, alloc: Global, key: Key) -> Result<(), GameFault>
-    ensures played { OnOk result (play_open game.old key ≡ Some game.new) }
-    ensures illegal { IsErrOf result GameFault.Illegal → play_open game.old key ≡ None }
+/// Plays that a cell becomes active, and keeps its items.
+pub fn open(game: &mut Game, alloc: Global, opening: Open) -> Result<(), GameFault>
+    ensures played { OnOk result (play_open game.old opening ≡ Some game.new) }
+    ensures illegal { IsErrOf result GameFault.Illegal → play_open game.old opening ≡ None }
     ensures kept { IsErrOf result GameFault.Illegal → game.new ≡ game.old }
 {
+    let Open { key, items } = opening;
     let Some(cell) = game.cell(key) else {
         return Err(GameFault::Illegal);
     };
     let token = first_token(game, alloc, cell)?;
-    game.put_in_phase(alloc, key, Phase::Active, List::empty(alloc))?;
+    game.put_items(key, items)?;
     match token {
         Some(token) => {
             game.add_token(alloc, token)?;
@@ -56,7 +70,7 @@ fn first_token(game: &Game, alloc: Global, cell: &Cell) -> Result<Option<Token>,
     let Some(model) = game.model(cell.definition) else {
         return Err(GameFault::Illegal);
     };
-    if !is_scope_in(model, cell) {
+    if !holds_tokens(model, cell) {
         return Ok(None);
     }
     let Some(start) = model.start_in(scope_id(cell)) else {
@@ -73,7 +87,7 @@ fn first_token(game: &Game, alloc: Global, cell: &Cell) -> Result<Option<Token>,
 fn scope_id(cell: &Cell) -> &str
     ensures { result.now ≡ scope_id cell.now }
 {
-    if cell.scope == Key::new(0) {
+    if is_root(cell) {
         ""
     } else {
         cell.node.as_str()

@@ -9,6 +9,7 @@ use crate::finish::{finish, fits_finish};
 use crate::gone::{fits_gone, gone};
 use crate::halt::{fits_halt, halt};
 use crate::incident::fits_incident;
+use crate::inner::{begin_run, fits_inner};
 use crate::leave::{fits_leave, leave};
 use crate::open::{fits_open, open};
 use crate::stand::fits_stand;
@@ -36,7 +37,8 @@ pub fn fits(game: &Game, m: &Move) -> bool
         Move::Stand(d) => fits_stand(game, d),
         Move::Start(s) => fits_start(game, s),
         Move::Enter(e) => fits_enter(game, e),
-        Move::Open(key) => fits_open(game, *key),
+        Move::Inner(i) => fits_inner(game, i),
+        Move::Open(o) => fits_open(game, o),
         Move::Finish(key) => fits_finish(game, *key),
         Move::Leave(l) => fits_leave(game, l),
         Move::Take(t) => fits_take(game, t),
@@ -69,7 +71,8 @@ pub fn play(game: &mut Game, alloc: Global, m: Move) -> Result<(), GameFault>
         Move::Stand(d) => game.stand(alloc, d),
         Move::Start(s) => start(game, alloc, s),
         Move::Enter(e) => enter(game, alloc, e),
-        Move::Open(key) => open(game, alloc, key),
+        Move::Inner(i) => begin_run(game, alloc, i),
+        Move::Open(o) => open(game, alloc, o),
         Move::Finish(key) => finish(game, alloc, key),
         Move::Leave(l) => leave(game, alloc, l),
         Move::Take(t) => take(game, alloc, t),

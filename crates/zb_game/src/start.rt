@@ -4,6 +4,7 @@ ghost use Rattle.zb_tokens.specs.MoveStart.{fits_start, play_start};
 use std::alloc::Global;
 use zb_base::{Key, TryCopy};
 use zb_board::{Game, GameFault, new_cell};
+use zb_instance_records::Role;
 use zb_tokens::Start;
 
 /// Whether a process may be instantiated.
@@ -23,7 +24,15 @@ pub fn start(game: &mut Game, alloc: Global, s: Start) -> Result<(), GameFault>
         return Err(GameFault::Illegal);
     };
     let node = model.model().process.copy(alloc)?;
-    let cell = new_cell(alloc, s.key, Key::new(0), s.definition, node, false);
+    let cell = new_cell(
+        alloc,
+        s.key,
+        Key::new(0),
+        s.definition,
+        node,
+        Role::Plain,
+        false,
+    );
     game.add_cell(cell)?;
     Ok(())
 }

@@ -11,7 +11,7 @@ ghost use Rattle.zb_tokens.specs.MoveTrigger.{awaits_event, ends_cell, fits_trig
 use crate::errors::comes_about;
 use std::alloc::Global;
 use zb_base::Key;
-use zb_board::{Game, GameFault, chooses_by_event, error_of, is_unset};
+use zb_board::{Game, GameFault, chooses_by_event, error_of, is_inner, is_root, is_unset};
 use zb_faults::is_boundary_of;
 use zb_graph::Graph;
 use zb_tokens::{Catch, Cell, Mark, Phase, Spot, Token, Triggered};
@@ -57,8 +57,9 @@ fn opens_at(game: &Game, cell: &Cell, catch: Catch, node: &str) -> bool
     cell.phase == Phase::Active && awaits(game, cell, catch, node)
 }
 
-/// Whether the event of a node interrupts a cell, if it comes about there: the cell isn't told of it, and it is a
-/// boundary event that interrupts, at the node of the cell. The cell, its model and the node are found as in `fits`.
+/// Whether the event of a node interrupts a cell, if it comes about there: the cell isn't told of it and is no run of a
+/// body, and it is a boundary event that interrupts, at the node of the cell. The cell, its model and the node are found
+/// as in `fits`.
 pub fn is_interrupting(game: &Game, cell: Key, node: &str) -> bool
     ensures { result ≡ is_interrupting cell node.now game.now }
 {
@@ -72,14 +73,14 @@ pub fn is_interrupting(game: &Game, cell: Key, node: &str) -> bool
 fn ends_cell(game: &Game, cell: &Cell, node: &str) -> bool
     ensures { result ≡ ends_cell game.now (record { cell = cell.now.key; node = node.now }) cell.now }
 {
-    isnt_told(game, cell, node) && has_interrupting(game, cell, node)
+    isnt_told(game, cell, node) && (!is_inner(cell) && has_interrupting(game, cell, node))
 }
 
 // Whether the event of a node is a cell's own one, for which it waits itself.
 fn is_own_event(game: &Game, cell: &Cell, node: &str) -> bool
     ensures { result ≡ option_map_or (λ n. waits_itself cell.now n && bytes_eq cell.now.node node.now) (node_of game.now cell.now) false }
 {
-    if cell.scope == Key::new(0) {
+    if is_root(cell) {
         return false;
     }
     match game.model(cell.definition) {
@@ -118,7 +119,7 @@ fn may_be_told(game: &Game, cell: &Cell) -> bool
 fn is_gateway_cell(game: &Game, cell: &Cell) -> bool
     ensures { result ≡ is_gateway_cell game.now cell.now }
 {
-    if cell.scope == Key::new(0) {
+    if is_root(cell) {
         return false;
     }
     match game.model(cell.definition) {

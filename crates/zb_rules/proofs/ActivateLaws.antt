@@ -29,6 +29,7 @@ use Rattle.zb_rules.specs.Sound.{HasKeys}
 use Rattle.zb_rules.proofs.AppliedLaws.{some_of, game_holds_from}
 use Rattle.zb_rules.proofs.CellsLaws.{ascend_between}
 use Rattle.zb_rules.proofs.HolderLaws.{HasRoot, root_there}
+use Rattle.zb_rules.proofs.PlacedLaws.{scopes_of}
 use Rattle.zb_rules.proofs.NamedLaws.{keys_left}
 use Rattle.zb_rules.proofs.OpenedLaws.{cell_counted}
 use Rattle.zb_rules.proofs.OwnLaws.{fresh_from, silent_applies, board_after}
@@ -154,7 +155,7 @@ module _ (p moment : ℕ) (c : JobBatchActivate) where
       let job = some_of (job_at key es) (holds_some _ (job_at key es) waits) in
       let may : IsTrue (is_activatable job.0.phase) = subst (λ (o : Option Job). IsTrue (option_map_or (λ (j : Job). is_activatable j.phase) o false)) job.1 waits in
       let cell = some_of (cell_at b job.0.cell) (holds_some (awaits_work b) (cell_at b job.0.cell) (job_awaited p es b k.jobs key job.0 job.1)) in
-      given_by es b key job.0 cell.0 is k keys job.1 may cell.1 (root_there b (ascend_between 1 (next_key p es) b.cells k.stands.between) k.placed.scopes job.0.cell cell.0 cell.1)
+      given_by es b key job.0 cell.0 is k keys job.1 may cell.1 (root_there b (ascend_between 1 (next_key p es) b.cells k.stands.between) (scopes_of b k.placed) job.0.cell cell.0 cell.1)
 
   given_more : (es rest : List Event) (b : Board) (e : Event) → IsTrue (applies p es e) → ((key : ℕ) → has_job key (es ++ e ∷ []) ≡ has_job key es) → AreGiven p (es ++ e ∷ []) b rest → AreGiven p es b (e ∷ rest)
   given_more es rest b e first still more =

@@ -13,6 +13,7 @@ use Rattle.zb_tokens.specs.declared.board.Awaited.TheVariants as awaiteds
 use Rattle.zb_tokens.specs.declared.board.Cell.{Cell}
 use Rattle.zb_tokens.specs.declared.board.Opening.{Opening}
 use Rattle.zb_tokens.specs.declared.board.Phase.TheVariants as phases
+use Rattle.zb_tokens.specs.Bodies.{run_variables_of, run_variables_at}
 use Rattle.zb_tokens.specs.Catches.{may_open_at, openings_of, openings_at}
 use Rattle.zb_tokens.proofs.EffectLaws.{incidents_stay}
 use Rattle.zb_tokens.specs.Game.{fits, played}
@@ -44,11 +45,14 @@ use Rattle.zb_process.specs.declared.model.Node.{Node}
 use Rattle.zb_rules.specs.JobEvents.{begins_job}
 use Rattle.zb_rules.specs.Shown.{board_of}
 use Rattle.zb_rules.specs.Applies.{is_fresh, holds_own, holds_of_game, applies, all_apply}
+use Rattle.zb_rules.proofs.SoundLaws.{BoardKeeps}
 use Rattle.zb_rules.proofs.StartLaws.{restart_applies}
+use Rattle.zb_rules.proofs.UpdateLaws.{each_set}
 use Rattle.zb_rules.proofs.StepLaws.{all_apply_on}
 use Rattle.zb_rules.proofs.OwnLaws.{fresh_from, next_counted, one_more, silent_applies, board_after}
 use Rattle.zb_rules.specs.Making.{and_then, each_made}
-use Rattle.zb_rules.specs.Behind.{repair_event, resolved_on, job_of, job_made_on, job_canceled_on, opened_by, catch_opened, catches_opened_on, timers_canceled_on, closing_of, closed_one, subscriptions_on, subscriptions_closed_on, catches_closed_on, ended_on, halted_on, events_behind}
+use Rattle.zb_rules.specs.Behind.{repair_event, resolved_on, job_of, job_made_on, job_canceled_on, opened_by, catch_opened, catches_opened_on, timers_canceled_on, closing_of, closed_one, subscriptions_on, subscriptions_closed_on, catches_closed_on, ended_on, halted_on, run_set_on, events_behind}
+use Rattle.zb_rules.specs.Update.{set_each}
 use Rattle.zb_rules.specs.TimerEvents.{may_open}
 use Rattle.zb_rules.specs.WaitEvents.{may_subscribe}
 use Rattle.zb_rules.proofs.OpeningsLaws.{catch_of, openings_may}
@@ -111,6 +115,7 @@ abbrev pub MayRestart : ℕ → List Event → Type 0
 MayRestart p es = IsTrue (all_apply p [] es) × HasKeys p es 1
 
 abbrev pub MayFollow : ℕ → List Event → Board → Event → Type 0
+MayFollow p es b (events.ElementActivating e) = BoardKeeps p es b
 MayFollow p es b (events.ElementActivated e) = MayHaveWork p es b e.key
 MayFollow p es b (events.ElementCompleting key) = HasSoundTimers p es
 MayFollow p es b (events.ElementTerminating key) = AllPairs StandApart b.incidents × HasSoundTimers p es
@@ -330,8 +335,17 @@ module _ (p : ℕ) (es : List Event) (b : Board) (is : board_of es ≡ Some b) w
   interrupted_by false cell node is_none may = refl
   interrupted_by true cell node it may = halted_apply cell (may.halts it) may.apart may.timed
 
+-- the variables of a run of a body are set
+run_applies : (p : ℕ) (es : List Event) (b : Board) → board_of es ≡ Some b → BoardKeeps p es b → (cell : ℕ) → IsTrue (all_apply p es (run_set_on cell es))
+run_applies p es b is k cell = subst (λ (o : Option Board). IsTrue (all_apply p es (set_each true cell (option_map_or (λ x. run_variables_at x cell) o []) es))) (sym is) (by_cell (cell_at b cell) refl)
+  where
+    by_cell : (found : Option Cell) → cell_at b cell ≡ found → IsTrue (all_apply p es (set_each true cell (option_map_or (run_variables_of b) found []) es))
+    by_cell None at = refl
+    by_cell (Some c) at = (each_set p true cell (λ x. Unit {0}) (λ x after a made h. tt) (run_variables_of b c) es b is k tt (rw at refl)).applied
+
 -- the events behind an event apply
 pub behind_apply : (p moment : ℕ) (seen : List Event) (e : Event) (b : Board) → board_of (seen ++ e ∷ []) ≡ Some b → MayFollow p (seen ++ e ∷ []) b e → IsTrue (all_apply p (seen ++ e ∷ []) (events_behind p moment seen e (seen ++ e ∷ [])))
+behind_apply p moment seen (events.ElementActivating e) b is may = run_applies p (seen ++ events.ElementActivating e ∷ []) b is may e.key
 behind_apply p moment seen (events.ElementActivated e) b is may = opened_apply p (seen ++ events.ElementActivated e ∷ []) b is moment e.key may
 behind_apply p moment seen (events.ElementCompleting key) b is may = (closed_apply p (seen ++ events.ElementCompleting key ∷ []) b key is may).0
 behind_apply p moment seen (events.ElementTerminating key) b is may = ended_apply p seen key b is may.0 may.1

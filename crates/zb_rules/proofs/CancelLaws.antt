@@ -17,7 +17,7 @@ use Rattle.zb_rules.specs.Cancel.{has_root, is_terminating, reason_to_cancel, ca
 use Rattle.zb_rules.proofs.AppliedLaws.{some_of, game_holds, applied_from, applied_board, board_behind}
 use Rattle.zb_rules.proofs.MadeLaws.{is_keyed}
 use Rattle.zb_rules.proofs.ScopesLaws.{at_cell}
-use Rattle.zb_rules.proofs.OwesLaws.{Owes}
+use Rattle.zb_rules.proofs.OwesLaws.{Owes, owes_inner}
 use Rattle.zb_rules.proofs.SoundLaws.{BoardKeeps, keeps_on}
 use Rattle.zb_rules.proofs.BehindLaws.{behind_apply}
 
@@ -29,7 +29,7 @@ no_reason false ends a z none = absurd (cc)
 
 -- a root that isn't terminating is alive
 alive_by : (c : Cell) (leaves : Bool) → is_phase c.phase phases.Leaving ≡ leaves → Owes c → IsTrue (is_root c) → is_phase c.phase phases.Terminating ≡ false → IsTrue (is_alive c)
-alive_by c true leaves owes root runs = absurd (let inner = (owes leaves).1 in cc)
+alive_by c true leaves owes root runs = absurd (let inner = (owes_inner c owes leaves).1 in cc)
 alive_by c false stays owes root runs = rw (stays, runs) refl
 
 module _ (p : ℕ) (es : List Event) (b : Board) (is : board_of es ≡ Some b) (k : BoardKeeps p es b) where

@@ -1,6 +1,7 @@
 -- Laws of the cells of a board as a move is made: their keys ascend.
 use Rattle.std.proofs.Common.{◌≡◌, ℕ, ◌+◌, ◌<◌, ◌≤◌, List, [], ◌∷◌, ◌++◌, filter, Bool, true, false, not, cond, if◌then◌else◌, Option, Some, None, option_map, refl, subst, arith}
 use Rattle.std.specs.Option.{IfSome}
+use Rattle.zb_instance_records.specs.declared.instance.Role.TheVariants as roles
 use Rattle.zb_tokens.specs.declared.board.Cell.{Cell}
 use Rattle.zb_tokens.specs.declared.board.Mark.TheVariants as marks
 use Rattle.zb_tokens.specs.Marks.{with_mark}
@@ -10,6 +11,8 @@ use Rattle.zb_tokens.specs.declared.board.Phase.TheVariants as phases
 use Rattle.zb_tokens.specs.Edits.{edited, removed}
 use Rattle.zb_tokens.specs.Board.{Board, CellsAscend, new_cell, in_phase, leaves_in}
 use Rattle.zb_tokens.specs.MoveEnter.{entering}
+use Rattle.zb_tokens.specs.MoveInner.{run_in, one_taken}
+use Rattle.zb_tokens.specs.MoveOpen.{with_items}
 use Rattle.zb_tokens.specs.MoveLeave.{leaving, ends_scope, with_end}
 use Rattle.zb_tokens.specs.MoveTake.{rest_of}
 use Rattle.zb_tokens.specs.MoveAssign.{with_variable}
@@ -100,6 +103,7 @@ module _ (keep : Cell → Bool) where
 abbrev pub key_made : Move → Option ℕ
 key_made (moves.Start s) = Some s.key
 key_made (moves.Enter e) = Some e.key
+key_made (moves.Inner i) = Some i.key
 key_made _ = None
 
 module _ (low high : ℕ) (b : Board) (is : Between low high b.cells) where
@@ -118,9 +122,10 @@ module _ (low high : ℕ) (b : Board) (is : Between low high b.cells) where
 
     between_made : (move : Move) → IfSome (key_made move) (λ key. (high ≤ key) × (key < top)) → HoldsMade b Kept move
     between_made (moves.Stand d) new = between_higher low high top b.cells more is
-    between_made (moves.Start s) new = λ m found. between_push low high top b.cells (new_cell s.key 0 s.definition m.process false) is new.0 new.1
-    between_made (moves.Enter e) new = λ c m found stand. between_push low high top b.cells (entering e c m) is new.0 new.1
-    between_made (moves.Open key) new = λ c m found stands. with_edit key (in_phase phases.Active []) (λ c. refl)
+    between_made (moves.Start s) new = λ m found. between_push low high top b.cells (new_cell s.key 0 s.definition m.process roles.Plain false) is new.0 new.1
+    between_made (moves.Enter e) new = λ c m found under stand. between_push low high top b.cells (entering e c m) is new.0 new.1
+    between_made (moves.Inner i) new = λ c found cells made. between_push low high top cells (run_in i c) (between_edited (is_keyed i.body) one_taken (λ x. refl) low high b.cells cells is made) new.0 new.1
+    between_made (moves.Open o) new = λ c m found stands. with_edit o.key (with_items o.items) (λ c. refl)
     between_made (moves.Finish key) new = with_edit key (in_phase phases.Completing []) (λ c. refl)
     between_made (moves.Leave l) new = λ c found left made. made_ended (Between low top) (ends_scope b c) c.scope left (with_left l.owed l.key left made)
         (λ cells edit. between_edited (is_keyed c.scope) with_end (λ x. refl) low top left.cells cells (with_left l.owed l.key left made) edit) (between_filtered (λ x. not (leaves_in c.scope x)) low top)

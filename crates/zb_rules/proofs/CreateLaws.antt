@@ -119,14 +119,14 @@ found_of process version es d is =
     (All-weaker (Contains ds) (λ (d : Definition). IsTrue (bytes_eq d.process process) → IsOf es process d) (λ d there same. (there, same)) ds (All-contains_itself ds)) is
 
 -- no cell has the key behind them all
-none_between : (low high : ℕ) (cells : List Cell) → Between low high cells → find (λ (c : Cell). c.key == high) cells ≡ None
+pub none_between : (low high : ℕ) (cells : List Cell) → Between low high cells → find (λ (c : Cell). c.key == high) cells ≡ None
 none_between low high [] is = refl
 none_between low high (c ∷ cells) is =
     let other : (c.key == high) ≡ false = (let below = is.1 in grind (arith, nat_tests)) in
     rw (other) (none_between (c.key + 1) high cells is.2)
 
 module _ (p : ℕ) (es : List Event) (b : Board) (is : board_of es ≡ Some b) (stands : HasOrderedCells p es b) (knows : Knows p es b) where
-  root_found : (definition : ℕ) (node : List ℕ) → find (λ (c : Cell). c.key == next_key p es) (b.cells ++ new_cell (next_key p es) 0 definition node false ∷ []) ≡ Some (new_cell (next_key p es) 0 definition node false)
+  root_found : (definition : ℕ) (node : List ℕ) → find (λ (c : Cell). c.key == next_key p es) (b.cells ++ new_cell (next_key p es) 0 definition node roles.Plain false ∷ []) ≡ Some (new_cell (next_key p es) 0 definition node roles.Plain false)
   root_found definition node =
       let same : (next_key p es == next_key p es) ≡ true = grind (arith, nat_tests) in
       rw (find-append (λ (c : Cell). c.key == next_key p es) b.cells, none_between 1 (next_key p es) b.cells stands.between, same) refl
@@ -144,8 +144,8 @@ module _ (p : ℕ) (es : List Event) (b : Board) (is : board_of es ≡ Some b) (
       let there : IsTrue (holds_of_game (is_process_of d process) (es ++ e ∷ [])) = game_holds_from (is_process_of d process) (es ++ e ∷ []) b still its in
       let own : IsTrue (holds_own p (es ++ e ∷ []) root) = rw (left_more es e, leaves, same_key, same, there, starts) (same_bytes started) in
       let second : IsTrue (applies p (es ++ e ∷ []) root) = applied_from p (es ++ e ∷ []) b root (moves.Start (record { key = key; definition = d })) still own refl (rw found refl) in
-      let begun : board_of ((es ++ e ∷ []) ++ root ∷ []) ≡ Some (record b { cells = b.cells ++ new_cell key 0 d m.process false ∷ [] }) = board_after (es ++ e ∷ []) b _ root still (rw found refl) in
-      let set = assign_all p key vs ((es ++ e ∷ []) ++ root ∷ []) (record b { cells = b.cells ++ new_cell key 0 d m.process false ∷ [] }) (new_cell key 0 d m.process false) begun (root_found d m.process) (λ k d within. refl) up in
+      let begun : board_of ((es ++ e ∷ []) ++ root ∷ []) ≡ Some (record b { cells = b.cells ++ new_cell key 0 d m.process roles.Plain false ∷ [] }) = board_after (es ++ e ∷ []) b _ root still (rw found refl) in
+      let set = assign_all p key vs ((es ++ e ∷ []) ++ root ∷ []) (record b { cells = b.cells ++ new_cell key 0 d m.process roles.Plain false ∷ [] }) (new_cell key 0 d m.process roles.Plain false) begun (root_found d m.process) (λ k d within. refl) up in
       rw (second, set) refl
 
   instance_applies : (c : ProcessInstanceCreationCreate) (d : Definition) (m : Model) → HasKeys p es 1 → IsTrue (is_ascending c.variables) → Contains (definitions es) d → IsTrue (is_process_of d.key c.process b) → model_under b d.key ≡ Some m

@@ -1,5 +1,5 @@
 -- The events in front of that of a move apply, and behind them the move still fits.
-use Rattle.std.proofs.Common.{◌≡◌, ℕ, List, [], ◌∷◌, ◌++◌, Bool, true, false, ◌&&◌, IsTrue, Some, length, refl, append-nil}
+use Rattle.std.proofs.Common.{◌≡◌, ℕ, List, [], ◌∷◌, ◌++◌, Bool, true, false, ◌&&◌, ◌||◌, IsTrue, Some, length, refl, append-nil}
 use Rattle.std.specs.Option.{option_map_or}
 use Rattle.std.specs.Result.{result_unwrap_or}
 use Rattle.zb_model.specs.declared.record.Event.{Event}
@@ -8,11 +8,12 @@ use Rattle.zb_tokens.specs.declared.board.Assigned.{Assigned}
 use Rattle.zb_tokens.specs.declared.board.Cell.{Cell}
 use Rattle.zb_tokens.specs.declared.board.Leave.{Leave}
 use Rattle.zb_tokens.specs.declared.board.Assignments.{Assignments}
+use Rattle.zb_tokens.specs.declared.board.Open.{Open}
 use Rattle.zb_tokens.specs.declared.board.Move.{Move}
 use Rattle.zb_tokens.specs.declared.board.Move.TheVariants as moves
 use Rattle.zb_tokens.specs.declared.board.Phase.TheVariants as phases
-use Rattle.zb_tokens.specs.Edits.{edited}
-use Rattle.zb_tokens.specs.Board.{Board, cell_at, is_phase, is_root}
+use Rattle.zb_tokens.specs.Edits.{edited, is_none_of}
+use Rattle.zb_tokens.specs.Board.{Board, cell_at, is_body, is_phase, is_root, holds_cells}
 use Rattle.zb_tokens.specs.Mappings.{inputs_of, outputs_of}
 use Rattle.zb_tokens.specs.MoveAssign.{with_variable}
 use Rattle.zb_tokens.specs.MoveOpen.{opens}
@@ -21,13 +22,13 @@ use Rattle.zb_tokens.specs.Game.{fits}
 use Rattle.zb_tokens.proofs.GameLaws.{holds_some, found_holds}
 use Rattle.zb_rules.specs.Shown.{board_of}
 use Rattle.zb_rules.specs.Applies.{has_cell, all_apply}
-use Rattle.zb_rules.specs.Sound.{holds_others}
+use Rattle.zb_rules.specs.Sound.{holds_by}
 use Rattle.zb_rules.specs.Update.{set_each}
 use Rattle.zb_rules.specs.InFront.{set_all, count_in_front, events_in_front}
 use Rattle.zb_rules.proofs.AppliedLaws.{some_of}
 use Rattle.zb_rules.proofs.MadeLaws.{is_keyed, mapped_holds}
 use Rattle.zb_rules.proofs.KindsLaws.{EachOf, sets_variable, front_are}
-use Rattle.zb_rules.proofs.PlacedLaws.{InScope, inner_scope, key_found}
+use Rattle.zb_rules.proofs.PlacedLaws.{InScope, inner_scope, key_found, scopes_of}
 use Rattle.zb_rules.proofs.ScopesLaws.{kept_edited}
 use Rattle.zb_rules.proofs.SoundLaws.{BoardKeeps, board_keeps}
 use Rattle.zb_rules.proofs.UpdateLaws.{KeptBySetting, each_set}
@@ -53,9 +54,9 @@ still_of : (holds : Cell → Bool) (key : ℕ) (b after : Board) (a : Assigned) 
 still_of holds key b after a blind made is = kept_edited holds a.scope (with_variable a.name a.value) b.cells after.cells (λ c. refl) (λ c found h. blind c h) made key is
 
 -- a cell that may become active may still
-open_still : (key : ℕ) → KeptBySetting (λ (x : Board). IsTrue (fits x (moves.Open key)))
-open_still key b after a made fit = mapped_holds (λ (x : Board). IsTrue (fits x (moves.Open key))) (λ cells. record b { cells = cells }) (edited (is_keyed a.scope) (with_variable a.name a.value) b.cells) after
-    (λ cells set. still_of (λ (c : Cell). is_phase c.phase phases.Activating && opens b c) key b (record b { cells = cells }) a (λ c h. h) set fit) made
+open_still : (o : Open) → KeptBySetting (λ (x : Board). IsTrue (fits x (moves.Open o)))
+open_still o b after a made fit = mapped_holds (λ (x : Board). IsTrue (fits x (moves.Open o))) (λ cells. record b { cells = cells }) (edited (is_keyed a.scope) (with_variable a.name a.value) b.cells) after
+    (λ cells set. still_of (λ (c : Cell). is_phase c.phase phases.Activating && (opens b c && (is_body c || is_none_of o.items))) o.key b (record b { cells = cells }) a (λ c h. h) set fit) made
 
 -- and so may one that has completed be left
 leave_still : (l : Leave) → KeptBySetting (λ (x : Board). IsTrue (fits x (moves.Leave l)))
@@ -79,17 +80,21 @@ module _ (p : ℕ) (es : List Event) (b : Board) (is : board_of es ≡ Some b) (
       let r = each_set p s.local s.scope (λ (x : Board). IsTrue (fits x move)) keeps s.variables es b is k fit there in
       record { after = r.after; is = r.is; applied = r.applied; fit = r.holds; counted = r.counted }
 
-  opens_behind : (key : ℕ) (c : Cell) → cell_at b key ≡ Some c → IsTrue (fits b (moves.Open key)) → IsInFront p es (moves.Open key) (count_in_front b (moves.Open key)) (events_in_front b (moves.Open key) es)
-  opens_behind key c found fit =
-      let there : IsTrue (has_cell c.key b) = rw (key_found b key c found, found) refl in
-      rw found (all_in_front (moves.Open key) (record { scope = c.key; local = true; variables = result_unwrap_or (inputs_of b c) [] }) (open_still key) there fit)
+  opens_behind : (o : Open) (c : Cell) → cell_at b o.key ≡ Some c → IsTrue (fits b (moves.Open o)) → IsInFront p es (moves.Open o) (count_in_front b (moves.Open o)) (events_in_front b (moves.Open o) es)
+  opens_behind o c found fit =
+      let there : IsTrue (has_cell c.key b) = rw (key_found b o.key c found, found) refl in
+      rw found (all_in_front (moves.Open o) (record { scope = c.key; local = true; variables = result_unwrap_or (inputs_of b c) [] }) (open_still o) there fit)
 
   -- where a cell is a root it gives nothing out; else the scope around it is there
   leaves_by : (l : Leave) (c : Cell) (root : Bool) → is_root c ≡ root → cell_at b l.key ≡ Some c → IsTrue (fits b (moves.Leave l)) → IsInFront p es (moves.Leave l) (length (result_unwrap_or (outputs_of b c) [])) (set_each false c.scope (result_unwrap_or (outputs_of b c) []) es)
-  leaves_by l c true top found fit = rw top (none_in_front (moves.Leave l) fit)
+  leaves_by l c true top found fit = by_body (is_body c) refl
+    where
+      by_body : (body : Bool) → is_body c ≡ body → IsInFront p es (moves.Leave l) (length (result_unwrap_or (outputs_of b c) [])) (set_each false c.scope (result_unwrap_or (outputs_of b c) []) es)
+      by_body true is = rw is (none_in_front (moves.Leave l) fit)
+      by_body false is = rw (is, top) (none_in_front (moves.Leave l) fit)
   leaves_by l c false inner found fit =
-      let scope = inner_scope b c (found_holds (is_keyed l.key) (InScope b) b.cells c k.placed.scopes found).0 inner in
-      let there : IsTrue (has_cell c.scope b) = holds_some (holds_others b) (cell_at b c.scope) scope.0 in
+      let scope = inner_scope b c (found_holds (is_keyed l.key) (InScope b) b.cells c (scopes_of b k.placed) found).0 inner in
+      let there : IsTrue (has_cell c.scope b) = holds_some (holds_by holds_cells b) (cell_at b c.scope) scope.0 in
       all_in_front (moves.Leave l) (record { scope = c.scope; local = false; variables = result_unwrap_or (outputs_of b c) [] }) (leave_still l) there fit
 
   leaves_behind : (l : Leave) (c : Cell) → cell_at b l.key ≡ Some c → IsTrue (fits b (moves.Leave l)) → IsInFront p es (moves.Leave l) (count_in_front b (moves.Leave l)) (events_in_front b (moves.Leave l) es)
@@ -97,9 +102,9 @@ module _ (p : ℕ) (es : List Event) (b : Board) (is : board_of es ≡ Some b) (
 
   -- the events in front of that of a move that fits
   pub in_front : (move : Move) → IsTrue (fits b move) → IsInFront p es move (count_in_front b move) (events_in_front b move es)
-  in_front (moves.Open key) fit =
-      let found = some_of (cell_at b key) (holds_some _ (cell_at b key) fit) in
-      opens_behind key found.0 found.1 fit
+  in_front (moves.Open o) fit =
+      let found = some_of (cell_at b o.key) (holds_some _ (cell_at b o.key) fit) in
+      opens_behind o found.0 found.1 fit
   in_front (moves.Leave l) fit =
       let found = some_of (cell_at b l.key) (holds_some _ (cell_at b l.key) fit) in
       leaves_behind l found.0 found.1 fit

@@ -21,7 +21,7 @@ use Rattle.zb_tokens.specs.declared.board.Mark.{Mark}
 use Rattle.zb_tokens.specs.declared.board.Mark.TheVariants as marks
 use Rattle.zb_tokens.specs.declared.board.Move.TheVariants as moves
 use Rattle.zb_tokens.specs.declared.board.Phase.TheVariants as phases
-use Rattle.zb_tokens.specs.Board.{Board, cell_at, model_under, is_phase, is_root}
+use Rattle.zb_tokens.specs.Board.{Board, cell_at, model_under, is_phase, is_root, owes_none}
 use Rattle.zb_tokens.specs.Game.{fits}
 use Rattle.zb_tokens.proofs.GameLaws.{both_left, both_right, found_holds, found_passes, none_found}
 use Rattle.zb_tokens.specs.MoveLeave.{are_among, flows_of, may_owe, may_take}
@@ -114,28 +114,28 @@ module _ (m : Model) (good : IsTrue (is_well_formed m)) (id : List ℕ) (n : Nod
       no_way (f ∷ fs) = no_way fs
 
 module _ (b : Board) (c : Cell) (m : Model) (formed : IsTrue (is_well_formed m)) (stands : model_under b c.definition ≡ Some m) where
-  few_flows : (found : Option Node) → is_root c ≡ false → node_with m c.node ≡ found → IsTrue (option_map_or (λ n. is_event_gateway n.kind) found false) → length (flows_of b c) ≤ 1
-  few_flows None inner at gateway = absurd (cc)
-  few_flows (Some n) inner at gateway =
+  few_flows : (found : Option Node) → owes_none c ≡ false → node_with m c.node ≡ found → IsTrue (option_map_or (λ n. is_event_gateway n.kind) found false) → length (flows_of b c) ≤ 1
+  few_flows None leaves at gateway = absurd (cc)
+  few_flows (Some n) leaves at gateway =
       let named : bytes_eq n.id c.node ≡ true = found_passes (λ (x : Node). bytes_eq x.id c.node) m.nodes n at in
       let same = (bytes_eq-Decides n.id c.node).0 named in
-      let its : flows_of b c ≡ map (λ f. f.id) (filter (may_take true c) (filter (λ f. bytes_eq f.from c.node) m.flows)) = rw (inner, stands, at, gateway) refl in
+      let its : flows_of b c ≡ map (λ f. f.id) (filter (may_take true c) (filter (λ f. bytes_eq f.from c.node) m.flows)) = rw (leaves, stands, at, gateway) refl in
       let one = one_way m formed c.node n at gateway c c.mark refl in
       let here : length (filter (may_take true c) (filter (λ f. bytes_eq f.from c.node) m.flows)) ≤ 1 = subst (λ id. length (filter (may_take true c) (filter (λ (f : Flow). bytes_eq f.from id) m.flows)) ≤ 1) same one in
       let mapped = length-map (filter (may_take true c) (filter (λ f. bytes_eq f.from c.node) m.flows)) (λ (f : Flow). f.id) in
       let whole = ap length its in
       omega (arith, here, mapped, whole)
 
-  few_by : (root : Bool) → is_root c ≡ root → IsTrue (is_gateway_cell b c) → length (flows_of b c) ≤ 1
-  few_by true is gateway = let none : IsTrue false = rw is at gateway in absurd (cc)
-  few_by false is gateway = few_flows (node_with m c.node) is refl (rw (is, stands) at gateway)
+  few_by : (none : Bool) → owes_none c ≡ none → IsTrue (is_gateway_cell b c) → length (flows_of b c) ≤ 1
+  few_by true is gateway = rw is (omega arith)
+  few_by false is gateway = let inner = (or_parts (is_root c) _ is).0 in few_flows (node_with m c.node) is refl (rw (inner, stands) at gateway)
 
 -- a cell at an event gateway leaves by one flow at most
 pub leaves_one_way : (b : Board) (l : Leave) (c : Cell) (m : Model) → IsTrue (is_well_formed m) → cell_at b l.key ≡ Some c → model_under b c.definition ≡ Some m → IsTrue (is_gateway_cell b c) → IsTrue (fits b (moves.Leave l)) → length l.owed ≤ 1
 leaves_one_way b l c m formed found stands gateway fit =
     let h = at_cell (λ (x : Cell). is_phase x.phase phases.Completing && may_owe b x l.owed) (cell_at b l.key) c found fit in
     let among = both_left (are_among l.owed (flows_of b c)) _ (both_right (is_phase c.phase phases.Completing) (may_owe b c l.owed) h) in
-    let few = few_by b c m formed stands (is_root c) refl gateway in
+    let few = few_by b c m formed stands (owes_none c) refl gateway in
     let less = among_few l.owed (flows_of b c) among in
     omega (arith, few, less)
 

@@ -1,11 +1,18 @@
--- Laws of the board of a log as it grows by an event.
-use Rattle.std.proofs.Common.{◌≡◌, List, [], ◌∷◌, ◌++◌, Option, Some, None, option_map, option_and_then, refl, append_assoc, append-nil, subst}
+-- Laws of the board of a log as it grows by an event, and of the moves that events show.
+use Rattle.std.proofs.Common.{◌≡◌, List, [], ◌∷◌, ◌++◌, Bool, true, false, if◌then◌else◌, Option, Some, None, option_map, option_and_then, refl, append_assoc, append-nil, subst}
+use Rattle.zb_instance_records.specs.declared.instance.ElementActivating.{ElementActivating}
+use Rattle.zb_instance_records.specs.declared.instance.Role.{Role}
+use Rattle.zb_instance_records.specs.declared.instance.Role.TheVariants as roles
 use Rattle.zb_model.specs.declared.record.Event.{Event}
 use Rattle.zb_views.specs.declared.job.Job.{Job}
+use Rattle.zb_tokens.specs.declared.board.Enter.{Enter}
+use Rattle.zb_tokens.specs.declared.board.Inner.{Inner}
+use Rattle.zb_tokens.specs.declared.board.Start.{Start}
 use Rattle.zb_tokens.specs.declared.board.Move.{Move}
-use Rattle.zb_tokens.specs.Board.{Board}
+use Rattle.zb_tokens.specs.declared.board.Move.TheVariants as moves
+use Rattle.zb_tokens.specs.Board.{Board, is_role}
 use Rattle.zb_tokens.specs.Game.{empty_board}
-use Rattle.zb_rules.specs.Shown.{shown, after_shown, board_from, board_of}
+use Rattle.zb_rules.specs.Shown.{shown, move_of_cell, after_shown, board_from, board_of}
 
 last_step : (o : Option Board) → option_and_then (λ b. Some b) o ≡ o
 last_step None = refl
@@ -29,3 +36,34 @@ board_of_more es e = board_from_more [] es e empty_board
 pub job_shows : (P : Option Move → Type 0) (f : Job → Move) (found : Option Job) → P None → ((j : Job) → P (Some (f j))) → P (option_map f found)
 job_shows P f None none each = none
 job_shows P f (Some j) none each = each j
+
+-- the moves by which a cell begins: as a root, where a token enters a node, and as a run of a body
+abbrev pub started : ElementActivating → Start
+started a = record { key = a.key; definition = a.definition }
+
+abbrev pub entered_by : ElementActivating → Enter
+entered_by a = record { key = a.key; scope = a.scope; node = a.node; via = a.via }
+
+abbrev pub run_by : ElementActivating → Inner
+run_by a = record { key = a.key; body = a.scope }
+
+-- what holds of an entry and of a run holds of the move by which a cell begins in another
+pub cell_shows : (P : Move → Type 0) (a : ElementActivating) (role : Role) → P (moves.Enter (entered_by a)) → P (moves.Inner (run_by a)) → P (move_of_cell a role)
+cell_shows P a roles.Inner enters runs = runs
+cell_shows P a role enters runs = enters
+
+-- and where it holds of a root too, of the move of any cell that begins
+pub begin_shows : (P : Option Move → Type 0) (a : ElementActivating) (t : Bool) → P (Some (moves.Start (started a))) → P (Some (moves.Enter (entered_by a))) → P (Some (moves.Inner (run_by a)))
+    → P (if t then Some (moves.Start (started a)) else Some (move_of_cell a a.role))
+begin_shows P a true starts enters runs = starts
+begin_shows P a false starts enters runs = cell_shows (λ m. P (Some m)) a a.role enters runs
+
+-- one that is no run shows by its entry
+pub entry_shown : (a : ElementActivating) (role : Role) → is_role role roles.Inner ≡ false → move_of_cell a role ≡ moves.Enter (entered_by a)
+entry_shown a roles.Inner plain = absurd (cc)
+entry_shown a role plain = refl
+
+-- and a run by that of its body
+pub run_shown : (a : ElementActivating) (role : Role) → is_role role roles.Inner ≡ true → move_of_cell a role ≡ moves.Inner (run_by a)
+run_shown a roles.Inner run = refl
+run_shown a role run = absurd (cc)

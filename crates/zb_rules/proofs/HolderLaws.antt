@@ -5,12 +5,12 @@ use Rattle.std.proofs.lemmas.Bool.{or_right}
 use Rattle.std.proofs.lemmas.Bool.Decides.{nat_tests}
 use Rattle.std.proofs.lemmas.List.Sums.{sum_by-cons, count_by-le-length}
 use Rattle.zb_tokens.specs.declared.board.Cell.{Cell}
-use Rattle.zb_tokens.specs.Board.{Board, CellsAscend, cell_at, is_root, nearest, up_from}
+use Rattle.zb_tokens.specs.Board.{Board, CellsAscend, cell_at, holds_cells, is_root, nearest, up_from}
 use Rattle.zb_tokens.specs.MoveAssign.{has_name}
 use Rattle.zb_tokens.specs.Names.{holder_of, root_of}
 use Rattle.zb_tokens.proofs.FoundLaws.{nearest_there}
 use Rattle.zb_tokens.proofs.GameLaws.{holds_some, found_holds}
-use Rattle.zb_rules.specs.Sound.{IsHolder, holds_others}
+use Rattle.zb_rules.specs.Sound.{IsHolder, holds_by}
 use Rattle.zb_rules.proofs.MadeLaws.{is_keyed}
 use Rattle.zb_rules.proofs.AppliedLaws.{some_of}
 use Rattle.zb_rules.proofs.PlacedLaws.{InScope, inner_scope, key_found}
@@ -44,7 +44,7 @@ module _ (b : Board) (up : CellsAscend 1 b.cells) (scopes : All (InScope b) b.ce
   near_by fuel key c true found enough it later = refl
   near_by fuel key c false found enough none later =
       let scope = inner_scope b c (found_holds (is_keyed key) (InScope b) b.cells c scopes found).0 (inner (is_root c) (top c)) in
-      let around = some_of (cell_at b c.scope) (holds_some (holds_others b) (cell_at b c.scope) scope.0) in
+      let around = some_of (cell_at b c.scope) (holds_some (holds_by holds_cells b) (cell_at b c.scope) scope.0) in
       let less = scope.1 in
       let same = key_found b key c found in
       let fewer = upto_one c.scope key (omega arith) b.cells c found in

@@ -26,11 +26,11 @@ use Rattle.zb_tokens.specs.Effects.{is_of_incident}
 use Rattle.zb_tokens.specs.Game.{empty_board, fits}
 use Rattle.zb_tokens.proofs.GameLaws.{both_left, holds_some, found_passes, found_holds, none_found}
 use Rattle.zb_tokens.proofs.EffectLaws.{mapped_from, incidents_stay}
-use Rattle.zb_rules.specs.Shown.{shown, after_shown, board_of}
+use Rattle.zb_rules.specs.Shown.{shown, move_of_cell, after_shown, board_of}
 use Rattle.zb_rules.specs.Applies.{is_fresh}
 use Rattle.zb_rules.specs.Behind.{repair_event, resolved_on}
 use Rattle.zb_rules.specs.Sound.{StandApart}
-use Rattle.zb_rules.proofs.GrowthLaws.{board_of_more, job_shows}
+use Rattle.zb_rules.proofs.GrowthLaws.{board_of_more, job_shows, started, begin_shows}
 use Rattle.zb_rules.proofs.MadeLaws.{mapped_holds}
 use Rattle.zb_rules.proofs.PlayedLaws.{removed_all, removed_pairs}
 use Rattle.zb_rules.proofs.ScopesLaws.{at_cell}
@@ -60,10 +60,10 @@ module _ (p : ℕ) (before : List Event) (b : Board) (s : HasApartIncidents p be
       }
 
   activating_apart : (a : ElementActivating) (after : Board) (t : Bool)
-      → after_shown b (if t then Some (moves.Start (record { key = a.key; definition = a.definition })) else Some (moves.Enter (record { key = a.key; scope = a.scope; node = a.node; via = a.via }))) ≡ Some after
+      → after_shown b (if t then Some (moves.Start (started a)) else Some (move_of_cell a a.role)) ≡ Some after
       → HasApartIncidents p (before ++ events.ElementActivating a ∷ []) after
-  activating_apart a after true made = same_apart (events.ElementActivating a) after (Some (moves.Start (record { key = a.key; definition = a.definition }))) refl made
-  activating_apart a after false made = same_apart (events.ElementActivating a) after (Some (moves.Enter (record { key = a.key; scope = a.scope; node = a.node; via = a.via }))) refl made
+  activating_apart a after t made = same_apart (events.ElementActivating a) after (if t then Some (moves.Start (started a)) else Some (move_of_cell a a.role))
+      (begin_shows (λ (m : Option Move). option_map_or is_of_incident m false ≡ false) a t refl refl refl) made
 
   -- no incident stands on the cell of a new one
   none_on : (i : Incident) → IsTrue (fits b (moves.Incident i)) → All (λ (x : Incident). (x.cell == i.cell) ≡ false) b.incidents

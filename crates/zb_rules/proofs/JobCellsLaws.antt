@@ -1,12 +1,13 @@
 -- Laws of the cells that wait for their work as a move is made, and of those that begin: these were told nothing.
-use Rattle.std.proofs.Common.{◌≡◌, ◌⊎◌, ◌<◌, ℕ, ◌==◌, List, [], ◌∷◌, ◌++◌, Bool, true, false, ◌&&◌, ◌||◌, not, if◌then◌else◌, IsTrue, Option, Some, None, All, refl, sym, ◌∙◌, subst}
+use Rattle.std.proofs.Common.{◌≡◌, ◌⊎◌, ◌<◌, ℕ, ◌==◌, List, [], ◌∷◌, ◌++◌, Bool, true, false, ◌&&◌, ◌||◌, not, if◌then◌else◌, IsTrue, Option, Some, None, All, refl, sym, ap, ◌∙◌, subst}
 use Rattle.std.specs.Option.{option_map_or}
-use Rattle.std.proofs.lemmas.Bool.{and_parts, and_right, not-true}
+use Rattle.std.proofs.lemmas.Bool.{and_parts, and_right, or_parts, not-true}
 use Rattle.zb_process.specs.declared.model.Model.{Model}
 use Rattle.zb_process.specs.declared.model.Node.{Node}
 use Rattle.zb_process.specs.declared.model.NodeKind.{NodeKind}
 use Rattle.zb_process.specs.declared.model.NodeKind.TheVariants as kinds
 use Rattle.zb_faults.specs.Elements.{is_service_task, is_subprocess}
+use Rattle.zb_instance_records.specs.declared.instance.Role.TheVariants as roles
 use Rattle.zb_tokens.specs.declared.board.Cell.{Cell}
 use Rattle.zb_tokens.specs.declared.board.Deployed.{Deployed}
 use Rattle.zb_tokens.specs.declared.board.Mark.{Mark}
@@ -15,20 +16,22 @@ use Rattle.zb_tokens.specs.declared.board.Move.{Move}
 use Rattle.zb_tokens.specs.declared.board.Move.TheVariants as moves
 use Rattle.zb_tokens.specs.declared.board.Phase.{Phase}
 use Rattle.zb_tokens.specs.declared.board.Phase.TheVariants as phases
-use Rattle.zb_tokens.specs.Board.{Board, CellsAscend, cell_at, model_under, node_with, is_at, is_phase, is_root, is_scope_in, has_child, is_empty, in_phase, new_cell, leaves_in}
+use Rattle.zb_tokens.specs.Board.{Board, CellsAscend, cell_at, model_under, node_with, is_at, is_body, is_phase, is_root, holds_cells, has_child, is_empty, in_phase, new_cell, leaves_in}
 use Rattle.zb_tokens.specs.Marks.{is_unset, has_come_about, awaits_work, with_mark}
 use Rattle.zb_tokens.specs.MoveEnter.{entering}
-use Rattle.zb_tokens.specs.MoveOpen.{opens}
-use Rattle.zb_tokens.specs.MoveFinish.{rests_at, is_done}
+use Rattle.zb_tokens.specs.Bodies.{has_item, is_sequential}
+use Rattle.zb_tokens.specs.MoveInner.{run_in, one_taken}
+use Rattle.zb_tokens.specs.MoveOpen.{opens, with_items}
+use Rattle.zb_tokens.specs.MoveFinish.{rests_at, acts_in, acts, is_done}
 use Rattle.zb_tokens.specs.MoveLeave.{may_owe, leaving, ends_scope, with_end}
 use Rattle.zb_tokens.specs.MoveTake.{is_first, rest_of}
 use Rattle.zb_tokens.specs.MoveAssign.{with_variable}
 use Rattle.zb_tokens.specs.declared.board.Triggered.{Triggered}
 use Rattle.zb_tokens.specs.MoveTrigger.{fits_trigger, mark_by}
 use Rattle.zb_rules.proofs.TimedLaws.{awaits_active}
-use Rattle.zb_rules.specs.Sound.{is_scope}
+use Rattle.zb_rules.specs.Sound.{is_around}
 use Rattle.zb_rules.proofs.CatchLaws.{told_runs, work_unmarked}
-use Rattle.zb_tokens.specs.Edits.{edited}
+use Rattle.zb_tokens.specs.Edits.{edited, is_none_of}
 use Rattle.zb_tokens.specs.Game.{fits}
 use Rattle.zb_tokens.proofs.GameLaws.{both_left, both_right}
 use Rattle.zb_rules.specs.Shown.{after_shown}
@@ -88,31 +91,36 @@ unset_waits : (mark : Mark) → IsTrue (is_unset mark) → has_come_about mark �
 unset_waits marks.Unset is = refl
 unset_waits mark is = absurd (cc)
 
-node_waits : (c : Cell) (root empty come : Bool) (found : Option Node) → root ≡ false → come ≡ false → IsTrue (option_map_or (λ (n : Node). is_service_task n.kind) found false)
-    → (if root || option_map_or (λ (n : Node). is_subprocess n.kind) found false then empty else come || option_map_or (λ (n : Node). rests_at c n.kind) found false) ≡ false
-node_waits c root empty come None no_root not_come is = absurd (cc)
-node_waits c root empty come (Some n) no_root not_come is = let k = service_waits c n.kind is in rw (no_root, k.0, not_come, k.1) refl
+node_waits : (c : Cell) (body root child empty come : Bool) (found : Option Node) → body ≡ false → root ≡ false → come ≡ false → IsTrue (option_map_or (λ (n : Node). is_service_task n.kind) found false)
+    → (if body then child else if not body && (root || option_map_or (λ (n : Node). is_subprocess n.kind) found false) then empty else come || option_map_or (λ (n : Node). rests_at c n.kind) found false) ≡ false
+node_waits c body root child empty come None runs inner not_come is = absurd (cc)
+node_waits c body root child empty come (Some n) runs inner not_come is = let k = service_waits c n.kind is in rw (runs, inner, k.0, not_come, k.1) refl
 
-model_waits : (b : Board) (c : Cell) (found : Option Model) → IsTrue (is_unset c.mark) → IsTrue (not (is_root c) && option_map_or (λ (m : Model). is_at m c.node is_service_task) found false)
-    → option_map_or (λ (m : Model). if is_scope_in m c then is_empty b c.key else has_come_about c.mark || is_at m c.node (rests_at c)) found false ≡ false
-model_waits b c None unset is = absurd (let none = (and_parts (not (is_root c)) false is).1 in cc)
+model_waits : (b : Board) (c : Cell) (found : Option Model) → IsTrue (is_unset c.mark) → IsTrue (not (is_root c || is_body c) && option_map_or (λ (m : Model). is_at m c.node is_service_task) found false)
+    → option_map_or (λ (m : Model). acts_in m b c) found false ≡ false
+model_waits b c None unset is = absurd (let none = (and_parts (not (is_root c || is_body c)) false is).1 in cc)
 model_waits b c (Some m) unset is =
-    let parts = and_parts (not (is_root c)) (is_at m c.node is_service_task) is in
-    node_waits c (is_root c) (is_empty b c.key) (has_come_about c.mark) (node_with m c.node) (not-true (is_root c) parts.0) (unset_waits c.mark unset) parts.1
+    let parts = and_parts (not (is_root c || is_body c)) (is_at m c.node is_service_task) is in
+    let apart = or_parts (is_root c) (is_body c) (not-true (is_root c || is_body c) parts.0) in
+    node_waits c (is_body c) (is_root c) (not (has_child b c.key) || (has_item c && not (is_sequential m c))) (is_empty b c.key) (has_come_about c.mark) (node_with m c.node) apart.1 apart.0 (unset_waits c.mark unset) parts.1
 
--- so a cell that waits for its work isn't done
-not_done : (b : Board) (c : Cell) → IsTrue (awaits_work b c) → is_done b c ≡ false
-not_done b c is =
+-- so a cell that waits for its work doesn't act
+not_acting : (b : Board) (c : Cell) → IsTrue (awaits_work b c) → acts b c ≡ false
+not_acting b c is =
     let inner = both_right (is_phase c.phase phases.Active) _ is in
     model_waits b c (model_under b c.definition) (both_left (is_unset c.mark) _ inner) (both_right (is_unset c.mark) _ inner)
 
+-- and isn't done
+not_done : (b : Board) (c : Cell) → IsTrue (awaits_work b c) → is_done b c ≡ false
+not_done b c is = ap (λ (t : Bool). t && not (is_body c && has_item c)) (not_acting b c is)
+
 -- where it is of a model still, a cell waits still
-grown_by : (active unset root : Bool) (holds later : Bool) → (IsTrue holds → IsTrue later) → IsTrue (active && (unset && (not root && holds))) → IsTrue (active && (unset && (not root && later)))
+grown_by : (active unset apart : Bool) (holds later : Bool) → (IsTrue holds → IsTrue later) → IsTrue (active && (unset && (not apart && holds))) → IsTrue (active && (unset && (not apart && later)))
 grown_by true true false holds later more is = more is
-grown_by active unset root holds later more is = absurd (cc)
+grown_by active unset apart holds later more is = absurd (cc)
 
 waits_grown : (b : Board) (more : List Deployed) (c : Cell) → IsTrue (awaits_work b c) → IsTrue (awaits_work (record b { models = b.models ++ more }) c)
-waits_grown b more c is = grown_by (is_phase c.phase phases.Active) (is_unset c.mark) (is_root c) (option_map_or (λ (m : Model). is_at m c.node is_service_task) (model_under b c.definition) false)
+waits_grown b more c is = grown_by (is_phase c.phase phases.Active) (is_unset c.mark) (is_root c || is_body c) (option_map_or (λ (m : Model). is_at m c.node is_service_task) (model_under b c.definition) false)
     (option_map_or (λ (m : Model). is_at m c.node is_service_task) (model_under (record b { models = b.models ++ more }) c.definition) false)
     (among_more (λ o. option_map_or (λ (m : Model). is_at m c.node is_service_task) o false) c.definition b.models more refl) is
 
@@ -147,11 +155,13 @@ module _ (b : Board) where
 
   waits_made : (move : Move) → IsTrue (fits b move) → HoldsMade b (CellsWait move) move
   waits_made (moves.Stand d) fit = λ q out is. is
-  waits_made (moves.Start s) fit = λ m found q out is. kept_more (awaits_work b) b.cells (new_cell s.key 0 s.definition m.process false ∷ []) q is
-  waits_made (moves.Enter e) fit = λ c m found stand q out is. kept_more (awaits_work b) b.cells (entering e c m ∷ []) q is
-  waits_made (moves.Open key) fit = λ c m found stands cells made q out is.
-      edit_waits key (in_phase phases.Active []) cells (λ x. refl)
-      (λ x there. let h = at_cell (λ (y : Cell). is_phase y.phase phases.Activating && opens b y) (cell_at b key) x there fit in not_waiting b x phases.Activating (both_left (is_phase x.phase phases.Activating) _ h) refl) made q is
+  waits_made (moves.Start s) fit = λ m found q out is. kept_more (awaits_work b) b.cells (new_cell s.key 0 s.definition m.process roles.Plain false ∷ []) q is
+  waits_made (moves.Enter e) fit = λ c m found under stand q out is. kept_more (awaits_work b) b.cells (entering e c m ∷ []) q is
+  waits_made (moves.Inner i) fit = λ c found cells made q out is.
+      kept_more (awaits_work b) cells (run_in i c ∷ []) q (kept_edited (awaits_work b) i.body one_taken b.cells cells (λ x. refl) (λ x there h. h) made q is)
+  waits_made (moves.Open o) fit = λ c m found stands cells made q out is.
+      edit_waits o.key (with_items o.items) cells (λ x. refl)
+      (λ x there. let h = at_cell (λ (y : Cell). is_phase y.phase phases.Activating && (opens b y && (is_body y || is_none_of o.items))) (cell_at b o.key) x there fit in not_waiting b x phases.Activating (both_left (is_phase x.phase phases.Activating) _ h) refl) made q is
   waits_made (moves.Finish key) fit = λ cells made q out is.
       kept_edited (awaits_work b) key (in_phase phases.Completing []) b.cells cells (λ x. refl)
       (λ x there waits. let h = at_cell (λ (y : Cell). is_phase y.phase phases.Active && is_done b y) (cell_at b key) x there fit in absurd (let its = both_right (is_phase x.phase phases.Active) (is_done b x) h in let none = not_done b x waits in cc)) made q is
@@ -206,7 +216,7 @@ untold_at b key mark fit c found is begins =
 
 -- cells ascend, and each is a root or stands in one that others may be in
 abbrev AreScoped : Board → Type 0
-AreScoped b = CellsAscend 1 b.cells × All (λ (c : Cell). (c.scope ≡ 0) ⊎ (IsTrue (is_scope b c.scope) × (c.scope < c.key))) b.cells
+AreScoped b = CellsAscend 1 b.cells × All (λ (c : Cell). (c.scope ≡ 0) ⊎ (IsTrue (is_around holds_cells b c.scope) × (c.scope < c.key))) b.cells
 
 -- a cell that is told of an event doesn't begin
 told_untold : (b : Board) (t : Triggered) → AreScoped b → IsTrue (fits_trigger b t) → (c : Cell) → cell_at b t.cell ≡ Some c → (mark : Mark) → mark_by b t c ≡ Some mark → IsUntold c → IsUntold (with_mark mark c)
@@ -217,8 +227,9 @@ told_untold b t scoped fit c found mark at is begins =
 untold_kept : (b : Board) (move : Move) → AreScoped b → IsTrue (fits b move) → CellKept b IsUntold move
 untold_kept b (moves.Stand d) scoped fit = tt
 untold_kept b (moves.Start s) scoped fit = λ node there phase. refl
-untold_kept b (moves.Enter e) scoped fit = λ c m found phase. refl
-untold_kept b (moves.Open key) scoped fit = λ c found is phase. absurd (cc)
+untold_kept b (moves.Enter e) scoped fit = λ c m found under phase. refl
+untold_kept b (moves.Inner i) scoped fit = (λ c found phase. refl, λ c found is. is)
+untold_kept b (moves.Open o) scoped fit = λ c found is phase. absurd (cc)
 untold_kept b (moves.Finish key) scoped fit = λ c found is phase. absurd (cc)
 untold_kept b (moves.Leave l) scoped fit = (λ flow owed same c found is phase. absurd (cc), λ c is. is)
 untold_kept b (moves.Take t) scoped fit = λ flow owed c found is phase. absurd (cc)

@@ -1,8 +1,9 @@
 -- Laws of the keys of a log whose events apply: those of cells ascend, and lie below the next key.
-use Rattle.std.proofs.Common.{◌≡◌, ℕ, ◌+◌, ◌^◌, ◌<◌, ◌≤◌, ◌==◌, List, [], ◌∷◌, ◌++◌, Bool, true, false, if◌then◌else◌, IsTrue, Option, Some, None, option_and_then, refl, sym, ap, ◌∙◌, subst, arith}
+use Rattle.std.proofs.Common.{◌≡◌, ℕ, ◌+◌, ◌^◌, ◌<◌, ◌≤◌, ◌==◌, List, [], ◌∷◌, ◌++◌, Bool, true, false, ◌&&◌, if◌then◌else◌, IsTrue, Option, Some, None, option_and_then, refl, sym, ap, ◌∙◌, subst, arith}
 use Rattle.std.specs.Option.{option_map_or, IfSome}
 use Rattle.std.proofs.lemmas.Bool.Decides.{nat_tests}
 use Rattle.zb_instance_records.specs.declared.instance.ElementActivating.{ElementActivating}
+use Rattle.zb_instance_records.specs.declared.instance.Role.TheVariants as roles
 use Rattle.zb_model.specs.declared.record.Event.{Event}
 use Rattle.zb_model.specs.declared.record.Event.TheVariants as events
 use Rattle.zb_views.specs.View.{counter_at, greatest_among, greatest_counter, next_key}
@@ -16,13 +17,13 @@ use Rattle.zb_views.specs.declared.left.Left.TheVariants as lefts
 use Rattle.zb_views.specs.declared.begun.Begun.{Begun}
 use Rattle.zb_tokens.specs.declared.board.Move.{Move}
 use Rattle.zb_tokens.specs.declared.board.Move.TheVariants as moves
-use Rattle.zb_tokens.specs.Board.{Board}
+use Rattle.zb_tokens.specs.Board.{Board, is_role}
 use Rattle.zb_tokens.specs.Game.{empty_board}
 use Rattle.zb_tokens.proofs.GameLaws.{both_left, both_right}
 use Rattle.zb_views.specs.Jobs.{job_at}
-use Rattle.zb_rules.proofs.GrowthLaws.{job_shows}
-use Rattle.zb_rules.specs.Shown.{shown, after_shown, board_of}
-use Rattle.zb_rules.specs.Applies.{is_fresh, is_plain, begins_instance, begins_cell, begins_well, all_apply}
+use Rattle.zb_rules.proofs.GrowthLaws.{job_shows, started, cell_shows}
+use Rattle.zb_rules.specs.Shown.{shown, move_of_cell, after_shown, board_of}
+use Rattle.zb_rules.specs.Applies.{is_fresh, begins_instance, begins_cell, begins_well, all_apply}
 use Rattle.zb_rules.proofs.CellsLaws.{Between, between_higher, key_made, between_played}
 use Rattle.zb_rules.proofs.AppliedLaws.{Advances, holds_of_all}
 
@@ -59,7 +60,7 @@ between_shown : (low high : ℕ) (b after : Board) (move : Option Move) (top : �
 between_shown low high b after None top is more new made = between_higher low high top after.cells more (let same : b ≡ after = cc in subst (λ (x : Board). Between low high x.cells) same is)
 between_shown low high b after (Some move) top is more new made = between_played low high b is after move top more new made
 
-begun_is : (key definition : ℕ) (found : Left) → IsTrue (leaves_root key definition found) → (i : Begun) × (found ≡ lefts.Root i) × (i.key ≡ key)
+pub begun_is : (key definition : ℕ) (found : Left) → IsTrue (leaves_root key definition found) → (i : Begun) × (found ≡ lefts.Root i) × (i.key ≡ key)
 begun_is key definition lefts.Nothing is = absurd (cc)
 begun_is key definition (lefts.Cancels job) is = absurd (cc)
 begun_is key definition (lefts.Deletes s) is = absurd (cc)
@@ -68,23 +69,29 @@ begun_is key definition (lefts.Root i) is = (i, refl, let first = both_left (i.k
 -- a cell that begins
 module _ (p : ℕ) (before : List Event) (b after : Board) (a : ElementActivating) (s : HasOrderedCells p before b) where
   activating_by : (t : Bool) → IsTrue (if t then begins_instance before a else begins_cell p before a)
-      → after_shown b (if t then Some (moves.Start (record { key = a.key; definition = a.definition })) else Some (moves.Enter (record { key = a.key; scope = a.scope; node = a.node; via = a.via }))) ≡ Some after
+      → after_shown b (if t then Some (moves.Start (started a)) else Some (move_of_cell a a.role)) ≡ Some after
       → Between 1 (next_key p (before ++ events.ElementActivating a ∷ [])) after.cells
   activating_by true begins made =
       let r = begun_is a.key a.definition (left before) (both_left (leaves_root a.key a.definition (left before)) _ (both_left _ _ (both_left _ _ begins))) in
       let k = s.begins r.0 r.1 in
       let more = next_key_more p before (events.ElementActivating a) in
-      between_played 1 r.0.key b k.0 after (moves.Start (record { key = a.key; definition = a.definition })) (next_key p (before ++ events.ElementActivating a ∷ [])) (omega (arith, k.1, more)) (omega (arith, r.2), omega (arith, r.2, k.1, more)) made
+      between_played 1 r.0.key b k.0 after (moves.Start (started a)) (next_key p (before ++ events.ElementActivating a ∷ [])) (omega (arith, k.1, more)) (omega (arith, r.2), omega (arith, r.2, k.1, more)) made
   activating_by false begins made =
       let fresh = both_left (is_fresh p before a.key) _ (both_left _ _ begins) in
       let f = fresh_is p before a.key fresh in
       let below = fresh_below p before (events.ElementActivating a) a.key fresh (first_named p a.key (a.scope ∷ a.definition ∷ [])) in
-      between_played 1 (next_key p before) b s.between after (moves.Enter (record { key = a.key; scope = a.scope; node = a.node; via = a.via })) (next_key p (before ++ events.ElementActivating a ∷ []))
-      (next_key_more p before (events.ElementActivating a)) (omega (arith, f.1), below) made
+      let top = next_key p (before ++ events.ElementActivating a ∷ []) in
+      let new : (next_key p before ≤ a.key) × (a.key < top) = (omega (arith, f.1), below) in
+      between_played 1 (next_key p before) b s.between after (move_of_cell a a.role) top (next_key_more p before (events.ElementActivating a))
+      (cell_shows (λ (m : Move). IfSome (key_made m) (λ key. (next_key p before ≤ key) × (key < top))) a a.role new new) made
 
 -- what a cell that begins well meets: a root comes behind its instance, another cell in a scope
 pub begins_by : (p : ℕ) (before : List Event) (a : ElementActivating) → IsTrue (begins_well p before a) → IsTrue (if a.scope == 0 then begins_instance before a else begins_cell p before a)
-begins_by p before a h = both_right (is_plain a.role) _ h
+begins_by p before a h = by_test (a.scope == 0) h
+  where
+    by_test : (t : Bool) → IsTrue (if t then is_role a.role roles.Plain && begins_instance before a else begins_cell p before a) → IsTrue (if t then begins_instance before a else begins_cell p before a)
+    by_test true h = both_right (is_role a.role roles.Plain) _ h
+    by_test false h = h
 
 keys_between : (p : ℕ) (before : List Event) (b : Board) (e : Event) (after : Board) → Advances p before b e after → HasOrderedCells p before b → Between 1 (next_key p (before ++ e ∷ [])) after.cells
 keys_between p before b (events.ElementActivating a) after h s = activating_by p before b after a s (a.scope == 0) (begins_by p before a h.own) h.leads
@@ -96,12 +103,12 @@ keys_between p before b (events.JobErrorThrown t) after h s =
     between_shown 1 (next_key p before) b after (shown before e) (next_key p (before ++ e ∷ [])) s.between (next_key_more p before e) (job_shows (λ (m : Option Move). IfSome (option_and_then key_made m) (λ key. (next_key p before ≤ key) × (key < next_key p (before ++ e ∷ [])))) (λ j. moves.Throw (record { cell = j.cell; code = t.code })) (job_at t.key before) tt (λ j. tt)) h.leads
 keys_between p before b e after h s = between_shown 1 (next_key p before) b after (shown before e) (next_key p (before ++ e ∷ [])) s.between (next_key_more p before e) tt h.leads
 
-abbrev root_key : Left → ℕ
+abbrev pub root_key : Left → ℕ
 root_key (lefts.Root i) = i.key
 root_key other = 0
 
 -- a cancel is no root
-no_root : (found : Option Job) (i : Begun) → option_map_or (λ (j : Job). lefts.Cancels j.key) found lefts.Nothing ≡ lefts.Root i → ⊥
+pub no_root : (found : Option Job) (i : Begun) → option_map_or (λ (j : Job). lefts.Cancels j.key) found lefts.Nothing ≡ lefts.Root i → ⊥
 no_root None i is = cc
 no_root (Some j) i is = cc
 

@@ -205,6 +205,7 @@ restarted_makes p seen instance before = some_are Beside before (λ s. option_ma
 
 -- and so may those behind it
 pub behind_beside : (p moment : ℕ) (seen : List Event) (e : Event) → Makes Beside (events_behind p moment seen e)
+behind_beside p moment seen (events.ElementActivating e) = λ before. from_weaker Sets Beside variable_beside before _ (set_makes true e.key _ before)
 behind_beside p moment seen (events.ElementActivated e) = then_makes Beside (job_made_on p e.key) (catches_opened_on p moment e.key)
     (λ before. some_are Beside before (λ n. job_of p e.key n before) (λ n. ((refl, tt), tt)) _) (λ before. each_makes Beside (catch_opened p e.key) (λ o earlier. (opened_are (next_key p earlier) e.key o.node o.event earlier, tt)) _ before)
 behind_beside p moment seen (events.ElementCompleting key) = closed_makes key
@@ -236,6 +237,7 @@ is_forced_kind e = may_follow e
 
 event_follows : (b : Board) (move : Move) → option_map_or is_forced_kind (event_of b move) true ≡ true
 event_follows b (moves.Enter x) = mapped_passes is_forced_kind _ (λ c. refl) (cell_at b x.scope)
+event_follows b (moves.Inner x) = mapped_passes is_forced_kind _ (λ c. refl) (cell_at b x.body)
 event_follows b move = refl
 
 forced_listed : (e : Event) → IsTrue (is_forced_kind e) → (before : List Event) → Listed may_follow before e

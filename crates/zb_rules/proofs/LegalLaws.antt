@@ -8,14 +8,12 @@ use Rattle.zb_model.specs.declared.record.Command.TheVariants as commands
 use Rattle.zb_model.specs.declared.record.Event.{Event}
 use Rattle.zb_model.specs.declared.record.Event.TheVariants as events
 use Rattle.zb_views.specs.Jobs.{job_at}
-use Rattle.zb_tokens.specs.declared.board.Enter.{Enter}
-use Rattle.zb_tokens.specs.declared.board.Start.{Start}
 use Rattle.zb_tokens.specs.declared.board.Move.{Move}
-use Rattle.zb_tokens.specs.declared.board.Move.TheVariants as moves
 use Rattle.zb_tokens.specs.Board.{Board}
 use Rattle.zb_tokens.specs.Game.{fits, agrees, played}
 use Rattle.zb_tokens.proofs.GameLaws.{both_left, both_right, holds_some}
 use Rattle.zb_rules.specs.Shown.{shown, after_shown, board_of}
+use Rattle.zb_rules.proofs.GrowthLaws.{begin_shows}
 use Rattle.zb_rules.specs.Applies.{is_fresh, holds_own, may_fit, applies, all_apply}
 use Rattle.zb_rules.specs.JobEvents.{tells_of_job}
 use Rattle.zb_rules.specs.Kinds.{comes_beside}
@@ -81,10 +79,6 @@ pub beside_never : (es : List Event) → EachOf comes_beside es → NeverEvaluat
 beside_never es are = all_weaker _ _ (λ e beside. own_silent e commands.ProcessInstanceBatchContinue (or_left (comes_beside e) _ beside)) es are
 
 module _ (b : Board) (moment : ℕ) where
-  begins_silent : (t : Bool) (s : Start) (x : Enter) → option_map_or (agrees b moment) (if t then Some (moves.Start s) else Some (moves.Enter x)) true ≡ true
-  begins_silent true s x = refl
-  begins_silent false s x = refl
-
   caused : (t job more zero : Bool) → not t ≡ false → IsTrue (if t then job && more else zero) → IsTrue job
   caused true job more zero silent cause = both_left job more cause
   caused false job more zero silent cause = absurd (cc)
@@ -93,7 +87,7 @@ module _ (b : Board) (moment : ℕ) where
   shown_agrees : (p : ℕ) (before : List Event) (e : Event) → is_evaluated e ≡ false → IsTrue (holds_own p before e) → option_map_or (agrees b moment) (shown before e) true ≡ true
   shown_agrees p before (events.ElementActivated e) silent own = absurd (cc)
   shown_agrees p before (events.ElementCompleted e) silent own = absurd (cc)
-  shown_agrees p before (events.ElementActivating e) silent own = begins_silent (e.scope == 0) _ _
+  shown_agrees p before (events.ElementActivating e) silent own = begin_shows (λ (m : Option Move). option_map_or (agrees b moment) m true ≡ true) e (e.scope == 0) refl refl refl
   shown_agrees p before (events.JobCompleted key) silent own = mapped_passes (agrees b moment) _ (λ j. refl) (job_at key before)
   shown_agrees p before (events.JobErrorThrown e) silent own = mapped_passes (agrees b moment) _ (λ j. refl) (job_at e.key before)
   shown_agrees p before (events.IncidentCreated e) silent own =

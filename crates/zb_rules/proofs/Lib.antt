@@ -47,6 +47,7 @@ pub mod WorkerLaws
 pub mod ActivateLaws
 pub mod ProgressLaws
 pub mod WorkedStarts
+pub mod WorkedRuns
 pub mod MessageSoundLaws
 pub mod StartLaws
 pub mod StarterLaws
@@ -54,3 +55,4 @@ pub mod LeftLaws
 pub mod CorrelateLaws
 pub mod BlindLaws
 pub mod ReceiveLaws
+pub mod RunLaws

@@ -2,6 +2,7 @@
 use Rattle.std.proofs.Common.{◌≡◌, ℕ, ◌==◌, List, [], ◌∷◌, ◌++◌, filter, Bool, true, false, not, if◌then◌else◌, IsTrue, Option, Some, None, option_map, option_and_then, refl, subst}
 use Rattle.std.specs.Option.{option_map_or}
 use Rattle.zb_process.specs.declared.model.Model.{Model}
+use Rattle.zb_instance_records.specs.declared.instance.Role.TheVariants as roles
 use Rattle.zb_tokens.specs.declared.board.Cell.{Cell}
 use Rattle.zb_tokens.specs.declared.board.Token.{Token}
 use Rattle.zb_tokens.specs.declared.board.Incident.{Incident}
@@ -16,7 +17,8 @@ use Rattle.zb_tokens.specs.declared.board.Phase.TheVariants as phases
 use Rattle.zb_tokens.specs.Edits.{edited, removed}
 use Rattle.zb_tokens.specs.Board.{Board, cell_at, model_under, new_cell, in_phase, leaves_in, emptied, with_token}
 use Rattle.zb_tokens.specs.MoveEnter.{spots_of, stand_at_each, entered}
-use Rattle.zb_tokens.specs.MoveOpen.{start_tokens, first_tokens}
+use Rattle.zb_tokens.specs.MoveInner.{run_in, one_taken}
+use Rattle.zb_tokens.specs.MoveOpen.{start_tokens, first_tokens, with_items}
 use Rattle.zb_tokens.specs.MoveLeave.{leaving, ends_scope, with_end, scope_ended}
 use Rattle.zb_tokens.specs.MoveTake.{rest_of, spot_behind}
 use Rattle.zb_tokens.specs.MoveTrigger.{mark_by, told}
@@ -65,10 +67,11 @@ HoldsWithout b Q key = (cells : List Cell) → removed (is_keyed key) b.cells �
 -- Q holds of all that a move may make of a board
 abbrev pub HoldsMade : Board → (Board → Type 0) → Move → Type 0
 HoldsMade b Q (moves.Stand d) = Q (record b { models = b.models ++ d ∷ [] })
-HoldsMade b Q (moves.Start s) = (m : Model) → model_under b s.definition ≡ Some m → Q (record b { cells = b.cells ++ new_cell s.key 0 s.definition m.process false ∷ [] })
-HoldsMade b Q (moves.Enter e) = (c : Cell) (m : Model) → cell_at b e.scope ≡ Some c → IsTrue (stand_at_each e.scope (spots_of m e.node e.via) b.tokens) → Q (entered b e c m)
-HoldsMade b Q (moves.Open key) = (c : Cell) (m : Model) → cell_at b key ≡ Some c → model_under b c.definition ≡ Some m
-    → HoldsEdited b (λ x. Q (record x { tokens = b.tokens ++ start_tokens c m })) key (in_phase phases.Active [])
+HoldsMade b Q (moves.Start s) = (m : Model) → model_under b s.definition ≡ Some m → Q (record b { cells = b.cells ++ new_cell s.key 0 s.definition m.process roles.Plain false ∷ [] })
+HoldsMade b Q (moves.Enter e) = (c : Cell) (m : Model) → cell_at b e.scope ≡ Some c → model_under b c.definition ≡ Some m → IsTrue (stand_at_each e.scope (spots_of m e.node e.via) b.tokens) → Q (entered b e c m)
+HoldsMade b Q (moves.Inner i) = (c : Cell) → cell_at b i.body ≡ Some c → HoldsEdited b (λ x. Q (record x { cells = x.cells ++ run_in i c ∷ [] })) i.body one_taken
+HoldsMade b Q (moves.Open o) = (c : Cell) (m : Model) → cell_at b o.key ≡ Some c → model_under b c.definition ≡ Some m
+    → HoldsEdited b (λ x. Q (record x { tokens = b.tokens ++ start_tokens c m })) o.key (with_items o.items)
 HoldsMade b Q (moves.Finish key) = HoldsEdited b Q key (in_phase phases.Completing [])
 HoldsMade b Q (moves.Leave l) = (c : Cell) → cell_at b l.key ≡ Some c → (left : Board) → leaving l.owed l.key b ≡ Some left → Q (if ends_scope b c then scope_ended c.scope left else left)
 HoldsMade b Q (moves.Take t) = (c : Cell) → cell_at b t.key ≡ Some c → (left : Board) → leaving (rest_of c.owed) t.key b ≡ Some left → Q (with_token c.scope (spot_behind b c t.flow) left)
@@ -113,10 +116,12 @@ module _ (b : Board) (Q : Board → Type 0) where
   made_holds after (moves.Start s) holds made = mapped_holds Q _ (model_under b s.definition) after holds made
   made_holds after (moves.Enter e) holds made = chained_holds Q _ (cell_at b e.scope) after (λ c found z led.
       chained_holds Q _ (model_under b c.definition) z (λ m stands y came.
-      tested_holds Q (stand_at_each e.scope (spots_of m e.node e.via) b.tokens) (entered b e c m) y (holds c m found) came) led) made
-  made_holds after (moves.Open key) holds made = chained_holds Q _ (cell_at b key) after (λ c found z led.
+      tested_holds Q (stand_at_each e.scope (spots_of m e.node e.via) b.tokens) (entered b e c m) y (holds c m found stands) came) led) made
+  made_holds after (moves.Inner i) holds made = chained_holds Q _ (cell_at b i.body) after (λ c found z led.
+      mapped_holds Q _ (edited (is_keyed i.body) one_taken b.cells) z (holds c found) led) made
+  made_holds after (moves.Open o) holds made = chained_holds Q _ (cell_at b o.key) after (λ c found z led.
       chained_holds Q _ (first_tokens b c) z (λ tokens got y came.
-      mapped_holds Q _ (edited (is_keyed key) (in_phase phases.Active []) b.cells) y (λ cells there.
+      mapped_holds Q _ (edited (is_keyed o.key) (with_items o.items) b.cells) y (λ cells there.
       mapped_holds (λ (ts : List Token). Q (record b { cells = cells; tokens = b.tokens ++ ts })) (start_tokens c) (model_under b c.definition) tokens (λ m stands. holds c m found stands cells there) got) came) led) made
   made_holds after (moves.Finish key) holds made = mapped_holds Q _ (edited (is_keyed key) (in_phase phases.Completing []) b.cells) after holds made
   made_holds after (moves.Leave l) holds made = chained_holds Q _ (cell_at b l.key) after (λ c found z led.

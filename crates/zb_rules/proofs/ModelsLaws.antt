@@ -31,6 +31,7 @@ use Rattle.zb_tokens.proofs.EffectLaws.{mapped_from}
 use Rattle.zb_rules.specs.Applies.{all_apply, has_definition, holds_own, is_process_of}
 use Rattle.zb_rules.proofs.MadeLaws.{HoldsMade, left_holds, made_holds}
 use Rattle.zb_rules.proofs.AppliedLaws.{Advances, holds_of_all}
+use Rattle.zb_rules.proofs.GrowthLaws.{begin_shows}
 use Rattle.zb_rules.proofs.KeysLaws.{first_named}
 
 -- the model that a move puts on the board
@@ -53,8 +54,9 @@ module _ (b : Board) where
   by_move : (move : Move) → HoldsMade b (λ x. x.models ≡ b.models ++ models_made move) move
   by_move (moves.Stand d) = refl
   by_move (moves.Start s) = λ m found. none_more
-  by_move (moves.Enter e) = λ c m found stand. none_more
-  by_move (moves.Open key) = λ c m found stands cells made. none_more
+  by_move (moves.Enter e) = λ c m found under stand. none_more
+  by_move (moves.Inner i) = λ c found cells made. none_more
+  by_move (moves.Open o) = λ c m found stands cells made. none_more
   by_move (moves.Finish key) = λ cells made. none_more
   by_move (moves.Leave l) = λ c found left made. ended_models (ends_scope b c) c.scope left (left_models l.owed l.key left made) ∙ none_more
   by_move (moves.Take t) = λ c found left made. left_models (rest_of c.owed) t.key left made ∙ none_more
@@ -73,16 +75,12 @@ module _ (b : Board) where
   models_shown after None made = ap (λ (x : Board). x.models) (sym (let same : b ≡ after = cc in same)) ∙ none_more
   models_shown after (Some move) made = made_holds b (λ x. x.models ≡ b.models ++ models_made move) after move (by_move move) made
 
-either_none : (t : Bool) (a b : Move) → models_made a ≡ [] → models_made b ≡ [] → option_map_or models_made (if t then Some a else Some b) [] ≡ []
-either_none true a b none other = none
-either_none false a b none other = other
-
 found_none : {A : Type 0} (move : A → Move) (found : Option A) → ((x : A) → models_made (move x) ≡ []) → option_map_or models_made (option_map move found) [] ≡ []
 found_none move None none = refl
 found_none move (Some x) none = none x
 
 told_made : (js : List Job) (e : Event) → option_map_or models_made (shown_by js e) [] ≡ models_told e
-told_made js (events.ElementActivating a) = either_none (a.scope == 0) (moves.Start (record { key = a.key; definition = a.definition })) (moves.Enter (record { key = a.key; scope = a.scope; node = a.node; via = a.via })) refl refl
+told_made js (events.ElementActivating a) = begin_shows (λ (m : Option Move). option_map_or models_made m [] ≡ []) a (a.scope == 0) refl refl refl
 told_made js (events.JobCompleted key) = found_none (λ (j : Job). moves.Done j.cell) (find (λ (j : Job). j.key == key) js) (λ j. refl)
 told_made js (events.JobErrorThrown t) = found_none (λ (j : Job). moves.Throw (record { cell = j.cell; code = t.code })) (find (λ (j : Job). j.key == t.key) js) (λ j. refl)
 told_made js e = refl

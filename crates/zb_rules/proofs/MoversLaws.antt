@@ -1,20 +1,22 @@
 -- Which moves a mover makes, and that each has an event.
-use Rattle.std.proofs.Common.{◌≡◌, ℕ, ◌+◌, ◌≤◌, ◌==◌, List, [], ◌∷◌, ◌++◌, Bool, true, false, if◌then◌else◌, IsTrue, is_some, Option, Some, None, option_map, option_and_then, Result, Ok, Err, refl, subst, arith}
+use Rattle.std.proofs.Common.{◌≡◌, ℕ, ℤ, ◌+◌, ◌≤◌, ◌==◌, List, [], ◌∷◌, ◌++◌, Bool, true, false, ◌&&◌, if◌then◌else◌, IsTrue, is_some, Option, Some, None, option_map, option_and_then, Result, Ok, Err, refl, subst, arith}
 use Rattle.std.specs.List.{find}
 use Rattle.std.specs.Option.{option_map_or, ok_or}
 use Rattle.std.specs.Result.{result_map_both}
 use Rattle.std.proofs.lemmas.Bool.Decides.{nat_tests}
 use Rattle.zb_base.specs.Results.{◌>>=◌}
 use Rattle.zb_base.specs.declared.value.Value.{Value}
-use Rattle.zb_base.specs.declared.vars.Variable.{Variable}
 use Rattle.zb_process.specs.declared.model.Flow.{Flow}
 use Rattle.zb_process.specs.declared.model.Model.{Model}
 use Rattle.zb_process.specs.declared.model.Node.{Node}
-use Rattle.zb_process.specs.Expr.{ValueFault}
+use Rattle.zb_process.specs.declared.model.Multi.{Multi}
+use Rattle.zb_process.specs.Expr.{ValueFault, value_of}
 use Rattle.zb_duration.specs.Due.{due_of}
 use Rattle.zb_duration.specs.declared.fault.DueFault.{DueFault}
 use Rattle.zb_duration.specs.declared.form.TimeForm.{TimeForm}
-use Rattle.zb_tokens.specs.Catches.{time_form, is_message_event, time_hindrance, text_told, key_told, value_given, due_by, waits_once, message_by, event_by, opened_at, awaited, openings_in, openings_by, seen_with, opened_with}
+use Rattle.zb_tokens.specs.Catches.{time_form, is_message_event, time_hindrance, text_told, key_told, value_given, due_by, waits_once, message_by, event_by, opened_at, awaited, openings_in, openings_by, items_of, seen_with, opened_with}
+use Rattle.zb_tokens.specs.Bodies.{multi_at, has_item, items_told, items_by}
+use Rattle.zb_tokens.specs.MoveInner.{runs_next}
 use Rattle.zb_tokens.specs.declared.board.Awaited.TheVariants as awaiteds
 use Rattle.zb_tokens.specs.declared.board.AwaitedMessage.{AwaitedMessage}
 use Rattle.zb_instance_records.specs.declared.happening.IncidentKind.TheVariants as kinds
@@ -26,7 +28,7 @@ use Rattle.zb_tokens.specs.declared.board.Mover.{Mover}
 use Rattle.zb_tokens.specs.declared.board.Mover.TheVariants as movers
 use Rattle.zb_tokens.specs.declared.board.Phase.{Phase}
 use Rattle.zb_tokens.specs.declared.board.Phase.TheVariants as phases
-use Rattle.zb_tokens.specs.Board.{Board, CellsAscend, cell_at, model_under}
+use Rattle.zb_tokens.specs.Board.{Board, CellsAscend, cell_at, model_under, is_body}
 use Rattle.zb_tokens.specs.Doom.{is_doomed}
 use Rattle.zb_tokens.specs.Game.{fits}
 use Rattle.zb_tokens.proofs.GameLaws.{holds_some, mapped_some}
@@ -52,6 +54,7 @@ IsMade key (moves.Done cell) = ⊥
 IsMade key (moves.Throw t) = ⊥
 IsMade key (moves.Repair other) = ⊥
 IsMade key (moves.Enter e) = e.key ≡ key
+IsMade key (moves.Inner i) = i.key ≡ key
 IsMade key (moves.Incident i) = (i.key ≡ key) × (i.job ≡ 0) × (tells_of_job i.kind ≡ false)
 IsMade key _ = Unit {0}
 
@@ -128,20 +131,34 @@ openings_tell_none : (names : List ℕ → Option Value) (b : Board) (moment : �
 openings_tell_none names b moment c None = tt
 openings_tell_none names b moment c (Some m) = node_tells_none names moment m c (node_of b c)
 
-opened_tells_none : (b : Board) (moment : ℕ) (c : Cell) → TellsOfNone (opened_with b moment c)
-opened_tells_none b moment c = then_tells_none (inputs_of b c) (λ vs. openings_by (seen_with vs (value_seen b c.key)) b moment c >>= (λ openings. Ok vs)) (fault_tells_none _)
-    (λ vs. then_tells_none (openings_by (seen_with vs (value_seen b c.key)) b moment c) (λ openings. Ok vs) (openings_tell_none (seen_with vs (value_seen b c.key)) b moment c (model_under b c.definition)) (λ openings. tt))
+items_tell_none : (names : List ℕ → Option Value) (c : Cell) (found : Option Model) → TellsOfNone (option_map_or (λ m. items_by names m c) found (Ok []))
+items_tell_none names c None = tt
+items_tell_none names c (Some m) = by_body (is_body c) (multi_at m c.node)
+  where
+    by_body : (body : Bool) (multi : Option Multi) → TellsOfNone (if body then option_map_or (λ x. result_map_both (λ items. items) hindrance_of (value_of names x.collection >>= items_told)) multi (Ok []) else Ok [])
+    by_body true None = tt
+    by_body true (Some x) = fault_tells_none (value_of names x.collection >>= items_told)
+    by_body false multi = tt
 
-open_made : (key : ℕ) (c : Cell) (inputs : Result (List Variable) Hindrance) → TellsOfNone inputs → IsMade key (open_by key c inputs)
-open_made key c (Ok vs) none = tt
+opened_tells_none : (b : Board) (moment : ℕ) (c : Cell) → TellsOfNone (opened_with b moment c)
+opened_tells_none b moment c = then_tells_none (inputs_of b c) (λ vs. items_of (seen_with vs (value_seen b c.key)) b c >>= (λ items. openings_by (seen_with vs (value_seen b c.key)) b moment c >>= (λ openings. Ok items))) (fault_tells_none _)
+    (λ vs. then_tells_none (items_of (seen_with vs (value_seen b c.key)) b c) (λ items. openings_by (seen_with vs (value_seen b c.key)) b moment c >>= (λ openings. Ok items)) (items_tell_none (seen_with vs (value_seen b c.key)) c (model_under b c.definition))
+    (λ items. then_tells_none (openings_by (seen_with vs (value_seen b c.key)) b moment c) (λ openings. Ok items) (openings_tell_none (seen_with vs (value_seen b c.key)) b moment c (model_under b c.definition)) (λ openings. tt)))
+
+open_made : (key : ℕ) (c : Cell) (opened : Result (List ℤ) Hindrance) → TellsOfNone opened → IsMade key (open_by key c opened)
+open_made key c (Ok items) none = tt
 open_made key c (Err hindrance) none = (refl, refl, none)
 
 catch_made : (key : ℕ) (c : Cell) (code : List ℕ) (caught_at : Option Triggered) → IsMade key (catch_by key c code caught_at)
 catch_made key c code None = (refl, refl, refl)
 catch_made key c code (Some t) = tt
 
+act_made : (key : ℕ) (c : Cell) (runs : Bool) → IsMade key (if runs then moves.Inner (record { key = key; body = c.key }) else moves.Finish c.key)
+act_made key c true = refl
+act_made key c false = tt
+
 finish_made : (key : ℕ) (c : Cell) (caught_at : Option Triggered) (error : Option (List ℕ)) → IsMade key (finish_by key c caught_at error)
-finish_made key c caught_at None = tt
+finish_made key c caught_at None = act_made key c (is_body c && has_item c)
 finish_made key c caught_at (Some code) = catch_made key c code caught_at
 
 leave_made : (key : ℕ) (c : Cell) (exit : Result (List (List ℕ)) Hindrance) → TellsOfNone exit → IsMade key (leave_by key c exit)
@@ -201,7 +218,8 @@ pub event_there : (b : Board) (key : ℕ) (move : Move) → IsMade key move → 
 event_there b key (moves.Stand d) made fit = absurd made
 event_there b key (moves.Start s) made fit = absurd made
 event_there b key (moves.Enter e) made fit = mapped_some _ (cell_at b e.scope) (holds_some _ (cell_at b e.scope) fit)
-event_there b key (moves.Open cell) made fit = refl
+event_there b key (moves.Inner i) made fit = mapped_some _ (cell_at b i.body) (holds_some (runs_next b) (cell_at b i.body) fit)
+event_there b key (moves.Open o) made fit = refl
 event_there b key (moves.Finish cell) made fit = refl
 event_there b key (moves.Leave l) made fit = refl
 event_there b key (moves.Take t) made fit = refl

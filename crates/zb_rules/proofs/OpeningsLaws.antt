@@ -116,23 +116,23 @@ module _ (m : Model) (formed : IsTrue (is_well_formed m)) (c : Cell) (n : Node) 
   its_own true is = (All-cons Waits n [] (own_awaited is) (All-nil Waits), omega arith)
   its_own false is = (All-nil Waits, omega arith)
 
-  one_beside : (x : Node) → node_with m x.id ≡ Some x → waits_beside m n x ≡ true → Waits x
-  one_beside x found its catch caught = rw found (and_from ((bytes_eq c.node x.id && waits_itself c n) || waits_beside m n x) (is_caught_at x.kind catch) (or_right (bytes_eq c.node x.id && waits_itself c n) (waits_beside m n x) its) caught)
+  one_beside : (x : Node) → node_with m x.id ≡ Some x → waits_beside m c n x ≡ true → Waits x
+  one_beside x found its catch caught = rw found (and_from ((bytes_eq c.node x.id && waits_itself c n) || waits_beside m c n x) (is_caught_at x.kind catch) (or_right (bytes_eq c.node x.id && waits_itself c n) (waits_beside m c n x) its) caught)
 
-  beside_awaited : All Waits (filter (waits_beside m n) m.nodes)
+  beside_awaited : All Waits (filter (waits_beside m c n) m.nodes)
   beside_awaited =
-      let ids = All-filter (waits_beside m n) (λ (x : Node). node_with m x.id ≡ Some x) m.nodes (nodes_found m formed) in
-      let pass = filter_passes (waits_beside m n) m.nodes in
-      λ k d within catch caught. one_beside (get_or (filter (waits_beside m n) m.nodes) k d) (ids k d within) (pass k d within) catch caught
+      let ids = All-filter (waits_beside m c n) (λ (x : Node). node_with m x.id ≡ Some x) m.nodes (nodes_found m formed) in
+      let pass = filter_passes (waits_beside m c n) m.nodes in
+      λ k d within catch caught. one_beside (get_or (filter (waits_beside m c n) m.nodes) k d) (ids k d within) (pass k d within) catch caught
 
   -- and there is at most one more than the model has nodes
   pub all_awaited : All Waits (awaited m c n) × (length (awaited m c n) ≤ most_nodes + 1)
   all_awaited =
       let own = its_own (waits_itself c n) refl in
       let here = if waits_itself c n then n ∷ [] else [] in
-      let others = filter (waits_beside m n) m.nodes in
+      let others = filter (waits_beside m c n) m.nodes in
       let whole = length-append here others in
-      let few = fewer_kept (waits_beside m n) m.nodes in
+      let few = fewer_kept (waits_beside m c n) m.nodes in
       let nodes = nodes_few m formed in
       (All-append Waits here others own.0 beside_awaited, omega (arith, whole, own.1, few, nodes))
 

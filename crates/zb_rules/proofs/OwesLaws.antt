@@ -1,5 +1,6 @@
--- Each cell of a board of a log has its model, and one that leaves owes a flow, and is no root.
+-- Each cell of a board of a log has its model, and one that leaves owes a flow.
 use Rattle.std.proofs.Common.{◌≡◌, ℕ, List, [], ◌∷◌, Bool, true, false, ◌&&◌, if◌then◌else◌, IsTrue, IsFalse, is_some, Option, Some, None, All, refl, sym, subst}
+use Rattle.std.proofs.lemmas.Bool.{or_parts}
 use Rattle.std.proofs.lemmas.List.Elements.{All-weaker}
 use Rattle.zb_tokens.specs.declared.board.Cell.{Cell}
 use Rattle.zb_tokens.specs.declared.board.Take.{Take}
@@ -9,7 +10,7 @@ use Rattle.zb_tokens.specs.declared.board.Move.{Move}
 use Rattle.zb_tokens.specs.declared.board.Move.TheVariants as moves
 use Rattle.zb_tokens.specs.declared.board.Phase.TheVariants as phases
 use Rattle.zb_tokens.specs.Edits.{is_none_of}
-use Rattle.zb_tokens.specs.Board.{Board, cell_at, model_under, is_phase, is_root}
+use Rattle.zb_tokens.specs.Board.{Board, cell_at, model_under, is_phase, is_root, owes_none}
 use Rattle.zb_tokens.specs.MoveLeave.{flows_of, are_among, may_owe}
 use Rattle.zb_tokens.specs.MoveTake.{is_first}
 use Rattle.zb_tokens.specs.Game.{fits}
@@ -25,9 +26,16 @@ use Rattle.zb_rules.proofs.ScopesLaws.{at_cell}
 abbrev pub HasModel : Board → Cell → Type 0
 HasModel b c = IsTrue (is_some (model_under b c.definition))
 
--- a cell that leaves owes a flow, and is no root
+-- a cell that leaves owes a flow, and is one that flows leave
 abbrev pub Owes : Cell → Type 0
-Owes c = IsTrue (is_phase c.phase phases.Leaving) → IsFalse (is_none_of c.owed) × IsFalse (is_root c)
+Owes c = IsTrue (is_phase c.phase phases.Leaving) → IsFalse (is_none_of c.owed) × IsFalse (owes_none c)
+
+-- so it is no root
+pub owes_inner : (c : Cell) → Owes c → IsTrue (is_phase c.phase phases.Leaving) → IsFalse (is_none_of c.owed) × IsFalse (is_root c)
+owes_inner c owes leaves = let its = owes leaves in (its.0, (or_parts (is_root c) _ its.1).0)
+
+pub all_owe : (cells : List Cell) → All Owes cells → All (λ (c : Cell). IsTrue (is_phase c.phase phases.Leaving) → IsFalse (is_none_of c.owed) × IsFalse (is_root c)) cells
+all_owe cells = All-weaker Owes (λ (c : Cell). IsTrue (is_phase c.phase phases.Leaving) → IsFalse (is_none_of c.owed) × IsFalse (is_root c)) owes_inner cells
 
 -- the models of a board grow
 models_still : (b after : Board) (move : Option Move) → after_shown b move ≡ Some after → (key : ℕ) → IsTrue (is_some (model_under b key)) → IsTrue (is_some (model_under after key))
@@ -38,8 +46,9 @@ models_still b after move made key is =
 model_kept : (b after : Board) (move : Move) → ((key : ℕ) → IsTrue (is_some (model_under b key)) → IsTrue (is_some (model_under after key))) → All (HasModel after) b.cells → CellKept b (HasModel after) move
 model_kept b after (moves.Stand d) still all = tt
 model_kept b after (moves.Start s) still all = λ node there. still s.definition there
-model_kept b after (moves.Enter e) still all = λ c m found. (found_holds (is_keyed e.scope) (HasModel after) b.cells c all found).0
-model_kept b after (moves.Open key) still all = λ c found has. has
+model_kept b after (moves.Enter e) still all = λ c m found under. (found_holds (is_keyed e.scope) (HasModel after) b.cells c all found).0
+model_kept b after (moves.Inner i) still all = (λ c found. (found_holds (is_keyed i.body) (HasModel after) b.cells c all found).0, λ c found has. has)
+model_kept b after (moves.Open o) still all = λ c found has. has
 model_kept b after (moves.Finish key) still all = λ c found has. has
 model_kept b after (moves.Leave l) still all = (λ flow owed is c found has. has, λ c has. has)
 model_kept b after (moves.Take t) still all = λ flow owed c found has. has
@@ -62,9 +71,9 @@ models_on b after (Some move) made all =
     cells_played b (HasModel after) weaker after move (model_kept b after move still weaker) made
 
 -- a leaving cell owes a flow after a move
-not_root : (root : Bool) (flow : List ℕ) (owed others : List (List ℕ)) → IsTrue (are_among (flow ∷ owed) (if root then [] else others)) → root ≡ false
-not_root true flow owed others is = absurd (cc)
-not_root false flow owed others is = refl
+flows_leave : (none : Bool) (flow : List ℕ) (owed others : List (List ℕ)) → IsTrue (are_among (flow ∷ owed) (if none then [] else others)) → none ≡ false
+flows_leave true flow owed others is = absurd (cc)
+flows_leave false flow owed others is = refl
 
 owes_leave : (b : Board) (l : Leave) → IsTrue (fits b (moves.Leave l)) → CellKept b Owes (moves.Leave l)
 owes_leave b l fit = (
@@ -72,7 +81,7 @@ owes_leave b l fit = (
       let h = at_cell (λ (x : Cell). is_phase x.phase phases.Completing && may_owe b x l.owed) (cell_at b l.key) c found fit in
       let its = both_left (are_among l.owed (flows_of b c)) _ (both_right (is_phase c.phase phases.Completing) (may_owe b c l.owed) h) in
       let among : IsTrue (are_among (flow ∷ owed) (flows_of b c)) = subst (λ (ids : List (List ℕ)). IsTrue (are_among ids (flows_of b c))) is its in
-      (refl, not_root (is_root c) flow owed _ among),
+      (refl, flows_leave (owes_none c) flow owed _ among),
   λ c has. has,
 )
 
@@ -84,8 +93,9 @@ owes_take b t fit = λ flow owed c found has phase.
 owes_kept : (b : Board) (move : Move) → IsTrue (fits b move) → CellKept b Owes move
 owes_kept b (moves.Stand d) fit = tt
 owes_kept b (moves.Start s) fit = λ node there phase. absurd (cc)
-owes_kept b (moves.Enter e) fit = λ c m found phase. absurd (cc)
-owes_kept b (moves.Open key) fit = λ c found has phase. absurd (cc)
+owes_kept b (moves.Enter e) fit = λ c m found under phase. absurd (cc)
+owes_kept b (moves.Inner i) fit = (λ c found phase. absurd (cc), λ c found has. has)
+owes_kept b (moves.Open o) fit = λ c found has phase. absurd (cc)
 owes_kept b (moves.Finish key) fit = λ c found has phase. absurd (cc)
 owes_kept b (moves.Leave l) fit = owes_leave b l fit
 owes_kept b (moves.Take t) fit = owes_take b t fit

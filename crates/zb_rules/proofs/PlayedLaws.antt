@@ -4,6 +4,7 @@ use Rattle.std.specs.List.{find, AllPairs}
 use Rattle.std.proofs.lemmas.List.Elements.{All-cons, All-head, All-tail, All-push, All-filter}
 use Rattle.std.proofs.lemmas.List.Kept.{AllPairs-cons}
 use Rattle.zb_process.specs.declared.model.Model.{Model}
+use Rattle.zb_instance_records.specs.declared.instance.Role.TheVariants as roles
 use Rattle.zb_tokens.specs.declared.board.Cell.{Cell}
 use Rattle.zb_tokens.specs.declared.board.Mark.{Mark}
 use Rattle.zb_tokens.specs.declared.board.Mark.TheVariants as marks
@@ -14,6 +15,8 @@ use Rattle.zb_tokens.specs.declared.board.Phase.TheVariants as phases
 use Rattle.zb_tokens.specs.Edits.{edited, removed}
 use Rattle.zb_tokens.specs.Board.{Board, cell_at, model_under, new_cell, in_phase, leaves_in}
 use Rattle.zb_tokens.specs.MoveEnter.{entering}
+use Rattle.zb_tokens.specs.MoveInner.{run_in, one_taken}
+use Rattle.zb_tokens.specs.MoveOpen.{with_items}
 use Rattle.zb_tokens.specs.MoveLeave.{leaving, ends_scope, with_end}
 use Rattle.zb_tokens.specs.MoveTrigger.{mark_by}
 use Rattle.zb_tokens.specs.MoveTake.{rest_of}
@@ -73,9 +76,10 @@ EditKept b P key edit = (c : Cell) → cell_at b key ≡ Some c → P c → P (e
 -- what has to be shown of the cells that a move makes or edits
 abbrev pub CellKept : Board → (Cell → Type 0) → Move → Type 0
 CellKept b P (moves.Stand d) = Unit {0}
-CellKept b P (moves.Start s) = (node : List ℕ) → IsTrue (is_some (model_under b s.definition)) → P (new_cell s.key 0 s.definition node false)
-CellKept b P (moves.Enter e) = (c : Cell) (m : Model) → cell_at b e.scope ≡ Some c → P (entering e c m)
-CellKept b P (moves.Open key) = EditKept b P key (in_phase phases.Active [])
+CellKept b P (moves.Start s) = (node : List ℕ) → IsTrue (is_some (model_under b s.definition)) → P (new_cell s.key 0 s.definition node roles.Plain false)
+CellKept b P (moves.Enter e) = (c : Cell) (m : Model) → cell_at b e.scope ≡ Some c → model_under b c.definition ≡ Some m → P (entering e c m)
+CellKept b P (moves.Inner i) = ((c : Cell) → cell_at b i.body ≡ Some c → P (run_in i c)) × EditKept b P i.body one_taken
+CellKept b P (moves.Open o) = EditKept b P o.key (with_items o.items)
 CellKept b P (moves.Finish key) = EditKept b P key (in_phase phases.Completing [])
 CellKept b P (moves.Leave l) = ((flow : List ℕ) (owed : List (List ℕ)) → l.owed ≡ flow ∷ owed → EditKept b P l.key (in_phase phases.Leaving (flow ∷ owed))) × ((c : Cell) → P c → P (with_end c))
 CellKept b P (moves.Take t) = (flow : List ℕ) (owed : List (List ℕ)) → EditKept b P t.key (in_phase phases.Leaving (flow ∷ owed))
@@ -101,9 +105,10 @@ module _ (b : Board) (P : Cell → Type 0) (all : All P b.cells) where
 
   made_all : (move : Move) → CellKept b P move → HoldsMade b Each move
   made_all (moves.Stand d) kept = all
-  made_all (moves.Start s) kept = λ m found. All-push P b.cells (new_cell s.key 0 s.definition m.process false) all (kept m.process (rw found refl))
-  made_all (moves.Enter e) kept = λ c m found stand. All-push P b.cells (entering e c m) all (kept c m found)
-  made_all (moves.Open key) kept = λ c m found stands. edit_all key (in_phase phases.Active []) kept
+  made_all (moves.Start s) kept = λ m found. All-push P b.cells (new_cell s.key 0 s.definition m.process roles.Plain false) all (kept m.process (rw found refl))
+  made_all (moves.Enter e) kept = λ c m found under stand. All-push P b.cells (entering e c m) all (kept c m found under)
+  made_all (moves.Inner i) kept = λ c found cells made. All-push P cells (run_in i c) (edit_all i.body one_taken kept.1 cells made) (kept.0 c found)
+  made_all (moves.Open o) kept = λ c m found stands. edit_all o.key (with_items o.items) kept
   made_all (moves.Finish key) kept = edit_all key (in_phase phases.Completing []) kept
   made_all (moves.Leave l) kept = λ c found left made.
       let its = left_all l.owed l.key left kept.0 made in

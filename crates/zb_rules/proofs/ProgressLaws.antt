@@ -1,8 +1,12 @@
 -- Who is forced has an event that applies; where nobody is, the game is quiet.
-use Rattle.std.proofs.Common.{◌≤◌, ◌≡◌, ℕ, ◌==◌, List, [], ◌∷◌, ◌++◌, true, false, IsTrue, is_some, Option, Some, None, ◌↔◌, refl, sym, ap, ◌∙◌, subst, append-nil, append_assoc, arith}
+use Rattle.std.proofs.Common.{◌≤◌, ◌≡◌, ℕ, ◌==◌, List, [], ◌∷◌, ◌++◌, Bool, true, false, if◌then◌else◌, IsTrue, is_some, Option, Some, None, ◌↔◌, refl, sym, ap, ◌∙◌, subst, append-nil, append_assoc, arith}
 use Rattle.std.specs.List.{find}
+use Rattle.std.specs.Option.{option_map_or}
 use Rattle.std.proofs.lemmas.Bool.Decides.{nat_tests}
+use Rattle.zb_instance_records.specs.declared.instance.ElementActivating.{ElementActivating}
+use Rattle.zb_instance_records.specs.declared.instance.Role.{Role}
 use Rattle.zb_instance_records.specs.declared.instance.Role.TheVariants as roles
+use Rattle.zb_process.specs.declared.model.Model.{Model}
 use Rattle.zb_model.specs.declared.record.Command.{Command}
 use Rattle.zb_model.specs.declared.record.Command.TheVariants as commands
 use Rattle.zb_model.specs.declared.record.Event.{Event}
@@ -10,17 +14,22 @@ use Rattle.zb_model.specs.declared.record.Event.TheVariants as events
 use Rattle.zb_views.specs.View.{keys_in, greatest_among, greatest_counter, next_key}
 use Rattle.zb_tokens.specs.declared.board.Cell.{Cell}
 use Rattle.zb_tokens.specs.declared.board.Enter.{Enter}
+use Rattle.zb_tokens.specs.declared.board.Inner.{Inner}
+use Rattle.zb_tokens.specs.declared.board.Open.{Open}
 use Rattle.zb_tokens.specs.declared.board.Move.{Move}
 use Rattle.zb_tokens.specs.declared.board.Move.TheVariants as moves
 use Rattle.zb_tokens.specs.declared.board.Mover.{Mover}
-use Rattle.zb_tokens.specs.Board.{Board, CellsAscend, cell_at}
+use Rattle.zb_tokens.specs.Board.{Board, CellsAscend, cell_at, model_under, is_role}
+use Rattle.zb_tokens.specs.Bodies.{multi_at, role_at}
+use Rattle.zb_tokens.specs.MoveInner.{runs_next}
+use Rattle.zb_tokens.proofs.LeaveLaws.{same_bytes}
 use Rattle.zb_tokens.specs.Incidents.{incident_on}
 use Rattle.zb_tokens.specs.Game.{fits, agrees, played}
 use Rattle.zb_tokens.proofs.GameLaws.{both_left, holds_some}
 use Rattle.zb_tokens.specs.Forced.{next_mover, move_of}
 use Rattle.zb_tokens.proofs.ForcedLaws.{movers_move, movers_fit, movers_agree}
-use Rattle.zb_rules.specs.Shown.{shown, board_of, event_of}
-use Rattle.zb_rules.specs.Applies.{is_fresh, holds_own, holds_of_game, applies, all_apply, is_definition_of}
+use Rattle.zb_rules.specs.Shown.{shown, role_on, board_of, event_of}
+use Rattle.zb_rules.specs.Applies.{is_fresh, holds_own, holds_of_game, applies, all_apply, suits_scope}
 use Rattle.zb_rules.specs.InFront.{events_in_front}
 use Rattle.zb_rules.specs.Behind.{job_canceled_on, resolved_on, events_behind, with_events_behind, catches_closed_on}
 use Rattle.zb_rules.specs.Settling.{turn_of, turn, HasQuietGame}
@@ -47,6 +56,7 @@ use Rattle.zb_rules.proofs.WorkerLaws.{complete_applies, throw_applies, fail_app
 use Rattle.zb_rules.specs.Kinds.{comes_beside}
 use Rattle.zb_rules.proofs.KindsLaws.{kinds_in, front_are, front_beside, behind_beside, own_kinds}
 use Rattle.zb_rules.proofs.LegalLaws.{made_legally, own_never, beside_never, legal_by, each_legal_by}
+use Rattle.zb_rules.proofs.GrowthLaws.{entry_shown}
 use Rattle.zb_rules.proofs.StepLaws.{all_apply_on, all_legal_on}
 use Rattle.zb_rules.proofs.FrontLaws.{begins_end, front_begins_no_end, in_front}
 use Rattle.zb_rules.specs.Subscribe.{opened, taken, turned_away, unsubscribed}
@@ -73,6 +83,41 @@ use Rattle.zb_views.specs.Jobs.{job_on}
 use Rattle.zb_rules.specs.Trigger.{triggered}
 use Rattle.zb_rules.proofs.TriggerLaws.{told_halts, trigger_applies}
 
+-- a role is the same as itself
+same_role : (role : Role) → is_role role role ≡ true
+same_role roles.Plain = refl
+same_role roles.Body = refl
+same_role roles.Inner = refl
+same_role roles.Handler = refl
+
+-- a cell that a token begins is no run of a body
+role_entered : (b : Board) (c : Cell) (node : List ℕ) → is_role (role_on b c node) roles.Inner ≡ false
+role_entered b c node = by_model (model_under b c.definition)
+  where
+    by_test : (t : Bool) → is_role (if t then roles.Body else roles.Plain) roles.Inner ≡ false
+    by_test true = refl
+    by_test false = refl
+
+    by_model : (found : Option Model) → is_role (option_map_or (λ m. role_at m node) found roles.Plain) roles.Inner ≡ false
+    by_model None = refl
+    by_model (Some m) = by_test (is_some (multi_at m node))
+
+-- the event of a run that begins in a body
+abbrev pub run_event : Inner → Cell → Event
+run_event i c = events.ElementActivating (record { key = i.key; scope = i.body; definition = c.definition; node = c.node; role = roles.Inner; via = []; started = [] })
+
+-- under the next key it has what it needs beside its move, and shows that
+pub run_holds : (p : ℕ) (es : List Event) (b : Board) (i : Inner) (c : Cell) → board_of es ≡ Some b → cell_at b i.body ≡ Some c → CellsAscend 1 b.cells → HasKeys p es 1 → i.key ≡ next_key p es
+    → IsTrue (holds_own p es (run_event i c)) × (shown es (run_event i c) ≡ Some (moves.Inner i))
+run_holds p es b i c is found up keys its =
+    let above = found_key 1 i.body b.cells c up found in
+    let inner : (i.body == 0) ≡ false = grind (arith, nat_tests, above) in
+    let fresh : IsTrue (is_fresh p es i.key) = grind (arith, nat_tests) in
+    let same : (c.definition == c.definition) ≡ true = grind (arith, nat_tests) in
+    let a : ElementActivating = record { key = i.key; scope = i.body; definition = c.definition; node = c.node; role = roles.Inner; via = []; started = [] } in
+    let of_scope : IsTrue (holds_of_game (suits_scope a) es) = game_holds_from (suits_scope a) es b is (rw (found, same, same_bytes c.node) refl) in
+    (rw (inner, fresh, of_scope) refl, rw inner refl)
+
 module _ (p moment : ℕ) (es : List Event) (b : Board) (mover : Mover) (is : board_of es ≡ Some b) (k : BoardKeeps p es b) where
   event_by : (move : Move) (e : Event) → move_of b moment (next_key p es) mover ≡ Some move → IsTrue (fits b move) → IsTrue (agrees b moment move) → event_of b move ≡ Some e
       → IsTrue (holds_own p (es ++ events_in_front b move es) e) → shown (es ++ events_in_front b move es) e ≡ Some move → IsForcedEvent p moment es b mover
@@ -95,20 +140,33 @@ module _ (p moment : ℕ) (es : List Event) (b : Board) (mover : Mover) (is : bo
       let inner : (e.scope == 0) ≡ false = grind (arith, nat_tests, above) in
       let fresh : IsTrue (is_fresh p es e.key) = grind (arith, nat_tests) in
       let same : (c.definition == c.definition) ≡ true = grind (arith, nat_tests) in
-      let of_scope : IsTrue (holds_of_game (is_definition_of e.scope c.definition) es) = game_holds_from (is_definition_of e.scope c.definition) es b is (rw (found, same) refl) in
-      event_by (moves.Enter e) (events.ElementActivating (record { key = e.key; scope = e.scope; definition = c.definition; node = e.node; role = roles.Plain; via = e.via; started = [] }))
-      made fit refl (rw found refl) (rw (append-nil es, inner, fresh, of_scope) refl) (rw inner refl)
+      let a : ElementActivating = record { key = e.key; scope = e.scope; definition = c.definition; node = e.node; role = role_on b c e.node; via = e.via; started = [] } in
+      let plain = role_entered b c e.node in
+      let alike = same_role a.role in
+      let of_scope : IsTrue (holds_of_game (suits_scope a) es) = game_holds_from (suits_scope a) es b is (rw (found, same, plain, alike) refl) in
+      event_by (moves.Enter e) (events.ElementActivating a) made fit refl (rw found refl) (rw (append-nil es, inner, fresh, of_scope) refl) (rw (inner, entry_shown a a.role plain) refl)
 
   enters : (e : Enter) → CellsAscend 1 b.cells → HasKeys p es 1 → e.key ≡ next_key p es → move_of b moment (next_key p es) mover ≡ Some (moves.Enter e) → IsTrue (fits b (moves.Enter e)) → IsForcedEvent p moment es b mover
   enters e up keys its made fit =
       let found = some_of (cell_at b e.scope) (holds_some _ (cell_at b e.scope) fit) in
       enters_in e found.0 found.1 up keys its made fit
 
+  runs_in : (i : Inner) (c : Cell) → cell_at b i.body ≡ Some c → CellsAscend 1 b.cells → HasKeys p es 1 → i.key ≡ next_key p es → move_of b moment (next_key p es) mover ≡ Some (moves.Inner i) → IsTrue (fits b (moves.Inner i)) → IsForcedEvent p moment es b mover
+  runs_in i c found up keys its made fit =
+      let run = run_holds p es b i c is found up keys its in
+      event_by (moves.Inner i) (run_event i c) made fit refl (rw found refl) (subst (λ (before : List Event). IsTrue (holds_own p before (run_event i c))) (sym (append-nil es)) run.0) run.1
+
+  begins_run : (i : Inner) → CellsAscend 1 b.cells → HasKeys p es 1 → i.key ≡ next_key p es → move_of b moment (next_key p es) mover ≡ Some (moves.Inner i) → IsTrue (fits b (moves.Inner i)) → IsForcedEvent p moment es b mover
+  begins_run i up keys its made fit =
+      let found = some_of (cell_at b i.body) (holds_some (runs_next b) (cell_at b i.body) fit) in
+      runs_in i found.0 found.1 up keys its made fit
+
   forced_by : (move : Move) → CellsAscend 1 b.cells → HasKeys p es 1 → IsMade (next_key p es) move → move_of b moment (next_key p es) mover ≡ Some move → IsTrue (fits b move) → IsTrue (agrees b moment move) → IsForcedEvent p moment es b mover
   forced_by (moves.Stand d) up keys from made fit agreed = absurd from
   forced_by (moves.Start s) up keys from made fit agreed = absurd from
   forced_by (moves.Enter e) up keys from made fit agreed = enters e up keys from made fit
-  forced_by (moves.Open key) up keys from made fit agreed = event_by (moves.Open key) (events.ElementActivated (record { key = key; items = [] })) made fit agreed refl refl refl
+  forced_by (moves.Inner i) up keys from made fit agreed = begins_run i up keys from made fit
+  forced_by (moves.Open o) up keys from made fit agreed = event_by (moves.Open o) (events.ElementActivated (record { key = o.key; items = o.items })) made fit agreed refl refl refl
   forced_by (moves.Finish key) up keys from made fit agreed = event_by (moves.Finish key) (events.ElementCompleting key) made fit agreed refl refl refl
   forced_by (moves.Leave l) up keys from made fit agreed = event_by (moves.Leave l) (events.ElementCompleted (record { key = l.key; owed = l.owed })) made fit agreed refl refl refl
   forced_by (moves.Take t) up keys from made fit agreed = event_by (moves.Take t) (events.SequenceFlowTaken (record { key = t.key; flow = t.flow })) made fit agreed refl refl refl
@@ -180,15 +238,15 @@ module _ (p moment : ℕ) (es : List Event) (b : Board) (mover : Mover) (is : bo
   set_in_front : IsSetBehind p es b front
   set_in_front = set_behind p front es b (front_are b f.move es) is k keys f.in_front
 
-  open_follows : (key : ℕ) → f.move ≡ moves.Open key → (event : Event) (after : Board) → events.ElementActivated (record { key = key; items = [] }) ≡ event
-      → Advances p (es ++ front) set_in_front.after event after → MayHaveWork p ((es ++ front) ++ events.ElementActivated (record { key = key; items = [] }) ∷ []) after key
-  open_follows key its event after told h =
+  open_follows : (o : Open) → f.move ≡ moves.Open o → (event : Event) (after : Board) → events.ElementActivated (record { key = o.key; items = o.items }) ≡ event
+      → Advances p (es ++ front) set_in_front.after event after → MayHaveWork p ((es ++ front) ++ events.ElementActivated (record { key = o.key; items = o.items }) ∷ []) after o.key
+  open_follows o its event after told h =
       let s = set_in_front in
       let up = from_none b.cells (ascend_between 1 (next_key p es) b.cells k.stands.between) in
-      let made : move_of b moment (next_key p es) mover ≡ Some (moves.Open key) = f.is_move ∙ ap Some its in
-      let free = opens_free b moment (next_key p es) key mover up next made in
-      let still : incident_on s.after key ≡ None = ap (find (λ i. i.cell == key)) s.incidents ∙ free in
-      opened_may_work p (es ++ front) s.after s.is s.keeps s.keys key still after (subst (λ (x : Event). Advances p (es ++ front) s.after x after) (sym told) h)
+      let made : move_of b moment (next_key p es) mover ≡ Some (moves.Open o) = f.is_move ∙ ap Some its in
+      let free = opens_free b moment (next_key p es) o mover up next made in
+      let still : incident_on s.after o.key ≡ None = ap (find (λ i. i.cell == o.key)) s.incidents ∙ free in
+      opened_may_work p (es ++ front) s.after s.is s.keeps s.keys o still after (subst (λ (x : Event). Advances p (es ++ front) s.after x after) (sym told) h)
 
   -- behind an event that names a cell that is there and draws no key a message may start an instance
   restarts : (key : ℕ) → keys_in f.event ≡ key ∷ [] → IsTrue (is_some (cell_at set_in_front.after key)) → MayRestart p ((es ++ front) ++ f.event ∷ [])
@@ -211,15 +269,14 @@ module _ (p moment : ℕ) (es : List Event) (b : Board) (mover : Mover) (is : bo
       let after_is = board_behind p (es ++ front) s.after f.event r.0 r.1 in
       let keeps = keeps_on p (es ++ front) s.after f.event r.0 r.1 s.keeps in
       let may : MayFollow p ((es ++ front) ++ f.event ∷ []) r.0 f.event = follows_by p ((es ++ front) ++ f.event ∷ []) r.0 b f.move f.event f.is_event
-      (λ key its.
-      let told : events.ElementActivated (record { key = key; items = [] }) ≡ f.event = (let e : event_of b (moves.Open key) ≡ Some f.event = subst (λ (m : Move). event_of b m ≡ Some f.event) its f.is_event in cc) in
-      subst (λ (x : Event). MayHaveWork p ((es ++ front) ++ x ∷ []) r.0 key) told (open_follows key its f.event r.0 told r.1))
-      (λ key. (keeps.incidents.apart, keeps.timers))
+      (λ o its.
+      let told : events.ElementActivated (record { key = o.key; items = o.items }) ≡ f.event = (let e : event_of b (moves.Open o) ≡ Some f.event = subst (λ (m : Move). event_of b m ≡ Some f.event) its f.is_event in cc) in
+      subst (λ (x : Event). MayHaveWork p ((es ++ front) ++ x ∷ []) r.0 o.key) told (open_follows o its f.event r.0 told r.1))
       (λ t its.
       let shows : shown (es ++ front) f.event ≡ Some (moves.Trigger t) = f.shows ∙ ap Some its in
       let fit : IsTrue (fits s.after (moves.Trigger t)) = (let h = r.1.fit in rw shows at h) in
       let led : played s.after (moves.Trigger t) ≡ Some r.0 = (let h = r.1.leads in rw shows at h) in
-      record { halts = told_halts p (es ++ front) s.after r.0 t s.keeps fit led; apart = keeps.incidents.apart; timed = keeps.timers }) keeps.timers
+      record { halts = told_halts p (es ++ front) s.after r.0 t s.keeps fit led; apart = keeps.incidents.apart; timed = keeps.timers }) keeps
       (λ l its.
       let told : events.ElementCompleted (record { key = l.key; owed = l.owed }) ≡ f.event = (let e : event_of b (moves.Leave l) ≡ Some f.event = subst (λ (m : Move). event_of b m ≡ Some f.event) its f.is_event in cc) in
       let shows : shown (es ++ front) f.event ≡ Some (moves.Leave l) = f.shows ∙ ap Some its in

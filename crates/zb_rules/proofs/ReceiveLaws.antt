@@ -15,7 +15,7 @@ use Rattle.zb_views.proofs.StandingLaws.{each_changed}
 use Rattle.zb_tokens.specs.declared.board.Assignments.{Assignments}
 use Rattle.zb_tokens.specs.declared.board.Cell.{Cell}
 use Rattle.zb_tokens.specs.declared.board.Triggered.{Triggered}
-use Rattle.zb_tokens.specs.Board.{Board, cell_at}
+use Rattle.zb_tokens.specs.Board.{Board, cell_at, holds_cells}
 use Rattle.zb_tokens.specs.Mappings.{gives_outputs}
 use Rattle.zb_tokens.specs.MoveTrigger.{awaits_event, is_awaited}
 use Rattle.zb_tokens.proofs.GameLaws.{found_passes, found_holds, holds_some}
@@ -26,13 +26,13 @@ use Rattle.zb_rules.specs.Making.{and_then}
 use Rattle.zb_rules.specs.Receive.{against, reason_to_confirm, reason_to_forget, waits_for_message, reason_to_pass_over, reason_to_receive, confirmed, forgotten, closed_after, brought_to, brought, event_of_subscription, receive_events, received}
 use Rattle.zb_rules.specs.Shown.{board_of, holds_of_game}
 use Rattle.zb_rules.specs.Subscribe.{unknown_subscription}
-use Rattle.zb_rules.specs.Sound.{holds_others}
+use Rattle.zb_rules.specs.Sound.{holds_by}
 use Rattle.zb_rules.specs.WaitEvents.{is_waiting, is_open}
 use Rattle.zb_rules.proofs.AppliedLaws.{game_holds, holds_on, some_of}
 use Rattle.zb_rules.proofs.BlindLaws.{awaited_still}
 use Rattle.zb_rules.proofs.MadeLaws.{is_keyed}
 use Rattle.zb_rules.proofs.OwnLaws.{silent_applies}
-use Rattle.zb_rules.proofs.PlacedLaws.{InScope, inner_scope}
+use Rattle.zb_rules.proofs.PlacedLaws.{InScope, inner_scope, scopes_of}
 use Rattle.zb_rules.proofs.ScopesLaws.{at_cell}
 use Rattle.zb_rules.proofs.SoundLaws.{BoardKeeps, keeps_on}
 use Rattle.zb_rules.proofs.StepLaws.{all_apply_on}
@@ -116,8 +116,8 @@ module _ (p : ℕ) (es : List Event) (b : Board) (is : board_of es ≡ Some b) (
         by_test : (t : Bool) → IsTrue (has_cell (brings t).scope b)
         by_test true = rw at refl
         by_test false =
-            let scope = inner_scope b cell (found_holds (is_keyed s.cell) (InScope b) b.cells cell k.placed.scopes at).0 (awaits_inner b event cell waits) in
-            holds_some (holds_others b) (cell_at b cell.scope) scope.0
+            let scope = inner_scope b cell (found_holds (is_keyed s.cell) (InScope b) b.cells cell (scopes_of b k.placed) at).0 (awaits_inner b event cell waits) in
+            holds_some (holds_by holds_cells b) (cell_at b cell.scope) scope.0
 
     set_apply : (a : Assignments) → IsTrue (has_cell a.scope b) → IsTrue (all_apply p es (set_all a es ++ happens (es ++ set_all a es)))
     set_apply a there =

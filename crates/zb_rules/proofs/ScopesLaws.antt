@@ -1,18 +1,20 @@
--- Scopes: a cell at a scope of its model that is active or terminating. What holds of the cell with a key is kept by edits.
+-- Cells in which others, or tokens, may be. What holds of the cell with a key is kept by edits.
 use Rattle.std.proofs.Common.{◌≡◌, ℕ, ◌==◌, List, [], ◌∷◌, ◌++◌, filter, Bool, true, false, ◌&&◌, not, if◌then◌else◌, IsTrue, Option, Some, None, option_map, refl, sym, ap, ◌∙◌, subst, arith}
 use Rattle.std.specs.Option.{option_map_or, option_or}
 use Rattle.std.specs.List.{find}
-use Rattle.std.proofs.lemmas.Bool.{and_right}
+use Rattle.std.proofs.lemmas.Bool.{and_from, and_right, or_left}
 use Rattle.std.proofs.lemmas.Bool.Decides.{nat_tests}
 use Rattle.std.proofs.lemmas.List.Folds.{find-append}
+use Rattle.zb_process.specs.declared.model.Model.{Model}
 use Rattle.zb_tokens.specs.declared.board.Cell.{Cell}
 use Rattle.zb_tokens.specs.declared.board.Deployed.{Deployed}
+use Rattle.zb_tokens.specs.declared.board.Mark.TheVariants as marks
 use Rattle.zb_tokens.specs.declared.board.Phase.{Phase}
 use Rattle.zb_tokens.specs.declared.board.Phase.TheVariants as phases
 use Rattle.zb_tokens.specs.Edits.{edited, removed}
-use Rattle.zb_tokens.specs.Board.{Board, cell_at, in_phase, is_phase, is_scope_in, leaves_in}
+use Rattle.zb_tokens.specs.Board.{Board, cell_at, model_under, is_body, is_phase, holds_cells, holds_tokens, leaves_in}
 use Rattle.zb_tokens.proofs.GameLaws.{both_left, both_right, holds_some, found_through}
-use Rattle.zb_rules.specs.Sound.{runs, holds_others, is_scope}
+use Rattle.zb_rules.specs.Sound.{runs, holds_by, is_around}
 use Rattle.zb_rules.proofs.MadeLaws.{is_keyed}
 use Rattle.zb_rules.proofs.AppliedLaws.{some_of}
 use Rattle.zb_rules.proofs.ModelsLaws.{among_more}
@@ -116,7 +118,7 @@ module _ (holds : Cell → Bool) where
   abbrev pub OthersKept : ℕ → List Cell → List Cell → Type 0
   OthersKept key cells after = (q : ℕ) → (q == key) ≡ false → IsTrue (holds_among q cells) → IsTrue (holds_among q after)
 
-  -- an edit of the one with the key keeps each other scope
+  -- an edit of the one with the key keeps it of each other
   pub others_edited : (key : ℕ) (edit : Cell → Cell) (cells after : List Cell) → ((c : Cell) → (edit c).key ≡ c.key) → edited (is_keyed key) edit cells ≡ Some after → OthersKept key cells after
   others_edited key edit cells after keeps made q apart is = rw (edited_other key q apart edit cells after keeps made) is
 
@@ -163,38 +165,77 @@ module _ (holds : Cell → Bool) where
   pub kept_more : (cells more : List Cell) → AreKept cells (cells ++ more)
   kept_more cells more q is = rw (find-append (is_keyed q) cells more) (more_by (find (is_keyed q) cells) (find (is_keyed q) more) is)
 
--- each scope of a board is one of another
+-- a cell without what it goes through
+abbrev pub bare : Cell → Cell
+bare c = record c { phase = phases.Activating; mark = marks.Unset; items = []; taken = 0; owed = []; finished = []; ending = false; variables = [] }
+
+-- a test of a cell in its model looks at nothing that the cell goes through, and passes none in which no other may be
+pub record IsOfPlace (holds : Model → Cell → Bool) : Type 0 where
+  pub bared : (m : Model) (c : Cell) → holds m c ≡ holds m (bare c)
+  pub within : (m : Model) (c : Cell) → IsTrue (holds m c) → IsTrue (holds_cells m c)
+
+-- that others may be in a cell is such a test
+pub cells_of_place : IsOfPlace holds_cells
+cells_of_place = record { bared = λ m c. refl; within = λ m c is. is }
+
+-- and so is that tokens may
+pub tokens_of_place : IsOfPlace holds_tokens
+tokens_of_place = record { bared = λ m c. refl; within = λ m c is. or_left (holds_tokens m c) (is_body c) is }
+
+-- of each cell of a board of which such a test holds it holds on another
 abbrev pub ScopesKept : Board → Board → Type 0
-ScopesKept b after = (q : ℕ) → IsTrue (is_scope b q) → IsTrue (is_scope after q)
+ScopesKept b after = (holds : Model → Cell → Bool) → IsOfPlace holds → (q : ℕ) → IsTrue (is_around holds b q) → IsTrue (is_around holds after q)
 
-module _ (b : Board) where
-  -- a cell in another phase is none
-  pub no_scope_in : (c : Cell) (phase : Phase) → IsTrue (is_phase c.phase phase) → runs phase ≡ false → holds_others b c ≡ false
-  no_scope_in c phase is apart = rw (phase_is c.phase phase is, apart) refl
+-- a cell in another phase neither runs nor terminates
+pub no_run : (c : Cell) (phase : Phase) → IsTrue (is_phase c.phase phase) → runs phase ≡ false → runs c.phase ≡ false
+no_run c phase is apart = rw (phase_is c.phase phase is) apart
 
-  -- a scope stays one as it begins to run or to terminate
-  pub scope_still : (c : Cell) (phase : Phase) (owed : List (List ℕ)) → IsTrue (runs phase) → IsTrue (holds_others b c) → IsTrue (holds_others b (in_phase phase owed c))
-  scope_still c phase owed does is = rw does (both_right (runs c.phase) _ is)
+-- one that does doesn't leave
+leaves_by : (c : Cell) (same leaves : Bool) → is_phase c.phase phases.Leaving ≡ leaves → IsTrue (runs c.phase) → not (same && leaves) ≡ true
+leaves_by c same true leaves is = absurd (let none = no_run c phases.Leaving leaves refl in cc)
+leaves_by c same false stays is = rw (and_right same false refl) refl
 
-  -- a scope doesn't leave
-  leaves_by : (c : Cell) (same leaves : Bool) → is_phase c.phase phases.Leaving ≡ leaves → IsTrue (holds_others b c) → not (same && leaves) ≡ true
-  leaves_by c same true leaves is = absurd (let none = no_scope_in c phases.Leaving leaves refl in cc)
-  leaves_by c same false stays is = rw (and_right same false refl) refl
+module _ (b : Board) (holds : Model → Cell → Bool) where
+  -- a cell that doesn't run holds nothing
+  pub holds_none : (c : Cell) → runs c.phase ≡ false → holds_by holds b c ≡ false
+  holds_none c out = rw out refl
 
-  -- a cell in which others may be isn't one that leaves
-  pub scope_stays : (scope : ℕ) (c : Cell) → IsTrue (holds_others b c) → not (leaves_in scope c) ≡ true
-  scope_stays scope c is = leaves_by c (c.scope == scope) (is_phase c.phase phases.Leaving) refl is
+  -- a cell that holds others isn't one that leaves
+  pub scope_stays : (scope : ℕ) (c : Cell) → IsTrue (holds_by holds b c) → not (leaves_in scope c) ≡ true
+  scope_stays scope c is = leaves_by c (c.scope == scope) (is_phase c.phase phases.Leaving) refl (both_left (runs c.phase) _ is)
 
-  -- where there are more models, a scope is one still
-  scope_grown : (more : List Deployed) (c : Cell) → IsTrue (holds_others b c) → IsTrue (holds_others (record b { models = b.models ++ more }) c)
+  bare_by : IsOfPlace holds → (c : Cell) (found : Option Model) → option_map_or (λ m. holds m c) found false ≡ option_map_or (λ m. holds m (bare c)) found false
+  bare_by place c None = refl
+  bare_by place c (Some m) = place.bared m c
+
+  -- at its place a cell holds them still, in whatever phase it runs or terminates
+  pub still_holds : IsOfPlace holds → (c other : Cell) → bare c ≡ bare other → IsTrue (runs other.phase) → IsTrue (holds_by holds b c) → IsTrue (holds_by holds b other)
+  still_holds place c other same does is =
+      let here : IsTrue (option_map_or (λ m. holds m (bare c)) (model_under b c.definition) false) = sym (bare_by place c (model_under b c.definition)) ∙ both_right (runs c.phase) _ is in
+      let there : IsTrue (option_map_or (λ m. holds m (bare other)) (model_under b other.definition) false) = subst (λ (x : Cell). IsTrue (option_map_or (λ m. holds m x) (model_under b x.definition) false)) same here in
+      and_from (runs other.phase) _ does (bare_by place other (model_under b other.definition) ∙ there)
+
+  -- where there are more models, it holds them still
+  scope_grown : (more : List Deployed) (c : Cell) → IsTrue (holds_by holds b c) → IsTrue (holds_by holds (record b { models = b.models ++ more }) c)
   scope_grown more c is =
       let does = both_left (runs c.phase) _ is in
-      rw does (among_more (λ o. option_map_or (λ m. is_scope_in m c) o false) c.definition b.models more refl (both_right (runs c.phase) _ is))
+      rw does (among_more (λ o. option_map_or (λ m. holds m c) o false) c.definition b.models more refl (both_right (runs c.phase) _ is))
 
-  weaker_of : (f g : Cell → Bool) (found : Option Cell) → ((c : Cell) → IsTrue (f c) → IsTrue (g c)) → IsTrue (option_map_or f found false) → IsTrue (option_map_or g found false)
-  weaker_of f g None weaker is = absurd (cc)
-  weaker_of f g (Some c) weaker is = weaker c is
+weaker_of : (f g : Cell → Bool) (found : Option Cell) → ((c : Cell) → IsTrue (f c) → IsTrue (g c)) → IsTrue (option_map_or f found false) → IsTrue (option_map_or g found false)
+weaker_of f g None weaker is = absurd (cc)
+weaker_of f g (Some c) weaker is = weaker c is
 
-  -- more models keep each scope
-  pub scopes_grown : (more : List Deployed) → ScopesKept b (record b { models = b.models ++ more })
-  scopes_grown more q is = weaker_of (holds_others b) (holds_others (record b { models = b.models ++ more })) (cell_at b q) (scope_grown more) is
+-- more models keep each scope
+pub scopes_grown : (b : Board) (more : List Deployed) → ScopesKept b (record b { models = b.models ++ more })
+scopes_grown b more holds place q is = weaker_of (holds_by holds b) (holds_by holds (record b { models = b.models ++ more })) (cell_at b q) (scope_grown b holds more) is
+
+-- what holds tokens holds cells
+pub around_cells : (b : Board) (holds : Model → Cell → Bool) → IsOfPlace holds → (q : ℕ) → IsTrue (is_around holds b q) → IsTrue (is_around holds_cells b q)
+around_cells b holds place q is = weaker_of (holds_by holds b) (holds_by holds_cells b) (cell_at b q) by_cell is
+  where
+    by_model : (c : Cell) (found : Option Model) → IsTrue (option_map_or (λ m. holds m c) found false) → IsTrue (option_map_or (λ m. holds_cells m c) found false)
+    by_model c None its = absurd (cc)
+    by_model c (Some m) its = place.within m c its
+
+    by_cell : (c : Cell) → IsTrue (holds_by holds b c) → IsTrue (holds_by holds_cells b c)
+    by_cell c its = and_from (runs c.phase) _ (both_left (runs c.phase) _ its) (by_model c (model_under b c.definition) (both_right (runs c.phase) _ its))

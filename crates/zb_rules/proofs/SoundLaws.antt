@@ -15,16 +15,16 @@ use Rattle.zb_tokens.proofs.GameLaws.{both_left}
 use Rattle.zb_faults.specs.Faults.{is_well_formed}
 use Rattle.zb_tokens.specs.declared.board.Deployed.{Deployed}
 use Rattle.zb_rules.proofs.ModelsLaws.{HasFormedModels, formed_on}
-use Rattle.zb_rules.specs.Shown.{shown, board_of}
+use Rattle.zb_rules.specs.Shown.{shown, move_of_cell, board_of}
 use Rattle.zb_rules.specs.Applies.{is_fresh, begins_instance, begins_cell, all_apply}
 use Rattle.zb_rules.specs.Sound.{IsSound, HasSoundJobs}
 use Rattle.zb_rules.proofs.TimerSoundLaws.{HasSoundTimers, timers_sound_on, timers_sound_first}
 use Rattle.zb_rules.proofs.CellsLaws.{Between, ascend_between}
-use Rattle.zb_rules.proofs.GrowthLaws.{job_shows}
+use Rattle.zb_rules.proofs.GrowthLaws.{job_shows, started, cell_shows}
 use Rattle.zb_rules.proofs.AppliedLaws.{Advances, holds_on, holds_of_all}
 use Rattle.zb_rules.proofs.KeysLaws.{HasOrderedCells, board_stands, stands_on, stands_first, begins_by, fresh_is}
-use Rattle.zb_rules.proofs.OwesLaws.{HasModel, Owes, models_on, owes_on}
-use Rattle.zb_rules.proofs.PlacedLaws.{InScope, IsIn, Placed, IsNewIn, placed_on}
+use Rattle.zb_rules.proofs.OwesLaws.{HasModel, Owes, all_owe, models_on, owes_on}
+use Rattle.zb_rules.proofs.PlacedLaws.{Stands, IsIn, Placed, IsNewIn, placed_on, scopes_of}
 use Rattle.zb_rules.proofs.IncidentsLaws.{HasApartIncidents, apart_on, apart_first}
 use Rattle.zb_rules.proofs.JobCellsLaws.{IsUntold, untold_on}
 use Rattle.zb_rules.proofs.JobSoundLaws.{IsDrawn, jobs_on, jobs_first, drawn_on}
@@ -41,11 +41,12 @@ cells_ascend p es b apply is = ascend_between 1 (next_key p es) b.cells (board_s
 
 -- where a cell enters, its key is behind all
 new_by : (p : ℕ) (before : List Event) (b : Board) (a : ElementActivating) (t : Bool) → HasOrderedCells p before b → IsTrue (if t then begins_instance before a else begins_cell p before a)
-    → IfSome (if t then Some (moves.Start (record { key = a.key; definition = a.definition })) else Some (moves.Enter (record { key = a.key; scope = a.scope; node = a.node; via = a.via }))) (IsNewIn b)
+    → IfSome (if t then Some (moves.Start (started a)) else Some (move_of_cell a a.role)) (IsNewIn b)
 new_by p before b a true stands begins = tt
 new_by p before b a false stands begins =
     let f = fresh_is p before a.key (both_left (is_fresh p before a.key) _ (both_left _ _ begins)) in
-    subst (λ (k : ℕ). Between 1 k b.cells) (sym f.1) stands.between
+    let new = subst (λ (k : ℕ). Between 1 k b.cells) (sym f.1) stands.between in
+    cell_shows (IsNewIn b) a a.role new new
 
 shown_new : (p : ℕ) (before : List Event) (b : Board) (e : Event) (after : Board) → Advances p before b e after → HasOrderedCells p before b → IfSome (shown before e) (IsNewIn b)
 shown_new p before b (events.ElementActivating a) after h stands = new_by p before b a (a.scope == 0) stands (begins_by p before a h.own)
@@ -77,7 +78,7 @@ keeps_on p before b e after h k = record {
   jobs = jobs_on p before b e after h k.incidents.apart k.drawn k.jobs;
   timers = timers_sound_on p before b e after h k.timers;
   drawn = drawn_on p before b e after h k.jobs k.drawn;
-  unset = untold_on b after (shown before e) (ascend_between 1 (next_key p before) b.cells k.stands.between, k.placed.scopes) h.fit h.leads k.unset;
+  unset = untold_on b after (shown before e) (ascend_between 1 (next_key p before) b.cells k.stands.between, scopes_of b k.placed) h.fit h.leads k.unset;
   formed = formed_on p before b e after h k.formed;
 }
 
@@ -87,7 +88,7 @@ keeps_first p = record {
   stands = stands_first p;
   models = All-nil (HasModel empty_board);
   owes = All-nil Owes;
-  placed = record { scopes = All-nil (InScope empty_board); tokens = All-nil (IsIn empty_board) };
+  placed = record { cells = All-nil (Stands empty_board); tokens = All-nil (IsIn empty_board) };
   incidents = apart_first p;
   jobs = jobs_first p;
   timers = timers_sound_first p;
@@ -103,10 +104,10 @@ board_keeps p es b apply is = holds_of_all p (BoardKeeps p) (keeps_on p) es b (k
 sound_from : (p : ℕ) (es : List Event) (b : Board) → BoardKeeps p es b → IsSound b
 sound_from p es b k = record {
   cells = ascend_between 1 (next_key p es) b.cells k.stands.between;
-  scopes = k.placed.scopes;
+  scopes = scopes_of b k.placed;
   models = k.models;
   tokens = k.placed.tokens;
-  leaving = k.owes;
+  leaving = all_owe b.cells k.owes;
   incidents = k.incidents.apart;
 }
 

@@ -3,7 +3,7 @@ use Rattle.std.proofs.Common.{◌≡◌, ℕ, ◌==◌, nat_le, List, [], ◌∷
 use Rattle.std.specs.Option.{option_map_or}
 use Rattle.std.specs.List.{find, list_any}
 use Rattle.std.specs.Str.{bytes_eq}
-use Rattle.std.proofs.lemmas.Bool.{and_parts, or_left, or_right}
+use Rattle.std.proofs.lemmas.Bool.{and_parts, or_left, or_right, not-true}
 use Rattle.std.proofs.lemmas.Bool.Decides.{nat_tests}
 use Rattle.std.proofs.lemmas.List.Folds.{list_any-append}
 use Rattle.std.proofs.lemmas.Slice.Eq.{bytes_eq-Decides}
@@ -22,7 +22,7 @@ use Rattle.zb_tokens.specs.declared.board.Phase.TheVariants as phases
 use Rattle.zb_tokens.specs.declared.board.Spot.TheVariants as spots
 use Rattle.zb_tokens.specs.declared.board.Token.{Token}
 use Rattle.zb_tokens.specs.declared.board.Triggered.{Triggered}
-use Rattle.zb_tokens.specs.Board.{Board, cell_at, model_under, node_with, is_phase, is_root, with_token}
+use Rattle.zb_tokens.specs.Board.{Board, cell_at, model_under, node_with, is_inner, is_phase, is_root, with_token}
 use Rattle.zb_tokens.specs.Doom.{is_doomed}
 use Rattle.zb_tokens.specs.Game.{fits, played}
 use Rattle.zb_tokens.proofs.GameLaws.{both_left, both_right, found_passes}
@@ -36,6 +36,7 @@ use Rattle.zb_rules.specs.Shown.{shown, board_of, holds_of_game}
 use Rattle.zb_rules.specs.Applies.{applies, all_apply}
 use Rattle.zb_rules.proofs.AppliedLaws.{applied_from, applied_board, board_behind, game_holds}
 use Rattle.zb_rules.proofs.MadeLaws.{made_holds}
+use Rattle.zb_rules.proofs.PlacedLaws.{scopes_of}
 use Rattle.zb_rules.proofs.ScopesLaws.{edited_found}
 use Rattle.zb_rules.proofs.CellsLaws.{ascend_between}
 use Rattle.zb_rules.proofs.CatchLaws.{told_runs}
@@ -90,15 +91,16 @@ module _ (b : Board) (t : Triggered) (c : Cell) (found : cell_at b t.cell ≡ So
   by_node m None at ends = absurd (cc)
   by_node m (Some n) at ends = node_interrupts m n at ends
 
-  by_model : (m : Option Model) → model_under b c.definition ≡ m → IsTrue (option_map_or (λ x. option_map_or (λ n. n.cancel && is_boundary_of c.node n) (node_with x t.node) false) m false) → is_interrupted placed c ≡ true
-  by_model None stands ends = absurd (cc)
-  by_model (Some m) stands ends = rw stands (by_node m (node_with m t.node) refl ends)
+  by_model : is_inner c ≡ false → (m : Option Model) → model_under b c.definition ≡ m → IsTrue (option_map_or (λ x. option_map_or (λ n. n.cancel && is_boundary_of c.node n) (node_with x t.node) false) m false) → is_interrupted placed c ≡ true
+  by_model plain None stands ends = absurd (cc)
+  by_model plain (Some m) stands ends = rw (plain, stands) (by_node m (node_with m t.node) refl ends)
 
   -- the cell of a boundary event that interrupts may begin to terminate
   cell_halts : IsTrue (ends_cell placed t c) → IsTrue (fits placed (moves.Halt t.cell))
   cell_halts ends =
       let alive = active_alive c c.phase refl runs in
-      let interrupted = by_model (model_under b c.definition) refl (both_right (is_none (mark_by b t c)) _ ends) in
+      let parts = and_parts (not (is_inner c)) _ (both_right (is_none (mark_by b t c)) _ ends) in
+      let interrupted = by_model (not-true (is_inner c) parts.0) (model_under b c.definition) refl parts.1 in
       rw (found, alive, interrupted) (three_ways (is_root c) (is_doomed placed c))
 
 none_of_some : {A : Type 0} (o : Option A) (x : A) → o ≡ Some x → IsTrue (is_none o) → ⊥
@@ -113,7 +115,7 @@ told_halts p es b after t k fit led = made_holds b (λ (x : Board). IsTrue (is_i
           let now : cell_at (record b { cells = cells }) t.cell ≡ Some (with_mark mark c) = edited_found t.cell (with_mark mark) c b.cells cells (λ x. refl) found made in
           let its : IsTrue (ends_cell (record b { cells = cells }) t (with_mark mark c)) = rw now at ends in
           absurd (none_of_some (mark_by b t c) mark at (both_left (is_none (mark_by b t c)) _ its)),
-      λ at ends. cell_halts b t c found (told_runs b (ascend_between 1 (next_key p es) b.cells k.stands.between) k.placed.scopes t c found fit (awaits_active b t c)) (rw found at ends),
+      λ at ends. cell_halts b t c found (told_runs b (ascend_between 1 (next_key p es) b.cells k.stands.between) (scopes_of b k.placed) t c found fit (awaits_active b t c)) (rw found at ends),
     )) led
 
 module _ (p : ℕ) (es : List Event) (b : Board) (is : board_of es ≡ Some b) (k : BoardKeeps p es b) where

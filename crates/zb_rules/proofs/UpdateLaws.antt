@@ -27,6 +27,7 @@ use Rattle.zb_rules.proofs.CellsLaws.{ascend_between}
 use Rattle.zb_rules.proofs.ScopesLaws.{kept_edited}
 use Rattle.zb_rules.proofs.SoundLaws.{BoardKeeps, keeps_on, board_is_there, cells_ascend, board_keeps}
 use Rattle.zb_rules.proofs.HolderLaws.{holder_there}
+use Rattle.zb_rules.proofs.PlacedLaws.{scopes_of}
 use Rattle.zb_rules.proofs.OwnLaws.{silent_applies}
 
 -- a cell is there
@@ -79,7 +80,7 @@ module _ (p : ℕ) (before : List Event) (b : Board) (is : board_of before ≡ S
   -- wherever it is set from one that is there
   set_from : (local : Bool) (scope : ℕ) (v : Variable) (c : Cell) → BoardKeeps p before b → cell_at b scope ≡ Some c → IsSet p before b (set_by local scope v before)
   set_from local scope v c k found = subst (λ (o : Option ℕ). IsSet p before b (option_map_or (λ x. set_in x v before) o [])) (sym (place_is local scope v.name))
-      (local_by local scope v c found (holder_there b (ascend_between 1 (next_key p before) b.cells k.stands.between) k.placed.scopes v.name scope c found))
+      (local_by local scope v c found (holder_there b (ascend_between 1 (next_key p before) b.cells k.stands.between) (scopes_of b k.placed) v.name scope c found))
 
 -- what holds of a board still does as a value is set
 abbrev pub KeptBySetting : (Board → Type 0) → Type 0
@@ -142,7 +143,7 @@ pub holder_is_there : (p : ℕ) (es : List Event) (b : Board) (scope : ℕ) (nam
 holder_is_there p es b scope name apply is there =
     let k = board_keeps p es b apply is in
     let found = some_of (cell_at b scope) there in
-    holder_there b (cells_ascend p es b apply is) k.placed.scopes name scope found.0 found.1
+    holder_there b (cells_ascend p es b apply is) (scopes_of b k.placed) name scope found.0 found.1
 
 -- each variable of an update has an event of its own, and one is behind them all
 pub update_is_whole : (p : ℕ) (es : List Event) (u : VariableDocumentUpdate) → IsTrue (all_apply p [] es) → reason_to_update es u.scope ≡ None → length (updated u es) ≡ length u.variables + 1

@@ -344,7 +344,7 @@ joining_rests = refl
 abbrev joining_end : Board
 joining_end = record {
   models = record { key = key 1; version = 1; model = joining } ∷ [];
-  cells = in_phase phases.Active [] (new_cell (key 3) 0 (key 1) (codes "p") false) ∷ [];
+  cells = in_phase phases.Active [] (new_cell (key 3) 0 (key 1) (codes "p") roles.Plain false) ∷ [];
   tokens = record { scope = key 3; spot = spots.OnFlow (codes "d") } ∷ [];
   incidents = [];
 }

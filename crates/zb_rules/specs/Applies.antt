@@ -5,7 +5,6 @@ use Rattle.std.specs.List.{list_any}
 use Rattle.std.specs.Str.{bytes_eq}
 use Rattle.zb_base.specs.Vars.{is_ascending}
 use Rattle.zb_instance_records.specs.declared.instance.ElementActivating.{ElementActivating}
-use Rattle.zb_instance_records.specs.declared.instance.Role.{Role}
 use Rattle.zb_instance_records.specs.declared.instance.Role.TheVariants as roles
 use Rattle.zb_model.specs.declared.record.Event.{Event}
 use Rattle.zb_model.specs.declared.record.Event.TheVariants as events
@@ -18,11 +17,11 @@ use Rattle.zb_views.specs.declared.left.Left.TheVariants as lefts
 use Rattle.zb_rules.specs.Starts.{may_start}
 use Rattle.zb_views.specs.View.{greatest_counter, next_key}
 use Rattle.zb_tokens.specs.declared.board.Move.{Move}
-use Rattle.zb_tokens.specs.Board.{Board, cell_at, model_under}
-use Rattle.zb_tokens.specs.Edits.{is_none_of}
+use Rattle.zb_tokens.specs.declared.board.Cell.{Cell}
+use Rattle.zb_tokens.specs.Board.{Board, cell_at, model_under, is_role}
 use Rattle.zb_tokens.specs.Game.{fits}
 pub use Rattle.zb_rules.specs.Shown.{holds_of_game}
-use Rattle.zb_rules.specs.Shown.{shown}
+use Rattle.zb_rules.specs.Shown.{shown, role_on}
 use Rattle.zb_views.specs.Jobs.{is_activated, is_given_out}
 use Rattle.zb_rules.specs.JobEvents.{has_job, is_job_in, begins_job, hands_out, are_jobs, has_cause}
 use Rattle.zb_rules.specs.TimerEvents.{may_open, has_timer}
@@ -44,18 +43,9 @@ is_fresh p before key = nat_lt (greatest_counter p before + 1) (2 ^ 51) && (key 
 abbrev pub has_definition : ℕ → List Event → Bool
 has_definition key es = list_any (λ d. d.key == key) (definitions es)
 
--- a plain cell
-abbrev pub is_plain : Role → Bool
-is_plain roles.Plain = true
-is_plain role = false
-
 -- on a board the process of a definition has this id
 abbrev pub is_process_of : ℕ → List ℕ → Board → Bool
 is_process_of definition id b = option_map_or (λ m. bytes_eq m.process id) (model_under b definition) false
-
--- on a board a cell is of a definition
-abbrev pub is_definition_of : ℕ → ℕ → Board → Bool
-is_definition_of cell definition b = option_map_or (λ c. c.definition == definition) (cell_at b cell) false
 
 -- on a board a cell has this key
 abbrev pub has_cell : ℕ → Board → Bool
@@ -71,13 +61,21 @@ abbrev pub begins_instance : List Event → ElementActivating → Bool
 begins_instance before e = leaves_root e.key e.definition (left before)
     && holds_of_game (is_process_of e.definition e.node) before && bytes_eq e.via [] && bytes_eq e.started (starts_with (left before) before)
 
--- another cell has a fresh key and the definition of its scope, and no message starts it
-abbrev pub begins_cell : ℕ → List Event → ElementActivating → Bool
-begins_cell p before e = is_fresh p before e.key && holds_of_game (is_definition_of e.scope e.definition) before && bytes_eq e.started []
+-- a cell begins in another as a run of it, at its node and by no flow, or else in the role that its node tells (BPMN 2.0.2, 13.3.7)
+abbrev pub suits : Board → ElementActivating → Cell → Bool
+suits b e c = if is_role e.role roles.Inner then bytes_eq e.node c.node && bytes_eq e.via [] else is_role e.role (role_on b c e.node)
 
--- a cell that begins is plain
+-- on a board it has the definition of its scope, and suits that
+abbrev pub suits_scope : ElementActivating → Board → Bool
+suits_scope e b = option_map_or (λ c. (c.definition == e.definition) && suits b e c) (cell_at b e.scope) false
+
+-- another cell has a fresh key, suits its scope, and no message starts it
+abbrev pub begins_cell : ℕ → List Event → ElementActivating → Bool
+begins_cell p before e = is_fresh p before e.key && holds_of_game (suits_scope e) before && bytes_eq e.started []
+
+-- a root is plain, and another cell suits its scope
 abbrev pub begins_well : ℕ → List Event → ElementActivating → Bool
-begins_well p before e = is_plain e.role && (if e.scope == 0 then begins_instance before e else begins_cell p before e)
+begins_well p before e = if e.scope == 0 then is_role e.role roles.Plain && begins_instance before e else begins_cell p before e
 
 -- a message starts an instance of a definition: both are there, and it may start one of the process
 abbrev pub begins_start : MessageStartEventSubscriptionCorrelated → List Event → Bool
@@ -92,7 +90,7 @@ holds_own p before (events.CommandDistributionAcknowledged e) = is_distributed_t
 holds_own p before (events.CommandDistributionFinished key) = has_definition key before && not (is_distributed key before)
 holds_own p before (events.ProcessInstanceCreationCreated e) = is_fresh p before e.key && has_definition e.definition before
 holds_own p before (events.ElementActivating e) = begins_well p before e
-holds_own p before (events.ElementActivated e) = is_none_of e.items
+holds_own p before (events.ElementActivated e) = true
 holds_own p before (events.ElementCompleting key) = true
 holds_own p before (events.ElementCompleted e) = true
 holds_own p before (events.ElementTerminating key) = true

@@ -1,5 +1,5 @@
 -- The events behind one by which a cell becomes active or begins to end: what it waits for begins, and ends with it (Zeebe, the records).
-use Rattle.std.specs.Prelude.{ℕ, ◌==◌, List, [], ◌∷◌, map, filter, if◌then◌else◌, option_and_then}
+use Rattle.std.specs.Prelude.{ℕ, ◌==◌, List, [], ◌∷◌, map, filter, true, if◌then◌else◌, option_and_then}
 use Rattle.std.specs.Option.{option_map_or}
 use Rattle.zb_process.specs.declared.model.Node.{Node}
 use Rattle.zb_model.specs.declared.record.Event.{Event}
@@ -13,10 +13,12 @@ use Rattle.zb_tokens.specs.declared.board.Awaited.{Awaited}
 use Rattle.zb_tokens.specs.declared.board.Awaited.TheVariants as awaiteds
 use Rattle.zb_tokens.specs.declared.board.Incident.{Incident}
 use Rattle.zb_tokens.specs.declared.board.Opening.{Opening}
+use Rattle.zb_tokens.specs.Bodies.{run_variables_at}
 use Rattle.zb_tokens.specs.Catches.{openings_at}
 use Rattle.zb_tokens.specs.Incidents.{incident_on}
 use Rattle.zb_tokens.specs.Work.{work_at}
 use Rattle.zb_rules.specs.Starts.{started_behind}
+use Rattle.zb_rules.specs.Update.{set_each}
 use Rattle.zb_rules.specs.Making.{Making, just, and_then, each_made}
 use Rattle.zb_tokens.specs.MoveTrigger.{is_interrupting}
 use Rattle.zb_rules.specs.Shown.{board_of, holds_of_game}
@@ -98,9 +100,14 @@ halted_on cell before = and_then (just (events.ElementTerminating cell)) (ended_
 abbrev pub interrupted_on : (cell : ℕ) → List ℕ → Making
 interrupted_on cell node before = if holds_of_game (is_interrupting cell node) before then halted_on cell before else []
 
--- the events behind an event, which is told what was before it: a cell that becomes active has its job made, and what it waits for opens; that closes where it begins to complete, and
+-- a run of a body has its variables set as it begins (BPMN 2.0.2, 13.3.7)
+abbrev pub run_set_on : ℕ → Making
+run_set_on cell before = set_each true cell (option_map_or (λ b. run_variables_at b cell) (board_of before) []) before
+
+-- the events behind an event, which is told what was before it: a run of a body that begins has its variables set; a cell that becomes active has its job made, and what it waits for opens; that closes where it begins to complete, and
 -- all that waits for it ends where it begins to terminate; a boundary event that interrupts ends its cell. So far there are no others (Zeebe, the records)
 abbrev pub events_behind : (p moment : ℕ) → List Event → Event → Making
+events_behind p moment seen (events.ElementActivating e) before = run_set_on e.key before
 events_behind p moment seen (events.ElementActivated e) before = and_then (job_made_on p e.key) (catches_opened_on p moment e.key) before
 events_behind p moment seen (events.ElementCompleting key) before = catches_closed_on key before
 events_behind p moment seen (events.ElementTerminating key) before = ended_on seen key before

@@ -37,3 +37,4 @@ pub mod Starts
 pub mod Correlate
 pub mod Subscribe
 pub mod Receive
+pub mod Runs

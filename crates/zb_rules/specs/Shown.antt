@@ -1,7 +1,9 @@
 -- Which moves events show, and the game of a log.
-use Rattle.std.specs.Prelude.{◌==◌, List, [], ◌∷◌, ◌++◌, Bool, false, if◌then◌else◌, Option, Some, None, map, option_map, option_and_then}
+use Rattle.std.specs.Prelude.{ℕ, ◌==◌, List, [], ◌∷◌, ◌++◌, Bool, false, if◌then◌else◌, Option, Some, None, map, option_map, option_and_then}
 use Rattle.std.specs.List.{find}
 use Rattle.std.specs.Option.{option_map_or}
+use Rattle.zb_instance_records.specs.declared.instance.ElementActivating.{ElementActivating}
+use Rattle.zb_instance_records.specs.declared.instance.Role.{Role}
 use Rattle.zb_instance_records.specs.declared.instance.Role.TheVariants as roles
 use Rattle.zb_model.specs.declared.record.Event.{Event}
 use Rattle.zb_model.specs.declared.record.Event.TheVariants as events
@@ -11,15 +13,22 @@ use Rattle.zb_views.specs.declared.job.Job.{Job}
 use Rattle.zb_views.specs.Jobs.{jobs}
 use Rattle.zb_views.specs.declared.definition.Definition.{Definition}
 use Rattle.zb_tokens.specs.declared.board.Deployed.{Deployed}
-use Rattle.zb_tokens.specs.Board.{Board, cell_at}
+use Rattle.zb_tokens.specs.declared.board.Cell.{Cell}
+use Rattle.zb_tokens.specs.Board.{Board, cell_at, model_under}
+use Rattle.zb_tokens.specs.Bodies.{role_at}
 use Rattle.zb_tokens.specs.Game.{empty_board, played}
+
+-- the move that shows by a cell that begins in another: a body begins a run, or a token enters a node (BPMN 2.0.2, 13.3.2 and 13.3.7)
+abbrev pub move_of_cell : ElementActivating → Role → Move
+move_of_cell e roles.Inner = moves.Inner (record { key = e.key; body = e.scope })
+move_of_cell e role = moves.Enter (record { key = e.key; scope = e.scope; node = e.node; via = e.via })
 
 -- the move that an event shows, these being the jobs that are there, which say whose job it names; others show none
 abbrev pub shown_by : List Job → Event → Option Move
 shown_by js (events.ProcessCreated e) = Some (moves.Stand (record { key = e.key; version = e.version; model = e.model }))
 shown_by js (events.ElementActivating e) = if e.scope == 0 then Some (moves.Start (record { key = e.key; definition = e.definition }))
-    else Some (moves.Enter (record { key = e.key; scope = e.scope; node = e.node; via = e.via }))
-shown_by js (events.ElementActivated e) = Some (moves.Open e.key)
+    else Some (move_of_cell e e.role)
+shown_by js (events.ElementActivated e) = Some (moves.Open (record { key = e.key; items = e.items }))
 shown_by js (events.ElementCompleting key) = Some (moves.Finish key)
 shown_by js (events.ElementCompleted e) = Some (moves.Leave (record { key = e.key; owed = e.owed }))
 shown_by js (events.ElementTerminating key) = Some (moves.Halt key)
@@ -56,12 +65,17 @@ board_of es = board_from [] empty_board es
 abbrev pub holds_of_game : (Board → Bool) → List Event → Bool
 holds_of_game holds es = option_map_or holds (board_of es) false
 
+-- the role of a cell that a token begins at a node in a scope, by the model of that (BPMN 2.0.2, 13.3.7)
+abbrev pub role_on : Board → Cell → List ℕ → Role
+role_on b c node = option_map_or (λ m. role_at m node) (model_under b c.definition) roles.Plain
+
 -- the event that shows a forced move
 abbrev pub event_of : Board → Move → Option Event
 event_of b (moves.Stand d) = None
 event_of b (moves.Start s) = None
-event_of b (moves.Enter e) = option_map (λ c. events.ElementActivating (record { key = e.key; scope = e.scope; definition = c.definition; node = e.node; role = roles.Plain; via = e.via; started = [] })) (cell_at b e.scope)
-event_of b (moves.Open key) = Some (events.ElementActivated (record { key = key; items = [] }))
+event_of b (moves.Enter e) = option_map (λ c. events.ElementActivating (record { key = e.key; scope = e.scope; definition = c.definition; node = e.node; role = role_on b c e.node; via = e.via; started = [] })) (cell_at b e.scope)
+event_of b (moves.Inner i) = option_map (λ c. events.ElementActivating (record { key = i.key; scope = i.body; definition = c.definition; node = c.node; role = roles.Inner; via = []; started = [] })) (cell_at b i.body)
+event_of b (moves.Open o) = Some (events.ElementActivated (record { key = o.key; items = o.items }))
 event_of b (moves.Finish key) = Some (events.ElementCompleting key)
 event_of b (moves.Leave l) = Some (events.ElementCompleted (record { key = l.key; owed = l.owed }))
 event_of b (moves.Take t) = Some (events.SequenceFlowTaken (record { key = t.key; flow = t.flow }))

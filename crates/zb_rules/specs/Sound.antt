@@ -6,6 +6,7 @@ use Rattle.zb_base.specs.Vars.{is_ascending}
 use Rattle.zb_model.specs.declared.record.Event.{Event}
 use Rattle.zb_model.specs.declared.record.Command.{Command}
 use Rattle.zb_model.specs.declared.record.Command.TheVariants as commands
+use Rattle.zb_process.specs.declared.model.Model.{Model}
 use Rattle.zb_faults.specs.Faults.{most_nodes}
 use Rattle.zb_table.specs.Rows.{Ascend}
 use Rattle.zb_views.specs.declared.job.Job.{Job}
@@ -19,7 +20,7 @@ use Rattle.zb_tokens.specs.declared.board.Mover.{Mover}
 use Rattle.zb_tokens.specs.declared.board.Phase.{Phase}
 use Rattle.zb_tokens.specs.declared.board.Phase.TheVariants as phases
 use Rattle.zb_tokens.specs.Edits.{is_none_of}
-use Rattle.zb_tokens.specs.Board.{Board, CellsAscend, cell_at, model_under, is_phase, is_root, is_scope_in}
+use Rattle.zb_tokens.specs.Board.{Board, CellsAscend, cell_at, model_under, is_phase, is_root, holds_cells, holds_tokens}
 use Rattle.zb_tokens.specs.Incidents.{incident_on}
 use Rattle.zb_tokens.specs.Marks.{awaits_work}
 use Rattle.zb_tokens.specs.MoveAssign.{has_name}
@@ -33,13 +34,13 @@ use Rattle.zb_rules.specs.InFront.{events_in_front}
 abbrev pub runs : Phase → Bool
 runs phase = is_phase phase phases.Active || is_phase phase phases.Terminating
 
--- a cell in which others may be: it is at a scope of its model, and active or terminating (BPMN 2.0.2, 13.2 and 13.3.4)
-abbrev pub holds_others : Board → Cell → Bool
-holds_others b c = runs c.phase && option_map_or (λ m. is_scope_in m c) (model_under b c.definition) false
+-- a cell holds others or tokens: its model says so, and it is active or terminating (BPMN 2.0.2, 13.2 and 13.3.4)
+abbrev pub holds_by : (Model → Cell → Bool) → Board → Cell → Bool
+holds_by holds b c = runs c.phase && option_map_or (λ m. holds m c) (model_under b c.definition) false
 
--- on a board the cell with a key is there, and is one (BPMN 2.0.2, 13.2 and 13.3.4)
-abbrev pub is_scope : Board → ℕ → Bool
-is_scope b key = option_map_or (holds_others b) (cell_at b key) false
+-- on a board the cell with a key is there, and does
+abbrev pub is_around : (Model → Cell → Bool) → Board → ℕ → Bool
+is_around holds b key = option_map_or (holds_by holds b) (cell_at b key) false
 
 -- two incidents stand on different cells, and have different keys (Zeebe, incidents)
 abbrev pub StandApart : Incident → Incident → Type 0
@@ -49,12 +50,12 @@ StandApart i other = IsFalse (i.cell == other.cell) × IsFalse (i.key == other.k
 pub record IsSound (b : Board) : Type 0 where
   -- the keys of the cells ascend, and none is 0
   pub cells : CellsAscend 1 b.cells
-  -- each cell is a root, or stands in an earlier cell, which is a scope that others may be in
-  pub scopes : All (λ (c : Cell). (c.scope ≡ 0) ⊎ (IsTrue (is_scope b c.scope) × (c.scope < c.key))) b.cells
+  -- each cell is a root, or stands in an earlier cell, in which others may be: a scope, or a body
+  pub scopes : All (λ (c : Cell). (c.scope ≡ 0) ⊎ (IsTrue (is_around holds_cells b c.scope) × (c.scope < c.key))) b.cells
   -- the model of each cell's definition is there
   pub models : All (λ (c : Cell). IsTrue (is_some (model_under b c.definition))) b.cells
-  -- each token stands in such a scope
-  pub tokens : All (λ (t : Token). IsTrue (is_scope b t.scope)) b.tokens
+  -- each token stands in a scope
+  pub tokens : All (λ (t : Token). IsTrue (is_around holds_tokens b t.scope)) b.tokens
   -- a leaving cell owes a flow, and is no root
   pub leaving : All (λ (c : Cell). IsTrue (is_phase c.phase phases.Leaving) → IsFalse (is_none_of c.owed) × IsFalse (is_root c)) b.cells
   -- at most one incident stands on each cell, and no two have one key

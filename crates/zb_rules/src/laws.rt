@@ -1,7 +1,10 @@
-ghost use Rattle.std.specs.Prelude.{◌≡◌, ◌≤◌, ◌<◌, ◌+◌, ◌/◌, ◌^◌, ◌++◌, ◌||◌, ℕ, length, List, [], ◌∷◌, Some, None, All, IsTrue, IsFalse, is_some};
+ghost use Rattle.std.specs.Prelude.{◌≡◌, ◌≤◌, ◌<◌, ◌+◌, ◌/◌, ◌^◌, ◌++◌, ◌||◌, not, ℕ, length, List, [], ◌∷◌, Some, None, All, IsTrue, IsFalse, false, is_some};
 ghost use Rattle.std.specs.List.{list_any};
-ghost use Rattle.std.specs.Option.{IfSome};
+ghost use Rattle.std.specs.Option.{IfSome, option_map_or};
+ghost use Rattle.zb_instance_records.specs.declared.instance.ElementActivating.{ElementActivating};
+ghost use Rattle.zb_instance_records.specs.declared.instance.Role.TheVariants as roles;
 ghost use Rattle.zb_instance_records.specs.declared.happening.VariableDocumentUpdate.{VariableDocumentUpdate};
+ghost use Rattle.zb_process.specs.declared.model.Model.{Model};
 ghost use Rattle.zb_model.specs.declared.record.Command.{Command};
 ghost use Rattle.zb_model.specs.declared.record.Event.{Event};
 ghost use Rattle.zb_model.specs.declared.record.Outcome.{Outcome};
@@ -14,19 +17,23 @@ ghost use Rattle.zb_tokens.specs.Marks.{has_come_about};
 ghost use Rattle.zb_tokens.specs.MoveTrigger.{fits_trigger, is_gateway_cell};
 ghost use Rattle.zb_tokens.specs.declared.board.Move.{Move};
 ghost use Rattle.zb_tokens.specs.declared.board.Mover.{Mover};
-ghost use Rattle.zb_tokens.specs.Board.{Board, cell_at};
+ghost use Rattle.zb_tokens.specs.declared.board.Phase.TheVariants as phases;
+ghost use Rattle.zb_tokens.specs.Board.{Board, cell_at, model_under, has_child, is_body, is_phase, is_role};
+ghost use Rattle.zb_tokens.specs.Bodies.{is_sequential};
 ghost use Rattle.zb_tokens.specs.Names.{holder_of};
 ghost use Rattle.zb_tokens.specs.Incidents.{incident_on};
 ghost use Rattle.zb_tokens.specs.Game.{agrees, fits};
 ghost use Rattle.zb_tokens.specs.Forced.{next_mover};
 ghost use Rattle.zb_views.specs.Timers.{times_timer_ended};
-ghost use Rattle.zb_views.specs.View.{events_in};
-ghost use Rattle.zb_rules.specs.Shown.{shown, board_of};
+ghost use Rattle.zb_views.specs.View.{events_in, next_key};
+ghost use Rattle.zb_rules.specs.Shown.{shown, board_of, event_of};
 ghost use Rattle.zb_rules.specs.Applies.{applies, all_apply};
 ghost use Rattle.zb_rules.specs.Legal.{IsMadeLegally};
 ghost use Rattle.zb_rules.specs.InFront.{count_in_front, events_in_front};
 ghost use Rattle.zb_rules.specs.Settling.{turn};
 ghost use Rattle.zb_rules.specs.JobEnds.{times_ended};
+ghost use Rattle.zb_rules.specs.Behind.{events_behind};
+ghost use Rattle.zb_rules.specs.Runs.{times_run, IsRunFor};
 ghost use Rattle.zb_rules.specs.Sound.{IsSound, HasSoundJobs, HasKeys, IsForcedEvent, IsHolder};
 ghost use Rattle.zb_rules.specs.Cancel.{reason_to_cancel, cancelled};
 ghost use Rattle.zb_rules.specs.Update.{reason_to_update, updated};
@@ -56,8 +63,8 @@ pub fn due_commands_have_no_reason()
 {}
 
 /// A log whose events apply has a board, and that is sound: its cells ascend, each has its model, and each of them
-/// but a root stands in an earlier cell, as each token does: in a scope of its model that is active or terminating.
-/// A cell that leaves owes a flow, and is no root. At most one incident stands on each cell, and no
+/// but a root stands in an earlier cell that is active or terminating: in a scope of its model, or in a body. Each token
+/// stands in such a scope. A cell that leaves owes a flow, and is no root. At most one incident stands on each cell, and no
 /// two have one key.
 pub fn boards_of_logs_are_sound()
     ensures there { (p : ℕ) (es : List Event) → IsTrue (all_apply p [] es) → IsTrue (is_some (board_of es)) }
@@ -108,6 +115,40 @@ pub fn event_gateways_take_one_way()
         → cell_at board leave.key ≡ Some cell → IsTrue (is_gateway_cell board cell) → IsTrue (fits board (moves.Leave leave)) → length leave.owed ≤ 1 }
     ensures chosen { (board : Board) (told : Triggered) (cell : Cell) → cell_at board told.cell ≡ Some cell
         → IsTrue (is_gateway_cell board cell) → IsTrue (has_come_about cell.mark) → IsFalse (fits_trigger board told) }
+{}
+
+/// In a log whose events apply so many runs began in a cell as it has taken of its items, of which there are no fewer.
+/// The run that begins after so many others of its body is for the item in that place there, and which one it is and
+/// that item are all that is set behind its event. A body that has become active keeps its items as long as it is there.
+pub fn runs_are_for_items_in_order()
+    ensures taken { (p : ℕ) (es : List Event) (board : Board) (body : ℕ) (cell : Cell) → IsTrue (all_apply p [] es) → board_of es ≡ Some board
+        → cell_at board body ≡ Some cell → (times_run body es ≡ cell.taken) × (cell.taken ≤ length cell.items) }
+    ensures item { (p : ℕ) (es : List Event) (run : ElementActivating) (after : Board) → IsTrue (all_apply p [] (es ++ events.ElementActivating run ∷ []))
+        → IsTrue (is_role run.role roles.Inner) → board_of (es ++ events.ElementActivating run ∷ []) ≡ Some after
+        → IsRunFor after run (times_run run.scope es) }
+    ensures set { (p moment : ℕ) (es : List Event) (run : ElementActivating) → IsTrue (all_apply p [] (es ++ events.ElementActivating run ∷ []))
+        → IsTrue (is_role run.role roles.Inner)
+        → length (events_behind p moment es (events.ElementActivating run) (es ++ events.ElementActivating run ∷ [])) ≡ 2 }
+    ensures kept { (p : ℕ) (es more : List Event) (board after : Board) (body : ℕ) (cell later : Cell) → IsTrue (all_apply p [] (es ++ more))
+        → board_of es ≡ Some board → board_of (es ++ more) ≡ Some after → cell_at board body ≡ Some cell
+        → IsFalse (is_phase cell.phase phases.Activating) → cell_at after body ≡ Some later → later.items ≡ cell.items }
+{}
+
+/// Behind a log whose events apply an active body begins to complete exactly where so many runs began in it as it has
+/// items, and none of them is there any more. As long as an item is left, it may begin a run under the next key, if one
+/// is left, where its runs come at once, or none is there.
+pub fn bodies_complete_behind_all_runs()
+    ensures all { (p : ℕ) (es : List Event) (board : Board) (body : ℕ) (cell : Cell) → IsTrue (all_apply p [] es) → board_of es ≡ Some board
+        → cell_at board body ≡ Some cell → IsTrue (is_body cell) → IsTrue (applies p es (events.ElementCompleting body))
+        → (times_run body es ≡ length cell.items) × IsFalse (has_child board body) }
+    ensures then { (p : ℕ) (es : List Event) (board : Board) (body : ℕ) (cell : Cell) → IsTrue (all_apply p [] es) → board_of es ≡ Some board
+        → cell_at board body ≡ Some cell → IsTrue (is_body cell) → cell.phase ≡ phases.Active
+        → times_run body es ≡ length cell.items → IsFalse (has_child board body) → IsTrue (applies p es (events.ElementCompleting body)) }
+    ensures next { (p : ℕ) (es : List Event) (board : Board) (body : ℕ) (cell : Cell) (model : Model) → IsTrue (all_apply p [] es) → HasKeys p es 1
+        → board_of es ≡ Some board → cell_at board body ≡ Some cell → IsTrue (is_body cell) → cell.phase ≡ phases.Active
+        → model_under board cell.definition ≡ Some model → times_run body es < length cell.items
+        → IsTrue (not (is_sequential model cell) || not (has_child board body))
+        → IsTrue (option_map_or (applies p es) (event_of board (moves.Inner (record { key = next_key p es; body = body }))) false) }
 {}
 
 /// Who is forced behind a log whose events apply has an event, where a key is left: those in front of it apply,

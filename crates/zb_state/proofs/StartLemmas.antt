@@ -9,6 +9,7 @@ use Rattle.std.proofs.lemmas.List.Elements.{All-head, All-tail}
 use Rattle.zb_base.specs.Key.{key_of}
 use Rattle.zb_exchange_records.specs.declared.message.MessagePublished.{MessagePublished}
 use Rattle.zb_instance_records.specs.declared.instance.ElementActivating.{ElementActivating}
+use Rattle.zb_instance_records.specs.declared.instance.Role.TheVariants as roles
 use Rattle.zb_instance_records.specs.declared.deployment.ProcessDefinition.{ProcessDefinition}
 use Rattle.zb_process.specs.declared.model.Model.{Model}
 use Rattle.zb_model.specs.declared.record.Event.{Event}
@@ -30,9 +31,9 @@ use Rattle.zb_views.specs.Subscriptions.{lock_for, lock_sort, is_lock}
 use Rattle.zb_views.specs.View.{counter_at, keys_in, greatest_among}
 use Rattle.zb_views.proofs.CounterLaws.{counter_at-key_of}
 use Rattle.zb_views.proofs.StandingLaws.{below_some, all_left, one_more, some_gone}
-use Rattle.zb_tokens.specs.Board.{model_under}
+use Rattle.zb_tokens.specs.Board.{model_under, is_role}
 use Rattle.zb_tokens.proofs.GameLaws.{both_left, both_right}
-use Rattle.zb_rules.specs.Applies.{applies, is_plain, holds_of_game, is_process_of, starts_with, begins_well}
+use Rattle.zb_rules.specs.Applies.{applies, holds_of_game, is_process_of, starts_with, begins_well}
 use Rattle.zb_rules.specs.Starts.{next_starter}
 use Rattle.zb_rules.specs.Correlate.{begins_correlating, is_correlating}
 use Rattle.zb_rules.proofs.LeftLaws.{starter_left}
@@ -145,7 +146,7 @@ module _ (es : List Event) (facts : Facts) (is : IsStateOf es facts) where
         let its = holds_of_game (is_process_of e.definition e.node) es in
         let via : Bool = bytes_eq e.via [] in
         let starts : Bool = bytes_eq e.started (starts_with (left es) es) in
-        let begins : IsTrue (leaves && its && via && starts) = rw at at (both_right (is_plain e.role) _ own) in
+        let begins : IsTrue (leaves && its && via && starts) = both_right (is_role e.role roles.Plain) _ (rw at at own) in
         let first : IsTrue leaves = both_left leaves its (both_left (leaves && its) via (both_left (leaves && its && via) starts begins)) in
         let last : IsTrue starts = both_right (leaves && its && via) starts begins in
         by_left (rw (at, is_empty) refl) is_empty (left es) refl first last

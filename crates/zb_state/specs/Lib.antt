@@ -1,5 +1,6 @@
 pub mod Changes
 pub mod Alarms
+pub mod Bodies
 pub mod Listing
 pub mod Refusal
 pub mod Sound

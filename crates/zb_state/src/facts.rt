@@ -11,7 +11,7 @@ ghost use Rattle.zb_views.specs.declared.left.Left.TheVariants as lefts;
 ghost use Rattle.zb_views.specs.Distributions.{is_distributed, is_distributed_to};
 ghost use Rattle.zb_views.specs.Definitions.{definitions};
 ghost use Rattle.zb_definitions.specs.Kept.{KeepsDefinitions};
-ghost use Rattle.zb_rules.specs.Applies.{applies, holds_own, holds_of_game, has_cell, is_fresh, has_definition, begins_well, begins_instance, begins_cell, is_definition_of};
+ghost use Rattle.zb_rules.specs.Applies.{applies, holds_own, holds_of_game, has_cell, is_fresh, has_definition};
 ghost use Rattle.zb_rules.specs.JobEvents.{has_cause};
 ghost use Rattle.zb_base.specs.Vars.{is_ascending};
 ghost use Rattle.zb_faults.specs.Faults.{is_well_formed};
@@ -26,6 +26,7 @@ ghost use Rattle.zb_subscriptions.specs.Opened.{is_new};
 ghost use Rattle.zb_tables.specs.Tables.{IsNext, Draws, are_all_below, are_waiting_below};
 ghost use Rattle.zb_state.specs.Starts.{BeginsRoot, IsChangeOf, root_left, root_told, are_starts_below};
 
+mod cells;
 mod jobs;
 mod starts;
 mod subscriptions;
@@ -37,8 +38,7 @@ use zb_check::{ModelFault, check};
 use zb_course::Course;
 use zb_jobs::Jobs;
 use zb_model::{
-    ElementActivating, Event, IncidentCreated, Key, MessagePublished, Model as ProcessModel,
-    PartitionId, Role, TableFault,
+    Event, IncidentCreated, Key, MessagePublished, Model as ProcessModel, PartitionId, TableFault,
 };
 use zb_starts::Change;
 use zb_tables::{Messages, Tables, greatest_counter_of};
@@ -210,8 +210,8 @@ impl Facts {
             }
             Event::MessageStartEventSubscriptionCorrelated(start) => Ok(self.starts(start)),
             Event::ElementActivating(element) => Ok(self.begins_well(element)),
-            Event::ElementActivated(element) => Ok(element.items.as_slice().is_empty()),
-            Event::ElementCompleting(_)
+            Event::ElementActivated(_)
+            | Event::ElementCompleting(_)
             | Event::ElementCompleted(_)
             | Event::ElementTerminating(_)
             | Event::ElementTerminated(_)
@@ -281,58 +281,12 @@ impl Facts {
         self.has_definition(definition) && !self.is_distributed(definition)
     }
 
-    // Whether the cell that begins is plain, and begins an instance or stands in its scope.
-    fn begins_well(&self, element: &ElementActivating) -> bool
-        ensures { (es : List Event) → IsStateOf es self.now → result ≡ begins_well (partition_of self.now) es element.now }
-    {
-        if element.role != Role::Plain {
-            return false;
-        }
-        if element.scope == Key::new(0) {
-            self.begins_instance(element)
-        } else {
-            self.begins_cell(element)
-        }
-    }
-
     // Whether the key of an incident is fresh, and a job its cause where it tells of one.
     fn begins_incident(&self, incident: &IncidentCreated) -> bool
         ensures { (es : List Event) → IsStateOf es self.now
             → result ≡ (is_fresh (partition_of self.now) es incident.now.key && has_cause incident.now es) }
     {
         self.is_fresh(incident.key) && self.has_cause(incident)
-    }
-
-    // Whether the root is that of the instance that the last event began or a message starts.
-    fn begins_instance(&self, element: &ElementActivating) -> bool
-        ensures { (es : List Event) → IsStateOf es self.now → result ≡ begins_instance es element.now }
-    {
-        self.left.leaves_root(element.key, element.definition)
-            && self
-                .game
-                .board()
-                .is_process_of(element.definition, element.node.as_str())
-            && element.via.as_str().is_empty()
-            && self.starts_with(element.started.as_str())
-    }
-
-    // Whether the cell has a fresh key and the definition of its scope, and no message starts it.
-    fn begins_cell(&self, element: &ElementActivating) -> bool
-        ensures { (es : List Event) → IsStateOf es self.now → result ≡ begins_cell (partition_of self.now) es element.now }
-    {
-        self.is_fresh(element.key)
-            && self.is_definition_of(element.scope, element.definition)
-            && element.started.as_str().is_empty()
-    }
-
-    // Whether the cell is there, and of this definition.
-    fn is_definition_of(&self, cell: Key, definition: Key) -> bool
-        ensures { result ≡ is_definition_of cell definition self.now.game }
-    {
-        match self.game.board().definition_of(cell) {
-            Some(found) => found == definition,
-            None => false,
-        }
     }
 
     /// Whether this definition is on its way to this partition. It costs what `Outbox::is_sent_to` does.

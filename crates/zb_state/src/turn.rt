@@ -18,7 +18,7 @@ pub struct Turn {
 }
 
 /// What is done by a forced move; `None` of a move that is never forced. It costs what `assignments_of` and
-/// `Game::definition_of` do.
+/// `zb_course::event_of` do.
 pub fn turn_by(alloc: Global, made: Move, game: &Game) -> Result<Option<Turn>, AllocError>
     ensures { IfOk result (λ turn. turn ≡ option_map (λ e. record { assignments = assignments_of game.now made; event = e }) (event_of game.now made)) }
 {
@@ -30,7 +30,11 @@ pub fn turn_by(alloc: Global, made: Move, game: &Game) -> Result<Option<Turn>, A
         }
     };
     match event_of(alloc, made, game) {
-        Some(event) => Ok(Some(Turn { assignments, event })),
-        None => Ok(None),
+        Ok(Some(event)) => Ok(Some(Turn { assignments, event })),
+        Ok(None) => Ok(None),
+        Err(AllocError) => {
+            drop(assignments);
+            Err(AllocError)
+        }
     }
 }

@@ -1,5 +1,5 @@
 -- Laws of what moves change and leave alone, in the subject's own words.
-use Rattle.std.proofs.Common.{◌≡◌, ℕ, ◌==◌, List, [], ◌∷◌, ◌++◌, filter, slice_get, cond, option_map, option_and_then, Bool, true, false, not, is_some, ◌||◌, if◌then◌else◌, IsTrue, IsFalse, All, Option, Some, None, refl, sym, ap, ◌∙◌, subst, arith}
+use Rattle.std.proofs.Common.{◌≡◌, ℕ, ℤ, ◌==◌, List, [], ◌∷◌, ◌++◌, filter, slice_get, cond, option_map, option_and_then, Bool, true, false, not, is_some, ◌||◌, if◌then◌else◌, IsTrue, IsFalse, All, Option, Some, None, refl, sym, ap, ◌∙◌, subst, arith}
 use Rattle.std.specs.Option.{option_map_or}
 use Rattle.std.specs.List.{find, list_any, list_all}
 use Rattle.std.proofs.lemmas.Bool.{and_parts, and_from, and_left, and_right, or_left, or_parts, or_right, not-true}
@@ -16,7 +16,9 @@ use Rattle.zb_tokens.specs.declared.board.Token.{Token}
 use Rattle.zb_tokens.specs.declared.board.Incident.{Incident}
 use Rattle.zb_tokens.specs.declared.board.Spot.{Spot}
 use Rattle.zb_tokens.specs.declared.board.Spot.TheVariants as spots
+use Rattle.zb_instance_records.specs.declared.instance.Role.TheVariants as roles
 use Rattle.zb_tokens.specs.declared.board.Enter.{Enter}
+use Rattle.zb_tokens.specs.declared.board.Inner.{Inner}
 use Rattle.zb_tokens.specs.declared.board.Leave.{Leave}
 use Rattle.zb_tokens.specs.declared.board.Start.{Start}
 use Rattle.zb_tokens.specs.declared.board.Triggered.{Triggered}
@@ -25,10 +27,11 @@ use Rattle.zb_tokens.specs.declared.board.Phase.TheVariants as phases
 use Rattle.zb_tokens.specs.declared.board.Move.{Move}
 use Rattle.zb_tokens.specs.declared.board.Move.TheVariants as moves
 use Rattle.zb_tokens.specs.Edits.{edited, removed, without_first}
-use Rattle.zb_tokens.specs.Board.{Board, cell_at, model_under, start_in, scope_id, is_scope_in, in_phase, new_cell, is_spot, leaves_in, emptied, with_token}
+use Rattle.zb_tokens.specs.Board.{Board, cell_at, model_under, start_in, scope_id, holds_tokens, in_phase, new_cell, is_spot, leaves_in, emptied, with_token}
 use Rattle.zb_tokens.specs.MoveStart.{play_start}
 use Rattle.zb_tokens.specs.MoveEnter.{spots_of, stands_at, stand_at_each, without_each, entering, entered, play_enter}
-use Rattle.zb_tokens.specs.MoveOpen.{start_tokens, first_tokens, play_open}
+use Rattle.zb_tokens.specs.MoveInner.{one_taken, run_in, play_inner}
+use Rattle.zb_tokens.specs.MoveOpen.{start_tokens, first_tokens, with_items, play_open}
 use Rattle.zb_tokens.specs.MoveLeave.{leaving, ends_scope, with_end, scope_ended, play_leave}
 use Rattle.zb_tokens.specs.MoveTake.{rest_of, spot_behind, play_take}
 use Rattle.zb_tokens.specs.MoveTrigger.{mark_by, told, play_trigger}
@@ -198,8 +201,8 @@ module _ (keep : Cell → Bool) (stay : Token → Bool) where
   -- a process is instantiated
   same_started : (b after : Board) (s : Start) → ((c : Cell) → (c.key == s.key) ≡ true → keep c ≡ false) → play_start b s ≡ Some after → IsSameIn keep stay b after
   same_started b after s out is =
-      let r = mapped_from (λ (m : Model). record b { cells = b.cells ++ new_cell s.key 0 s.definition m.process false ∷ [] }) (model_under b s.definition) after is in
-      let root = new_cell s.key 0 s.definition r.0.process false in
+      let r = mapped_from (λ (m : Model). record b { cells = b.cells ++ new_cell s.key 0 s.definition m.process roles.Plain false ∷ [] }) (model_under b s.definition) after is in
+      let root = new_cell s.key 0 s.definition r.0.process roles.Plain false in
       subst (IsSameIn keep stay b) r.2 (with_cells b (b.cells ++ root ∷ []) (kept_with_one keep b.cells root (out root (same_key s.key))))
 
   each_stays : (scope : ℕ) → ((t : Token) → (t.scope == scope) ≡ true → stay t ≡ false) → (places : List Spot) (ts : List Token) → filter stay (without_each scope places ts) ≡ filter stay ts
@@ -245,16 +248,17 @@ module _ (keep : Cell → Bool) (stay : Token → Bool) where
         ap (λ (kept : Bool). cond kept (t ∷ []) []) (away t refl)
 
     -- a cell becomes active
-    same_opened : (b after : Board) → ((t : Token) → (t.scope == key) ≡ true → stay t ≡ false) → play_open b key ≡ Some after → IsSameIn keep stay b after
-    same_opened b after away is =
-        let r = chained_from (λ (c : Cell). option_and_then (λ tokens. option_map (λ cells. record b { cells = cells; tokens = b.tokens ++ tokens }) (edited (λ x. x.key == key) (in_phase phases.Active []) b.cells)) (first_tokens b c)) (cell_at b key) after is in
-        let s = chained_from (λ (tokens : List Token). option_map (λ cells. record b { cells = cells; tokens = b.tokens ++ tokens }) (edited (λ x. x.key == key) (in_phase phases.Active []) b.cells)) (first_tokens b r.0) after r.2 in
-        let u = mapped_from (λ (cells : List Cell). record b { cells = cells; tokens = b.tokens ++ s.0 }) (edited (λ x. x.key == key) (in_phase phases.Active []) b.cells) after s.2 in
+    same_opened : (b after : Board) (items : List ℤ) → ((t : Token) → (t.scope == key) ≡ true → stay t ≡ false) → play_open b (record { key = key; items = items }) ≡ Some after → IsSameIn keep stay b after
+    same_opened b after items away is =
+        let cells = edited (λ (x : Cell). x.key == key) (with_items items) b.cells in
+        let r = chained_from (λ (c : Cell). option_and_then (λ tokens. option_map (λ cells. record b { cells = cells; tokens = b.tokens ++ tokens }) cells) (first_tokens b c)) (cell_at b key) after is in
+        let s = chained_from (λ (tokens : List Token). option_map (λ cells. record b { cells = cells; tokens = b.tokens ++ tokens }) cells) (first_tokens b r.0) after r.2 in
+        let u = mapped_from (λ (cells : List Cell). record b { cells = cells; tokens = b.tokens ++ s.0 }) cells after s.2 in
         let m = mapped_from (start_tokens r.0) (model_under b r.0.definition) s.0 s.1 in
         let its : (r.0.key == key) ≡ true = found_passes (λ (x : Cell). x.key == key) b.cells r.0 r.1 in
-        let none = start_in_it r.0 (is_scope_in m.0 r.0) (start_in m.0 (scope_id r.0)) (λ t it. away t (ap (λ (k : ℕ). k == key) it ∙ its)) in
+        let none = start_in_it r.0 (holds_tokens m.0 r.0) (start_in m.0 (scope_id r.0)) (λ t it. away t (ap (λ (k : ℕ). k == key) it ∙ its)) in
         subst (IsSameIn keep stay b) u.2 (record {
-          same_cells = edit_same (in_phase phases.Active []) (λ c. refl) b.cells u.0 u.1;
+          same_cells = edit_same (with_items items) (λ c. refl) b.cells u.0 u.1;
           same_tokens = kept_with_more stay b.tokens s.0 (ap (filter stay) (sym m.2) ∙ none);
           same_models = refl;
           same_incidents = refl;
@@ -297,6 +301,14 @@ module _ (keep : Cell → Bool) (stay : Token → Bool) where
           same_models = refl;
           same_incidents = refl;
         })
+
+  -- a body begins a run
+  same_inner : (b after : Board) (i : Inner) → ((c : Cell) → (c.key == i.key) ≡ true → keep c ≡ false) → ((c : Cell) → (c.key == i.body) ≡ true → keep c ≡ false) → play_inner b i ≡ Some after → IsSameIn keep stay b after
+  same_inner b after i out body is =
+      let r = chained_from (λ (c : Cell). option_map (λ cells. record b { cells = cells ++ run_in i c ∷ [] }) (edited (λ (x : Cell). x.key == i.body) one_taken b.cells)) (cell_at b i.body) after is in
+      let u = mapped_from (λ (cells : List Cell). record b { cells = cells ++ run_in i r.0 ∷ [] }) (edited (λ (x : Cell). x.key == i.body) one_taken b.cells) after r.2 in
+      let same = kept_with_one keep u.0 (run_in i r.0) (out (run_in i r.0) (same_key i.key)) in
+      subst (IsSameIn keep stay b) u.2 (with_cells b (u.0 ++ run_in i r.0 ∷ []) (same ∙ edit_same i.body body one_taken (λ c. refl) b.cells u.0 u.1))
 
   module _ (scope : ℕ) (out : (c : Cell) → is_or_leaves_in scope c ≡ true → keep c ≡ false) (away : (t : Token) → (t.scope == scope) ≡ true → stay t ≡ false) where
     -- a scope is emptied, of which the cell is another one now
@@ -353,7 +365,9 @@ others_stay : (b after : Board) (move : Move) → IsFalse (is_stand move) → Is
 others_stay b after (moves.Stand d) other game is = absurd (cc)
 others_stay b after (moves.Start s) other game is = same_started (λ c. not (c.key == s.key)) (λ t. true) b after s (λ c it. ap not it) is
 others_stay b after (moves.Enter e) other game is = same_entered (λ c. not (c.key == e.key)) (λ t. not (t.scope == e.scope)) b after e (λ c it. ap not it) (λ t it. ap not it) is
-others_stay b after (moves.Open key) other game is = same_opened (λ c. not (c.key == key)) (λ t. not (t.scope == key)) key (λ c it. ap not it) b after (λ t it. ap not it) is
+others_stay b after (moves.Inner i) other game is = same_inner (λ c. not ((c.key == i.key) || (c.key == i.body))) (λ t. true) b after i
+    (λ c it. ap not (or_left (c.key == i.key) (c.key == i.body) it)) (λ c it. ap not (or_right (c.key == i.key) (c.key == i.body) it)) is
+others_stay b after (moves.Open o) other game is = same_opened (λ c. not (c.key == o.key)) (λ t. not (t.scope == o.key)) o.key (λ c it. ap not it) b after o.items (λ t it. ap not it) is
 others_stay b after (moves.Finish key) other game is = edit_stays b after key (in_phase phases.Completing []) (λ c. refl) is
 others_stay b after (moves.Leave l) other game is = leave_stays b after l is
 others_stay b after (moves.Take t) other game is = same_taken (λ c. not (c.key == t.key)) (λ x. not (names_scope b (moves.Take t) x.scope)) t.key (λ c it. ap not it) b after t.flow

@@ -1,11 +1,16 @@
 -- Laws of forced moves, in the subject's own words.
-use Rattle.std.proofs.Common.{◌≡◌, ◌⊎◌, ℕ, ◌+◌, ◌≤◌, ◌==◌, max, List, [], ◌∷◌, map, filter, All, Contains, Bool, true, false, ◌&&◌, ◌||◌, not, cond, if◌then◌else◌, IsTrue, IsFalse, Option, Some, None, is_some, option_map, option_and_then, Result, Ok, Err, refl, inl, inr, ⊎_elim, ap, sym, ◌∙◌, subst, arith}
+use Rattle.std.proofs.Common.{◌≡◌, ◌⊎◌, ℕ, ℤ, ◌+◌, ◌≤◌, ◌==◌, max, List, [], ◌∷◌, map, filter, All, Contains, Bool, true, false, ◌&&◌, ◌||◌, not, cond, if◌then◌else◌, IsTrue, IsFalse, Option, Some, None, is_some, option_map, option_and_then, Result, Ok, Err, refl, inl, inr, ⊎_elim, ap, sym, ◌∙◌, subst, arith}
 use Rattle.std.specs.Option.{option_map_or, option_or}
 use Rattle.std.specs.List.{find, list_any}
+use Rattle.std.specs.Ordering.{int_eq}
+use Rattle.std.specs.Cmp.{int_eq_equiv}
 use Rattle.std.proofs.lemmas.Bool.{and_parts, not-true, or_right}
 use Rattle.std.proofs.lemmas.Bool.Decides.{nat_tests}
 use Rattle.std.proofs.lemmas.List.Elements.{All-nil, All-cons, All-contains_itself}
+use Rattle.zb_base.specs.Results.{◌>>=◌}
 use Rattle.zb_base.specs.declared.vars.Variable.{Variable}
+use Rattle.zb_process.specs.declared.model.Model.{Model}
+use Rattle.zb_base.specs.declared.value.Value.{Value}
 use Rattle.zb_instance_records.specs.Layouts.{incident_byte}
 use Rattle.zb_tokens.specs.declared.board.Cell.{Cell}
 use Rattle.zb_tokens.specs.declared.board.Token.{Token}
@@ -17,16 +22,19 @@ use Rattle.zb_tokens.specs.declared.board.Mover.TheVariants as movers
 use Rattle.zb_tokens.specs.declared.board.Phase.{Phase}
 use Rattle.zb_tokens.specs.declared.board.Phase.TheVariants as phases
 use Rattle.zb_tokens.specs.Edits.{is_none_of}
-use Rattle.zb_tokens.specs.Board.{Board, cell_at, is_root, CellsAscend}
+use Rattle.zb_tokens.specs.Board.{Board, cell_at, model_under, has_child, is_body, is_root, CellsAscend}
 use Rattle.zb_tokens.specs.Doom.{is_doomed}
 use Rattle.zb_tokens.specs.MoveHalt.{is_alive, is_interrupted}
 use Rattle.zb_tokens.specs.MoveEnter.{may_enter}
 use Rattle.zb_tokens.specs.Incidents.{Hindrance, error_hindrance, is_stuck}
-use Rattle.zb_tokens.specs.Catches.{opened_with}
-use Rattle.zb_tokens.specs.MoveOpen.{opens}
+use Rattle.zb_tokens.specs.Bodies.{has_item, is_sequential, items_by, may_run}
+use Rattle.zb_tokens.specs.Catches.{items_of, opened_with, openings_by, seen_with}
+use Rattle.zb_tokens.specs.Mappings.{inputs_of}
+use Rattle.zb_tokens.specs.Names.{value_seen}
+use Rattle.zb_tokens.specs.MoveOpen.{opens, items_eq}
 use Rattle.zb_tokens.specs.MoveLeave.{completion_of}
 use Rattle.zb_tokens.specs.MoveIncident.{may_stop, hindrance_in}
-use Rattle.zb_tokens.specs.MoveFinish.{is_done}
+use Rattle.zb_tokens.specs.MoveFinish.{acts, acts_in}
 use Rattle.zb_tokens.specs.Marks.{error_of}
 use Rattle.zb_tokens.specs.declared.board.Triggered.{Triggered}
 use Rattle.zb_tokens.specs.Errors.{caught}
@@ -35,7 +43,7 @@ use Rattle.zb_tokens.specs.Game.{fits, agrees}
 use Rattle.zb_tokens.proofs.GameLaws.{any_where, mapped_some, both_right, found_where, found_holds, none_found}
 use Rattle.zb_tokens.proofs.LeaveLaws.{same_bytes, ids_same, exit_may_be_owed}
 use Rattle.zb_tokens.proofs.MappingLaws.{completed_with}
-use Rattle.zb_tokens.specs.Forced.{catch_by, finish_by, goes_on_in, ends_in, is_forced, way_of, can_enter, greatest, next_mover, IsQuiet, take_first, stop_by, open_by, leave_by, move_in, end_in, move_at, move_of, IsEnd}
+use Rattle.zb_tokens.specs.Forced.{act_by, catch_by, finish_by, goes_on_in, ends_in, is_forced, way_of, can_enter, greatest, next_mover, IsQuiet, take_first, stop_by, open_by, leave_by, move_in, end_in, move_at, move_of, IsEnd}
 
 -- a cell with this key that passes is the one that is found with it, and its key is not below `low`
 abbrev pub IsKeyOfCell : (Cell → Bool) → ℕ → List Cell → ℕ → Type 0
@@ -155,10 +163,44 @@ stop_suits b moment key c hindrance at found free stops =
     let kind : (incident_byte hindrance.kind == incident_byte hindrance.kind) ≡ true = grind (arith, nat_tests) in
     (rw (found, at, free) refl, rw (found, stops, kind, same_bytes hindrance.text) refl)
 
+-- items are the same as themselves
+items_same : (items : List ℤ) → items_eq items items ≡ true
+items_same [] = refl
+items_same (x ∷ items) = let one = int_eq_equiv.refl x in rw one (items_same items)
+
+-- only a body keeps items
+kept_items : (names : List ℕ → Option Value) (b : Board) (c : Cell) (items : List ℤ) → items_of names b c ≡ Ok items → (is_body c || is_none_of items) ≡ true
+kept_items names b c items is = by_model (model_under b c.definition) (is_body c) refl is
+  where
+    by_body : (m : Model) (body : Bool) → is_body c ≡ body → items_by names m c ≡ Ok items → (is_body c || is_none_of items) ≡ true
+    by_body m true body is = rw body refl
+    by_body m false body is = let none : items ≡ [] = (let its : Ok [] ≡ Ok items = sym (rw body refl) ∙ is in cc) in rw (body, none) refl
+
+    by_model : (found : Option Model) (body : Bool) → is_body c ≡ body → option_map_or (λ m. items_by names m c) found (Ok []) ≡ Ok items → (is_body c || is_none_of items) ≡ true
+    by_model None body at is = let none : items ≡ [] = cc in or_right (is_body c) (is_none_of items) (rw none refl)
+    by_model (Some m) body at is = by_body m body at is
+
+-- what goes on to an outcome has one, which leads to it
+goes_to : {A B E : Type 0} (f : A → Result B E) (r : Result A E) (y : B) → (r >>= f) ≡ Ok y → (x : A) × (r ≡ Ok x) × (f x ≡ Ok y)
+goes_to f (Ok x) y is = (x, refl, is)
+goes_to f (Err e) y is = absurd (cc)
+
+-- so where a cell may become active with items, it is a body, or there are none
+opened_items : (b : Board) (moment : ℕ) (c : Cell) (items : List ℤ) → opened_with b moment c ≡ Ok items → (is_body c || is_none_of items) ≡ true
+opened_items b moment c items is =
+    let names = λ (vs : List Variable). seen_with vs (value_seen b c.key) in
+    let r = goes_to (λ vs. items_of (names vs) b c >>= (λ xs. openings_by (names vs) b moment c >>= (λ openings. Ok xs))) (inputs_of b c) items is in
+    let u = goes_to (λ xs. openings_by (names r.0) b moment c >>= (λ openings. Ok xs)) (items_of (names r.0) b c) items r.2 in
+    let w = goes_to (λ openings. Ok u.0) (openings_by (names r.0) b moment c) items u.2 in
+    let one : u.0 ≡ items = (let its : Ok u.0 ≡ Ok items = w.2 in cc) in
+    kept_items (names r.0) b c items (u.1 ∙ ap Ok one)
+
 -- a cell becomes active, or an incident tells why it can't (BPMN 2.0.2, 13.3.2; Zeebe, incidents)
-open_suits : (b : Board) (moment key : ℕ) (c : Cell) (inputs : Result (List Variable) Hindrance) (move : Move) → c.phase ≡ phases.Activating → cell_at b c.key ≡ Some c → is_stuck b c ≡ false → opens b c ≡ true → opened_with b moment c ≡ inputs → open_by key c inputs ≡ move
+open_suits : (b : Board) (moment key : ℕ) (c : Cell) (items : Result (List ℤ) Hindrance) (move : Move) → c.phase ≡ phases.Activating → cell_at b c.key ≡ Some c → is_stuck b c ≡ false → opens b c ≡ true → opened_with b moment c ≡ items → open_by key c items ≡ move
     → Suits b moment move
-open_suits b moment key c (Ok vs) move at found free opens gives is = subst (Suits b moment) is (rw (found, at, opens) refl, rw (found, gives) refl)
+open_suits b moment key c (Ok items) move at found free opens gives is =
+    let kept = opened_items b moment c items gives in
+    subst (Suits b moment) is (rw (found, at, opens, kept) refl, rw (found, gives) (items_same items))
 open_suits b moment key c (Err hindrance) move at found free opens gives is = subst (Suits b moment) is (stop_suits b moment key c hindrance (rw at refl) found free (rw (at, gives) refl))
 
 -- a cell that has completed is left, or an incident tells why it can't be (BPMN 2.0.2, 13.3.1; Zeebe, incidents)
@@ -178,12 +220,31 @@ catch_suits b moment key c code (Some t) move at found alive free thrown catches
     let any = any_where (λ (x : Cell). x.key == c.key) (comes_about_by b t) b.cells c found comes in
     subst (Suits b moment) is (or_right (is_awaited b t) (list_any (comes_about_by b t) b.cells) any, refl)
 
--- an active cell begins to complete, or an error that was thrown in it is caught or stops it (BPMN 2.0.2, 10.5.7 and 13.3.2)
+-- a body that acts may begin a run where an item is left (BPMN 2.0.2, 13.3.7)
+may_run_by : (m : Model) (b : Board) (c : Cell) (child sequential : Bool) → has_child b c.key ≡ child → is_sequential m c ≡ sequential → is_body c ≡ true → has_item c ≡ true → acts_in m b c ≡ true → may_run m b c ≡ true
+may_run_by m b c true true here in_turn body item does = absurd (let none : acts_in m b c ≡ false = rw (body, here, item, in_turn) refl in cc)
+may_run_by m b c true false here at_once body item does = rw (item, at_once) refl
+may_run_by m b c false sequential free its body item does = rw (item, free) (or_right (not (is_sequential m c)) true refl)
+
+runs_by : (b : Board) (c : Cell) (found : Option Model) → is_body c ≡ true → has_item c ≡ true → option_map_or (λ m. acts_in m b c) found false ≡ true → option_map_or (λ m. may_run m b c) found false ≡ true
+runs_by b c None body item does = absurd (cc)
+runs_by b c (Some m) body item does = may_run_by m b c (has_child b c.key) (is_sequential m c) refl refl body item does
+
+-- an active cell that acts begins a run, or begins to complete (BPMN 2.0.2, 13.3.2 and 13.3.7)
+act_suits : (b : Board) (moment key : ℕ) (c : Cell) (runs : Bool) → c.phase ≡ phases.Active → cell_at b c.key ≡ Some c → acts b c ≡ true → (is_body c && has_item c) ≡ runs → Suits b moment (act_by key c)
+act_suits b moment key c true at found does runs =
+    let parts = and_parts (is_body c) (has_item c) runs in
+    let may = runs_by b c (model_under b c.definition) parts.0 parts.1 does in
+    subst (Suits b moment) (sym (ap (λ (t : Bool). if t then moves.Inner (record { key = key; body = c.key }) else moves.Finish c.key) runs)) (rw (found, parts.0, at, may) refl, refl)
+act_suits b moment key c false at found does done =
+    subst (Suits b moment) (sym (ap (λ (t : Bool). if t then moves.Inner (record { key = key; body = c.key }) else moves.Finish c.key) done)) (rw (found, at, does, done) refl, refl)
+
+-- an active cell acts, or an error that was thrown in it is caught or stops it (BPMN 2.0.2, 10.5.7 and 13.3.2)
 finish_suits : (b : Board) (moment key : ℕ) (c : Cell) (error : Option (List ℕ)) (move : Move) → c.phase ≡ phases.Active → cell_at b c.key ≡ Some c → is_doomed b c ≡ false → is_stuck b c ≡ false → goes_on_in b c phases.Active ≡ true → error_of c.mark ≡ error → finish_by key c (caught b c) error ≡ move
     → Suits b moment move
 finish_suits b moment key c None move at found alive free goes gives is =
-    let done : is_done b c ≡ true = subst (λ (o : Option (List ℕ)). (is_some o || is_done b c) ≡ true) gives goes in
-    subst (Suits b moment) is (rw (found, at, done) refl, refl)
+    let does : acts b c ≡ true = subst (λ (o : Option (List ℕ)). (is_some o || acts b c) ≡ true) gives goes in
+    subst (Suits b moment) is (act_suits b moment key c (is_body c && has_item c) at found does refl)
 finish_suits b moment key c (Some code) move at found alive free goes gives is = catch_suits b moment key c code (caught b c) move at found alive free gives refl is
 
 -- by the phase of the cell

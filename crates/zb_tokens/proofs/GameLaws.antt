@@ -4,7 +4,7 @@ use Rattle.std.specs.Option.{option_map_or}
 use Rattle.std.specs.List.{find, list_any}
 use Rattle.std.proofs.lemmas.Bool.{or_left, or_right}
 use Rattle.std.proofs.lemmas.List.Elements.{All-nil, All-cons, All-contains}
-use Rattle.zb_tokens.specs.Edits.{edited, removed}
+use Rattle.zb_tokens.specs.Edits.{edited, removed, is_none_of}
 use Rattle.zb_tokens.specs.declared.board.Cell.{Cell}
 use Rattle.zb_tokens.specs.declared.board.Token.{Token}
 use Rattle.zb_tokens.specs.declared.board.Spot.{Spot}
@@ -15,11 +15,13 @@ use Rattle.zb_tokens.specs.declared.board.Mark.TheVariants as marks
 use Rattle.zb_tokens.specs.declared.board.Move.{Move}
 use Rattle.zb_tokens.specs.declared.board.Move.TheVariants as moves
 use Rattle.zb_tokens.specs.declared.board.Enter.{Enter}
+use Rattle.zb_tokens.specs.declared.board.Open.{Open}
 use Rattle.zb_tokens.specs.declared.board.Take.{Take}
 use Rattle.zb_process.specs.declared.model.Model.{Model}
-use Rattle.zb_tokens.specs.Board.{Board, cell_at, model_under, node_with, is_phase, in_phase, with_token}
+use Rattle.zb_tokens.specs.Board.{Board, cell_at, model_under, node_with, is_body, is_phase, in_phase, with_token}
 use Rattle.zb_tokens.specs.MoveEnter.{spots_of, stand_at_each, arrives, has_come, entered}
-use Rattle.zb_tokens.specs.MoveOpen.{start_tokens, first_tokens, opens}
+use Rattle.zb_tokens.specs.MoveInner.{one_taken}
+use Rattle.zb_tokens.specs.MoveOpen.{start_tokens, first_tokens, opens, with_items}
 use Rattle.zb_tokens.specs.MoveLeave.{leaving}
 use Rattle.zb_tokens.specs.MoveTake.{rest_of, spot_behind, play_take}
 use Rattle.zb_tokens.specs.MoveTrigger.{awaits_event, comes_about_by, is_awaited, mark_by, told}
@@ -164,10 +166,11 @@ entered_by b e (Some c) is = entered_in b e c (model_under b c.definition) (both
 tokens_some : (b : Board) (c : Cell) → IsTrue (opens b c) → IsTrue (is_some (first_tokens b c))
 tokens_some b c there = mapped_some (start_tokens c) (model_under b c.definition) there
 
-opened_by : (b : Board) (found : Option Cell) (cells : Option (List Cell)) → IsTrue (is_some cells) → IsTrue (option_map_or (λ c. is_phase c.phase phases.Activating && opens b c) found false)
+opened_by : (b : Board) (o : Open) (found : Option Cell) (cells : Option (List Cell)) → IsTrue (is_some cells)
+    → IsTrue (option_map_or (λ c. is_phase c.phase phases.Activating && (opens b c && (is_body c || is_none_of o.items))) found false)
     → IsTrue (is_some (option_and_then (λ c. option_and_then (λ tokens. option_map (λ cs. record b { cells = cs; tokens = b.tokens ++ tokens }) cells) (first_tokens b c)) found))
-opened_by b None cells some is = absurd (cc)
-opened_by b (Some c) cells some is = chained_some _ (first_tokens b c) (tokens_some b c (both_right (is_phase c.phase phases.Activating) (opens b c) is)) (λ tokens. mapped_some _ cells some)
+opened_by b o None cells some is = absurd (cc)
+opened_by b o (Some c) cells some is = chained_some _ (first_tokens b c) (tokens_some b c (both_left (opens b c) _ (both_right (is_phase c.phase phases.Activating) _ is))) (λ tokens. mapped_some _ cells some)
 
 -- the cell of an event that may come about is there
 told_there : (b : Board) (t : Triggered) (waits : Bool) → is_awaited b t ≡ waits → IsTrue (waits || list_any (comes_about_by b t) b.cells) → IsTrue (is_some (cell_at b t.cell))
@@ -193,8 +196,11 @@ pub fitting_is_played : (b : Board) (move : Move) → IsTrue (fits b move) → I
 fitting_is_played b (moves.Stand d) is = refl
 fitting_is_played b (moves.Start s) is = mapped_some _ (model_under b s.definition) is
 fitting_is_played b (moves.Enter e) is = entered_by b e (cell_at b e.scope) is
-fitting_is_played b (moves.Open key) is =
-    opened_by b (cell_at b key) (edited (λ x. x.key == key) (in_phase phases.Active []) b.cells) (cells_edited (in_phase phases.Active []) key b (holds_some _ (cell_at b key) is)) is
+fitting_is_played b (moves.Inner i) is =
+    let there = holds_some _ (cell_at b i.body) is in
+    chained_some _ (cell_at b i.body) there (λ c. mapped_some _ (edited (λ x. x.key == i.body) one_taken b.cells) (cells_edited one_taken i.body b there))
+fitting_is_played b (moves.Open o) is =
+    opened_by b o (cell_at b o.key) (edited (λ x. x.key == o.key) (with_items o.items) b.cells) (cells_edited (with_items o.items) o.key b (holds_some _ (cell_at b o.key) is)) is
 fitting_is_played b (moves.Finish key) is =
     mapped_some _ (edited (λ c. c.key == key) (in_phase phases.Completing []) b.cells) (cells_edited (in_phase phases.Completing []) key b (holds_some _ (cell_at b key) is))
 fitting_is_played b (moves.Leave l) is =

@@ -14,7 +14,7 @@ use Rattle.zb_process.specs.declared.model.NodeKind.{NodeKind}
 use Rattle.zb_process.specs.declared.model.NodeKind.TheVariants as kinds
 use Rattle.zb_faults.specs.Elements.{is_exclusive_gateway, is_event_gateway}
 use Rattle.zb_tokens.specs.declared.board.Cell.{Cell}
-use Rattle.zb_tokens.specs.Board.{Board, model_under, node_with, is_at, is_root}
+use Rattle.zb_tokens.specs.Board.{Board, model_under, node_with, is_at, owes_none}
 use Rattle.zb_tokens.specs.Names.{value_seen}
 use Rattle.zb_tokens.specs.Incidents.{Hindrance}
 use Rattle.zb_tokens.specs.Choice.{Gateway, gateway_in, gateway_of, choice_at}
@@ -63,14 +63,14 @@ unless_some false o x is = (refl, is)
 -- the gateway of a cell is an exclusive one of its model
 at_gateway : (b : Board) (c : Cell) (g : Gateway) → gateway_of b c ≡ Some g → IsAtGateway b c g
 at_gateway b c g is =
-    let r = unless_some (is_root c) (option_and_then (λ m. gateway_in m c.node) (model_under b c.definition)) g is in
+    let r = unless_some (owes_none c) (option_and_then (λ m. gateway_in m c.node) (model_under b c.definition)) g is in
     let s = chained_from (λ (m : Model). gateway_in m c.node) (model_under b c.definition) g r.1 in
     let u = chained_from (λ (n : Node). if is_exclusive_gateway n.kind then Some (record { node = n; outs = filter (λ f. bytes_eq f.from c.node) s.0.flows }) else None) (node_with s.0 c.node) g s.2 in
     let made : Gateway = record { node = u.0; outs = filter (λ f. bytes_eq f.from c.node) s.0.flows } in
     let w = cond_some (is_exclusive_gateway u.0.kind) made g u.2 in
     record {
       model = s.0;
-      inner = r.0;
+      leaves = r.0;
       stands = s.1;
       there = subst (λ (x : Gateway). node_with s.0 c.node ≡ Some x.node) w.1 u.1;
       exclusive = subst (λ (x : Gateway). IsTrue (is_exclusive_gateway x.node.kind)) w.1 w.0;
@@ -80,19 +80,19 @@ at_gateway b c g is =
 -- and a cell that is at one has it
 has_gateway : (b : Board) (c : Cell) (g : Gateway) → IsAtGateway b c g → gateway_of b c ≡ Some g
 has_gateway b c g at =
-    let inner = at.inner in
+    let leaves = at.leaves in
     let stands = at.stands in
     let there = at.there in
     let exclusive = at.exclusive in
     let with_outs : List Flow → Option Gateway = λ fs. Some (record { node = g.node; outs = fs }) in
-    rw (inner, stands, there, exclusive) (ap with_outs (sym at.outs))
+    rw (leaves, stands, there, exclusive) (ap with_outs (sym at.outs))
 
 -- a cell that is at no exclusive gateway has none
 no_gateway_in : (m : Model) (id : List ℕ) (found : Option Node) → node_with m id ≡ found → is_at m id is_exclusive_gateway ≡ false → gateway_in m id ≡ None
 no_gateway_in m id None at other = rw at refl
 no_gateway_in m id (Some n) at other = let out : is_exclusive_gateway n.kind ≡ false = rw at at other in rw (at, out) refl
 
-no_gateway : (b : Board) (c : Cell) (m : Model) (root : Bool) → is_root c ≡ root → model_under b c.definition ≡ Some m → (root || not (is_at m c.node is_exclusive_gateway)) ≡ true → gateway_of b c ≡ None
+no_gateway : (b : Board) (c : Cell) (m : Model) (root : Bool) → owes_none c ≡ root → model_under b c.definition ≡ Some m → (root || not (is_at m c.node is_exclusive_gateway)) ≡ true → gateway_of b c ≡ None
 no_gateway b c m true is stands other = rw is refl
 no_gateway b c m false is stands other = rw (is, stands) (no_gateway_in m c.node (node_with m c.node) refl (not-true (is_at m c.node is_exclusive_gateway) other))
 
@@ -115,12 +115,12 @@ each_kept keep each (x ∷ xs) = let it = each x in rw it (ap (λ ys. x ∷ ys) 
 -- so all flows out of the gateway of a cell may be taken
 all_go_out : (b : Board) (c : Cell) (g : Gateway) → IsAtGateway b c g → flows_of b c ≡ map (λ (x : Flow). x.id) g.outs
 all_go_out b c g at =
-    let inner = at.inner in
+    let leaves = at.leaves in
     let stands = at.stands in
     let there = at.there in
     let other = kinds_apart g.node.kind at.exclusive in
     let outs : List Flow = filter (λ (x : Flow). bytes_eq x.from c.node) at.model.flows in
-    let its : flows_of b c ≡ map (λ (x : Flow). x.id) (filter (may_take false c) outs) = rw (inner, stands, there, other) refl in
+    let its : flows_of b c ≡ map (λ (x : Flow). x.id) (filter (may_take false c) outs) = rw (leaves, stands, there, other) refl in
     its ∙ ap (map (λ (x : Flow). x.id)) (each_kept (may_take false c) (λ f. refl) outs ∙ sym at.outs)
 
 module _ (b : Board) (c : Cell) where
@@ -165,7 +165,7 @@ module _ (b : Board) (c : Cell) where
       is_undecided (value_seen b c.key) g hindrance (stopped (λ (f : Flow). f.id ∷ []) (choice_at (value_seen b c.key) g) hindrance its)
 
   -- at any other node all flows out of it are owed
-  pub all_are_owed : (m : Model) → model_under b c.definition ≡ Some m → IsTrue (is_root c || not (is_at m c.node is_exclusive_gateway)) → exit_of b c ≡ Ok (flows_of b c)
+  pub all_are_owed : (m : Model) → model_under b c.definition ≡ Some m → IsTrue (owes_none c || not (is_at m c.node is_exclusive_gateway)) → exit_of b c ≡ Ok (flows_of b c)
   all_are_owed m stands other =
-      let none : gateway_of b c ≡ None = no_gateway b c m (is_root c) refl stands other in
+      let none : gateway_of b c ≡ None = no_gateway b c m (owes_none c) refl stands other in
       rw none refl

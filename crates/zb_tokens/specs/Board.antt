@@ -5,6 +5,7 @@ use Rattle.std.specs.List.{find, list_any}
 use Rattle.std.specs.Str.{bytes_eq}
 use Rattle.zb_process.specs.declared.model.Model.{Model}
 use Rattle.zb_process.specs.declared.model.Node.{Node}
+use Rattle.zb_instance_records.specs.declared.instance.Role.{Role}
 use Rattle.zb_instance_records.specs.declared.instance.Role.TheVariants as roles
 use Rattle.zb_faults.specs.Elements.{is_start, is_subprocess}
 pub use Rattle.zb_faults.specs.Elements.{node_with, is_at}
@@ -59,9 +60,37 @@ is_phase phases.Leaving phases.Leaving = true
 is_phase phases.Terminating phases.Terminating = true
 is_phase a b = false
 
--- a root: a cell in no other
+-- two roles are the same
+abbrev pub is_role : Role → Role → Bool
+is_role roles.Plain roles.Plain = true
+is_role roles.Body roles.Body = true
+is_role roles.Inner roles.Inner = true
+is_role roles.Handler roles.Handler = true
+is_role a b = false
+
+-- a cell stands in no other
+abbrev pub is_top : Cell → Bool
+is_top c = c.scope == 0
+
+-- a root, with which an instance begins: the cell of a process, which stands in no other (BPMN 2.0.2, 13.2)
 abbrev pub is_root : Cell → Bool
-is_root c = c.scope == 0
+is_root c = is_top c
+
+-- the body of an activity with several instances, which runs that once for each item of a collection (BPMN 2.0.2, 13.3.7)
+abbrev pub is_body : Cell → Bool
+is_body c = is_role c.role roles.Body
+
+-- one of the runs of a body (BPMN 2.0.2, 13.3.7)
+abbrev pub is_inner : Cell → Bool
+is_inner c = is_role c.role roles.Inner
+
+-- a handler, which undoes an activity that has finished (BPMN 2.0.2, 13.5.5)
+abbrev pub is_handler : Cell → Bool
+is_handler c = is_role c.role roles.Handler
+
+-- no sequence flow leaves a cell: a root, a run of a body, or a handler (BPMN 2.0.2, 13.3.7 and 13.5.5)
+abbrev pub owes_none : Cell → Bool
+owes_none c = is_root c || (is_inner c || is_handler c)
 
 -- the cells from the one with a key on up to its root; no more are above it than there are (BPMN 2.0.2, 13.2)
 abbrev pub up_from : List Cell → Board → ℕ → List Cell
@@ -72,9 +101,13 @@ up_from (more ∷ cells) b key = option_map_or (λ c. c ∷ up_from cells b c.sc
 abbrev pub nearest : (Cell → Bool) → Board → ℕ → Option Cell
 nearest passes b key = find passes (up_from b.cells b key)
 
--- a scope, in which tokens move: a root, or a cell at a subprocess (BPMN 2.0.2, 13.2 and 13.3.4)
-abbrev pub is_scope_in : Model → Cell → Bool
-is_scope_in m c = is_root c || is_at m c.node is_subprocess
+-- a scope, in which tokens move: no body, but a root, or a cell at a subprocess (BPMN 2.0.2, 13.2 and 13.3.4)
+abbrev pub holds_tokens : Model → Cell → Bool
+holds_tokens m c = not (is_body c) && (is_root c || is_at m c.node is_subprocess)
+
+-- other cells run in a cell: in a scope, and in a body (BPMN 2.0.2, 13.2, 13.3.4 and 13.3.7)
+abbrev pub holds_cells : Model → Cell → Bool
+holds_cells m c = holds_tokens m c || is_body c
 
 -- the id of a scope, which its nodes have as their parent; empty at the top
 abbrev pub scope_id : Cell → List ℕ
@@ -99,14 +132,14 @@ is_spot (spots.OnFlow a) (spots.OnFlow b) = bytes_eq a b
 is_spot (spots.BeforeNode a) (spots.BeforeNode b) = bytes_eq a b
 is_spot a b = false
 
--- a cell that begins under a key, in a scope, at a node of a definition; a token before the node entered it, or none did
-abbrev pub new_cell : (key scope definition : ℕ) → List ℕ → Bool → Cell
-new_cell key scope definition node before = record {
+-- a cell that begins under a key, in a scope, at a node of a definition, in a role; a token before the node entered it, or none did
+abbrev pub new_cell : (key scope definition : ℕ) → List ℕ → Role → Bool → Cell
+new_cell key scope definition node role before = record {
   key = key;
   scope = scope;
   definition = definition;
   node = node;
-  role = roles.Plain;
+  role = role;
   phase = phases.Activating;
   mark = marks.Unset;
   before = before;

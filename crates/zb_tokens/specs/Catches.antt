@@ -1,5 +1,5 @@
 -- The events that cells wait for, at catch events, behind event gateways and at the boundary of activities: timers, which are due by a date or a duration, and messages (BPMN 2.0.2, 10.5.4, 10.5.5, 10.6.6 and 13.5.3).
-use Rattle.std.specs.Prelude.{ℕ, List, [], ◌∷◌, ◌++◌, filter, codes, Bool, true, false, ◌&&◌, ◌||◌, not, is_some, if◌then◌else◌, Option, Some, None, Result, Ok, Err}
+use Rattle.std.specs.Prelude.{ℕ, ℤ, List, [], ◌∷◌, ◌++◌, filter, codes, Bool, true, false, ◌&&◌, ◌||◌, not, is_some, if◌then◌else◌, Option, Some, None, Result, Ok, Err}
 use Rattle.std.specs.Option.{option_map_or, option_or}
 use Rattle.std.specs.List.{list_any}
 use Rattle.std.specs.Result.{result_map_both, result_unwrap_or}
@@ -30,7 +30,8 @@ use Rattle.zb_tokens.specs.declared.board.Catch.TheVariants as catches
 use Rattle.zb_tokens.specs.declared.board.Cell.{Cell}
 use Rattle.zb_tokens.specs.declared.board.Opening.{Opening}
 use Rattle.zb_tokens.specs.declared.board.Phase.TheVariants as phases
-use Rattle.zb_tokens.specs.Board.{Board, cell_at, model_under, node_with, is_phase}
+use Rattle.zb_tokens.specs.Board.{Board, cell_at, model_under, node_with, is_phase, is_body, is_inner}
+use Rattle.zb_tokens.specs.Bodies.{items_by}
 use Rattle.zb_tokens.specs.Doom.{is_doomed}
 use Rattle.zb_tokens.specs.Incidents.{Hindrance, hindrance_of}
 use Rattle.zb_tokens.specs.Mappings.{inputs_of, node_of}
@@ -100,17 +101,17 @@ message_by names m n =
 abbrev pub leads_from : Model → (origin target : List ℕ) → Bool
 leads_from m origin target = list_any (λ f. bytes_eq f.from origin && bytes_eq f.to target) m.flows
 
--- at a node a cell waits for the node's own event: at a receive task, or at a catch event, where no event gateway in front of it has waited for that (BPMN 2.0.2, 10.3.3, 10.6.6 and 13.5.3)
+-- at a node a cell that is no body waits for the node's own event: at a receive task, or at a catch event, where no event gateway in front of it has waited for that (BPMN 2.0.2, 10.3.3, 10.6.6 and 13.5.3)
 abbrev pub waits_itself : Cell → Node → Bool
-waits_itself c n = is_receive_task n.kind || (is_catch n.kind && not c.before)
+waits_itself c n = not (is_body c) && (is_receive_task n.kind || (is_catch n.kind && not c.before))
 
--- at a node a cell waits for the event of another one: of one behind an event gateway, or at the boundary of an activity (BPMN 2.0.2, 10.5.4 and 10.6.6)
-abbrev pub waits_beside : Model → (at other : Node) → Bool
-waits_beside m at other = if is_event_gateway at.kind then leads_from m at.id other.id else is_boundary_of at.id other
+-- at a node a cell that is no run of a body waits for the event of another one: of one behind an event gateway, or at the boundary of an activity (BPMN 2.0.2, 10.5.4, 10.6.6 and 13.3.7)
+abbrev pub waits_beside : Model → Cell → (at other : Node) → Bool
+waits_beside m c at other = not (is_inner c) && (if is_event_gateway at.kind then leads_from m at.id other.id else is_boundary_of at.id other)
 
 -- the nodes for whose events a cell at a node waits: its own one first, the others in the order of the model (BPMN 2.0.2, 13.5.3)
 abbrev pub awaited : Model → Cell → Node → List Node
-awaited m c n = (if waits_itself c n then n ∷ [] else []) ++ filter (waits_beside m n) m.nodes
+awaited m c n = (if waits_itself c n then n ∷ [] else []) ++ filter (waits_beside m c n) m.nodes
 
 -- the event for which a cell of a model waits at a node, where names have these values, or why that can't be told; none at a node without a time or a message (BPMN 2.0.2, 10.5.5)
 abbrev pub event_by : (List ℕ → Option Value) → ℕ → Model → Node → Result (Option Awaited) Hindrance
@@ -140,9 +141,15 @@ set_over (v ∷ vs) vars = set_over vs (with_value v.name v.value vars)
 abbrev pub seen_with : List Variable → (List ℕ → Option Value) → List ℕ → Option Value
 seen_with vs names name = option_or (value_named name (set_over vs [])) (names name)
 
--- what a cell takes in as it becomes active, where behind it the timers and subscriptions can open too, or what keeps it from that: its inputs first (BPMN 2.0.2, 13.3.2 and 13.5.3)
-abbrev pub opened_with : Board → ℕ → Cell → Result (List Variable) Hindrance
-opened_with b moment c = inputs_of b c >>= (λ vs. openings_by (seen_with vs (value_seen b c.key)) b moment c >>= (λ openings. Ok vs))
+-- the items that a cell keeps as it becomes active, by its model, where names have these values, or why it can't
+abbrev pub items_of : (List ℕ → Option Value) → Board → Cell → Result (List ℤ) Hindrance
+items_of names b c = option_map_or (λ m. items_by names m c) (model_under b c.definition) (Ok [])
+
+-- the items that a cell keeps as it becomes active, where before it its inputs have values, and behind it the timers and subscriptions can open too, or what keeps it from that, in this order
+-- (BPMN 2.0.2, 13.3.2, 13.3.7 and 13.5.3)
+abbrev pub opened_with : Board → ℕ → Cell → Result (List ℤ) Hindrance
+opened_with b moment c = inputs_of b c >>= (λ vs. items_of (seen_with vs (value_seen b c.key)) b c
+    >>= (λ items. openings_by (seen_with vs (value_seen b c.key)) b moment c >>= (λ openings. Ok items)))
 
 -- what opens for a cell that has become active, on a board on which its inputs are set (BPMN 2.0.2, 13.5.3)
 abbrev pub openings_of : Board → ℕ → Cell → Result (List Opening) Hindrance
@@ -154,7 +161,7 @@ openings_at b moment cell = option_map_or (λ c. result_unwrap_or (openings_of b
 
 -- at a node a cell waits for a time or a message at the node with an id: it is the cell's own one, or another one for whose event it waits (BPMN 2.0.2, 13.5.3)
 abbrev pub is_awaited_at : Catch → Model → Cell → Node → List ℕ → Bool
-is_awaited_at catch m c n id = option_map_or (λ x. ((bytes_eq c.node id && waits_itself c n) || waits_beside m n x) && is_caught_at x.kind catch) (node_with m id) false
+is_awaited_at catch m c n id = option_map_or (λ x. ((bytes_eq c.node id && waits_itself c n) || waits_beside m c n x) && is_caught_at x.kind catch) (node_with m id) false
 
 -- a cell waits, or is about to, for a time or a message at the node with an id (BPMN 2.0.2, 13.5.3)
 abbrev pub awaits : Catch → Board → Cell → List ℕ → Bool

@@ -14,7 +14,7 @@ use Rattle.zb_instance_records.specs.declared.happening.IncidentKind.TheVariants
 use Rattle.zb_faults.specs.Elements.{is_exclusive_gateway}
 use Rattle.zb_tokens.specs.declared.board.Cell.{Cell}
 use Rattle.zb_tokens.specs.Edits.{is_none_of}
-use Rattle.zb_tokens.specs.Board.{Board, model_under, node_with, is_root}
+use Rattle.zb_tokens.specs.Board.{Board, model_under, node_with, owes_none}
 use Rattle.zb_tokens.specs.Incidents.{Hindrance, hindrance_of}
 
 -- an exclusive gateway, and the flows out of it in the order of the model (BPMN 2.0.2, 10.6.2)
@@ -26,9 +26,9 @@ pub record Gateway : Type 0 where
 abbrev pub gateway_in : Model → List ℕ → Option Gateway
 gateway_in m id = option_and_then (λ n. if is_exclusive_gateway n.kind then Some (record { node = n; outs = filter (λ f. bytes_eq f.from id) m.flows }) else None) (node_with m id)
 
--- the exclusive gateway of a cell; a root is at none
+-- the exclusive gateway of a cell that flows leave; a root is at none
 abbrev pub gateway_of : Board → Cell → Option Gateway
-gateway_of b c = if is_root c then None else option_and_then (λ m. gateway_in m c.node) (model_under b c.definition)
+gateway_of b c = if owes_none c then None else option_and_then (λ m. gateway_in m c.node) (model_under b c.definition)
 
 -- the truth that a value is; another value is of the wrong kind (BPMN 2.0.2, 10.4.2)
 abbrev pub truth_of : Value → Result Bool ValueFault

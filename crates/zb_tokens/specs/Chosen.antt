@@ -11,7 +11,7 @@ use Rattle.zb_process.specs.Expr.{ValueFault, Kind, value_of}
 use Rattle.zb_instance_records.specs.declared.happening.IncidentKind.TheVariants as kinds
 use Rattle.zb_tokens.specs.declared.board.Cell.{Cell}
 use Rattle.zb_faults.specs.Elements.{is_exclusive_gateway}
-use Rattle.zb_tokens.specs.Board.{Board, model_under, node_with, is_root}
+use Rattle.zb_tokens.specs.Board.{Board, model_under, node_with, owes_none}
 use Rattle.zb_tokens.specs.Names.{value_seen}
 use Rattle.zb_tokens.specs.Incidents.{Hindrance, hindrance_of}
 use Rattle.zb_tokens.specs.Choice.{Gateway}
@@ -19,7 +19,7 @@ use Rattle.zb_tokens.specs.Choice.{Gateway}
 -- a cell is at an exclusive gateway of its model (BPMN 2.0.2, 10.6.2)
 pub record IsAtGateway (b : Board) (c : Cell) (g : Gateway) : Type 0 where
   pub model : Model
-  pub inner : IsFalse (is_root c)
+  pub leaves : IsFalse (owes_none c)
   pub stands : model_under b c.definition ≡ Some model
   pub there : node_with model c.node ≡ Some g.node
   pub exclusive : IsTrue (is_exclusive_gateway g.node.kind)

@@ -26,7 +26,8 @@ abbrev pub names_cell : Board → Move → Cell → Bool
 names_cell b (moves.Stand d) c = false
 names_cell b (moves.Start s) c = c.key == s.key
 names_cell b (moves.Enter e) c = c.key == e.key
-names_cell b (moves.Open key) c = c.key == key
+names_cell b (moves.Inner i) c = (c.key == i.key) || (c.key == i.body)
+names_cell b (moves.Open o) c = c.key == o.key
 names_cell b (moves.Finish key) c = c.key == key
 names_cell b (moves.Leave l) c = (c.key == l.key) || option_map_or (λ scope. is_or_leaves_in scope c) (scope_ended_by b l.key) false
 names_cell b (moves.Take t) c = c.key == t.key
@@ -43,7 +44,7 @@ names_cell b (moves.Repair key) c = false
 -- a move makes or takes a token in this scope (own)
 abbrev pub names_scope : Board → Move → ℕ → Bool
 names_scope b (moves.Enter e) scope = scope == e.scope
-names_scope b (moves.Open key) scope = scope == key
+names_scope b (moves.Open o) scope = scope == o.key
 names_scope b (moves.Leave l) scope = option_map_or (λ one. scope == one) (scope_ended_by b l.key) false
 names_scope b (moves.Take t) scope = option_map_or (λ c. scope == c.scope) (cell_at b t.key) false
 names_scope b (moves.Trigger t) scope = option_map_or (λ c. scope == c.scope) (cell_at b t.cell) false

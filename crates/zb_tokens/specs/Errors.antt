@@ -9,7 +9,7 @@ use Rattle.zb_faults.specs.Elements.{is_activity, is_boundary_of, is_error_bound
 use Rattle.zb_tokens.specs.declared.board.Cell.{Cell}
 use Rattle.zb_tokens.specs.declared.board.Triggered.{Triggered}
 use Rattle.zb_tokens.specs.Board.{Board, cell_at, model_under, nearest}
-use Rattle.zb_tokens.specs.Mappings.{node_of}
+use Rattle.zb_tokens.specs.Mappings.{rim_node}
 use Rattle.zb_tokens.specs.Marks.{error_of}
 
 -- a node is a boundary event for errors with a code; without one it is for any (BPMN 2.0.2, 10.5.7)
@@ -24,9 +24,9 @@ first_for code ns = option_or (find (is_for code) ns) (find (is_for []) ns)
 abbrev pub error_event : Model → (code : List ℕ) → Node → Option Node
 error_event m code at = if is_activity at.kind then first_for code (filter (is_boundary_of at.id) m.nodes) else None
 
--- the event at the boundary of a cell that catches an error
+-- the event at the boundary of a cell that catches an error; a run of a body has none
 abbrev pub error_event_of : Board → (code : List ℕ) → Cell → Option Node
-error_event_of b code c = option_and_then (λ m. option_and_then (error_event m code) (node_of b c)) (model_under b c.definition)
+error_event_of b code c = option_and_then (λ m. option_and_then (error_event m code) (rim_node b c)) (model_under b c.definition)
 
 -- at the boundary of a cell there is an event that catches an error
 abbrev pub catches : Board → (code : List ℕ) → Cell → Bool

@@ -1,10 +1,9 @@
 -- Who is forced to move (BPMN 2.0.2, 13: a token moves on by itself where nothing is waited for), in which order (own), and to what.
-use Rattle.std.specs.Prelude.{ℕ, max, List, [], ◌∷◌, map, filter, Bool, true, false, ◌&&◌, ◌||◌, not, is_some, if◌then◌else◌, Option, Some, None, option_map, option_and_then, Result, Ok, Err, ◌≡◌, ◌⊎◌}
+use Rattle.std.specs.Prelude.{ℕ, ℤ, max, List, [], ◌∷◌, map, filter, Bool, true, false, ◌&&◌, ◌||◌, not, is_some, if◌then◌else◌, Option, Some, None, option_map, option_and_then, Result, Ok, Err, ◌≡◌, ◌⊎◌}
 use Rattle.std.specs.Option.{option_map_or, option_or}
 use Rattle.std.specs.List.{find}
 use Rattle.std.specs.Str.{bytes_eq}
 pub use Rattle.zb_table.specs.Greatest.{greatest}
-use Rattle.zb_base.specs.declared.vars.Variable.{Variable}
 use Rattle.zb_process.specs.declared.model.Model.{Model}
 use Rattle.zb_tokens.specs.declared.board.Cell.{Cell}
 use Rattle.zb_tokens.specs.declared.board.Token.{Token}
@@ -17,11 +16,12 @@ use Rattle.zb_tokens.specs.declared.board.Mover.TheVariants as movers
 use Rattle.zb_tokens.specs.declared.board.Phase.{Phase}
 use Rattle.zb_tokens.specs.declared.board.Phase.TheVariants as phases
 use Rattle.zb_tokens.specs.Edits.{is_none_of}
-use Rattle.zb_tokens.specs.Board.{Board, cell_at, model_under, has_child}
+use Rattle.zb_tokens.specs.Board.{Board, cell_at, model_under, has_child, is_body}
+use Rattle.zb_tokens.specs.Bodies.{has_item}
 use Rattle.zb_tokens.specs.Doom.{is_doomed}
 use Rattle.zb_tokens.specs.MoveEnter.{joins, may_enter}
 use Rattle.zb_tokens.specs.MoveOpen.{opens}
-use Rattle.zb_tokens.specs.MoveFinish.{is_done}
+use Rattle.zb_tokens.specs.MoveFinish.{acts}
 use Rattle.zb_tokens.specs.Incidents.{Hindrance, error_hindrance, is_stuck}
 use Rattle.zb_tokens.specs.declared.board.Triggered.{Triggered}
 use Rattle.zb_tokens.specs.Errors.{caught}
@@ -32,7 +32,7 @@ use Rattle.zb_tokens.specs.MoveLeave.{completion_of}
 -- in a phase a cell that isn't stuck goes on by itself; with an error that was thrown in it, to where that is caught, or to its incident (BPMN 2.0.2, 13)
 abbrev pub goes_on_in : Board → Cell → Phase → Bool
 goes_on_in b c phases.Activating = opens b c
-goes_on_in b c phases.Active = is_some (error_of c.mark) || is_done b c
+goes_on_in b c phases.Active = is_some (error_of c.mark) || acts b c
 goes_on_in b c phases.Completing = true
 goes_on_in b c phases.Leaving = not (is_none_of c.owed)
 goes_on_in b c phases.Terminating = not (has_child b c.key)
@@ -81,9 +81,9 @@ take_first key (flow ∷ owed) = Some (moves.Take (record { key = key; flow = fl
 abbrev pub stop_by : ℕ → Cell → Hindrance → Move
 stop_by key c hindrance = moves.Incident (record { key = key; kind = hindrance.kind; cell = c.key; job = 0; text = hindrance.text })
 
--- a cell becomes active with these variables, or an incident under this key tells why it can't (BPMN 2.0.2, 13.3.2; Zeebe, incidents)
-abbrev pub open_by : ℕ → Cell → Result (List Variable) Hindrance → Move
-open_by key c (Ok vs) = moves.Open c.key
+-- a cell becomes active with these items, or an incident under this key tells why it can't (BPMN 2.0.2, 13.3.2; Zeebe, incidents)
+abbrev pub open_by : ℕ → Cell → Result (List ℤ) Hindrance → Move
+open_by key c (Ok items) = moves.Open (record { key = c.key; items = items })
 open_by key c (Err hindrance) = stop_by key c hindrance
 
 -- a cell is left by these flows, or an incident under this key tells why it can't be (BPMN 2.0.2, 13.3.1; Zeebe, incidents)
@@ -96,9 +96,13 @@ abbrev pub catch_by : ℕ → Cell → (code : List ℕ) → Option Triggered �
 catch_by key c code None = stop_by key c (error_hindrance code)
 catch_by key c code (Some t) = moves.Trigger t
 
--- an active cell begins to complete, or an error that was thrown in it is caught or stops it (BPMN 2.0.2, 10.5.7 and 13.3.2)
+-- an active cell begins a run for its next item under this key, or begins to complete where none is left (BPMN 2.0.2, 13.3.2 and 13.3.7)
+abbrev pub act_by : ℕ → Cell → Move
+act_by key c = if is_body c && has_item c then moves.Inner (record { key = key; body = c.key }) else moves.Finish c.key
+
+-- an active cell acts, or an error that was thrown in it is caught or stops it (BPMN 2.0.2, 10.5.7 and 13.3.2)
 abbrev pub finish_by : ℕ → Cell → Option Triggered → Option (List ℕ) → Move
-finish_by key c caught_at None = moves.Finish c.key
+finish_by key c caught_at None = act_by key c
 finish_by key c caught_at (Some code) = catch_by key c code caught_at
 
 -- what a cell does by itself in a phase at a moment, where an incident gets this key (BPMN 2.0.2, 13)

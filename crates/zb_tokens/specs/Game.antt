@@ -6,6 +6,7 @@ use Rattle.zb_tokens.specs.declared.board.Move.TheVariants as moves
 use Rattle.zb_tokens.specs.MoveStand.{fits_stand, play_stand}
 use Rattle.zb_tokens.specs.MoveStart.{fits_start, play_start}
 use Rattle.zb_tokens.specs.MoveEnter.{fits_enter, play_enter}
+use Rattle.zb_tokens.specs.MoveInner.{fits_inner, play_inner}
 use Rattle.zb_tokens.specs.MoveOpen.{fits_open, agrees_open, play_open}
 use Rattle.zb_tokens.specs.MoveFinish.{fits_finish, play_finish}
 use Rattle.zb_tokens.specs.MoveLeave.{fits_leave, agrees_leave, play_leave}
@@ -28,7 +29,8 @@ abbrev pub fits : Board → Move → Bool
 fits b (moves.Stand d) = fits_stand b d
 fits b (moves.Start s) = fits_start b s
 fits b (moves.Enter e) = fits_enter b e
-fits b (moves.Open key) = fits_open b key
+fits b (moves.Inner i) = fits_inner b i
+fits b (moves.Open o) = fits_open b o
 fits b (moves.Finish key) = fits_finish b key
 fits b (moves.Leave l) = fits_leave b l
 fits b (moves.Take t) = fits_take b t
@@ -44,7 +46,7 @@ fits b (moves.Repair key) = fits_repair b key
 
 -- a move agrees with what it evaluates on a board at a moment (BPMN 2.0.2, 13)
 abbrev pub agrees : Board → ℕ → Move → Bool
-agrees b moment (moves.Open key) = agrees_open b moment key
+agrees b moment (moves.Open o) = agrees_open b moment o
 agrees b moment (moves.Leave l) = agrees_leave b l
 agrees b moment (moves.Incident i) = agrees_incident b moment i
 agrees b moment move = true
@@ -54,7 +56,8 @@ abbrev pub played : Board → Move → Option Board
 played b (moves.Stand d) = play_stand b d
 played b (moves.Start s) = play_start b s
 played b (moves.Enter e) = play_enter b e
-played b (moves.Open key) = play_open b key
+played b (moves.Inner i) = play_inner b i
+played b (moves.Open o) = play_open b o
 played b (moves.Finish key) = play_finish b key
 played b (moves.Leave l) = play_leave b l
 played b (moves.Take t) = play_take b t

@@ -1,4 +1,5 @@
 pub mod Edits
+pub mod Bodies
 pub mod Board
 pub mod Places
 pub mod Doom
@@ -14,6 +15,7 @@ pub mod Choice
 pub mod Mappings
 pub mod Work
 pub mod MoveOpen
+pub mod MoveInner
 pub mod MoveLeave
 pub mod MoveTake
 pub mod MoveHalt

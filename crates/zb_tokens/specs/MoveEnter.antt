@@ -11,6 +11,7 @@ use Rattle.zb_tokens.specs.declared.board.Spot.TheVariants as spots
 use Rattle.zb_tokens.specs.declared.board.Enter.{Enter}
 use Rattle.zb_tokens.specs.Edits.{without_first, is_none_of}
 use Rattle.zb_tokens.specs.Board.{Board, cell_at, model_under, node_with, is_at, flows_in, leads_to, is_spot, spot_of, new_cell}
+use Rattle.zb_tokens.specs.Bodies.{role_at}
 use Rattle.zb_tokens.specs.Doom.{is_called_off}
 
 -- a gateway at which flows join: it waits for a token on each flow into it (BPMN 2.0.2, 13.4.1)
@@ -52,9 +53,9 @@ may_enter b scope node via = option_map_or (λ c. not (is_called_off b scope)
 abbrev pub fits_enter : Board → Enter → Bool
 fits_enter b e = may_enter b e.scope e.node e.via
 
--- the cell that begins in a scope, where a model has the node
+-- the cell that begins in a scope, where a model has the node: a body where that has several instances (BPMN 2.0.2, 13.3.7)
 abbrev pub entering : Enter → Cell → Model → Cell
-entering e scope m = new_cell e.key e.scope scope.definition e.node (is_none_of e.via && not (joins m e.node))
+entering e scope m = new_cell e.key e.scope scope.definition e.node (role_at m e.node) (is_none_of e.via && not (joins m e.node))
 
 -- the board with that cell, without the tokens that entered
 abbrev pub entered : Board → Enter → Cell → Model → Board

@@ -8,7 +8,7 @@ use Rattle.zb_tokens.specs.Edits.{edited}
 use Rattle.zb_tokens.specs.declared.board.Cell.{Cell}
 use Rattle.zb_tokens.specs.declared.board.Phase.TheVariants as phases
 use Rattle.zb_tokens.specs.declared.board.Spot.TheVariants as spots
-use Rattle.zb_tokens.specs.Board.{Board, cell_at, model_under, is_phase, is_root, in_phase, emptied}
+use Rattle.zb_tokens.specs.Board.{Board, cell_at, model_under, is_phase, is_root, is_inner, in_phase, emptied}
 use Rattle.zb_tokens.specs.Doom.{is_doomed}
 use Rattle.zb_tokens.specs.MoveEnter.{stands_at}
 
@@ -20,9 +20,9 @@ is_alive c = not (is_phase c.phase phases.Leaving) && not (is_phase c.phase phas
 abbrev pub interrupts : Board → Cell → Node → Bool
 interrupts b c n = n.cancel && list_any (stands_at c.scope (spots.BeforeNode n.id)) b.tokens
 
--- a boundary event interrupts a cell (BPMN 2.0.2, 10.5.4)
+-- a boundary event interrupts a cell; that of a body doesn't interrupt a run in it (BPMN 2.0.2, 10.5.4 and 13.3.7)
 abbrev pub is_interrupted : Board → Cell → Bool
-is_interrupted b c = option_map_or (λ m. list_any (interrupts b c) (filter (is_boundary_of c.node) m.nodes)) (model_under b c.definition) false
+is_interrupted b c = not (is_inner c) && option_map_or (λ m. list_any (interrupts b c) (filter (is_boundary_of c.node) m.nodes)) (model_under b c.definition) false
 
 -- when: it is alive, and is a root or doomed, or a boundary event interrupts it (BPMN 2.0.2, 13.3.2 and 13.5.3)
 abbrev pub fits_halt : Board → ℕ → Bool

@@ -12,7 +12,7 @@ use Rattle.zb_tokens.specs.declared.board.Leave.{Leave}
 use Rattle.zb_tokens.specs.declared.board.Mark.{Mark}
 use Rattle.zb_tokens.specs.declared.board.Mark.TheVariants as marks
 use Rattle.zb_tokens.specs.declared.board.Phase.TheVariants as phases
-use Rattle.zb_tokens.specs.Board.{Board, cell_at, model_under, is_at, is_phase, is_root, in_phase, emptied}
+use Rattle.zb_tokens.specs.Board.{Board, cell_at, model_under, is_at, is_phase, is_root, in_phase, emptied, owes_none}
 use Rattle.zb_tokens.specs.Names.{value_seen}
 use Rattle.zb_tokens.specs.Incidents.{Hindrance}
 use Rattle.zb_tokens.specs.Choice.{gateway_of, choice_at}
@@ -31,9 +31,9 @@ may_take at_event_gateway c f = not at_event_gateway || leads_to_chosen c.mark f
 abbrev pub flows_on : Model → Cell → List (List ℕ)
 flows_on m c = map (λ f. f.id) (filter (may_take (is_at m c.node is_event_gateway) c) (filter (λ f. bytes_eq f.from c.node) m.flows))
 
--- the same by its model; a root has none
+-- the same by its model; a root has none, nor has a run of a body or a handler (BPMN 2.0.2, 13.3.7 and 13.5.5)
 abbrev pub flows_of : Board → Cell → List (List ℕ)
-flows_of b c = if is_root c then [] else option_map_or (λ m. flows_on m c) (model_under b c.definition) []
+flows_of b c = if owes_none c then [] else option_map_or (λ m. flows_on m c) (model_under b c.definition) []
 
 -- these ids are among those, in the same order
 abbrev pub are_among : List (List ℕ) → List (List ℕ) → Bool

@@ -12,7 +12,7 @@ use Rattle.zb_tokens.specs.declared.board.Mark.{Mark}
 use Rattle.zb_tokens.specs.declared.board.Mark.TheVariants as marks
 use Rattle.zb_tokens.specs.declared.board.Phase.TheVariants as phases
 use Rattle.zb_tokens.specs.declared.board.Spot.TheVariants as spots
-use Rattle.zb_tokens.specs.Board.{Board, cell_at, model_under, node_with, is_phase, with_token}
+use Rattle.zb_tokens.specs.Board.{Board, cell_at, model_under, node_with, is_inner, is_phase, with_token}
 use Rattle.zb_tokens.specs.Catches.{may_be_told, waits_itself, awaits}
 use Rattle.zb_tokens.specs.Doom.{is_doomed}
 use Rattle.zb_tokens.specs.Errors.{caught, is_same_event}
@@ -57,9 +57,9 @@ told b t c None = Some (with_token c.scope (spots.BeforeNode t.node) b)
 abbrev pub play_trigger : Board → Triggered → Option Board
 play_trigger b t = option_and_then (λ c. told b t c (mark_by b t c)) (cell_at b t.cell)
 
--- the event of a node interrupts a cell where it comes about: the cell isn't told of it, and it is a boundary event at the cell's node that interrupts (BPMN 2.0.2, 10.5.4)
+-- the event of a node interrupts a cell where it comes about: the cell isn't told of it and is no run of a body, and it is a boundary event at the cell's node that interrupts (BPMN 2.0.2, 10.5.4 and 13.3.7)
 abbrev pub ends_cell : Board → Triggered → Cell → Bool
-ends_cell b t c = is_none (mark_by b t c) && option_map_or (λ m. option_map_or (λ n. n.cancel && is_boundary_of c.node n) (node_with m t.node) false) (model_under b c.definition) false
+ends_cell b t c = is_none (mark_by b t c) && (not (is_inner c) && option_map_or (λ m. option_map_or (λ n. n.cancel && is_boundary_of c.node n) (node_with m t.node) false) (model_under b c.definition) false)
 
 -- the same for the cell with a key
 abbrev pub is_interrupting : (cell : ℕ) → List ℕ → Board → Bool

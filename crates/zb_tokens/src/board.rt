@@ -115,7 +115,9 @@ pub enum Move {
     Stand(Deployed),
     Start(Start),
     Enter(Enter),
-    Open(Key),
+    /// A body begins a run for its next item.
+    Inner(Inner),
+    Open(Open),
     Finish(Key),
     Leave(Leave),
     Take(Take),
@@ -153,6 +155,20 @@ pub struct Enter {
     pub scope: Key,
     pub node: Text,
     pub via: Text,
+}
+
+/// A body begins a run under a key.
+#[derive(Drop)]
+pub struct Inner {
+    pub key: Key,
+    pub body: Key,
+}
+
+/// A cell becomes active; a body keeps these items.
+#[derive(Drop)]
+pub struct Open {
+    pub key: Key,
+    pub items: List<i64>,
 }
 
 /// A cell has completed, and owes these flows.

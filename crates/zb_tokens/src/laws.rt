@@ -17,7 +17,7 @@ ghost use Rattle.zb_tokens.specs.declared.board.Phase.TheVariants as phases;
 ghost use Rattle.zb_tokens.specs.declared.board.Enter.{Enter};
 ghost use Rattle.zb_tokens.specs.declared.board.Leave.{Leave};
 ghost use Rattle.zb_tokens.specs.declared.board.Take.{Take};
-ghost use Rattle.zb_tokens.specs.Board.{Board, cell_at, model_under, is_at, is_root, in_phase};
+ghost use Rattle.zb_tokens.specs.Board.{Board, cell_at, model_under, is_at, owes_none, in_phase};
 ghost use Rattle.zb_tokens.specs.declared.board.Triggered.{Triggered};
 ghost use Rattle.zb_tokens.specs.Errors.{catcher, first_for, is_for, IsCaughtAt};
 ghost use Rattle.zb_tokens.specs.Game.{played};
@@ -61,7 +61,7 @@ pub fn gateways_choose_one_flow()
         → IsUndecided (value_seen board cell.key) gateway hindrance }
     ensures elsewhere { (board : Board) (cell : Cell) (model : Model)
         → model_under board cell.definition ≡ Some model
-        → IsTrue (is_root cell || not (is_at model cell.node is_exclusive_gateway))
+        → IsTrue (owes_none cell || not (is_at model cell.node is_exclusive_gateway))
         → exit_of board cell ≡ Ok (flows_of board cell) }
 {}
 

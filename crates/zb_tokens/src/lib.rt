@@ -9,8 +9,8 @@ mod keys;
 mod laws;
 
 pub use board::{
-    Assigned, Assignments, Awaited, AwaitedMessage, Catch, Cell, Deployed, Enter, Incident, Leave,
-    Mark, Move, Mover, Opening, Phase, Spot, Start, Take, Thrown, Token, Triggered,
+    Assigned, Assignments, Awaited, AwaitedMessage, Catch, Cell, Deployed, Enter, Incident, Inner,
+    Leave, Mark, Move, Mover, Open, Opening, Phase, Spot, Start, Take, Thrown, Token, Triggered,
 };
 pub use boxed::BoxedModel;
 pub use keys::place_number;

@@ -66,3 +66,8 @@ module _ {A : Type 0} (p : A → Bool) (all : List A) (i : ℕ) (x : A) (there :
   number_passed out =
       let here : filter p (x ∷ drop (i + 1) all) ≡ filter p (drop (i + 1) all) = rw out refl in
       ap (λ (l : List A). map (slice_get all) numbers ++ map Some l) (sym here) ∙ from_there
+
+-- where none passes, none is left
+pub none_pass : {A : Type 0} (p : A → Bool) (xs : List A) → ((x : A) → p x ≡ false) → filter p xs ≡ []
+none_pass p [] out = refl
+none_pass p (x ∷ xs) out = rw (out x) (none_pass p xs out)

@@ -7,8 +7,8 @@ ghost use Rattle.zb_tokens.specs.Board.{node_with};
 ghost use Rattle.zb_tokens.specs.Catches.{awaited, awaits, is_awaited_at, is_caught_at, is_message_event, is_receive_task, leads_from, time_form, waits_beside, waits_itself, waits_once};
 
 use std::alloc::{AllocError, Global};
-use zb_base::{Key, List};
-use zb_board::Game;
+use zb_base::List;
+use zb_board::{Game, is_body, is_inner, is_root};
 use zb_duration::TimeForm;
 use zb_faults::{is_boundary, is_boundary_of, is_catch, is_event_gateway};
 use zb_graph::Graph;
@@ -21,7 +21,7 @@ pub fn awaits(game: &Game, cell: &Cell, catch: Catch, id: &str) -> bool
     ensures { result ≡ awaits catch game.now cell.now id.now }
 {
     match game.model(cell.definition) {
-        Some(model) => cell.scope != Key::new(0) && awaits_in(model, cell, catch, id),
+        Some(model) => !is_root(cell) && awaits_in(model, cell, catch, id),
         None => false,
     }
 }
@@ -43,7 +43,7 @@ fn is_awaited_at(model: &Graph, cell: &Cell, node: &Node, catch: Catch, id: &str
     match model.node_with(id) {
         Some(other) => {
             (cell.node.as_str() == id && waits_itself(cell, node)
-                || waits_beside(model, node, other))
+                || waits_beside(model, cell, node, other))
                 && is_caught_at(other.kind, catch)
         }
         None => false,
@@ -89,11 +89,11 @@ pub fn waits_itself_at(model: &Graph, cell: &Cell) -> bool
     }
 }
 
-// Whether at a node a cell waits for the node's own event.
+// Whether at a node a cell waits for the node's own event; a body leaves that to the cells in it.
 fn waits_itself(cell: &Cell, node: &Node) -> bool
     ensures { result ≡ waits_itself cell.now node.now }
 {
-    is_receive_task(node.kind) || is_catch(node.kind) && !cell.before
+    !is_body(cell) && (is_receive_task(node.kind) || is_catch(node.kind) && !cell.before)
 }
 
 // A task that waits for a message.
@@ -103,11 +103,14 @@ fn is_receive_task(kind: NodeKind) -> bool
     matches!(kind, NodeKind::ReceiveTask)
 }
 
-// Whether at a node a cell waits for the event of another one. At an event gateway it goes through the flows into
-// that.
-fn waits_beside(model: &Graph, at: &Node, other: &Node) -> bool
-    ensures { result ≡ waits_beside model.now at.now other.now }
+// Whether at a node a cell waits for the event of another one; a run of a body waits for none. At an event gateway it
+// goes through the flows into that.
+fn waits_beside(model: &Graph, cell: &Cell, at: &Node, other: &Node) -> bool
+    ensures { result ≡ waits_beside model.now cell.now at.now other.now }
 {
+    if is_inner(cell) {
+        return false;
+    }
     if is_event_gateway(at.kind) {
         leads_from(model, at.id.as_str(), other.id.as_str())
     } else {
@@ -141,7 +144,7 @@ pub fn awaited(
 {
     let node = model.node(number);
     let mut numbers = own_number(alloc, cell, node, number)?;
-    add_beside(model, node, &mut numbers)?;
+    add_beside(model, cell, node, &mut numbers)?;
     Ok(numbers)
 }
 
@@ -158,9 +161,17 @@ fn own_number(alloc: Global, cell: &Cell, node: &Node, number: u32) -> Result<Li
 }
 
 // Adds the numbers of the other nodes for whose events a cell waits at a node, in the order of the model.
-fn add_beside(model: &Graph, at: &Node, numbers: &mut List<u32>) -> Result<(), AllocError>
-    ensures { OnOk result (map (slice_get model.now.nodes) numbers.new ≡ map (slice_get model.now.nodes) numbers.old ++ map Some (filter (waits_beside model.now at.now) model.now.nodes)) }
+fn add_beside(
+    model: &Graph,
+    cell: &Cell,
+    at: &Node,
+    numbers: &mut List<u32>,
+) -> Result<(), AllocError>
+    ensures { OnOk result (map (slice_get model.now.nodes) numbers.new ≡ map (slice_get model.now.nodes) numbers.old ++ map Some (filter (waits_beside model.now cell.now at.now) model.now.nodes)) }
 {
+    if is_inner(cell) {
+        return Ok(());
+    }
     if is_event_gateway(at.kind) {
         add_behind(model, at.id.as_str(), numbers)
     } else {

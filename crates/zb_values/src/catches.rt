@@ -9,23 +9,24 @@ ghost use Rattle.zb_tokens.specs.Board.{node_with};
 ghost use Rattle.zb_tokens.specs.Catches.{awaited, due_by, event_by, key_told, message_by, opened_at, opened_with, openings_at, openings_by, openings_in, openings_of, text_told, value_given};
 ghost use Rattle.zb_tokens.specs.Incidents.{hindrance_of};
 ghost use Rattle.zb_tokens.specs.Forced.{open_by};
-ghost use Rattle.zb_values.specs.Opens.{key_given, message_with, opened_over, text_given, timed_by, told_by};
+ghost use Rattle.zb_values.specs.Opens.{items_kept, key_given, message_with, opened_over, text_given, timed_by, told_by};
 
 use crate::awaited::{awaited, is_message_event, time_form, waits_once};
 use crate::hindrances::{Hindrance, due_given, given, stop_by};
+use crate::items::items_of;
 use crate::mappings::{Side, variables_by};
 use crate::seen::{Seen, SeenWith};
 use std::alloc::{AllocError, Global};
 use zb_base::{Key, List, Moment, Text, TryCopy, Value, Variable};
-use zb_board::Game;
+use zb_board::{Game, is_root};
 use zb_duration::{TimeForm, due};
 use zb_expr::{Code, Env, EvalFault, run};
 use zb_graph::Graph;
 use zb_process::Node;
-use zb_tokens::{Awaited, AwaitedMessage, Cell, Move, Opening};
+use zb_tokens::{Awaited, AwaitedMessage, Cell, Move, Open, Opening};
 
-/// How a cell becomes active, or the incident under this key that tells why it can't. Its inputs are evaluated, and then
-/// what opens at this moment, which is found as in `openings_at`. For each name it goes up the scopes, for one in a time
+/// How a cell becomes active, or the incident under this key that tells why it can't. Its inputs are evaluated, then the
+/// collection of a body, whose items are copied, and then what opens at this moment, which is found as in `openings_at`. For each name it goes up the scopes, for one in a time
 /// or a correlation key also through the inputs.
 pub fn open_by(
     game: &Game,
@@ -37,18 +38,22 @@ pub fn open_by(
     ensures { IfOk result (λ move. move ≡ open_by key cell.now (opened_with game.now moment cell.now)) }
 {
     match opened_with(game, alloc, moment, cell)? {
-        Ok(_inputs) => Ok(Move::Open(cell.key)),
+        Ok(items) => {
+            let key = cell.key;
+            Ok(Move::Open(Open { key, items }))
+        }
         Err(hindrance) => Ok(stop_by(key, cell, hindrance)),
     }
 }
 
-// What a cell takes in as it becomes active, where its timers and subscriptions can open too.
+// The items that a cell keeps as it becomes active, where its inputs have values, and its timers and subscriptions can open
+// too.
 fn opened_with(
     game: &Game,
     alloc: Global,
     moment: Moment,
     cell: &Cell,
-) -> Result<Result<List<Variable>, Hindrance>, AllocError>
+) -> Result<Result<List<i64>, Hindrance>, AllocError>
     ensures { IfOk result (λ opened. opened ≡ opened_with game.now moment cell.now) }
 {
     match variables_by(game, alloc, cell, Side::Inputs)? {
@@ -57,14 +62,15 @@ fn opened_with(
     }
 }
 
-// The same, where these are its inputs. Times and correlation keys see them laid over what it sees; none is set.
+// The same, where these are its inputs. Collections, times and correlation keys see them laid over what it sees; none is
+// set.
 fn opened_over(
     game: &Game,
     alloc: Global,
     moment: Moment,
     cell: &Cell,
     inputs: List<Variable>,
-) -> Result<Result<List<Variable>, Hindrance>, AllocError>
+) -> Result<Result<List<i64>, Hindrance>, AllocError>
     ensures { IfOk result (λ opened. opened ≡ opened_over inputs game.now moment cell.now) }
 {
     let seen = SeenWith {
@@ -72,9 +78,22 @@ fn opened_over(
         game,
         cell: cell.key,
     };
-    match openings_by(game, alloc, &seen, moment, cell)? {
-        Ok(_openings) => Ok(Ok(inputs)),
+    match items_of(game, alloc, &seen, cell)? {
+        Ok(items) => Ok(kept(openings_by(game, alloc, &seen, moment, cell)?, items)),
         Err(hindrance) => Ok(Err(hindrance)),
+    }
+}
+
+// The items, where what opens can.
+fn kept(
+    openings: Result<List<Opening>, Hindrance>,
+    items: List<i64>,
+) -> Result<List<i64>, Hindrance>
+    ensures { result ≡ items_kept openings items }
+{
+    match openings {
+        Ok(_openings) => Ok(items),
+        Err(hindrance) => Err(hindrance),
     }
 }
 
@@ -128,7 +147,7 @@ fn openings_by<E: Env>(
 {
     match game.model(cell.definition) {
         Some(model) => {
-            if cell.scope == Key::new(0) {
+            if is_root(cell) {
                 return Ok(Ok(List::empty(alloc)));
             }
             openings_for(alloc, env, moment, model, cell)

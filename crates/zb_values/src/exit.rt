@@ -13,17 +13,17 @@ use crate::flows::{default_of, flows_on, is_default};
 use crate::hindrances::{given, stop_by, undecided};
 use std::alloc::{AllocError, Global};
 use zb_base::{Key, List, TryCopy};
-use zb_board::Game;
+use zb_board::{Game, owes_none};
 use zb_faults::is_exclusive_gateway;
 use zb_graph::Graph;
 use zb_process::{Flow, Node};
 use zb_tokens::{Cell, Leave, Move};
 
-/// How a cell is left, where an incident gets this key.
+/// How a cell is left, where an incident gets this key; by no flow where it owes none.
 pub fn leave_by(game: &Game, alloc: Global, key: Key, cell: &Cell) -> Result<Move, AllocError>
     ensures { IfOk result (λ move. move ≡ leave_by key cell.now (exit_of game.now cell.now)) }
 {
-    if cell.scope == Key::new(0) {
+    if owes_none(cell) {
         return Ok(left_by_none(alloc, cell.key));
     }
     match game.model(cell.definition) {

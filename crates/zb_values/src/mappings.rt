@@ -5,9 +5,10 @@ ghost use Rattle.std.specs.Result.{result_unwrap_or};
 ghost use Rattle.zb_expr.specs.Outcome.{Evaluates};
 ghost use Rattle.zb_tokens.specs.declared.board.Move.TheVariants as moves;
 ghost use Rattle.zb_tokens.specs.declared.board.Leave.{Leave};
+ghost use Rattle.zb_tokens.specs.declared.board.Open.{Open};
 ghost use Rattle.zb_tokens.specs.Board.{node_with};
 ghost use Rattle.zb_tokens.specs.Names.{value_seen};
-ghost use Rattle.zb_tokens.specs.Mappings.{assignments_of, mapped, node_of, variables_by};
+ghost use Rattle.zb_tokens.specs.Mappings.{assignments_of, mapped, own_node, variables_by};
 ghost use Rattle.zb_tokens.specs.MoveLeave.{completion_of};
 ghost use Rattle.zb_tokens.specs.Forced.{leave_by};
 ghost use Rattle.zb_values.specs.Mapped.{mappings_at, mappings_on};
@@ -17,7 +18,7 @@ use crate::hindrances::{Hindrance, given, stop_by};
 use crate::seen::value_at;
 use std::alloc::{AllocError, Global};
 use zb_base::{Key, List, TryCopy, Value, Variable};
-use zb_board::Game;
+use zb_board::{Game, is_body, is_root};
 use zb_expr::{Code, EvalFault};
 use zb_graph::Graph;
 use zb_process::Mapping;
@@ -53,7 +54,7 @@ pub fn assignments_of(
     ensures { IfOk result (λ assignments. assignments ≡ assignments_of game.now made.now) }
 {
     match made {
-        Move::Open(key) => inputs_at(game, alloc, *key),
+        Move::Open(open) => inputs_at(game, alloc, open.key),
         Move::Leave(leave) => outputs_at(game, alloc, leave.key),
         _ => Ok(None),
     }
@@ -61,7 +62,7 @@ pub fn assignments_of(
 
 // The inputs of a cell, which are set in it.
 fn inputs_at(game: &Game, alloc: Global, key: Key) -> Result<Option<Assignments>, AllocError>
-    ensures { IfOk result (λ assignments. assignments ≡ assignments_of game.now (moves.Open key)) }
+    ensures { (opening : Open) → opening.key ≡ key → IfOk result (λ assignments. assignments ≡ assignments_of game.now (moves.Open opening)) }
 {
     let Some(cell) = game.cell(key) else {
         return Ok(None);
@@ -96,7 +97,7 @@ fn variables_of(
     cell: &Cell,
     side: Side,
 ) -> Result<List<Variable>, AllocError>
-    ensures { IfOk result (λ variables. variables ≡ result_unwrap_or (variables_by game.now cell.now (option_map_or (mappings_on side) (node_of game.now cell.now) [])) []) }
+    ensures { IfOk result (λ variables. variables ≡ result_unwrap_or (variables_by game.now cell.now (option_map_or (mappings_on side) (own_node game.now cell.now) [])) []) }
 {
     match variables_by(game, alloc, cell, side)? {
         Ok(variables) => Ok(variables),
@@ -111,21 +112,22 @@ pub fn variables_by(
     cell: &Cell,
     side: Side,
 ) -> Result<Result<List<Variable>, Hindrance>, AllocError>
-    ensures { IfOk result (λ variables. variables ≡ variables_by game.now cell.now (option_map_or (mappings_on side) (node_of game.now cell.now) [])) }
+    ensures { IfOk result (λ variables. variables ≡ variables_by game.now cell.now (option_map_or (mappings_on side) (own_node game.now cell.now) [])) }
 {
     given(alloc, mapped_at(game, alloc, cell, side))
 }
 
-// The variables that the mappings of a cell's node make, or the first fault of their sources; a root is at no node.
+// The variables that the mappings of a cell's node make, or the first fault of their sources; a root is at no node, and
+// a body runs none.
 fn mapped_at(
     game: &Game,
     alloc: Global,
     cell: &Cell,
     side: Side,
 ) -> Result<List<Variable>, EvalFault>
-    ensures { Evaluates result (mapped (value_seen game.now cell.now.key) (option_map_or (mappings_on side) (node_of game.now cell.now) [])) }
+    ensures { Evaluates result (mapped (value_seen game.now cell.now.key) (option_map_or (mappings_on side) (own_node game.now cell.now) [])) }
 {
-    if cell.scope == Key::new(0) {
+    if is_body(cell) || is_root(cell) {
         return Ok(List::empty(alloc));
     }
     match game.model(cell.definition) {

@@ -5,7 +5,7 @@ ghost use Rattle.zb_tokens.specs.MoveAssign.{has_name};
 ghost use Rattle.zb_tokens.specs.Names.{holder_of, value_seen};
 
 use zb_base::{Key, Value};
-use zb_board::Game;
+use zb_board::{Game, is_root};
 use zb_table::Query;
 use zb_tokens::{Cell, Phase};
 
@@ -43,7 +43,7 @@ pub fn is_instance(game: &Game, key: Key) -> bool
     ensures { result ≡ option_map_or is_root (cell_at game.now key) false }
 {
     match game.cell(key) {
-        Some(cell) => cell.scope == Key::new(0),
+        Some(cell) => is_root(cell),
         None => false,
     }
 }
@@ -89,6 +89,6 @@ impl<'a> Query<Cell> for IsHolder<'a> {
     ghost passes = { λ q c. has_name q.name.now c || is_root c };
 
     fn passes(&self, cell: &Cell) -> bool {
-        cell_has_name(self.name, cell) || cell.scope == Key::new(0)
+        cell_has_name(self.name, cell) || is_root(cell)
     }
 }

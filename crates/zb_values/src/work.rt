@@ -2,13 +2,13 @@
 ghost use Rattle.std.specs.Prelude.{◌≡◌, option_map};
 ghost use Rattle.std.specs.Option.{option_copied};
 ghost use Rattle.zb_tokens.specs.Board.{cell_at, is_root};
-ghost use Rattle.zb_tokens.specs.Mappings.{gives_outputs, node_of};
+ghost use Rattle.zb_tokens.specs.Mappings.{gives_outputs, node_of, own_node};
 ghost use Rattle.zb_tokens.specs.Marks.{awaits_work, is_service_cell};
 ghost use Rattle.zb_tokens.specs.Names.{root_of};
 ghost use Rattle.zb_tokens.specs.Work.{is_work_in, may_have_job, work_at, work_of};
 
 use zb_base::{Key, Text};
-use zb_board::{Game, is_service_at, is_unset};
+use zb_board::{Game, is_body, is_root, is_service_at, is_unset};
 use zb_process::Node;
 use zb_table::Query;
 use zb_tokens::{Cell, Phase};
@@ -63,7 +63,7 @@ pub fn node_id(game: &Game, cell: Key) -> Option<&Text>
     }
 }
 
-/// Whether the node of a cell has outputs; `None` where the cell isn't there. The cell and its model are found as
+/// Whether the node that a cell runs has outputs; `None` where the cell isn't there. The cell and its model are found as
 /// by `Game::cell` and `Game::model`.
 pub fn gives_outputs(game: &Game, cell: Key) -> Option<bool>
     ensures { result ≡ option_map (gives_outputs game.now) (cell_at game.now cell) }
@@ -74,12 +74,12 @@ pub fn gives_outputs(game: &Game, cell: Key) -> Option<bool>
     }
 }
 
-// Whether the node of this cell has outputs.
+// Whether the node that this cell runs has outputs.
 #[tactic(auto, using(zb_board::proofs::AskingLemmas::compared))]
 fn has_outputs(game: &Game, cell: &Cell) -> bool
     ensures { result ≡ gives_outputs game.now cell.now }
 {
-    match node_at(game, cell) {
+    match own_node(game, cell) {
         Some(node) => !node.outputs.as_slice().is_empty(),
         None => false,
     }
@@ -93,11 +93,11 @@ pub fn awaits_work(game: &Game, cell: &Cell) -> bool
     cell.phase == Phase::Active && is_unset(&cell.mark) && is_service_cell(game, cell)
 }
 
-// Whether a cell is at a service task.
+// Whether a cell runs a service task; a body leaves that to the cells in it.
 fn is_service_cell(game: &Game, cell: &Cell) -> bool
     ensures { result ≡ is_service_cell game.now cell.now }
 {
-    if cell.scope == Key::new(0) {
+    if is_root(cell) || is_body(cell) {
         return false;
     }
     match game.model(cell.definition) {
@@ -117,11 +117,22 @@ fn work_of<'a>(game: &'a Game, cell: &Cell) -> Option<&'a Node>
     }
 }
 
+// The node whose activity a cell runs itself; a body leaves that to the cells in it.
+fn own_node<'a>(game: &'a Game, cell: &Cell) -> Option<&'a Node>
+    ensures { option_copied result ≡ own_node game.now cell.now }
+{
+    if is_body(cell) {
+        None
+    } else {
+        node_at(game, cell)
+    }
+}
+
 // The node of a cell; a root is at none.
 fn node_at<'a>(game: &'a Game, cell: &Cell) -> Option<&'a Node>
     ensures { option_copied result ≡ node_of game.now cell.now }
 {
-    if cell.scope == Key::new(0) {
+    if is_root(cell) {
         return None;
     }
     match game.model(cell.definition) {
@@ -137,6 +148,6 @@ impl Query<Cell> for IsRoot {
     ghost passes = { λ _ c. is_root c };
 
     fn passes(&self, cell: &Cell) -> bool {
-        cell.scope == Key::new(0)
+        is_root(cell)
     }
 }

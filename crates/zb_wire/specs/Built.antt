@@ -1,5 +1,5 @@
 -- What of a process model is built so far; a model that has more than that is refused.
-use Rattle.std.specs.Prelude.{ℕ, List, codes, Bool, true, false, not, ◌&&◌, is_some, Option, Some, None, option_and_then}
+use Rattle.std.specs.Prelude.{ℕ, List, codes, Bool, true, false, not, ◌&&◌, Option, Some, None, option_and_then}
 use Rattle.std.specs.Option.{option_map_or}
 use Rattle.serde_json.specs.Data.{Data}
 use Rattle.serde_json.specs.Find.{get, as_array}
@@ -31,12 +31,9 @@ is_built_kind (Some kinds.MessageBoundaryEvent) = true
 is_built_kind (Some kinds.ErrorBoundaryEvent) = true
 is_built_kind kind = false
 
--- a node is of such a kind, has no multi-instance, and isn't there for a compensation (own)
+-- a node is of such a kind, and isn't there for a compensation (own)
 abbrev pub is_built : Data → Bool
-is_built d =
-    is_built_kind (kind_in d)
-    && not (is_some (get (codes "multiInstanceLoopCharacteristics") d))
-    && not (flag_in (codes "isForCompensation") false d)
+is_built d = is_built_kind (kind_in d) && not (flag_in (codes "isForCompensation") false d)
 
 -- the place of the first node that isn't built
 unfoldable pub unbuilt_place : Data → Option (List ℕ)

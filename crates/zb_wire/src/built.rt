@@ -39,9 +39,7 @@ fn first_unbuilt(alloc: Global, nodes: &[Json]) -> Result<Option<Text>, AllocErr
 fn is_built(node: &Json) -> bool
     ensures { result ≡ spec.is_built (view node.now) }
 {
-    is_built_kind(kind_in(node))
-        && node.get("multiInstanceLoopCharacteristics").is_none()
-        && !flag_in(node, "isForCompensation", false)
+    is_built_kind(kind_in(node)) && !flag_in(node, "isForCompensation", false)
 }
 
 // Whether nodes of this kind are built so far.

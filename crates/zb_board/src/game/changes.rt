@@ -9,19 +9,22 @@ ghost use Rattle.zb_tokens.specs.Doom.{calls_off};
 ghost use Rattle.zb_tokens.specs.Edits.{edited};
 ghost use Rattle.zb_tokens.specs.Marks.{with_mark};
 ghost use Rattle.zb_tokens.specs.MoveAssign.{with_variable};
+ghost use Rattle.zb_tokens.specs.MoveInner.{one_taken};
 ghost use Rattle.zb_tokens.specs.MoveLeave.{with_end};
+ghost use Rattle.zb_tokens.specs.MoveOpen.{with_items};
 ghost use Rattle.zb_board.specs.Below.{HasBelow};
-ghost use Rattle.zb_board.specs.Indexed.{is_kept};
+ghost use Rattle.zb_board.specs.Indexed.{is_kept, StaysThere};
+ghost use Rattle.zb_tokens.specs.declared.board.Cell.{Cell};
 
 use crate::below::wake_below;
-use crate::edits::{InPhase, WithEnd, WithMark, WithVariable};
+use crate::edits::{InPhase, OneTaken, WithEnd, WithItems, WithMark, WithVariable};
 use crate::keys::keep;
 use crate::{Game, GameFault};
 use std::alloc::{AllocError, Global};
 use std::collections::BTreeSet;
 use zb_arrivals::Arrivals;
 use zb_base::{Key, List, Text, Value};
-use zb_table::Table;
+use zb_table::{Edit, Table};
 use zb_tokens::{Cell, Mark, Phase};
 
 impl Game {
@@ -83,13 +86,42 @@ impl Game {
         ensures none { IsErrOf result GameFault.Illegal → edited (λ c. c.key == key) (with_mark mark) self.old.cells ≡ None }
         ensures kept { IsErrOf result GameFault.Illegal → self.new ≡ self.old }
     {
+        self.change(key, WithMark { mark })
+    }
+
+    /// Makes a cell active, which keeps these items. It may go on by itself. It answers and costs what `put_in_phase`
+    /// does.
+    pub fn put_items(&mut self, key: Key, items: List<i64>) -> Result<(), GameFault>
+        ensures put { OnOk result (option_map (λ cells. record self.old { cells = cells }) (edited (λ c. c.key == key) (with_items items) self.old.cells) ≡ Some self.new) }
+        ensures none { IsErrOf result GameFault.Illegal → edited (λ c. c.key == key) (with_items items) self.old.cells ≡ None }
+        ensures kept { IsErrOf result GameFault.Illegal → self.new ≡ self.old }
+    {
+        self.change(key, WithItems { items })
+    }
+
+    /// Takes one more of a cell's items. It may go on by itself. It answers and costs what `put_in_phase` does.
+    pub fn put_taken(&mut self, key: Key) -> Result<(), GameFault>
+        ensures put { OnOk result (option_map (λ cells. record self.old { cells = cells }) (edited (λ c. c.key == key) one_taken self.old.cells) ≡ Some self.new) }
+        ensures none { IsErrOf result GameFault.Illegal → edited (λ c. c.key == key) one_taken self.old.cells ≡ None }
+        ensures kept { IsErrOf result GameFault.Illegal → self.new ≡ self.old }
+    {
+        self.change(key, OneTaken)
+    }
+
+    // Makes something of a cell that stays where it is, and calls off no more than before. It may go on by itself.
+    fn change<E: Edit<Cell>>(&mut self, key: Key, edit: E) -> Result<(), GameFault>
+        requires { (c : Cell) → StaysThere c (E.edits edit c) }
+        ensures put { OnOk result (option_map (λ cells. record self.old { cells = cells }) (edited (λ c. c.key == key) (E.edits edit) self.old.cells) ≡ Some self.new) }
+        ensures none { IsErrOf result GameFault.Illegal → edited (λ c. c.key == key) (E.edits edit) self.old.cells ≡ None }
+        ensures kept { IsErrOf result GameFault.Illegal → self.new ≡ self.old }
+    {
         if self.cell(key).is_none() {
             return Err(GameFault::Illegal);
         }
         let ascends = self.ascends;
         self.ascends = false;
         keep(&mut self.ready, key)?;
-        self.cells.edit(key, WithMark { mark })?;
+        self.cells.edit(key, edit)?;
         self.ascends = ascends;
         Ok(())
     }

@@ -1,12 +1,14 @@
 // Cells and tokens that rest: nothing but a change of a cell, or of what is in it, or of the tokens in a scope, lets
 // them go on by themselves.
 ghost use Rattle.std.specs.Prelude.{◌≡◌};
-ghost use Rattle.zb_board.specs.Indexed.{is_awake, is_done_in, is_resting, rests_in, stays_active, stays_out};
+ghost use Rattle.zb_board.specs.Indexed.{is_awake, is_resting, rests_in, stays_active, stays_out};
+ghost use Rattle.zb_tokens.specs.MoveFinish.{acts_in};
 
 use crate::Game;
 use crate::keys::forget;
-use crate::kinds::{goes_on, is_scope_in};
+use crate::kinds::{goes_on, holds_tokens, is_sequential};
 use crate::marks::{error_of, has_come_about};
+use crate::roles::{has_item, is_body};
 use zb_base::Key;
 use zb_graph::Graph;
 use zb_places::comes;
@@ -14,7 +16,7 @@ use zb_tokens::{Cell, Phase, Token};
 
 impl Game {
     /// Looks at a cell again: where it rests, and doesn't end as it is called off, it isn't among the ready ones any more.
-    /// It costs what `is_done_in`, `incident_on` and `is_called_off` do.
+    /// It costs what `acts_in`, `incident_on` and `is_called_off` do.
     pub fn look_at(&mut self, key: Key)
         ensures { self.new ≡ self.old }
     {
@@ -102,16 +104,19 @@ impl Game {
             return false;
         }
         match self.model(cell.definition) {
-            Some(model) => !self.is_done_in(model, cell),
+            Some(model) => !self.acts_in(model, cell),
             None => false,
         }
     }
 
-    /// Whether in its model nothing is left that an active cell waits for. It costs what `has_child` does.
-    pub fn is_done_in(&self, model: &Graph, cell: &Cell) -> bool
-        ensures { result ≡ is_done_in model.now self.now cell.now }
+    /// Whether an active cell acts in its model: nothing is left that it waits for, or a body may begin a run. It costs
+    /// what `has_child` does.
+    pub fn acts_in(&self, model: &Graph, cell: &Cell) -> bool
+        ensures { result ≡ acts_in model.now self.now cell.now }
     {
-        if is_scope_in(model, cell) {
+        if is_body(cell) {
+            !self.has_child(cell.key) || (has_item(cell) && !is_sequential(model, cell))
+        } else if holds_tokens(model, cell) {
             self.is_empty(cell.key)
         } else {
             has_come_about(&cell.mark) || goes_on(model, cell)
