@@ -54,6 +54,8 @@ NODES = {
     "a start event": ("startEvent",), "an end event": ("endEvent",), "a service task": ("serviceTask",), "a subprocess": ("subProcess",),
     "a start event with a message": ("startEvent", "messageEventDefinition", "name"),
     "an end event that terminates": ("endEvent", "terminateEventDefinition"), "an intermediate throw event": ("intermediateThrowEvent",),
+    "an end event for compensation": ("endEvent", "compensateEventDefinition"),
+    "an intermediate throw event for compensation": ("intermediateThrowEvent", "compensateEventDefinition"),
     "an exclusive gateway": ("exclusiveGateway",), "a parallel gateway": ("parallelGateway",), "an event gateway": ("eventBasedGateway",),
     "a catch event with a date": ("intermediateCatchEvent", "timerEventDefinition", "timeDate"),
     "a catch event with a duration": ("intermediateCatchEvent", "timerEventDefinition", "timeDuration"),
@@ -63,6 +65,7 @@ NODES = {
     "a catch event with a message": ("intermediateCatchEvent", "messageEventDefinition", "correlationKey"),
     "a boundary event with a message": ("boundaryEvent", "messageEventDefinition", "correlationKey"),
     "a boundary event for an error": ("boundaryEvent", "errorEventDefinition", "errorCode"),
+    "a boundary event for compensation": ("boundaryEvent", "compensateEventDefinition", "handler"),
 }
 OPERATORS = ["+", "-", "*", "=", "!=", "<", "<=", ">", ">=", "and", "or"]
 
@@ -203,21 +206,22 @@ class Reader:
         kind, *event = NODES[self.of(LAYOUT["kind of node"], "kind of node")]
         node["kind"] = kind
         host, task, error, timer = kind == "boundaryEvent", kind == "serviceTask", "errorCode" in event, "timerEventDefinition" in event
-        message, keyed = "messageEventDefinition" in event, "correlationKey" in event
+        message, keyed, undone = "messageEventDefinition" in event, "correlationKey" in event, "handler" in event
         parent, attached, interrupts, default, named = self.plain(), self.plain(), self.truth(), self.plain(), self.plain()
         self.wants(host == bool(attached) and interrupts <= host, f"an activity at {node}")
         self.wants(not default or kind == "exclusiveGateway", f"a default flow at {node}")
-        self.wants(task or error or message or not named, f"a type, a code or a name at {node}")
+        self.wants(task or error or message or undone or not named, f"a type, a code, a handler or a name at {node}")
         self.wants(self.truth() == (timer or keyed), f"a time or a correlation key at {node}")
         source = {event[1]: self.source()} if timer or keyed else {}
-        about = {"name": named, **source} if keyed else source or ({event[1]: named} if message or (error and named) else {})
+        about = {"name": named, **source} if keyed else source or ({event[1]: named} if message or undone or (error and named) else {})
         retries = self.unsigned(4)
         self.wants(task or retries == 0, f"retries at {node}")
-        self.zero()
+        handler = self.truth()
+        self.wants(task or not handler, f"a handler at {node}")
         several = self.several() if self.truth() else {}
         self.wants(not several or kind in ("serviceTask", "receiveTask", "subProcess"), f"several instances at {node}")
         inputs, outputs = self.members(self.mapping), self.members(self.mapping)
-        more = {"parent": parent, "attachedToRef": attached, "default": default, "type": named if task else "", "retries": retries}
+        more = {"parent": parent, "attachedToRef": attached, "default": default, "type": named if task else "", "retries": retries, "isForCompensation": handler}
         node.update({name: value for name, value in more.items() if value})
         if host and not interrupts:
             node["cancelActivity"] = False

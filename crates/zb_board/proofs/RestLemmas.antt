@@ -6,7 +6,7 @@ use Rattle.zb_process.specs.declared.model.Model.{Model}
 use Rattle.zb_tokens.specs.declared.board.Cell.{Cell}
 use Rattle.zb_tokens.specs.declared.board.Phase.{Phase}
 use Rattle.zb_tokens.specs.declared.board.Phase.TheVariants as phases
-use Rattle.zb_tokens.specs.Board.{Board, model_under, is_phase, holds_tokens, is_at, is_body, is_empty, has_child, in_phase}
+use Rattle.zb_tokens.specs.Board.{Board, model_under, is_phase, holds_tokens, is_at, is_body, is_empty, has_child, in_phase, undoes}
 use Rattle.zb_tokens.specs.Bodies.{has_item, is_sequential}
 use Rattle.zb_tokens.specs.Doom.{calls_off}
 use Rattle.zb_tokens.specs.Incidents.{is_stuck}
@@ -64,14 +64,23 @@ rests_on b b' c phases.Active models full is = by_error (is_some (error_of c.mar
     by_scope m true is = by_full (is_empty b c.key) (is_empty b' c.key) full.0 is
     by_scope m false is = is
 
+    by_child : (s t : Bool) → (s ≡ true → t ≡ true) → not (not s) ≡ true → not (not t) ≡ true
+    by_child true t more is = rw (more refl) refl
+    by_child false t more is = absurd (cc)
+
+    by_place : (m : Model) (t : Bool) → not (if t then not (has_child b c.key) else if holds_tokens m c then is_empty b c.key else has_come_about c.mark || is_at m c.node (rests_at c)) ≡ true
+        → not (if t then not (has_child b' c.key) else if holds_tokens m c then is_empty b' c.key else has_come_about c.mark || is_at m c.node (rests_at c)) ≡ true
+    by_place m true is = by_child (has_child b c.key) (has_child b' c.key) full.1 is
+    by_place m false is = by_scope m (holds_tokens m c) is
+
     by_run : (s t runs : Bool) → (s ≡ true → t ≡ true) → not (not s || runs) ≡ true → not (not t || runs) ≡ true
     by_run true t runs more is = rw (more refl) is
     by_run false t runs more is = absurd (cc)
 
-    by_body : (m : Model) (t : Bool) → not (if t then not (has_child b c.key) || (has_item c && not (is_sequential m c)) else if holds_tokens m c then is_empty b c.key else has_come_about c.mark || is_at m c.node (rests_at c)) ≡ true
-        → not (if t then not (has_child b' c.key) || (has_item c && not (is_sequential m c)) else if holds_tokens m c then is_empty b' c.key else has_come_about c.mark || is_at m c.node (rests_at c)) ≡ true
+    by_body : (m : Model) (t : Bool) → not (if t then not (has_child b c.key) || (has_item c && not (is_sequential m c)) else if undoes m c then not (has_child b c.key) else if holds_tokens m c then is_empty b c.key else has_come_about c.mark || is_at m c.node (rests_at c)) ≡ true
+        → not (if t then not (has_child b' c.key) || (has_item c && not (is_sequential m c)) else if undoes m c then not (has_child b' c.key) else if holds_tokens m c then is_empty b' c.key else has_come_about c.mark || is_at m c.node (rests_at c)) ≡ true
     by_body m true is = by_run (has_child b c.key) (has_child b' c.key) (has_item c && not (is_sequential m c)) full.1 is
-    by_body m false is = by_scope m (holds_tokens m c) is
+    by_body m false is = by_place m (undoes m c) is
 
     by_model : (found found' : Option Model) → ((m : Model) → found ≡ Some m → found' ≡ Some m) → option_map_or (λ m. not (acts_in m b c)) found false ≡ true → option_map_or (λ m. not (acts_in m b' c)) found' false ≡ true
     by_model None found' stays is = absurd (cc)

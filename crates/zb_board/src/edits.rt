@@ -4,10 +4,12 @@ ghost use Rattle.zb_tokens.specs.Board.{in_phase, new_cell};
 ghost use Rattle.zb_tokens.specs.Marks.{with_mark};
 ghost use Rattle.zb_tokens.specs.MoveAssign.{with_variable};
 ghost use Rattle.zb_tokens.specs.MoveInner.{one_taken};
-ghost use Rattle.zb_tokens.specs.MoveLeave.{with_end};
+ghost use Rattle.zb_tokens.specs.MoveLeave.{with_end, with_finished};
 ghost use Rattle.zb_tokens.specs.MoveOpen.{with_items};
+ghost use Rattle.zb_tokens.specs.MoveUndo.{one_undone};
 
 use std::alloc::{AllocError, Global};
+use std::mem::replace;
 use zb_base::{Key, List, Text, Value, Vars};
 use zb_instance_records::Role;
 use zb_table::Edit;
@@ -118,6 +120,38 @@ impl Edit<Cell> for WithEnd {
 
     fn edit(self, mut row: Cell) -> Result<Cell, AllocError> {
         row.ending = true;
+        Ok(row)
+    }
+}
+
+/// An activity has finished in a cell that can be undone.
+#[derive(Drop)]
+pub struct WithFinished {
+    pub node: Text,
+}
+
+impl Edit<Cell> for WithFinished {
+    ghost edits = { λ e c. with_finished e.node c };
+
+    fn edit(self, mut row: Cell) -> Result<Cell, AllocError> {
+        row.finished.push(self.node)?;
+        Ok(row)
+    }
+}
+
+/// The activity that finished last in a cell is being undone.
+#[derive(Drop)]
+pub struct OneUndone {
+    pub alloc: Global,
+}
+
+impl Edit<Cell> for OneUndone {
+    ghost edits = { λ _ c. one_undone c };
+
+    fn edit(self, mut row: Cell) -> Result<Cell, AllocError> {
+        let mut finished = replace(&mut row.finished, List::empty(self.alloc)).into_vec();
+        finished.truncate(finished.len().saturating_sub(1));
+        row.finished = List::from_vec(finished);
         Ok(row)
     }
 }

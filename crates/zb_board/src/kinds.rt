@@ -1,9 +1,10 @@
 // What kinds of nodes stand in a model.
-ghost use Rattle.std.specs.Prelude.{◌≡◌, is_some};
+ghost use Rattle.std.specs.Prelude.{◌≡◌, is_some, map, option_map};
 ghost use Rattle.zb_faults.specs.Elements.{is_at, is_event_gateway, is_service_task, is_subprocess, is_terminate_end};
 ghost use Rattle.std.specs.Option.{option_copied};
 ghost use Rattle.zb_tokens.specs.Bodies.{is_sequential, multi_at, role_at};
-ghost use Rattle.zb_tokens.specs.Board.{holds_tokens};
+ghost use Rattle.zb_tokens.specs.Board.{holds_tokens, is_compensation, undoes};
+ghost use Rattle.zb_tokens.specs.Handlers.{handler_of, has_handler_at};
 ghost use Rattle.zb_tokens.specs.Choice.{gateway_in};
 ghost use Rattle.zb_tokens.specs.MoveFinish.{rests_at, waits_for_nothing};
 
@@ -32,6 +33,33 @@ fn is_subprocess_at(model: &Graph, id: &str) -> bool
         Some(node) => is_subprocess(node.kind),
         None => false,
     }
+}
+
+/// Whether a cell is at a compensation event, and runs handlers there.
+pub fn undoes(model: &Graph, cell: &Cell) -> bool
+    ensures { result ≡ undoes model.now cell.now }
+{
+    !(is_root(cell) || is_body(cell)) && is_compensation_at(model, cell.node.as_str())
+}
+
+// Whether the node with an id is a compensation event, in the flow or at its end.
+fn is_compensation_at(model: &Graph, id: &str) -> bool
+    ensures { result ≡ is_at model.now id.now is_compensation }
+{
+    match model.node_with(id) {
+        Some(node) => is_compensation(node.kind),
+        None => false,
+    }
+}
+
+// Whether a node of this kind is a compensation event, in the flow or at its end.
+fn is_compensation(kind: NodeKind) -> bool
+    ensures { result ≡ is_compensation kind }
+{
+    matches!(
+        kind,
+        NodeKind::CompensationEndEvent | NodeKind::CompensationThrowEvent
+    )
 }
 
 /// How an activity has several instances, by the id of its node, if it has.

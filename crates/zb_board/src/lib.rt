@@ -15,7 +15,7 @@ pub use edits::new_cell;
 pub use game::{Game, GameFault};
 pub use kinds::{
     chooses, chooses_by_event, holds_tokens, is_sequential, is_service_at, multi_at, role_at,
-    terminates_at,
+    terminates_at, undoes,
 };
 pub use marks::{error_of, is_unset};
 pub use roles::{has_item, is_body, is_inner, is_root, next_item, owes_none};

@@ -9,7 +9,7 @@ use zb_model::{
     ElementActivated, ElementActivating, ElementCompleted, Event, IncidentCreated,
     ProcessEventTriggered, Role, SequenceFlowTaken, Text, TryCopy,
 };
-use zb_tokens::{Cell, Enter, Inner, Move};
+use zb_tokens::{Cell, Enter, Inner, Move, Undo};
 
 /// The event that shows a forced move; `None` of a move that is never forced. Of a cell that begins it costs what
 /// `Game::cell` and `Game::model` do, and of a run of a body a copy of the body's node.
@@ -19,6 +19,7 @@ pub fn event_of(alloc: Global, shown: Move, game: &Game) -> Result<Option<Event>
     match shown {
         Move::Enter(entry) => Ok(entered(alloc, entry, game)),
         Move::Inner(run) => begun(alloc, run, game),
+        Move::Undo(undo) => Ok(undone(alloc, undo, game)),
         Move::Open(opened) => Ok(Some(Event::ElementActivated(ElementActivated {
             key: opened.key,
             items: opened.items,
@@ -82,6 +83,22 @@ fn begun(alloc: Global, run: Inner, game: &Game) -> Result<Option<Event>, AllocE
         via: Text::empty(alloc),
         started: Text::empty(alloc),
     })))
+}
+
+// A compensation event runs a handler.
+fn undone(alloc: Global, undo: Undo, game: &Game) -> Option<Event>
+    ensures { result ≡ event_of game.now (moves.Undo undo) }
+{
+    let event = game.cell(undo.event)?;
+    Some(Event::ElementActivating(ElementActivating {
+        key: undo.key,
+        scope: undo.event,
+        definition: event.definition,
+        node: undo.node,
+        role: Role::Handler,
+        via: Text::empty(alloc),
+        started: Text::empty(alloc),
+    }))
 }
 
 /// The role of a cell that a token begins at a node in a scope, by the model of that. It costs what `Game::model` does.

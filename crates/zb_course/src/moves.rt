@@ -20,7 +20,7 @@ use zb_model::{
 };
 use zb_tokens::{
     Assigned, BoxedModel, Deployed, Enter, Incident, Inner, Leave, Move, Open, Start, Take, Thrown,
-    Triggered,
+    Triggered, Undo,
 };
 
 /// Makes the move that the event shows, if it shows one. At `NotApplicable`, exactly where it doesn't fit,
@@ -139,7 +139,7 @@ fn entry_of(alloc: Global, element: &ElementActivating) -> Result<Option<Move>, 
     }
 }
 
-// A body begins a run, or a token enters a node.
+// A body begins a run, a compensation event runs a handler, or a token enters a node.
 fn move_of_cell(alloc: Global, element: &ElementActivating) -> Result<Move, AllocError>
     ensures { IfOk result (λ move. move ≡ move_of_cell element.now element.now.role) }
 {
@@ -148,7 +148,12 @@ fn move_of_cell(alloc: Global, element: &ElementActivating) -> Result<Move, Allo
             key: element.key,
             body: element.scope,
         })),
-        Role::Plain | Role::Body | Role::Handler => Ok(Move::Enter(Enter {
+        Role::Handler => Ok(Move::Undo(Undo {
+            key: element.key,
+            event: element.scope,
+            node: element.node.copy(alloc)?,
+        })),
+        Role::Plain | Role::Body => Ok(Move::Enter(Enter {
             key: element.key,
             scope: element.scope,
             node: element.node.copy(alloc)?,

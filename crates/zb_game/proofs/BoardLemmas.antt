@@ -1,14 +1,12 @@
 -- What moves make of a board, from what was changed on it.
-use Rattle.std.proofs.Common.{◌≡◌, ℕ, ◌==◌, List, [], ◌∷◌, ◌++◌, Option, Some, None, option_map, is_some, IsTrue, ap, ◌∙◌}
+use Rattle.std.proofs.Common.{◌≡◌, ℕ, ◌==◌, List, [], ◌++◌, Option, Some, None, option_map, is_some, IsTrue, ap, ◌∙◌}
 use Rattle.zb_tokens.specs.Edits.{edited}
 use Rattle.zb_tokens.specs.declared.board.Cell.{Cell}
 use Rattle.zb_tokens.specs.declared.board.Token.{Token}
 use Rattle.zb_tokens.specs.declared.board.Move.{Move}
-use Rattle.zb_tokens.specs.declared.board.Inner.{Inner}
 use Rattle.zb_tokens.specs.declared.board.Open.{Open}
 use Rattle.zb_tokens.specs.Board.{Board, cell_at}
 use Rattle.zb_tokens.specs.MoveOpen.{first_tokens, play_open, with_items}
-use Rattle.zb_tokens.specs.MoveInner.{one_taken, play_inner, run_in}
 use Rattle.zb_tokens.specs.Game.{fits, played}
 use Rattle.zb_tokens.proofs.GameLaws.{fitting_is_played}
 use Rattle.zb_arrivals.proofs.EditLemmas.{mapped_from}
@@ -41,11 +39,3 @@ module _ (b : Board) where
       → option_map with_cells (edited (λ x. x.key == o.key) (with_items o.items) b.cells) ≡ Some mid → play_open b o ≡ Some mid
   opened_alone o mid c cell tokens put =
       opened o mid c [] cell tokens put ∙ ap (λ (ts : List Token). Some (record mid { tokens = ts })) (append-nil mid.tokens)
-
-  -- a run begins, where its body has taken its item
-  pub begun : (i : Inner) (mid : Board) (c : Cell) → cell_at b i.body ≡ Some c → option_map with_cells (edited (λ x. x.key == i.body) one_taken b.cells) ≡ Some mid
-      → play_inner b i ≡ Some (record mid { cells = mid.cells ++ run_in i c ∷ [] })
-  begun i mid c cell put =
-      let r = mapped_from with_cells (edited (λ x. x.key == i.body) one_taken b.cells) mid put in
-      let cells = r.1 in
-      rw (cell, cells) (ap (λ (x : Board). Some (record x { cells = x.cells ++ run_in i c ∷ [] })) r.2)

@@ -1,12 +1,13 @@
 // Where errors are caught that were thrown in cells.
 ghost use Rattle.std.specs.Prelude.{◌≡◌, false, filter, option_map};
-ghost use Rattle.std.specs.List.{find, list_any};
+ghost use Rattle.std.specs.List.{list_any};
 ghost use Rattle.std.specs.Option.{option_copied, option_map_or};
 ghost use Rattle.zb_faults.specs.Elements.{is_boundary_of};
 ghost use Rattle.zb_tokens.specs.Errors.{catcher, catches, caught, error_event, error_event_of, first_for, is_for, is_same_event};
 ghost use Rattle.zb_tokens.specs.MoveTrigger.{comes_about_by};
 ghost use Rattle.zb_game.specs.Searches.{comes_about_at, error_event_in};
 
+use crate::bounds::boundary_event;
 use zb_base::{Key, Text};
 use zb_board::{Game, error_of, is_inner, is_root};
 use zb_faults::{is_activity, is_error_boundary};
@@ -116,23 +117,10 @@ fn error_event<'a>(model: &'a Graph, code: &str, at: &Node) -> Option<&'a Node>
 fn first_for<'a>(model: &'a Graph, code: &str, id: &str) -> Option<&'a Node>
     ensures { option_copied result ≡ first_for code.now (filter (is_boundary_of id.now) model.now.nodes) }
 {
-    match find_for(model, code, id) {
+    match boundary_event(model, id, &IsFor { code }) {
         Some(event) => Some(event),
-        None => find_for(model, "", id),
+        None => boundary_event(model, id, &IsFor { code: "" }),
     }
-}
-
-// The first boundary event at the activity with an id for errors with a code. It goes through those up to that.
-fn find_for<'a>(model: &'a Graph, code: &str, id: &str) -> Option<&'a Node>
-    ensures { option_copied result ≡ find (is_for code.now) (filter (is_boundary_of id.now) model.now.nodes) }
-{
-    for number in model.bounds_of(id) {
-        let node = model.node(*number);
-        if is_for(code, node) {
-            return Some(node);
-        }
-    }
-    None
 }
 
 // Whether a node is a boundary event for errors with a code.
@@ -140,6 +128,20 @@ fn is_for(code: &str, node: &Node) -> bool
     ensures { result ≡ is_for code.now node.now }
 {
     is_error_boundary(node.kind) && node.name.as_str() == code
+}
+
+// Whether a node is a boundary event for errors with a code.
+#[derive(Drop)]
+struct IsFor<'a> {
+    code: &'a str,
+}
+
+impl<'a> Query<Node> for IsFor<'a> {
+    ghost passes = { λ q n. is_for q.code.now n };
+
+    fn passes(&self, node: &Node) -> bool {
+        is_for(self.code, node)
+    }
 }
 
 // Whether at the boundary of a cell there is an event that catches an error.

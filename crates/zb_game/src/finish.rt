@@ -1,6 +1,7 @@
 ghost use Rattle.std.specs.Prelude.{◌≡◌, Some, None, OnOk, IsErrOf};
 ghost use Rattle.zb_tokens.specs.MoveFinish.{acts, fits_finish, is_done, play_finish};
 
+use crate::handlers::has_handler;
 use std::alloc::Global;
 use zb_base::{Key, List};
 use zb_board::{Game, GameFault, has_item, is_body};
@@ -16,14 +17,15 @@ pub fn fits_finish(game: &Game, key: Key) -> bool
     }
 }
 
-// Whether nothing is left that a cell waits for, and no item for which it runs.
+// Whether nothing is left that a cell waits for, no item for which it runs, and no handler that it runs.
 fn is_done(game: &Game, cell: &Cell) -> bool
     ensures { result ≡ is_done game.now cell.now }
 {
-    acts(game, cell) && !(is_body(cell) && has_item(cell))
+    acts(game, cell) && !(is_body(cell) && has_item(cell) || has_handler(game, cell))
 }
 
-/// Whether an active cell acts: nothing is left that it waits for, or a body may begin a run.
+/// Whether an active cell acts: nothing is left that it waits for, or a body may begin a run, or a
+/// compensation event a handler.
 pub fn acts(game: &Game, cell: &Cell) -> bool
     ensures { result ≡ acts game.now cell.now }
 {

@@ -1,9 +1,12 @@
-ghost use Rattle.std.specs.Prelude.{◌≡◌, Some, None, OnOk, IsErrOf, is_some};
+ghost use Rattle.std.specs.Prelude.{◌≡◌, Some, None, IfOk, OnOk, IsErrOf, is_some, if◌then◌else◌};
+ghost use Rattle.std.specs.Option.{option_map_or};
 ghost use Rattle.zb_tokens.specs.Choice.{gateway_of};
-ghost use Rattle.zb_tokens.specs.MoveLeave.{are_among, ends_scope, fits_leave, flows_of, is_single, leaving, may_owe, play_leave, scope_ended};
+ghost use Rattle.zb_tokens.specs.Handlers.{can_be_undone};
+ghost use Rattle.zb_tokens.specs.MoveLeave.{are_among, ends_scope, fits_leave, flows_of, is_single, leaving, may_owe, noted_finished, play_leave, scope_ended};
 
+use crate::handlers::can_be_undone;
 use std::alloc::{AllocError, Global};
-use zb_base::{Key, List, Text};
+use zb_base::{Key, List, Text, TryCopy};
 use zb_board::{Game, GameFault, chooses, is_root, owes_none, terminates_at};
 use zb_tokens::{Cell, Leave, Phase};
 use zb_values::are_among_flows;
@@ -52,7 +55,8 @@ fn is_at_gateway(game: &Game, cell: &Cell) -> bool
     }
 }
 
-/// Plays that a cell has completed. At a terminate end event it ends its scope.
+/// Plays that a cell has completed. At a terminate end event it ends its scope, and an activity that can be undone is kept
+/// there.
 pub fn leave(game: &mut Game, alloc: Global, l: Leave) -> Result<(), GameFault>
     ensures played { OnOk result (play_leave game.old l ≡ Some game.new) }
     ensures illegal { IsErrOf result GameFault.Illegal → play_leave game.old l ≡ None }
@@ -63,9 +67,41 @@ pub fn leave(game: &mut Game, alloc: Global, l: Leave) -> Result<(), GameFault>
     };
     let scope = cell.scope;
     let ends = ends_scope(game, cell);
+    let finished = node_finished(game, alloc, cell)?;
     leaving(game, alloc, l.key, l.owed)?;
+    leave_behind(game, alloc, scope, ends, finished)?;
+    Ok(())
+}
+
+// The id of the node of a cell, if that can be undone once it has finished.
+fn node_finished(game: &Game, alloc: Global, cell: &Cell) -> Result<Option<Text>, AllocError>
+    ensures { IfOk result (λ node. node ≡ (if can_be_undone game.now cell.now then Some cell.now.node else None)) }
+{
+    if can_be_undone(game, cell) {
+        let node = cell.node.copy(alloc)?;
+        Ok(Some(node))
+    } else {
+        Ok(None)
+    }
+}
+
+// What a cell makes of its scope as it leaves: that ends, or one more activity has finished there.
+fn leave_behind(
+    game: &mut Game,
+    alloc: Global,
+    scope: Key,
+    ends: bool,
+    finished: Option<Text>,
+) -> Result<(), AllocError>
+    ensures { OnOk result (game.new ≡ (if ends then scope_ended scope game.old
+        else option_map_or (λ node. noted_finished scope node game.old) finished game.old)) }
+{
     if ends {
-        end(game, alloc, scope)?;
+        return end(game, alloc, scope);
+    }
+    if let Some(node) = finished {
+        game.put_finished(scope, node)?;
+        game.look_at(scope);
     }
     Ok(())
 }

@@ -2,6 +2,7 @@
 #![tactic(auto)]
 
 mod assign;
+mod bounds;
 mod done;
 mod enter;
 mod errors;
@@ -9,6 +10,7 @@ mod finish;
 mod forced;
 mod gone;
 mod halt;
+mod handlers;
 mod incident;
 mod inner;
 mod leave;
@@ -20,9 +22,11 @@ mod start;
 mod take;
 mod throw;
 mod trigger;
+mod undo;
 
 pub use errors::catcher;
 pub use forced::{is_quiet, next_mover};
+pub use handlers::next_handler;
 pub use moves::move_of;
 pub use player::{fits, make, play};
 pub use trigger::{is_interrupting, may_open, waits_at};

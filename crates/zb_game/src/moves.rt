@@ -5,12 +5,13 @@ ghost use Rattle.zb_tokens.specs.Forced.{act_by, catch_by, end_in, entry_at, ent
 ghost use Rattle.zb_game.specs.Searches.{entry_by};
 
 use crate::errors::caught;
+use crate::handlers::next_handler;
 use std::alloc::{AllocError, Global};
 use zb_base::{Key, Moment, Text, TryCopy};
 use zb_board::{Game, error_of, has_item, is_body};
 use zb_graph::Graph;
 use zb_places::way_by;
-use zb_tokens::{Cell, Enter, Inner, Move, Mover, Phase, Spot, Take, Token, Triggered};
+use zb_tokens::{Cell, Enter, Inner, Move, Mover, Phase, Spot, Take, Token, Triggered, Undo};
 use zb_values::{complete_by, open_by, uncaught};
 
 /// The move of a mover, where a cell that begins, or an incident, gets this key; `None` where the mover isn't there
@@ -77,23 +78,30 @@ fn move_in(
 // How an active cell begins a run or begins to complete, or how an error that was thrown in it comes about where it is caught, or the
 // incident under this key that tells of it.
 fn finish_by(game: &Game, alloc: Global, key: Key, cell: &Cell) -> Result<Move, AllocError>
-    ensures { IfOk result (λ move. move ≡ finish_by key cell.now (caught game.now cell.now) (error_of cell.now.mark)) }
+    ensures { IfOk result (λ move. move ≡ finish_by game.now key cell.now (caught game.now cell.now) (error_of cell.now.mark)) }
 {
     match error_of(&cell.mark) {
         Some(code) => catch_by(game, alloc, key, cell, code.as_str()),
-        None => Ok(act_by(key, cell)),
+        None => act_by(game, alloc, key, cell),
     }
 }
 
-// How an active cell begins a run for its next item under this key, or begins to complete where none is left.
-fn act_by(key: Key, cell: &Cell) -> Move
-    ensures { result ≡ act_by key cell.now }
+// How an active cell begins a run for its next item under this key, or runs its next handler, or begins to complete where
+// neither is left.
+fn act_by(game: &Game, alloc: Global, key: Key, cell: &Cell) -> Result<Move, AllocError>
+    ensures { IfOk result (λ move. move ≡ act_by game.now key cell.now) }
 {
     if is_body(cell) && has_item(cell) {
         let body = cell.key;
-        Move::Inner(Inner { key, body })
-    } else {
-        Move::Finish(cell.key)
+        return Ok(Move::Inner(Inner { key, body }));
+    }
+    match next_handler(game, cell) {
+        Some(handler) => Ok(Move::Undo(Undo {
+            key,
+            event: cell.key,
+            node: handler.copy(alloc)?,
+        })),
+        None => Ok(Move::Finish(cell.key)),
     }
 }
 

@@ -17,6 +17,7 @@ use crate::start::{fits_start, start};
 use crate::take::{fits_take, take};
 use crate::throw::{fits_throw, throw};
 use crate::trigger::{fits_trigger, trigger};
+use crate::undo::{begin_handler, fits_undo};
 use std::alloc::Global;
 use zb_board::{Game, GameFault};
 use zb_tokens::Move;
@@ -38,6 +39,7 @@ pub fn fits(game: &Game, m: &Move) -> bool
         Move::Start(s) => fits_start(game, s),
         Move::Enter(e) => fits_enter(game, e),
         Move::Inner(i) => fits_inner(game, i),
+        Move::Undo(u) => fits_undo(game, u),
         Move::Open(o) => fits_open(game, o),
         Move::Finish(key) => fits_finish(game, *key),
         Move::Leave(l) => fits_leave(game, l),
@@ -72,6 +74,7 @@ pub fn play(game: &mut Game, alloc: Global, m: Move) -> Result<(), GameFault>
         Move::Start(s) => start(game, alloc, s),
         Move::Enter(e) => enter(game, alloc, e),
         Move::Inner(i) => begin_run(game, alloc, i),
+        Move::Undo(u) => begin_handler(game, alloc, u),
         Move::Open(o) => open(game, alloc, o),
         Move::Finish(key) => finish(game, alloc, key),
         Move::Leave(l) => leave(game, alloc, l),

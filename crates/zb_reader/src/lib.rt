@@ -12,8 +12,5 @@ mod sources;
 mod table;
 mod values;
 
-pub use kinds::kind_in;
 pub use leaves::{is_between, is_short};
-pub use place::{behind, behind_item};
 pub use reading::{model_place, read_model};
-pub use values::{flag_in, text_in};

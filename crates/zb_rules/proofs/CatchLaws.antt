@@ -33,7 +33,7 @@ use Rattle.zb_rules.proofs.ScopesLaws.{at_cell}
 use Rattle.zb_rules.proofs.MoversLaws.{found_key}
 
 -- a service task is no catch event, and no event gateway, and waits for no message
-service_apart : (kind : NodeKind) → IsTrue (is_service_task kind) → (is_catch kind ≡ false) × (is_event_gateway kind ≡ false) × (is_receive_task kind ≡ false)
+pub service_apart : (kind : NodeKind) → IsTrue (is_service_task kind) → (is_catch kind ≡ false) × (is_event_gateway kind ≡ false) × (is_receive_task kind ≡ false)
 service_apart kinds.ServiceTask is = (refl, refl, refl)
 service_apart kind is = absurd (cc)
 
@@ -81,14 +81,14 @@ activity_of b code c event is = by_model (model_under b c.definition) is
     by_model (Some m) is = by_node m (rim_node b c) refl is
 
 -- the node at whose boundary events wait for a cell is its own, and the cell is no run of a body
-rim_is : (b : Board) (c : Cell) (n : Node) → rim_node b c ≡ Some n → (node_of b c ≡ Some n) × IsFalse (is_inner c)
+pub rim_is : (b : Board) (c : Cell) (n : Node) → rim_node b c ≡ Some n → (node_of b c ≡ Some n) × IsFalse (is_inner c)
 rim_is b c n at = by_inner (is_inner c) refl at
   where
     by_inner : (inner : Bool) → is_inner c ≡ inner → (if inner then None else node_of b c) ≡ Some n → (node_of b c ≡ Some n) × IsFalse (is_inner c)
     by_inner true is at = absurd (cc)
     by_inner false is at = (at, is)
 
-node_inner : (b : Board) (c : Cell) (n : Node) → node_of b c ≡ Some n → IsFalse (is_root c)
+pub node_inner : (b : Board) (c : Cell) (n : Node) → node_of b c ≡ Some n → IsFalse (is_root c)
 node_inner b c n at = by_root (is_root c) refl
   where
     by_root : (root : Bool) → is_root c ≡ root → root ≡ false
@@ -140,7 +140,7 @@ waits_or_catches P b t all fit = by_test (is_awaited b t) refl fit
 
 -- the cell of an event that catches an error
 module _ (b : Board) (t : Triggered) (c d : Cell) (comes : ComesAbout b t d) (found : cell_at b t.cell ≡ Some c) where
-  host_is : (code : List ℕ) × (error_of d.mark ≡ Some code) × (event : Node) × (error_event_of b code c ≡ Some event)
+  pub host_is : (code : List ℕ) × (error_of d.mark ≡ Some code) × (event : Node) × (error_event_of b code c ≡ Some event)
   host_is =
       let r = caught_there b d comes.event comes.is in
       let at = r.2 in

@@ -12,12 +12,13 @@ use Rattle.zb_tokens.specs.Edits.{edited, removed}
 use Rattle.zb_tokens.specs.Board.{Board, CellsAscend, new_cell, in_phase, leaves_in}
 use Rattle.zb_tokens.specs.MoveEnter.{entering}
 use Rattle.zb_tokens.specs.MoveInner.{run_in, one_taken}
+use Rattle.zb_tokens.specs.MoveUndo.{handler_in, one_undone}
 use Rattle.zb_tokens.specs.MoveOpen.{with_items}
-use Rattle.zb_tokens.specs.MoveLeave.{leaving, ends_scope, with_end}
+use Rattle.zb_tokens.specs.MoveLeave.{leaving, with_end, with_finished}
 use Rattle.zb_tokens.specs.MoveTake.{rest_of}
 use Rattle.zb_tokens.specs.MoveAssign.{with_variable}
 use Rattle.zb_tokens.specs.Game.{played}
-use Rattle.zb_rules.proofs.MadeLaws.{is_keyed, HoldsEdited, HoldsWithout, HoldsMade, left_holds, made_ended, made_holds}
+use Rattle.zb_rules.proofs.MadeLaws.{is_keyed, HoldsEdited, HoldsWithout, HoldsMade, left_holds, made_behind, made_holds}
 
 -- the keys of the cells ascend, from `low` on, and lie below `high`
 abbrev pub Between : ℕ → ℕ → List Cell → Type 0
@@ -104,6 +105,7 @@ abbrev pub key_made : Move → Option ℕ
 key_made (moves.Start s) = Some s.key
 key_made (moves.Enter e) = Some e.key
 key_made (moves.Inner i) = Some i.key
+key_made (moves.Undo u) = Some u.key
 key_made _ = None
 
 module _ (low high : ℕ) (b : Board) (is : Between low high b.cells) where
@@ -125,10 +127,12 @@ module _ (low high : ℕ) (b : Board) (is : Between low high b.cells) where
     between_made (moves.Start s) new = λ m found. between_push low high top b.cells (new_cell s.key 0 s.definition m.process roles.Plain false) is new.0 new.1
     between_made (moves.Enter e) new = λ c m found under stand. between_push low high top b.cells (entering e c m) is new.0 new.1
     between_made (moves.Inner i) new = λ c found cells made. between_push low high top cells (run_in i c) (between_edited (is_keyed i.body) one_taken (λ x. refl) low high b.cells cells is made) new.0 new.1
+    between_made (moves.Undo u) new = λ c found cells made. between_push low high top cells (handler_in u c) (between_edited (is_keyed c.scope) one_undone (λ x. refl) low high b.cells cells is made) new.0 new.1
     between_made (moves.Open o) new = λ c m found stands. with_edit o.key (with_items o.items) (λ c. refl)
     between_made (moves.Finish key) new = with_edit key (in_phase phases.Completing []) (λ c. refl)
-    between_made (moves.Leave l) new = λ c found left made. made_ended (Between low top) (ends_scope b c) c.scope left (with_left l.owed l.key left made)
+    between_made (moves.Leave l) new = λ c found left made. made_behind (Between low top) b c left (with_left l.owed l.key left made)
         (λ cells edit. between_edited (is_keyed c.scope) with_end (λ x. refl) low top left.cells cells (with_left l.owed l.key left made) edit) (between_filtered (λ x. not (leaves_in c.scope x)) low top)
+        (λ can cells edit. between_edited (is_keyed c.scope) (with_finished c.node) (λ x. refl) low top left.cells cells (with_left l.owed l.key left made) edit)
     between_made (moves.Take t) new = λ c found left made. with_left (rest_of c.owed) t.key left made
     between_made (moves.Halt key) new = λ cells made. between_filtered (λ x. not (leaves_in key x)) low top cells (with_edit key (in_phase phases.Terminating []) (λ c. refl) cells made)
     between_made (moves.Gone key) new = without key

@@ -1,5 +1,5 @@
 -- A cell at an event gateway is left by one way alone: that to the node whose event has come.
-use Rattle.std.proofs.Common.{◌≡◌, ℕ, ◌≤◌, ◌+◌, ◌==◌, List, [], ◌∷◌, map, filter, count_by, length, Bool, true, false, cond, ◌&&◌, ◌||◌, not, nat_lt, if◌then◌else◌, IsTrue, IsFalse, All, get_or, Option, Some, None, option_map, refl, ap, subst, arith, ⊎_elim}
+use Rattle.std.proofs.Common.{◌≡◌, ℕ, ◌≤◌, ◌+◌, ◌==◌, List, [], ◌∷◌, map, filter, count_by, length, Bool, true, false, cond, ◌&&◌, ◌||◌, not, nat_lt, if◌then◌else◌, IsTrue, IsFalse, All, get_or, Option, Some, None, refl, ap, subst, arith, ⊎_elim}
 use Rattle.std.specs.Option.{option_map_or}
 use Rattle.std.specs.List.{find}
 use Rattle.std.specs.Str.{bytes_eq}
@@ -34,6 +34,7 @@ use Rattle.zb_tokens.specs.Catches.{awaits}
 use Rattle.zb_tokens.specs.Doom.{is_doomed}
 use Rattle.zb_tokens.specs.Marks.{error_of, has_come_about, is_unset}
 use Rattle.zb_tokens.specs.declared.board.Triggered.{Triggered}
+use Rattle.zb_rules.proofs.HandlersLaws.{no_fault}
 use Rattle.zb_rules.proofs.PlacedLaws.{none_passes}
 use Rattle.zb_rules.proofs.ScopesLaws.{at_cell}
 
@@ -66,10 +67,6 @@ none_kept passes (x ∷ xs) is = by_test (passes x) is (λ later. none_kept pass
     by_test : (t : Bool) → cond t (Some x) (find passes xs) ≡ None → (find passes xs ≡ None → filter passes xs ≡ []) → cond t (x ∷ filter passes xs) (filter passes xs) ≡ []
     by_test true is later = absurd (cc)
     by_test false is later = later is
-
-no_fault : {A B : Type 0} (f : A → B) (o : Option A) → option_map f o ≡ None → o ≡ None
-no_fault f None is = refl
-no_fault f (Some x) is = absurd (cc)
 
 -- in a model without faults one flow alone leads to a node behind an event gateway
 module _ (m : Model) (good : IsTrue (is_well_formed m)) (id : List ℕ) (n : Node) (at : node_with m id ≡ Some n) (gateway : IsTrue (is_event_gateway n.kind)) where

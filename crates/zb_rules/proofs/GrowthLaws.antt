@@ -8,6 +8,7 @@ use Rattle.zb_views.specs.declared.job.Job.{Job}
 use Rattle.zb_tokens.specs.declared.board.Enter.{Enter}
 use Rattle.zb_tokens.specs.declared.board.Inner.{Inner}
 use Rattle.zb_tokens.specs.declared.board.Start.{Start}
+use Rattle.zb_tokens.specs.declared.board.Undo.{Undo}
 use Rattle.zb_tokens.specs.declared.board.Move.{Move}
 use Rattle.zb_tokens.specs.declared.board.Move.TheVariants as moves
 use Rattle.zb_tokens.specs.Board.{Board, is_role}
@@ -37,7 +38,7 @@ pub job_shows : (P : Option Move → Type 0) (f : Job → Move) (found : Option 
 job_shows P f None none each = none
 job_shows P f (Some j) none each = each j
 
--- the moves by which a cell begins: as a root, where a token enters a node, and as a run of a body
+-- the moves by which a cell begins: as a root, where a token enters a node, as a run of a body, and as a handler
 abbrev pub started : ElementActivating → Start
 started a = record { key = a.key; definition = a.definition }
 
@@ -47,23 +48,33 @@ entered_by a = record { key = a.key; scope = a.scope; node = a.node; via = a.via
 abbrev pub run_by : ElementActivating → Inner
 run_by a = record { key = a.key; body = a.scope }
 
--- what holds of an entry and of a run holds of the move by which a cell begins in another
-pub cell_shows : (P : Move → Type 0) (a : ElementActivating) (role : Role) → P (moves.Enter (entered_by a)) → P (moves.Inner (run_by a)) → P (move_of_cell a role)
-cell_shows P a roles.Inner enters runs = runs
-cell_shows P a role enters runs = enters
+abbrev pub undone_by : ElementActivating → Undo
+undone_by a = record { key = a.key; event = a.scope; node = a.node }
+
+-- what holds of an entry, of a run and of a handler holds of the move by which a cell begins in another
+pub cell_shows : (P : Move → Type 0) (a : ElementActivating) (role : Role) → P (moves.Enter (entered_by a)) → P (moves.Inner (run_by a)) → P (moves.Undo (undone_by a)) → P (move_of_cell a role)
+cell_shows P a roles.Inner enters runs undoes = runs
+cell_shows P a roles.Handler enters runs undoes = undoes
+cell_shows P a role enters runs undoes = enters
 
 -- and where it holds of a root too, of the move of any cell that begins
 pub begin_shows : (P : Option Move → Type 0) (a : ElementActivating) (t : Bool) → P (Some (moves.Start (started a))) → P (Some (moves.Enter (entered_by a))) → P (Some (moves.Inner (run_by a)))
-    → P (if t then Some (moves.Start (started a)) else Some (move_of_cell a a.role))
-begin_shows P a true starts enters runs = starts
-begin_shows P a false starts enters runs = cell_shows (λ m. P (Some m)) a a.role enters runs
+    → P (Some (moves.Undo (undone_by a))) → P (if t then Some (moves.Start (started a)) else Some (move_of_cell a a.role))
+begin_shows P a true starts enters runs undoes = starts
+begin_shows P a false starts enters runs undoes = cell_shows (λ m. P (Some m)) a a.role enters runs undoes
 
--- one that is no run shows by its entry
-pub entry_shown : (a : ElementActivating) (role : Role) → is_role role roles.Inner ≡ false → move_of_cell a role ≡ moves.Enter (entered_by a)
-entry_shown a roles.Inner plain = absurd (cc)
-entry_shown a role plain = refl
+-- one that is no run and no handler shows by its entry
+pub entry_shown : (a : ElementActivating) (role : Role) → is_role role roles.Inner ≡ false → is_role role roles.Handler ≡ false → move_of_cell a role ≡ moves.Enter (entered_by a)
+entry_shown a roles.Inner plain whole = absurd (cc)
+entry_shown a roles.Handler plain whole = absurd (cc)
+entry_shown a role plain whole = refl
 
 -- and a run by that of its body
 pub run_shown : (a : ElementActivating) (role : Role) → is_role role roles.Inner ≡ true → move_of_cell a role ≡ moves.Inner (run_by a)
 run_shown a roles.Inner run = refl
 run_shown a role run = absurd (cc)
+
+-- and a handler by that of its event
+pub handler_shown : (a : ElementActivating) (role : Role) → is_role role roles.Handler ≡ true → move_of_cell a role ≡ moves.Undo (undone_by a)
+handler_shown a roles.Handler handles = refl
+handler_shown a role handles = absurd (cc)

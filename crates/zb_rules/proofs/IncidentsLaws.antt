@@ -63,7 +63,7 @@ module _ (p : ℕ) (before : List Event) (b : Board) (s : HasApartIncidents p be
       → after_shown b (if t then Some (moves.Start (started a)) else Some (move_of_cell a a.role)) ≡ Some after
       → HasApartIncidents p (before ++ events.ElementActivating a ∷ []) after
   activating_apart a after t made = same_apart (events.ElementActivating a) after (if t then Some (moves.Start (started a)) else Some (move_of_cell a a.role))
-      (begin_shows (λ (m : Option Move). option_map_or is_of_incident m false ≡ false) a t refl refl refl) made
+      (begin_shows (λ (m : Option Move). option_map_or is_of_incident m false ≡ false) a t refl refl refl refl) made
 
   -- no incident stands on the cell of a new one
   none_on : (i : Incident) → IsTrue (fits b (moves.Incident i)) → All (λ (x : Incident). (x.cell == i.cell) ≡ false) b.incidents

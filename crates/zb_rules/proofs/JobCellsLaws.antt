@@ -16,14 +16,16 @@ use Rattle.zb_tokens.specs.declared.board.Move.{Move}
 use Rattle.zb_tokens.specs.declared.board.Move.TheVariants as moves
 use Rattle.zb_tokens.specs.declared.board.Phase.{Phase}
 use Rattle.zb_tokens.specs.declared.board.Phase.TheVariants as phases
-use Rattle.zb_tokens.specs.Board.{Board, CellsAscend, cell_at, model_under, node_with, is_at, is_body, is_phase, is_root, holds_cells, has_child, is_empty, in_phase, new_cell, leaves_in}
+use Rattle.zb_tokens.specs.Board.{Board, CellsAscend, cell_at, model_under, node_with, is_at, is_body, is_compensation, is_phase, is_root, holds_cells, has_child, is_empty, in_phase, new_cell, leaves_in}
 use Rattle.zb_tokens.specs.Marks.{is_unset, has_come_about, awaits_work, with_mark}
 use Rattle.zb_tokens.specs.MoveEnter.{entering}
 use Rattle.zb_tokens.specs.Bodies.{has_item, is_sequential}
+use Rattle.zb_tokens.specs.Handlers.{has_handler}
 use Rattle.zb_tokens.specs.MoveInner.{run_in, one_taken}
+use Rattle.zb_tokens.specs.MoveUndo.{handler_in, one_undone}
 use Rattle.zb_tokens.specs.MoveOpen.{opens, with_items}
 use Rattle.zb_tokens.specs.MoveFinish.{rests_at, acts_in, acts, is_done}
-use Rattle.zb_tokens.specs.MoveLeave.{may_owe, leaving, ends_scope, with_end}
+use Rattle.zb_tokens.specs.MoveLeave.{may_owe, leaving, with_end, with_finished}
 use Rattle.zb_tokens.specs.MoveTake.{is_first, rest_of}
 use Rattle.zb_tokens.specs.MoveAssign.{with_variable}
 use Rattle.zb_tokens.specs.declared.board.Triggered.{Triggered}
@@ -36,7 +38,7 @@ use Rattle.zb_tokens.specs.Game.{fits}
 use Rattle.zb_tokens.proofs.GameLaws.{both_left, both_right}
 use Rattle.zb_rules.specs.Shown.{after_shown}
 use Rattle.zb_rules.specs.Applies.{may_fit}
-use Rattle.zb_rules.proofs.MadeLaws.{is_keyed, HoldsMade, left_holds, made_ended, made_holds}
+use Rattle.zb_rules.proofs.MadeLaws.{is_keyed, HoldsMade, left_holds, made_behind, made_holds}
 use Rattle.zb_rules.proofs.ModelsLaws.{models_made, among_more, models_shown}
 use Rattle.zb_rules.proofs.PlayedLaws.{CellKept, cells_played}
 use Rattle.zb_rules.proofs.ScopesLaws.{at_cell, holds_among, AreKept, others_edited, kept_edited, kept_removed, kept_filtered, kept_more}
@@ -81,9 +83,9 @@ waits_active b c is = both_left (is_phase c.phase phases.Active) _ is
 not_waiting : (b : Board) (c : Cell) (phase : Phase) → IsTrue (is_phase c.phase phase) → is_phase phase phases.Active ≡ false → awaits_work b c ≡ false
 not_waiting b c phase is apart = rw (inactive c.phase phase is apart) refl
 
--- a service task is no scope, and waits
-service_waits : (c : Cell) (kind : NodeKind) → IsTrue (is_service_task kind) → (is_subprocess kind ≡ false) × (rests_at c kind ≡ false)
-service_waits c kinds.ServiceTask is = (refl, refl)
+-- a service task is no scope and no compensation event, and waits
+service_waits : (c : Cell) (kind : NodeKind) → IsTrue (is_service_task kind) → (is_subprocess kind ≡ false) × (rests_at c kind ≡ false) × (is_compensation kind ≡ false)
+service_waits c kinds.ServiceTask is = (refl, refl, refl)
 service_waits c kind is = absurd (cc)
 
 -- a cell that was told nothing is not told that its work is done
@@ -91,10 +93,10 @@ unset_waits : (mark : Mark) → IsTrue (is_unset mark) → has_come_about mark �
 unset_waits marks.Unset is = refl
 unset_waits mark is = absurd (cc)
 
-node_waits : (c : Cell) (body root child empty come : Bool) (found : Option Node) → body ≡ false → root ≡ false → come ≡ false → IsTrue (option_map_or (λ (n : Node). is_service_task n.kind) found false)
-    → (if body then child else if not body && (root || option_map_or (λ (n : Node). is_subprocess n.kind) found false) then empty else come || option_map_or (λ (n : Node). rests_at c n.kind) found false) ≡ false
-node_waits c body root child empty come None runs inner not_come is = absurd (cc)
-node_waits c body root child empty come (Some n) runs inner not_come is = let k = service_waits c n.kind is in rw (runs, inner, k.0, not_come, k.1) refl
+node_waits : (c : Cell) (body root child alone empty come : Bool) (found : Option Node) → body ≡ false → root ≡ false → come ≡ false → IsTrue (option_map_or (λ (n : Node). is_service_task n.kind) found false)
+    → (if body then child else if not (root || body) && option_map_or (λ (n : Node). is_compensation n.kind) found false then alone else if not body && (root || option_map_or (λ (n : Node). is_subprocess n.kind) found false) then empty else come || option_map_or (λ (n : Node). rests_at c n.kind) found false) ≡ false
+node_waits c body root child alone empty come None runs inner not_come is = absurd (cc)
+node_waits c body root child alone empty come (Some n) runs inner not_come is = let k = service_waits c n.kind is in rw (runs, inner, k.0, k.2, not_come, k.1) refl
 
 model_waits : (b : Board) (c : Cell) (found : Option Model) → IsTrue (is_unset c.mark) → IsTrue (not (is_root c || is_body c) && option_map_or (λ (m : Model). is_at m c.node is_service_task) found false)
     → option_map_or (λ (m : Model). acts_in m b c) found false ≡ false
@@ -102,7 +104,7 @@ model_waits b c None unset is = absurd (let none = (and_parts (not (is_root c ||
 model_waits b c (Some m) unset is =
     let parts = and_parts (not (is_root c || is_body c)) (is_at m c.node is_service_task) is in
     let apart = or_parts (is_root c) (is_body c) (not-true (is_root c || is_body c) parts.0) in
-    node_waits c (is_body c) (is_root c) (not (has_child b c.key) || (has_item c && not (is_sequential m c))) (is_empty b c.key) (has_come_about c.mark) (node_with m c.node) apart.1 apart.0 (unset_waits c.mark unset) parts.1
+    node_waits c (is_body c) (is_root c) (not (has_child b c.key) || (has_item c && not (is_sequential m c))) (not (has_child b c.key)) (is_empty b c.key) (has_come_about c.mark) (node_with m c.node) apart.1 apart.0 (unset_waits c.mark unset) parts.1
 
 -- so a cell that waits for its work doesn't act
 not_acting : (b : Board) (c : Cell) → IsTrue (awaits_work b c) → acts b c ≡ false
@@ -112,7 +114,7 @@ not_acting b c is =
 
 -- and isn't done
 not_done : (b : Board) (c : Cell) → IsTrue (awaits_work b c) → is_done b c ≡ false
-not_done b c is = ap (λ (t : Bool). t && not (is_body c && has_item c)) (not_acting b c is)
+not_done b c is = ap (λ (t : Bool). t && not ((is_body c && has_item c) || has_handler b c)) (not_acting b c is)
 
 -- where it is of a model still, a cell waits still
 grown_by : (active unset apart : Bool) (holds later : Bool) → (IsTrue holds → IsTrue later) → IsTrue (active && (unset && (not apart && holds))) → IsTrue (active && (unset && (not apart && later)))
@@ -159,6 +161,8 @@ module _ (b : Board) where
   waits_made (moves.Enter e) fit = λ c m found under stand q out is. kept_more (awaits_work b) b.cells (entering e c m ∷ []) q is
   waits_made (moves.Inner i) fit = λ c found cells made q out is.
       kept_more (awaits_work b) cells (run_in i c ∷ []) q (kept_edited (awaits_work b) i.body one_taken b.cells cells (λ x. refl) (λ x there h. h) made q is)
+  waits_made (moves.Undo u) fit = λ c found cells made q out is.
+      kept_more (awaits_work b) cells (handler_in u c ∷ []) q (kept_edited (awaits_work b) c.scope one_undone b.cells cells (λ x. refl) (λ x there h. h) made q is)
   waits_made (moves.Open o) fit = λ c m found stands cells made q out is.
       edit_waits o.key (with_items o.items) cells (λ x. refl)
       (λ x there. let h = at_cell (λ (y : Cell). is_phase y.phase phases.Activating && (opens b y && (is_body y || is_none_of o.items))) (cell_at b o.key) x there fit in not_waiting b x phases.Activating (both_left (is_phase x.phase phases.Activating) _ h) refl) made q is
@@ -169,9 +173,10 @@ module _ (b : Board) where
       let none : (x : Cell) → cell_at b l.key ≡ Some x → awaits_work b x ≡ false = λ x there.
       (let h = at_cell (λ (y : Cell). is_phase y.phase phases.Completing && may_owe b y l.owed) (cell_at b l.key) x there fit in not_waiting b x phases.Completing (both_left (is_phase x.phase phases.Completing) _ h) refl) in
       let kept = left_waits l.owed l.key left none made in
-      made_ended Wait (ends_scope b c) c.scope left kept
+      made_behind Wait b c left kept
       (λ cells edit r its. kept_edited (awaits_work b) c.scope with_end left.cells cells (λ x. refl) (λ x there h. h) edit r (kept r its))
-      (λ cells still r its. kept_filtered (awaits_work b) (λ x. not (leaves_in c.scope x)) cells (waiting_stays c.scope) r (still r its)) q is
+      (λ cells still r its. kept_filtered (awaits_work b) (λ x. not (leaves_in c.scope x)) cells (waiting_stays c.scope) r (still r its))
+      (λ can cells edit r its. kept_edited (awaits_work b) c.scope (with_finished c.node) left.cells cells (λ x. refl) (λ x there h. h) edit r (kept r its)) q is
   waits_made (moves.Take t) fit = λ c found left made q out is.
       let none : (x : Cell) → cell_at b t.key ≡ Some x → awaits_work b x ≡ false = λ x there.
       (let h = at_cell (λ (y : Cell). is_phase y.phase phases.Leaving && is_first t.flow y.owed) (cell_at b t.key) x there fit in not_waiting b x phases.Leaving (both_left (is_phase x.phase phases.Leaving) _ h) refl) in
@@ -229,9 +234,10 @@ untold_kept b (moves.Stand d) scoped fit = tt
 untold_kept b (moves.Start s) scoped fit = λ node there phase. refl
 untold_kept b (moves.Enter e) scoped fit = λ c m found under phase. refl
 untold_kept b (moves.Inner i) scoped fit = (λ c found phase. refl, λ c found is. is)
+untold_kept b (moves.Undo u) scoped fit = λ c found. (λ phase. refl, λ x there is. is)
 untold_kept b (moves.Open o) scoped fit = λ c found is phase. absurd (cc)
 untold_kept b (moves.Finish key) scoped fit = λ c found is phase. absurd (cc)
-untold_kept b (moves.Leave l) scoped fit = (λ flow owed same c found is phase. absurd (cc), λ c is. is)
+untold_kept b (moves.Leave l) scoped fit = (λ flow owed same c found is phase. absurd (cc), λ c is. is, λ c found can scope same is. is)
 untold_kept b (moves.Take t) scoped fit = λ flow owed c found is phase. absurd (cc)
 untold_kept b (moves.Halt key) scoped fit = λ c found is phase. absurd (cc)
 untold_kept b (moves.Gone key) scoped fit = tt

@@ -91,7 +91,7 @@ tells_of_incident (events.IncidentResolved r) = true
 tells_of_incident e = false
 
 silent_shown : (before : List Event) (e : Event) → tells_of_incident e ≡ false → option_map_or is_of_incident (shown before e) false ≡ false
-silent_shown before (events.ElementActivating a) silent = begin_shows (λ (m : Option Move). option_map_or is_of_incident m false ≡ false) a (a.scope == 0) refl refl refl
+silent_shown before (events.ElementActivating a) silent = begin_shows (λ (m : Option Move). option_map_or is_of_incident m false ≡ false) a (a.scope == 0) refl refl refl refl
 silent_shown before (events.JobCompleted key) silent = job_shows (λ (m : Option Move). option_map_or is_of_incident m false ≡ false) (λ j. moves.Done j.cell) (job_at key before) refl (λ j. refl)
 silent_shown before (events.JobErrorThrown t) silent = job_shows (λ (m : Option Move). option_map_or is_of_incident m false ≡ false) (λ j. moves.Throw (record { cell = j.cell; code = t.code })) (job_at t.key before) refl (λ j. refl)
 silent_shown before (events.IncidentCreated c) silent = absurd (cc)
@@ -165,7 +165,7 @@ module _ (p : ℕ) (before : List Event) (b : Board) (s : HasSoundJobs p before 
 
   -- the cell of a job that an event doesn't end waits still
   wait_lasts : (e : Event) (j : Job) → Contains (jobs before) j → ends_job j.key j.cell e ≡ false → IsTrue (may_fit (shown before e) b) → option_map_or (λ (m : Move). ends_wait m j.cell) (shown before e) false ≡ false
-  wait_lasts (events.ElementActivating a) j among out fit = begin_shows (λ (m : Option Move). option_map_or (λ (x : Move). ends_wait x j.cell) m false ≡ false) a (a.scope == 0) refl refl refl
+  wait_lasts (events.ElementActivating a) j among out fit = begin_shows (λ (m : Option Move). option_map_or (λ (x : Move). ends_wait x j.cell) m false ≡ false) a (a.scope == 0) refl refl refl refl
   wait_lasts (events.ElementTerminating key) j among out fit = out
   wait_lasts (events.JobCompleted key) j among out fit = done_ends (λ k. moves.Done k.cell) j.cell (job_at key before) (λ k. refl) (other_cell key j (job_at key before) among out refl)
   wait_lasts (events.JobErrorThrown t) j among out fit = done_ends (λ k. moves.Throw (record { cell = k.cell; code = t.code })) j.cell (job_at t.key before) (λ k. refl) (other_cell t.key j (job_at t.key before) among out refl)

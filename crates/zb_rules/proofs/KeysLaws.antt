@@ -83,7 +83,7 @@ module _ (p : ℕ) (before : List Event) (b after : Board) (a : ElementActivatin
       let top = next_key p (before ++ events.ElementActivating a ∷ []) in
       let new : (next_key p before ≤ a.key) × (a.key < top) = (omega (arith, f.1), below) in
       between_played 1 (next_key p before) b s.between after (move_of_cell a a.role) top (next_key_more p before (events.ElementActivating a))
-      (cell_shows (λ (m : Move). IfSome (key_made m) (λ key. (next_key p before ≤ key) × (key < top))) a a.role new new) made
+      (cell_shows (λ (m : Move). IfSome (key_made m) (λ key. (next_key p before ≤ key) × (key < top))) a a.role new new new) made
 
 -- what a cell that begins well meets: a root comes behind its instance, another cell in a scope
 pub begins_by : (p : ℕ) (before : List Event) (a : ElementActivating) → IsTrue (begins_well p before a) → IsTrue (if a.scope == 0 then begins_instance before a else begins_cell p before a)

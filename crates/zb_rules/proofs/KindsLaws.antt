@@ -238,6 +238,7 @@ is_forced_kind e = may_follow e
 event_follows : (b : Board) (move : Move) → option_map_or is_forced_kind (event_of b move) true ≡ true
 event_follows b (moves.Enter x) = mapped_passes is_forced_kind _ (λ c. refl) (cell_at b x.scope)
 event_follows b (moves.Inner x) = mapped_passes is_forced_kind _ (λ c. refl) (cell_at b x.body)
+event_follows b (moves.Undo x) = mapped_passes is_forced_kind _ (λ c. refl) (cell_at b x.event)
 event_follows b move = refl
 
 forced_listed : (e : Event) → IsTrue (is_forced_kind e) → (before : List Event) → Listed may_follow before e

@@ -87,7 +87,7 @@ module _ (b : Board) (moment : ℕ) where
   shown_agrees : (p : ℕ) (before : List Event) (e : Event) → is_evaluated e ≡ false → IsTrue (holds_own p before e) → option_map_or (agrees b moment) (shown before e) true ≡ true
   shown_agrees p before (events.ElementActivated e) silent own = absurd (cc)
   shown_agrees p before (events.ElementCompleted e) silent own = absurd (cc)
-  shown_agrees p before (events.ElementActivating e) silent own = begin_shows (λ (m : Option Move). option_map_or (agrees b moment) m true ≡ true) e (e.scope == 0) refl refl refl
+  shown_agrees p before (events.ElementActivating e) silent own = begin_shows (λ (m : Option Move). option_map_or (agrees b moment) m true ≡ true) e (e.scope == 0) refl refl refl refl
   shown_agrees p before (events.JobCompleted key) silent own = mapped_passes (agrees b moment) _ (λ j. refl) (job_at key before)
   shown_agrees p before (events.JobErrorThrown e) silent own = mapped_passes (agrees b moment) _ (λ j. refl) (job_at e.key before)
   shown_agrees p before (events.IncidentCreated e) silent own =

@@ -19,6 +19,7 @@ pub mod NodesLaws
 pub mod OpeningsLaws
 pub mod TimedLaws
 pub mod CatchLaws
+pub mod HandlersLaws
 pub mod TriggerLaws
 pub mod OnTimeLaws
 pub mod SendingLaws
@@ -55,4 +56,7 @@ pub mod LeftLaws
 pub mod CorrelateLaws
 pub mod BlindLaws
 pub mod ReceiveLaws
+pub mod KeyedLaws
 pub mod RunLaws
+pub mod UndoneLaws
+pub mod WorkedHandlers

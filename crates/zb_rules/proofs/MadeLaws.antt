@@ -17,9 +17,11 @@ use Rattle.zb_tokens.specs.declared.board.Phase.TheVariants as phases
 use Rattle.zb_tokens.specs.Edits.{edited, removed}
 use Rattle.zb_tokens.specs.Board.{Board, cell_at, model_under, new_cell, in_phase, leaves_in, emptied, with_token}
 use Rattle.zb_tokens.specs.MoveEnter.{spots_of, stand_at_each, entered}
+use Rattle.zb_tokens.specs.Handlers.{can_be_undone}
 use Rattle.zb_tokens.specs.MoveInner.{run_in, one_taken}
+use Rattle.zb_tokens.specs.MoveUndo.{handler_in, one_undone}
 use Rattle.zb_tokens.specs.MoveOpen.{start_tokens, first_tokens, with_items}
-use Rattle.zb_tokens.specs.MoveLeave.{leaving, ends_scope, with_end, scope_ended}
+use Rattle.zb_tokens.specs.MoveLeave.{leaving, ends_scope, with_end, scope_ended, with_finished, noted_finished, left_behind}
 use Rattle.zb_tokens.specs.MoveTake.{rest_of, spot_behind}
 use Rattle.zb_tokens.specs.MoveTrigger.{mark_by, told}
 use Rattle.zb_tokens.specs.MoveAssign.{with_variable}
@@ -70,10 +72,11 @@ HoldsMade b Q (moves.Stand d) = Q (record b { models = b.models ++ d ∷ [] })
 HoldsMade b Q (moves.Start s) = (m : Model) → model_under b s.definition ≡ Some m → Q (record b { cells = b.cells ++ new_cell s.key 0 s.definition m.process roles.Plain false ∷ [] })
 HoldsMade b Q (moves.Enter e) = (c : Cell) (m : Model) → cell_at b e.scope ≡ Some c → model_under b c.definition ≡ Some m → IsTrue (stand_at_each e.scope (spots_of m e.node e.via) b.tokens) → Q (entered b e c m)
 HoldsMade b Q (moves.Inner i) = (c : Cell) → cell_at b i.body ≡ Some c → HoldsEdited b (λ x. Q (record x { cells = x.cells ++ run_in i c ∷ [] })) i.body one_taken
+HoldsMade b Q (moves.Undo u) = (c : Cell) → cell_at b u.event ≡ Some c → HoldsEdited b (λ x. Q (record x { cells = x.cells ++ handler_in u c ∷ [] })) c.scope one_undone
 HoldsMade b Q (moves.Open o) = (c : Cell) (m : Model) → cell_at b o.key ≡ Some c → model_under b c.definition ≡ Some m
     → HoldsEdited b (λ x. Q (record x { tokens = b.tokens ++ start_tokens c m })) o.key (with_items o.items)
 HoldsMade b Q (moves.Finish key) = HoldsEdited b Q key (in_phase phases.Completing [])
-HoldsMade b Q (moves.Leave l) = (c : Cell) → cell_at b l.key ≡ Some c → (left : Board) → leaving l.owed l.key b ≡ Some left → Q (if ends_scope b c then scope_ended c.scope left else left)
+HoldsMade b Q (moves.Leave l) = (c : Cell) → cell_at b l.key ≡ Some c → (left : Board) → leaving l.owed l.key b ≡ Some left → Q (left_behind b c left)
 HoldsMade b Q (moves.Take t) = (c : Cell) → cell_at b t.key ≡ Some c → (left : Board) → leaving (rest_of c.owed) t.key b ≡ Some left → Q (with_token c.scope (spot_behind b c t.flow) left)
 HoldsMade b Q (moves.Halt key) = HoldsEdited b (λ x. Q (emptied key x)) key (in_phase phases.Terminating [])
 HoldsMade b Q (moves.Gone key) = HoldsWithout b (λ x. Q (record x { tokens = filter (λ t. not (t.scope == key)) b.tokens })) key
@@ -91,11 +94,22 @@ pub edited_or : {A : Type 0} (P : List A → Type 0) (xs : List A) (made : Optio
 edited_or P xs None is edit = is
 edited_or P xs (Some after) is edit = edit after refl
 
--- what holds of some cells, and of them with one edited and without some, holds of a board on which a scope is ended
-pub made_ended : (P : List Cell → Type 0) (t : Bool) (scope : ℕ) (left : Board) → P left.cells → ((cells : List Cell) → edited (is_keyed scope) with_end left.cells ≡ Some cells → P cells)
-    → ((cells : List Cell) → P cells → P (filter (λ c. not (leaves_in scope c)) cells)) → P (if t then scope_ended scope left else left).cells
-made_ended P true scope left is edit some = some _ (edited_or P left.cells (edited (is_keyed scope) with_end left.cells) is edit)
-made_ended P false scope left is edit some = is
+-- what holds of a board, where a scope on it is ended, and where an activity that can be undone has finished in it, holds of what a cell makes of it as it leaves
+pub behind_holds : (Q : Board → Type 0) (b : Board) (c : Cell) (left : Board) → Q left → Q (scope_ended c.scope left) → (IsTrue (can_be_undone b c) → Q (noted_finished c.scope c.node left)) → Q (left_behind b c left)
+behind_holds Q b c left is ended finished = by_tests (ends_scope b c) (can_be_undone b c) refl
+  where
+    by_tests : (ends can : Bool) → can_be_undone b c ≡ can → Q (if ends then scope_ended c.scope left else if can then noted_finished c.scope c.node left else left)
+    by_tests true can at = ended
+    by_tests false true at = finished at
+    by_tests false false at = is
+
+-- what holds of some cells, and of them with one edited and without some, holds of those that are there as a cell has left
+pub made_behind : (P : List Cell → Type 0) (b : Board) (c : Cell) (left : Board) → P left.cells → ((cells : List Cell) → edited (is_keyed c.scope) with_end left.cells ≡ Some cells → P cells)
+    → ((cells : List Cell) → P cells → P (filter (λ x. not (leaves_in c.scope x)) cells))
+    → (IsTrue (can_be_undone b c) → (cells : List Cell) → edited (is_keyed c.scope) (with_finished c.node) left.cells ≡ Some cells → P cells) → P (left_behind b c left).cells
+made_behind P b c left is edit some finish = behind_holds (λ (x : Board). P x.cells) b c left is
+    (some _ (edited_or P left.cells (edited (is_keyed c.scope) with_end left.cells) is edit))
+    (λ can. edited_or P left.cells (edited (is_keyed c.scope) (with_finished c.node) left.cells) is (finish can))
 
 module _ (b : Board) (Q : Board → Type 0) where
   -- a cell that leaves owes flows, or is gone
@@ -119,6 +133,8 @@ module _ (b : Board) (Q : Board → Type 0) where
       tested_holds Q (stand_at_each e.scope (spots_of m e.node e.via) b.tokens) (entered b e c m) y (holds c m found stands) came) led) made
   made_holds after (moves.Inner i) holds made = chained_holds Q _ (cell_at b i.body) after (λ c found z led.
       mapped_holds Q _ (edited (is_keyed i.body) one_taken b.cells) z (holds c found) led) made
+  made_holds after (moves.Undo u) holds made = chained_holds Q _ (cell_at b u.event) after (λ c found z led.
+      mapped_holds Q _ (edited (is_keyed c.scope) one_undone b.cells) z (holds c found) led) made
   made_holds after (moves.Open o) holds made = chained_holds Q _ (cell_at b o.key) after (λ c found z led.
       chained_holds Q _ (first_tokens b c) z (λ tokens got y came.
       mapped_holds Q _ (edited (is_keyed o.key) (with_items o.items) b.cells) y (λ cells there.

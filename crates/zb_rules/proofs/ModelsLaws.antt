@@ -20,7 +20,7 @@ use Rattle.zb_tokens.specs.declared.board.Deployed.{Deployed}
 use Rattle.zb_tokens.specs.declared.board.Move.{Move}
 use Rattle.zb_tokens.specs.declared.board.Move.TheVariants as moves
 use Rattle.zb_tokens.specs.Board.{Board, model_under}
-use Rattle.zb_tokens.specs.MoveLeave.{leaving, ends_scope, scope_ended}
+use Rattle.zb_tokens.specs.MoveLeave.{leaving}
 use Rattle.zb_tokens.specs.MoveTake.{rest_of}
 use Rattle.zb_tokens.specs.Game.{empty_board}
 use Rattle.zb_tokens.proofs.LeaveLaws.{same_bytes}
@@ -29,7 +29,7 @@ use Rattle.zb_faults.specs.Faults.{is_well_formed}
 use Rattle.zb_tokens.proofs.GameLaws.{found_holds}
 use Rattle.zb_tokens.proofs.EffectLaws.{mapped_from}
 use Rattle.zb_rules.specs.Applies.{all_apply, has_definition, holds_own, is_process_of}
-use Rattle.zb_rules.proofs.MadeLaws.{HoldsMade, left_holds, made_holds}
+use Rattle.zb_rules.proofs.MadeLaws.{HoldsMade, left_holds, behind_holds, made_holds}
 use Rattle.zb_rules.proofs.AppliedLaws.{Advances, holds_of_all}
 use Rattle.zb_rules.proofs.GrowthLaws.{begin_shows}
 use Rattle.zb_rules.proofs.KeysLaws.{first_named}
@@ -44,10 +44,6 @@ module _ (b : Board) where
   none_more : b.models ≡ b.models ++ []
   none_more = sym (append-nil b.models)
 
-  ended_models : (t : Bool) (scope : ℕ) (left : Board) → left.models ≡ b.models → (if t then scope_ended scope left else left).models ≡ b.models
-  ended_models true scope left kept = kept
-  ended_models false scope left kept = kept
-
   left_models : (owed : List (List ℕ)) (key : ℕ) (left : Board) → leaving owed key b ≡ Some left → left.models ≡ b.models
   left_models owed key left made = left_holds b (λ x. x.models ≡ b.models) left owed key (λ cells found. refl) (λ flow more same cells found. refl) made
 
@@ -56,9 +52,12 @@ module _ (b : Board) where
   by_move (moves.Start s) = λ m found. none_more
   by_move (moves.Enter e) = λ c m found under stand. none_more
   by_move (moves.Inner i) = λ c found cells made. none_more
+  by_move (moves.Undo u) = λ c found cells made. none_more
   by_move (moves.Open o) = λ c m found stands cells made. none_more
   by_move (moves.Finish key) = λ cells made. none_more
-  by_move (moves.Leave l) = λ c found left made. ended_models (ends_scope b c) c.scope left (left_models l.owed l.key left made) ∙ none_more
+  by_move (moves.Leave l) = λ c found left made.
+      let kept = left_models l.owed l.key left made in
+      behind_holds (λ (x : Board). x.models ≡ b.models) b c left kept kept (λ can. kept) ∙ none_more
   by_move (moves.Take t) = λ c found left made. left_models (rest_of c.owed) t.key left made ∙ none_more
   by_move (moves.Halt key) = λ cells made. none_more
   by_move (moves.Gone key) = λ cells made. none_more
@@ -80,7 +79,7 @@ found_none move None none = refl
 found_none move (Some x) none = none x
 
 told_made : (js : List Job) (e : Event) → option_map_or models_made (shown_by js e) [] ≡ models_told e
-told_made js (events.ElementActivating a) = begin_shows (λ (m : Option Move). option_map_or models_made m [] ≡ []) a (a.scope == 0) refl refl refl
+told_made js (events.ElementActivating a) = begin_shows (λ (m : Option Move). option_map_or models_made m [] ≡ []) a (a.scope == 0) refl refl refl refl
 told_made js (events.JobCompleted key) = found_none (λ (j : Job). moves.Done j.cell) (find (λ (j : Job). j.key == key) js) (λ j. refl)
 told_made js (events.JobErrorThrown t) = found_none (λ (j : Job). moves.Throw (record { cell = j.cell; code = t.code })) (find (λ (j : Job). j.key == t.key) js) (λ j. refl)
 told_made js e = refl

@@ -16,7 +16,9 @@ use Rattle.zb_duration.specs.declared.fault.DueFault.{DueFault}
 use Rattle.zb_duration.specs.declared.form.TimeForm.{TimeForm}
 use Rattle.zb_tokens.specs.Catches.{time_form, is_message_event, time_hindrance, text_told, key_told, value_given, due_by, waits_once, message_by, event_by, opened_at, awaited, openings_in, openings_by, items_of, seen_with, opened_with}
 use Rattle.zb_tokens.specs.Bodies.{multi_at, has_item, items_told, items_by}
+use Rattle.zb_tokens.specs.Handlers.{next_handler}
 use Rattle.zb_tokens.specs.MoveInner.{runs_next}
+use Rattle.zb_tokens.specs.MoveUndo.{runs_handler}
 use Rattle.zb_tokens.specs.declared.board.Awaited.TheVariants as awaiteds
 use Rattle.zb_tokens.specs.declared.board.AwaitedMessage.{AwaitedMessage}
 use Rattle.zb_instance_records.specs.declared.happening.IncidentKind.TheVariants as kinds
@@ -40,7 +42,7 @@ use Rattle.zb_tokens.specs.Names.{value_seen}
 use Rattle.zb_tokens.specs.Choice.{Gateway, gateway_of, truth_at, is_default, decides, decided, by_default, choice_at}
 use Rattle.zb_tokens.specs.Mappings.{inputs_of, node_of, outputs_of}
 use Rattle.zb_tokens.specs.MoveLeave.{flows_of, exit_of, completion_of}
-use Rattle.zb_tokens.specs.Forced.{open_by, leave_by, catch_by, finish_by, move_in, end_in, move_at, take_first, move_of, way_of}
+use Rattle.zb_tokens.specs.Forced.{open_by, leave_by, catch_by, undo_by, finish_by, move_in, end_in, move_at, take_first, move_of, way_of}
 use Rattle.zb_rules.specs.Shown.{event_of}
 use Rattle.zb_rules.specs.JobEvents.{tells_of_job}
 
@@ -55,6 +57,7 @@ IsMade key (moves.Throw t) = ⊥
 IsMade key (moves.Repair other) = ⊥
 IsMade key (moves.Enter e) = e.key ≡ key
 IsMade key (moves.Inner i) = i.key ≡ key
+IsMade key (moves.Undo u) = u.key ≡ key
 IsMade key (moves.Incident i) = (i.key ≡ key) × (i.job ≡ 0) × (tells_of_job i.kind ≡ false)
 IsMade key _ = Unit {0}
 
@@ -153,13 +156,17 @@ catch_made : (key : ℕ) (c : Cell) (code : List ℕ) (caught_at : Option Trigge
 catch_made key c code None = (refl, refl, refl)
 catch_made key c code (Some t) = tt
 
-act_made : (key : ℕ) (c : Cell) (runs : Bool) → IsMade key (if runs then moves.Inner (record { key = key; body = c.key }) else moves.Finish c.key)
-act_made key c true = refl
-act_made key c false = tt
+undo_made : (key : ℕ) (c : Cell) (next : Option (List ℕ)) → IsMade key (undo_by key c next)
+undo_made key c None = tt
+undo_made key c (Some node) = refl
 
-finish_made : (key : ℕ) (c : Cell) (caught_at : Option Triggered) (error : Option (List ℕ)) → IsMade key (finish_by key c caught_at error)
-finish_made key c caught_at None = act_made key c (is_body c && has_item c)
-finish_made key c caught_at (Some code) = catch_made key c code caught_at
+act_made : (key : ℕ) (c : Cell) (runs : Bool) (next : Option (List ℕ)) → IsMade key (if runs then moves.Inner (record { key = key; body = c.key }) else undo_by key c next)
+act_made key c true next = refl
+act_made key c false next = undo_made key c next
+
+finish_made : (b : Board) (key : ℕ) (c : Cell) (caught_at : Option Triggered) (error : Option (List ℕ)) → IsMade key (finish_by b key c caught_at error)
+finish_made b key c caught_at None = act_made key c (is_body c && has_item c) (next_handler b c)
+finish_made b key c caught_at (Some code) = catch_made key c code caught_at
 
 leave_made : (key : ℕ) (c : Cell) (exit : Result (List (List ℕ)) Hindrance) → TellsOfNone exit → IsMade key (leave_by key c exit)
 leave_made key c (Ok owed) none = tt
@@ -167,7 +174,7 @@ leave_made key c (Err hindrance) none = (refl, refl, none)
 
 phase_made : (b : Board) (moment key : ℕ) (c : Cell) (phase : Phase) (move : Move) → move_in b moment key c phase ≡ Some move → IsMade key move
 phase_made b moment key c phases.Activating move is = some_made key (open_by key c (opened_with b moment c)) move (open_made key c (opened_with b moment c) (opened_tells_none b moment c)) is
-phase_made b moment key c phases.Active move is = some_made key (finish_by key c (caught b c) (error_of c.mark)) move (finish_made key c (caught b c) (error_of c.mark)) is
+phase_made b moment key c phases.Active move is = some_made key (finish_by b key c (caught b c) (error_of c.mark)) move (finish_made b key c (caught b c) (error_of c.mark)) is
 phase_made b moment key c phases.Completing move is = some_made key (leave_by key c (completion_of b c)) move (leave_made key c (completion_of b c) (completion_tells_none b c)) is
 phase_made b moment key c phases.Leaving move is = first_made key c.key c.owed move is
 phase_made b moment key c phases.Terminating move is = some_made key (moves.Gone c.key) move tt is
@@ -219,6 +226,7 @@ event_there b key (moves.Stand d) made fit = absurd made
 event_there b key (moves.Start s) made fit = absurd made
 event_there b key (moves.Enter e) made fit = mapped_some _ (cell_at b e.scope) (holds_some _ (cell_at b e.scope) fit)
 event_there b key (moves.Inner i) made fit = mapped_some _ (cell_at b i.body) (holds_some (runs_next b) (cell_at b i.body) fit)
+event_there b key (moves.Undo u) made fit = mapped_some _ (cell_at b u.event) (holds_some (runs_handler b u.node) (cell_at b u.event) fit)
 event_there b key (moves.Open o) made fit = refl
 event_there b key (moves.Finish cell) made fit = refl
 event_there b key (moves.Leave l) made fit = refl

@@ -31,7 +31,7 @@ use Rattle.zb_rules.proofs.ModelsLaws.{formed_under}
 use Rattle.zb_tokens.specs.Board.{Board, CellsAscend, cell_at, model_under, is_body, is_phase}
 use Rattle.zb_tokens.specs.Doom.{is_doomed}
 use Rattle.zb_tokens.proofs.EffectLaws.{incidents_stay}
-use Rattle.zb_tokens.specs.Forced.{end_in, finish_by, goes_on_in, ends_in, leave_by, move_at, move_in, move_of, next_mover, open_by, take_first, way_of}
+use Rattle.zb_tokens.specs.Forced.{end_in, undo_by, finish_by, goes_on_in, ends_in, leave_by, move_at, move_in, move_of, next_mover, open_by, take_first, way_of}
 use Rattle.zb_tokens.proofs.ForcedLaws.{IsMover, mover_known}
 use Rattle.zb_tokens.specs.Game.{fits, played}
 use Rattle.zb_tokens.proofs.GameLaws.{both_left, both_right, holds_some, found_holds}
@@ -39,6 +39,7 @@ use Rattle.zb_tokens.specs.Incidents.{Hindrance, incident_on, is_stuck}
 use Rattle.zb_tokens.specs.declared.board.Triggered.{Triggered}
 use Rattle.zb_tokens.specs.Errors.{caught}
 use Rattle.zb_tokens.specs.Bodies.{has_item}
+use Rattle.zb_tokens.specs.Handlers.{next_handler}
 use Rattle.zb_tokens.specs.Catches.{opened_with}
 use Rattle.zb_tokens.specs.Marks.{is_unset, awaits_work, is_service_cell}
 use Rattle.zb_tokens.specs.MoveLeave.{completion_of}
@@ -120,14 +121,15 @@ open_of : (k : ℕ) (o : Open) (c : Cell) (opened : Result (List ℤ) Hindrance)
 open_of k o c (Ok items) is = let same : moves.Open (record { key = c.key; items = items }) ≡ moves.Open o = cc in ap opened_key same
 open_of k o c (Err hindrance) is = absurd (cc)
 
-act_opens_none : (k : ℕ) (o : Open) (c : Cell) (runs : Bool) → Some (if runs then moves.Inner (record { key = k; body = c.key }) else moves.Finish c.key) ≡ Some (moves.Open o) → ⊥
-act_opens_none k o c true is = cc
-act_opens_none k o c false is = cc
+act_opens_none : (k : ℕ) (o : Open) (c : Cell) (runs : Bool) (next : Option (List ℕ)) → Some (if runs then moves.Inner (record { key = k; body = c.key }) else undo_by k c next) ≡ Some (moves.Open o) → ⊥
+act_opens_none k o c true next is = cc
+act_opens_none k o c false None is = cc
+act_opens_none k o c false (Some node) is = cc
 
-finish_opens_none : (k : ℕ) (o : Open) (c : Cell) (caught_at : Option Triggered) (error : Option (List ℕ)) → Some (finish_by k c caught_at error) ≡ Some (moves.Open o) → ⊥
-finish_opens_none k o c caught_at None is = act_opens_none k o c (is_body c && has_item c) is
-finish_opens_none k o c None (Some code) is = cc
-finish_opens_none k o c (Some t) (Some code) is = cc
+finish_opens_none : (b : Board) (k : ℕ) (o : Open) (c : Cell) (caught_at : Option Triggered) (error : Option (List ℕ)) → Some (finish_by b k c caught_at error) ≡ Some (moves.Open o) → ⊥
+finish_opens_none b k o c caught_at None is = act_opens_none k o c (is_body c && has_item c) (next_handler b c) is
+finish_opens_none b k o c None (Some code) is = cc
+finish_opens_none b k o c (Some t) (Some code) is = cc
 
 leave_opens_none : (k : ℕ) (o : Open) (c : Cell) (exit : Result (List (List ℕ)) Hindrance) → Some (leave_by k c exit) ≡ Some (moves.Open o) → ⊥
 leave_opens_none k o c (Ok owed) is = cc
@@ -139,7 +141,7 @@ take_opens_none cell o (flow ∷ owed) is = cc
 
 opens_in : (b : Board) (moment k : ℕ) (o : Open) (c : Cell) (phase : Phase) → move_in b moment k c phase ≡ Some (moves.Open o) → c.key ≡ o.key
 opens_in b moment k o c phases.Activating is = open_of k o c (opened_with b moment c) is
-opens_in b moment k o c phases.Active is = absurd (finish_opens_none k o c (caught b c) (error_of c.mark) is)
+opens_in b moment k o c phases.Active is = absurd (finish_opens_none b k o c (caught b c) (error_of c.mark) is)
 opens_in b moment k o c phases.Completing is = absurd (leave_opens_none k o c (completion_of b c) is)
 opens_in b moment k o c phases.Leaving is = absurd (take_opens_none c.key o c.owed is)
 opens_in b moment k o c phases.Terminating is = absurd (cc)
@@ -257,6 +259,7 @@ follows_by p es b before (moves.Stand d) e told opens tells keeps leaves goes = 
 follows_by p es b before (moves.Start s) e told opens tells keeps leaves goes = absurd (cc)
 follows_by p es b before (moves.Enter x) e told opens tells keeps leaves goes = mapped_holds (MayFollow p es b) _ (cell_at before x.scope) e (λ c found. keeps) told
 follows_by p es b before (moves.Inner i) e told opens tells keeps leaves goes = mapped_holds (MayFollow p es b) _ (cell_at before i.body) e (λ c found. keeps) told
+follows_by p es b before (moves.Undo u) e told opens tells keeps leaves goes = mapped_holds (MayFollow p es b) _ (cell_at before u.event) e (λ c found. keeps) told
 follows_by p es b before (moves.Open o) e told opens tells keeps leaves goes = subst (MayFollow p es b) (let same : events.ElementActivated (record { key = o.key; items = o.items }) ≡ e = cc in same) (opens o refl)
 follows_by p es b before (moves.Finish key) e told opens tells keeps leaves goes = subst (MayFollow p es b) (let same : events.ElementCompleting key ≡ e = cc in same) keeps.timers
 follows_by p es b before (moves.Leave l) e told opens tells keeps leaves goes = subst (MayFollow p es b) (let same : events.ElementCompleted (record { key = l.key; owed = l.owed }) ≡ e = cc in same) (leaves l refl)

@@ -48,9 +48,10 @@ model_kept b after (moves.Stand d) still all = tt
 model_kept b after (moves.Start s) still all = λ node there. still s.definition there
 model_kept b after (moves.Enter e) still all = λ c m found under. (found_holds (is_keyed e.scope) (HasModel after) b.cells c all found).0
 model_kept b after (moves.Inner i) still all = (λ c found. (found_holds (is_keyed i.body) (HasModel after) b.cells c all found).0, λ c found has. has)
+model_kept b after (moves.Undo u) still all = λ c found. ((found_holds (is_keyed u.event) (HasModel after) b.cells c all found).0, λ x there has. has)
 model_kept b after (moves.Open o) still all = λ c found has. has
 model_kept b after (moves.Finish key) still all = λ c found has. has
-model_kept b after (moves.Leave l) still all = (λ flow owed is c found has. has, λ c has. has)
+model_kept b after (moves.Leave l) still all = (λ flow owed is c found has. has, λ c has. has, λ c found can scope same has. has)
 model_kept b after (moves.Take t) still all = λ flow owed c found has. has
 model_kept b after (moves.Halt key) still all = λ c found has. has
 model_kept b after (moves.Gone key) still all = tt
@@ -83,6 +84,7 @@ owes_leave b l fit = (
       let among : IsTrue (are_among (flow ∷ owed) (flows_of b c)) = subst (λ (ids : List (List ℕ)). IsTrue (are_among ids (flows_of b c))) is its in
       (refl, flows_leave (owes_none c) flow owed _ among),
   λ c has. has,
+  λ c found can scope same has. has,
 )
 
 owes_take : (b : Board) (t : Take) → IsTrue (fits b (moves.Take t)) → CellKept b Owes (moves.Take t)
@@ -95,6 +97,7 @@ owes_kept b (moves.Stand d) fit = tt
 owes_kept b (moves.Start s) fit = λ node there phase. absurd (cc)
 owes_kept b (moves.Enter e) fit = λ c m found under phase. absurd (cc)
 owes_kept b (moves.Inner i) fit = (λ c found phase. absurd (cc), λ c found has. has)
+owes_kept b (moves.Undo u) fit = λ c found. (λ phase. absurd (cc), λ x there has. has)
 owes_kept b (moves.Open o) fit = λ c found has phase. absurd (cc)
 owes_kept b (moves.Finish key) fit = λ c found has phase. absurd (cc)
 owes_kept b (moves.Leave l) fit = owes_leave b l fit

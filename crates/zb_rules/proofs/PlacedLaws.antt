@@ -2,11 +2,14 @@
 use Rattle.std.proofs.Common.{◌≡◌, ◌⊎◌, ℕ, ◌+◌, ◌<◌, ◌==◌, get_or, List, [], ◌∷◌, ◌++◌, filter, Bool, true, false, ◌&&◌, ◌||◌, not, if◌then◌else◌, IsTrue, IsFalse, is_some, Option, Some, None, All, refl, inl, inr, ⊎_elim, sym, ap, ◌∙◌, subst, arith}
 use Rattle.std.specs.Option.{option_map_or, IfSome}
 use Rattle.std.specs.List.{list_any}
-use Rattle.std.proofs.lemmas.Bool.{not-true, or_parts, or_right, and_right}
+use Rattle.std.proofs.lemmas.Bool.{not-true, and_parts, or_parts, or_right, and_right, and_from, or_left}
 use Rattle.std.proofs.lemmas.Bool.Decides.{nat_tests}
 use Rattle.std.proofs.lemmas.List.Elements.{All-nil, All-cons, All-head, All-tail, All-weaker, All-append, All-push, All-filter, filter_passes}
 use Rattle.zb_process.specs.declared.model.Model.{Model}
 use Rattle.zb_process.specs.declared.model.Node.{Node}
+use Rattle.zb_process.specs.declared.model.NodeKind.{NodeKind}
+use Rattle.zb_process.specs.declared.model.NodeKind.TheVariants as kinds
+use Rattle.zb_faults.specs.Elements.{is_subprocess}
 use Rattle.zb_instance_records.specs.declared.instance.Role.TheVariants as roles
 use Rattle.zb_tokens.specs.declared.board.Cell.{Cell}
 use Rattle.zb_tokens.specs.declared.board.Token.{Token}
@@ -14,6 +17,7 @@ use Rattle.zb_tokens.specs.declared.board.Spot.{Spot}
 use Rattle.zb_tokens.specs.declared.board.Spot.TheVariants as spots
 use Rattle.zb_tokens.specs.declared.board.Enter.{Enter}
 use Rattle.zb_tokens.specs.declared.board.Inner.{Inner}
+use Rattle.zb_tokens.specs.declared.board.Undo.{Undo}
 use Rattle.zb_tokens.specs.declared.board.Open.{Open}
 use Rattle.zb_tokens.specs.declared.board.Deployed.{Deployed}
 use Rattle.zb_tokens.specs.declared.board.Take.{Take}
@@ -25,13 +29,15 @@ use Rattle.zb_tokens.specs.declared.board.Move.TheVariants as moves
 use Rattle.zb_tokens.specs.declared.board.Phase.{Phase}
 use Rattle.zb_tokens.specs.declared.board.Phase.TheVariants as phases
 use Rattle.zb_tokens.specs.Edits.{edited, removed, without_first}
-use Rattle.zb_tokens.specs.Board.{Board, cell_at, model_under, new_cell, in_phase, start_in, is_body, is_inner, is_phase, is_role, is_root, holds_cells, holds_tokens, scope_id, has_child, is_empty, leaves_in, emptied, with_token}
+use Rattle.zb_tokens.specs.Board.{Board, cell_at, model_under, node_with, new_cell, in_phase, start_in, is_at, is_body, is_compensation, is_handler, is_inner, is_phase, is_role, is_root, undoes, holds_cells, holds_tokens, scope_id, has_child, is_empty, leaves_in, emptied, with_token}
 use Rattle.zb_tokens.specs.MoveEnter.{spots_of, stands_at, stand_at_each, without_each, entering}
 use Rattle.zb_tokens.specs.Bodies.{multi_at, has_item, is_sequential, may_run}
 use Rattle.zb_tokens.specs.MoveInner.{runs_next, run_in, one_taken}
+use Rattle.zb_tokens.specs.MoveUndo.{runs_handler, handler_in, one_undone}
+use Rattle.zb_tokens.specs.Handlers.{has_handler}
 use Rattle.zb_tokens.specs.MoveOpen.{start_tokens, with_items}
 use Rattle.zb_tokens.specs.MoveFinish.{acts, acts_in, is_done}
-use Rattle.zb_tokens.specs.MoveLeave.{leaving, may_owe, ends_scope, with_end, scope_ended}
+use Rattle.zb_tokens.specs.MoveLeave.{leaving, may_owe, with_end, scope_ended, with_finished}
 use Rattle.zb_tokens.specs.MoveTake.{is_first, rest_of, spot_behind}
 use Rattle.zb_tokens.specs.MoveAssign.{with_variable}
 use Rattle.zb_tokens.specs.MoveTrigger.{mark_by}
@@ -44,29 +50,61 @@ use Rattle.zb_rules.specs.Shown.{after_shown}
 use Rattle.zb_rules.specs.Applies.{may_fit}
 use Rattle.zb_rules.specs.Sound.{runs, holds_by, is_around}
 use Rattle.zb_rules.proofs.AppliedLaws.{some_of}
-use Rattle.zb_rules.proofs.MadeLaws.{is_keyed, HoldsEdited, HoldsMade, left_holds, edited_or, made_holds}
+use Rattle.zb_rules.proofs.MadeLaws.{is_keyed, HoldsEdited, HoldsMade, left_holds, edited_or, behind_holds, made_holds}
 use Rattle.zb_rules.proofs.CellsLaws.{Between}
+use Rattle.zb_rules.proofs.HandlersLaws.{IsOfHandler, next_is, handles_next, told_whole}
 use Rattle.zb_rules.proofs.ModelsLaws.{model_among}
 use Rattle.zb_rules.proofs.PlayedLaws.{edited_all, removed_all}
-use Rattle.zb_rules.proofs.ScopesLaws.{at_cell, edited_found, others_edited, others_removed, kept_edited, kept_removed, kept_filtered, kept_more, bare, IsOfPlace, cells_of_place, tokens_of_place, ScopesKept, no_run, holds_none, scope_stays, still_holds, scopes_grown, around_cells}
+use Rattle.zb_rules.proofs.ScopesLaws.{at_cell, edited_found, others_edited, others_removed, kept_edited, kept_removed, kept_filtered, kept_more, bare, IsOfPlace, tokens_of_place, ScopesKept, no_run, holds_none, scope_stays, still_holds, scopes_grown, around_cells}
 use Rattle.zb_rules.proofs.OwesLaws.{Owes}
 
 -- a cell is a root, or stands in one with a lesser key in which others may be
 abbrev pub InScope : Board → Cell → Type 0
 InScope b c = (c.scope ≡ 0) ⊎ (IsTrue (is_around holds_cells b c.scope) × (c.scope < c.key))
 
--- what holds of the cell in which one may stand: others may be in it, and tokens too unless the one is a run of a body
-abbrev around_by : (inner : Bool) → Model → Cell → Bool
-around_by true = holds_cells
-around_by false = holds_tokens
+-- a cell is part of what the cell around it does: a run of a body, or a handler
+abbrev is_part : Cell → Bool
+is_part c = is_inner c || is_handler c
 
-around_of_place : (inner : Bool) → IsOfPlace (around_by inner)
-around_of_place true = cells_of_place
-around_of_place false = tokens_of_place
+-- what may hold others, or tokens too
+abbrev held_by : (part : Bool) → Model → Cell → Bool
+held_by true = holds_cells
+held_by false = holds_tokens
+
+-- what holds of the cell in which one may stand: it is of the same definition, and others may be in it, and tokens too unless the one is part of it
+abbrev around_by : ℕ → (part : Bool) → Model → Cell → Bool
+around_by definition part m c = (c.definition == definition) && held_by part m c
+
+around_of_place : (definition : ℕ) (part : Bool) → IsOfPlace (around_by definition part)
+around_of_place definition true = record { bared = λ m c. refl; within = λ m c is. both_right (c.definition == definition) (holds_cells m c) is }
+around_of_place definition false = record { bared = λ m c. refl; within = λ m c is. or_left (holds_tokens m c) (is_body c || undoes m c) (both_right (c.definition == definition) (holds_tokens m c) is) }
+
+-- a cell that is there may hold those of its own definition that it may hold at all
+around_with : (b : Board) (key : ℕ) (c : Cell) (part : Bool) → cell_at b key ≡ Some c → IsTrue (is_around (held_by part) b key) → IsTrue (is_around (around_by c.definition part) b key)
+around_with b key c part found is =
+    let does = at_cell (holds_by (held_by part) b) (cell_at b key) c found is in
+    rw found (and_from (runs c.phase) _ (both_left (runs c.phase) _ does) (by_model (model_under b c.definition) (both_right (runs c.phase) _ does)))
+  where
+    by_model : (found : Option Model) → IsTrue (option_map_or (λ m. held_by part m c) found false) → IsTrue (option_map_or (λ m. around_by c.definition part m c) found false)
+    by_model None is = absurd (cc)
+    by_model (Some m) is = and_from (c.definition == c.definition) (held_by part m c) (grind (arith, nat_tests)) is
+
+-- what a cell of this definition may stand in is one, and may hold it
+around_there : (b : Board) (definition key : ℕ) (part : Bool) → IsTrue (is_around (around_by definition part) b key) → (c : Cell) × (cell_at b key ≡ Some c) × (c.definition ≡ definition) × IsTrue (is_around (held_by part) b key)
+around_there b definition key part is =
+    let found = some_of (cell_at b key) (holds_some (holds_by (around_by definition part) b) (cell_at b key) is) in
+    let c = found.0 in
+    let does = at_cell (holds_by (around_by definition part) b) (cell_at b key) c found.1 is in
+    let its = by_model c (model_under b c.definition) (both_right (runs c.phase) _ does) in
+    (c, found.1, (let same = its.0 in grind (arith, nat_tests)), rw found.1 (and_from (runs c.phase) _ (both_left (runs c.phase) _ does) its.1))
+  where
+    by_model : (c : Cell) (found : Option Model) → IsTrue (option_map_or (λ m. around_by definition part m c) found false) → IsTrue (c.definition == definition) × IsTrue (option_map_or (λ m. held_by part m c) found false)
+    by_model c None is = absurd (cc)
+    by_model c (Some m) is = and_parts (c.definition == definition) (held_by part m c) is
 
 -- a cell is a root, or stands in such a cell
 abbrev pub Stands : Board → Cell → Type 0
-Stands b c = (c.scope ≡ 0) ⊎ (IsTrue (is_around (around_by (is_inner c)) b c.scope) × (c.scope < c.key))
+Stands b c = (c.scope ≡ 0) ⊎ (IsTrue (is_around (around_by c.definition (is_part c)) b c.scope) × (c.scope < c.key))
 
 -- a token is in a scope
 abbrev pub IsIn : Board → Token → Type 0
@@ -79,15 +117,15 @@ pub record Placed (b : Board) : Type 0 where
 
 -- so each cell is in one in which others may be
 pub scopes_of : (b : Board) → Placed b → All (InScope b) b.cells
-scopes_of b placed = All-weaker (Stands b) (InScope b) (λ c is. ⊎_elim (λ root. inl root) (λ r. inr (around_cells b (around_by (is_inner c)) (around_of_place (is_inner c)) c.scope r.0, r.1)) is) b.cells placed.cells
+scopes_of b placed = All-weaker (Stands b) (InScope b) (λ c is. ⊎_elim (λ root. inl root) (λ r. inr (around_cells b (around_by c.definition (is_part c)) (around_of_place c.definition (is_part c)) c.scope r.0, r.1)) is) b.cells placed.cells
 
 -- where what a cell stands in is one still, it does
-still_in : (b after : Board) (c : Cell) → (IsTrue (is_around (around_by (is_inner c)) b c.scope) → IsTrue (is_around (around_by (is_inner c)) after c.scope)) → Stands b c → Stands after c
+still_in : (b after : Board) (c : Cell) → (IsTrue (is_around (around_by c.definition (is_part c)) b c.scope) → IsTrue (is_around (around_by c.definition (is_part c)) after c.scope)) → Stands b c → Stands after c
 still_in b after c kept is = ⊎_elim (λ root. inl root) (λ r. inr (kept r.0, r.1)) is
 
 all_still : (b after : Board) → ScopesKept b after → Placed b → All (Stands after) b.cells × All (IsIn after) b.tokens
 all_still b after kept placed = (
-  All-weaker (Stands b) (Stands after) (λ c is. still_in b after c (kept (around_by (is_inner c)) (around_of_place (is_inner c)) c.scope) is) b.cells placed.cells,
+  All-weaker (Stands b) (Stands after) (λ c is. still_in b after c (kept (around_by c.definition (is_part c)) (around_of_place c.definition (is_part c)) c.scope) is) b.cells placed.cells,
   All-weaker (IsIn b) (IsIn after) (λ t is. kept holds_tokens tokens_of_place t.scope is) b.tokens placed.tokens,
 )
 
@@ -99,7 +137,7 @@ ScopesKeptBut b key after = (holds : Model → Cell → Bool) (q : ℕ) → (q =
 cells_but : (b after : Board) (key : ℕ) → ScopesKeptBut b key after → All (λ (c : Cell). (c.scope == key) ≡ false) b.cells → Placed b → All (Stands after) b.cells
 cells_but b after key kept apart placed = λ k d within.
     let c = get_or b.cells k d in
-    still_in b after c (kept (around_by (is_inner c)) c.scope (apart k d within)) (placed.cells k d within)
+    still_in b after c (kept (around_by c.definition (is_part c)) c.scope (apart k d within)) (placed.cells k d within)
 
 -- and so do tokens of which none is in it
 tokens_but : (b after : Board) (key : ℕ) (tokens : List Token) → ScopesKeptBut b key after → All (λ (t : Token). (t.scope == key) ≡ false) tokens → All (IsIn b) tokens → All (IsIn after) tokens
@@ -156,10 +194,12 @@ module _ (b : Board) (key : ℕ) (edit : Cell → Cell) (stays : StaysThere edit
       kept_placed cells made (scope_edited (λ holds place c found is. still_holds b holds place c (edit c) (sym (stays c)) (does c) is) cells made) placed
 
   -- or in the same one
+  same_kept : ((c : Cell) → (edit c).phase ≡ c.phase) → (cells : List Cell) → edited (is_keyed key) edit b.cells ≡ Some cells → ScopesKept b (record b { cells = cells })
+  same_kept same =
+      scope_edited (λ holds place c found is. still_holds b holds place c (edit c) (sym (stays c)) (subst (λ (phase : Phase). IsTrue (runs phase)) (sym (same c)) (both_left (runs c.phase) _ is)) is)
+
   same_placed : ((c : Cell) → (edit c).phase ≡ c.phase) → Placed b → HoldsEdited b Placed key edit
-  same_placed same placed cells made =
-      kept_placed cells made
-      (scope_edited (λ holds place c found is. still_holds b holds place c (edit c) (sym (stays c)) (subst (λ (phase : Phase). IsTrue (runs phase)) (sym (same c)) (both_left (runs c.phase) _ is)) is) cells made) placed
+  same_placed same placed cells made = kept_placed cells made (same_kept same cells made) placed
 
   -- a cell that holds nothing
   none_edited : ((holds : Model → Cell → Bool) → IsOfPlace holds → (c : Cell) → cell_at b key ≡ Some c → holds_by holds b c ≡ false) → (cells : List Cell)
@@ -191,10 +231,28 @@ emptied_placed b scope placed =
     }
 
 -- or ended
-ended_placed : (t : Bool) (scope : ℕ) (left : Board) → Placed left → Placed (if t then scope_ended scope left else left)
-ended_placed true scope left placed = emptied_placed _ scope (edited_or (λ cells. Placed (record left { cells = cells })) left.cells (edited (is_keyed scope) with_end left.cells) placed
+ended_placed : (scope : ℕ) (left : Board) → Placed left → Placed (scope_ended scope left)
+ended_placed scope left placed = emptied_placed _ scope (edited_or (λ cells. Placed (record left { cells = cells })) left.cells (edited (is_keyed scope) with_end left.cells) placed
     (same_placed left scope with_end (λ c. refl) (λ c. refl) placed))
-ended_placed false scope left placed = placed
+
+-- a compensation event is no scope
+compensation_apart : (kind : NodeKind) → IsTrue (is_compensation kind) → is_subprocess kind ≡ false
+compensation_apart kinds.CompensationEndEvent is = refl
+compensation_apart kinds.CompensationThrowEvent is = refl
+compensation_apart kind is = absurd (cc)
+
+event_apart : (m : Model) (c : Cell) → IsTrue (undoes m c) → holds_tokens m c ≡ false
+event_apart m c is =
+    let parts = and_parts (not (is_root c || is_body c)) (is_at m c.node is_compensation) is in
+    let apart = or_parts (is_root c) (is_body c) (not-true (is_root c || is_body c) parts.0) in
+    let inner = apart.0 in
+    let plain = apart.1 in
+    let none = by_node (node_with m c.node) parts.1 in
+    rw (plain, inner, none) refl
+  where
+    by_node : (found : Option Node) → IsTrue (option_map_or (λ (n : Node). is_compensation n.kind) found false) → option_map_or (λ (n : Node). is_subprocess n.kind) found false ≡ false
+    by_node None is = refl
+    by_node (Some n) is = compensation_apart n.kind is
 
 -- a cell finishes
 module _ (b : Board) (key : ℕ) (c : Cell) (m : Model) (found : cell_at b key ≡ Some c) (stands : model_under b c.definition ≡ Some m) (placed : Placed b) where
@@ -226,7 +284,7 @@ module _ (b : Board) (key : ℕ) (c : Cell) (m : Model) (found : cell_at b key �
       edit_placed b key finishes cells (λ x. refl) made (no_cells_in no_cells cells made)
       (tokens_but b (record b { cells = cells }) key b.tokens (others_kept cells made) (none_passes (λ (t : Token). t.scope == key) b.tokens out) placed.tokens)
 
-  -- a body, in which no tokens are, and nothing runs
+  -- a body or a compensation event, in which no tokens are, and nothing runs
   body_finished : holds_tokens m c ≡ false → IsTrue (not (has_child b c.key)) → HoldsEdited b Placed key finishes
   body_finished out none cells made =
       let after = record b { cells = cells } in
@@ -249,11 +307,13 @@ module _ (b : Board) (key : ℕ) (c : Cell) (m : Model) (found : cell_at b key �
   none_runs false true together acts over = absurd (cc)
   none_runs false false together acts over = absurd (cc)
 
-  finished : (body tokens rest : Bool) → is_body c ≡ body → holds_tokens m c ≡ tokens → IsTrue (not (body && has_item c))
-      → IsTrue (if body then not (has_child b c.key) || (has_item c && not (is_sequential m c)) else if tokens then is_empty b c.key else rest) → HoldsEdited b Placed key finishes
-  finished true tokens rest body is over acts = body_finished (rw body refl) (none_runs (not (has_child b c.key)) (has_item c) (not (is_sequential m c)) acts over)
-  finished false true rest body is over empty = empty_finished empty
-  finished false false rest body is over done = other_finished (rw (is, body) refl)
+  finished : (body event tokens rest : Bool) → is_body c ≡ body → undoes m c ≡ event → holds_tokens m c ≡ tokens → IsTrue (not (body && has_item c))
+      → IsTrue (if body then not (has_child b c.key) || (has_item c && not (is_sequential m c)) else if event then not (has_child b c.key) else if tokens then is_empty b c.key else rest)
+      → HoldsEdited b Placed key finishes
+  finished true event tokens rest body at is over acts = body_finished (rw body refl) (none_runs (not (has_child b c.key)) (has_item c) (not (is_sequential m c)) acts over)
+  finished false true tokens rest body at is over none = body_finished (event_apart m c at) none
+  finished false false true rest body at is over empty = empty_finished empty
+  finished false false false rest body at is over done = other_finished (rw (is, at, body) refl)
 
 finish_placed : (b : Board) (key : ℕ) → IsTrue (fits b (moves.Finish key)) → Placed b → HoldsEdited b Placed key (in_phase phases.Completing [])
 finish_placed b key fit placed =
@@ -263,7 +323,8 @@ finish_placed b key fit placed =
     let its : IsTrue (acts b c) = both_left (acts b c) _ done in
     let model = some_of (model_under b c.definition) (holds_some (λ m. acts_in m b c) (model_under b c.definition) its) in
     let does : IsTrue (acts_in model.0 b c) = rw model.1 at its in
-    finished b key c model.0 found.1 model.1 placed (is_body c) (holds_tokens model.0 c) _ refl refl (both_right (acts b c) _ done) does
+    let over = or_parts (is_body c && has_item c) (has_handler b c) (not-true ((is_body c && has_item c) || has_handler b c) (both_right (acts b c) _ done)) in
+    finished b key c model.0 found.1 model.1 placed (is_body c) (undoes model.0 c) (holds_tokens model.0 c) _ refl refl refl (ap not over.0) does
 
 -- a cell in which nothing runs is gone, with the tokens in it
 gone_placed : (b : Board) (key : ℕ) → IsTrue (fits b (moves.Gone key)) → Placed b → HoldsMade b Placed (moves.Gone key)
@@ -284,6 +345,7 @@ gone_placed b key fit placed cells made =
 abbrev pub IsNewIn : Board → Move → Type 0
 IsNewIn b (moves.Enter e) = Between 1 e.key b.cells
 IsNewIn b (moves.Inner i) = Between 1 i.key b.cells
+IsNewIn b (moves.Undo u) = Between 1 u.key b.cells
 IsNewIn b _ = Unit {0}
 
 -- where a token stands in a scope, it is one
@@ -316,11 +378,11 @@ all_below : (low high : ℕ) (cells : List Cell) → Between low high cells → 
 all_below low high [] is = All-nil (λ (c : Cell). c.key < high)
 all_below low high (c ∷ cells) is = All-cons (λ (x : Cell). x.key < high) c cells is.1 (all_below (c.key + 1) high cells is.2)
 
--- a cell that a token begins is no run of a body
-entering_plain : (e : Enter) (c : Cell) (m : Model) → is_inner (entering e c m) ≡ false
+-- a cell that a token begins is no run of a body, and no handler
+entering_plain : (e : Enter) (c : Cell) (m : Model) → is_part (entering e c m) ≡ false
 entering_plain e c m = by_test (is_some (multi_at m e.node))
   where
-    by_test : (t : Bool) → is_role (if t then roles.Body else roles.Plain) roles.Inner ≡ false
+    by_test : (t : Bool) → (is_role (if t then roles.Body else roles.Plain) roles.Inner || is_role (if t then roles.Body else roles.Plain) roles.Handler) ≡ false
     by_test true = refl
     by_test false = refl
 
@@ -335,7 +397,7 @@ enter_placed b e new placed c m found under stand =
     let below = (found_holds (is_keyed e.scope) (λ (x : Cell). x.key < e.key) b.cells c (all_below 1 e.key b.cells new) found).0 in
     record {
       cells = All-push (Stands after) b.cells cell still.0
-          (inr (subst (λ (t : Bool). IsTrue (is_around (around_by t) after e.scope)) (sym (entering_plain e c m)) (kept holds_tokens tokens_of_place e.scope there), omega (arith, below, key_found b e.scope c found)));
+          (inr (subst (λ (t : Bool). IsTrue (is_around (around_by c.definition t) after e.scope)) (sym (entering_plain e c m)) (kept (around_by c.definition false) (around_of_place c.definition false) e.scope (around_with b e.scope c false found there)), omega (arith, below, key_found b e.scope c found)));
       tokens = without_all (IsIn after) e.scope (spots_of m e.node e.via) b.tokens still.1;
     }
 
@@ -347,7 +409,7 @@ runs_around b after key c now same next =
     let active = both_left (is_phase c.phase phases.Active) _ inner in
     let model = some_of (model_under b c.definition) (holds_some (λ m. may_run m b c) (model_under b c.definition) (both_right (is_phase c.phase phases.Active) _ inner)) in
     let there : model_under after c.definition ≡ Some model.0 = ap (λ (ms : List Deployed). model_among ms c.definition) same ∙ model.1 in
-    let holds : IsTrue (holds_cells model.0 c) = or_right (holds_tokens model.0 c) (is_body c) body in
+    let holds : IsTrue (holds_cells model.0 c) = or_right (holds_tokens model.0 c) (is_body c || undoes model.0 c) (or_left (is_body c) (undoes model.0 c) body) in
     rw (now, active, there) holds
 
 -- a run of a body begins
@@ -359,10 +421,36 @@ inner_placed b i fit new placed c found cells made =
     let kept : ScopesKept mid after = λ holds place. kept_more (holds_by holds mid) cells (cell ∷ []) in
     let still = all_still mid after kept (same_placed b i.body one_taken (λ x. refl) (λ x. refl) placed cells made) in
     let next = at_cell (runs_next b) (cell_at b i.body) c found fit in
-    let there = runs_around b mid i.body c (edited_found i.body one_taken c b.cells cells (λ x. refl) found made) refl next in
+    let now = edited_found i.body one_taken c b.cells cells (λ x. refl) found made in
+    let there = around_with mid i.body (one_taken c) true now (runs_around b mid i.body c now refl next) in
     let below = (found_holds (is_keyed i.body) (λ (x : Cell). x.key < i.key) b.cells c (all_below 1 i.key b.cells new) found).0 in
     record {
-      cells = All-push (Stands after) cells cell still.0 (inr (kept holds_cells cells_of_place i.body there, omega (arith, below, key_found b i.body c found)));
+      cells = All-push (Stands after) cells cell still.0 (inr (kept (around_by c.definition true) (around_of_place c.definition true) i.body there, omega (arith, below, key_found b i.body c found)));
+      tokens = still.1;
+    }
+
+-- a compensation event that may run a handler holds others
+event_around : (b : Board) (key : ℕ) (c : Cell) (node : List ℕ) → cell_at b key ≡ Some c → IsTrue (runs_handler b node c) → IsTrue (is_around holds_cells b key)
+event_around b key c node found may =
+    let active = both_left (is_phase c.phase phases.Active) _ may in
+    let next = next_is b c node (handles_next b c node may) in
+    let stands = next.stands in
+    let holds : IsTrue (holds_cells next.model c) = or_right (holds_tokens next.model c) (is_body c || undoes next.model c) (or_right (is_body c) (undoes next.model c) next.at_event) in
+    rw (found, active, stands) holds
+
+-- a handler begins
+handler_placed : (b : Board) (u : Undo) → IsTrue (fits b (moves.Undo u)) → Between 1 u.key b.cells → Placed b → HoldsMade b Placed (moves.Undo u)
+handler_placed b u fit new placed c found cells made =
+    let mid = record b { cells = cells } in
+    let cell = handler_in u c in
+    let after = record b { cells = cells ++ cell ∷ [] } in
+    let kept : ScopesKept mid after = λ holds place. kept_more (holds_by holds mid) cells (cell ∷ []) in
+    let still = all_still mid after kept (same_placed b c.scope one_undone (λ x. refl) (λ x. refl) placed cells made) in
+    let there = same_kept b c.scope one_undone (λ x. refl) (λ x. refl) cells made (around_by c.definition true) (around_of_place c.definition true) u.event
+    (around_with b u.event c true found (event_around b u.event c u.node found (at_cell (runs_handler b u.node) (cell_at b u.event) c found fit))) in
+    let below = (found_holds (is_keyed u.event) (λ (x : Cell). x.key < u.key) b.cells c (all_below 1 u.key b.cells new) found).0 in
+    record {
+      cells = All-push (Stands after) cells cell still.0 (inr (kept (around_by c.definition true) (around_of_place c.definition true) u.event there, omega (arith, below, key_found b u.event c found)));
       tokens = still.1;
     }
 
@@ -396,7 +484,9 @@ leave_placed : (b : Board) (l : Leave) → IsTrue (fits b (moves.Leave l)) → P
 leave_placed b l fit placed c found left made =
     let none : (x : Cell) → cell_at b l.key ≡ Some x → runs x.phase ≡ false = λ x there.
     no_run x phases.Completing (both_left (is_phase x.phase phases.Completing) _ (at_cell (λ (y : Cell). is_phase y.phase phases.Completing && may_owe b y l.owed) (cell_at b l.key) x there fit)) refl in
-    ended_placed (ends_scope b c) c.scope left (left_placed b l.owed l.key left none placed made).1
+    let its = (left_placed b l.owed l.key left none placed made).1 in
+    behind_holds Placed b c left its (ended_placed c.scope left its)
+    (λ can. edited_or (λ cells. Placed (record left { cells = cells })) left.cells (edited (is_keyed c.scope) (with_finished c.node) left.cells) its (same_placed left c.scope (with_finished c.node) (λ x. refl) (λ x. refl) its))
 
 root_apart : (c : Cell) → c.scope ≡ 0 → IsFalse (is_root c) → ⊥
 root_apart c root inner = let same : (c.scope == 0) ≡ true = grind (arith, nat_tests) in cc
@@ -405,10 +495,14 @@ root_apart c root inner = let same : (c.scope == 0) ≡ true = grind (arith, nat
 pub inner_scope : (b : Board) (c : Cell) → InScope b c → IsFalse (is_root c) → IsTrue (is_around holds_cells b c.scope) × (c.scope < c.key)
 inner_scope b c is inner = ⊎_elim (λ root. absurd (root_apart c root inner)) (λ r. r) is
 
--- and where it is no run of a body either, tokens may be in that
-token_scope : (b : Board) (key : ℕ) (c : Cell) → Placed b → cell_at b key ≡ Some c → IsFalse (is_root c) → IsFalse (is_inner c) → IsTrue (is_around holds_tokens b c.scope)
+-- that is there, and of the same definition
+pub its_scope : (b : Board) (c : Cell) → Stands b c → IsFalse (is_root c) → (s : Cell) × (cell_at b c.scope ≡ Some s) × (s.definition ≡ c.definition) × (c.scope < c.key)
+its_scope b c is inner = ⊎_elim (λ root. absurd (root_apart c root inner)) (λ r. let its = around_there b c.definition c.scope (is_part c) r.0 in (its.0, its.1, its.2, r.1)) is
+
+-- and where it is no run of a body and no handler either, tokens may be in that
+token_scope : (b : Board) (key : ℕ) (c : Cell) → Placed b → cell_at b key ≡ Some c → IsFalse (is_root c) → IsFalse (is_part c) → IsTrue (is_around holds_tokens b c.scope)
 token_scope b key c placed found inner plain =
-    ⊎_elim (λ root. absurd (root_apart c root inner)) (λ r. subst (λ (t : Bool). IsTrue (is_around (around_by t) b c.scope)) plain r.0)
+    ⊎_elim (λ root. absurd (root_apart c root inner)) (λ r. (around_there b c.definition c.scope false (subst (λ (t : Bool). IsTrue (is_around (around_by c.definition t) b c.scope)) plain r.0)).3)
     (found_holds (is_keyed key) (Stands b) b.cells c placed.cells found).0
 
 take_placed : (b : Board) (t : Take) → IsTrue (fits b (moves.Take t)) → All Owes b.cells → Placed b → HoldsMade b Placed (moves.Take t)
@@ -418,42 +512,44 @@ take_placed b t fit owes placed c found left made =
     let r = left_placed b (rest_of c.owed) t.key left (λ x there. no_run x phases.Leaving (leaves x there) refl) placed made in
     let its = (found_holds (is_keyed t.key) Owes b.cells c owes found).0 (leaves c found) in
     let apart = or_parts (is_root c) _ its.1 in
-    let plain = or_parts (is_inner c) _ apart.1 in
-    let scope = token_scope b t.key c placed found apart.0 plain.0 in
+    let scope = token_scope b t.key c placed found apart.0 apart.1 in
     let token : Token = record { scope = c.scope; spot = spot_behind b c t.flow } in
     more_tokens left (token ∷ []) r.1 (All-cons (IsIn left) token [] (r.0 holds_tokens tokens_of_place c.scope scope) (All-nil (IsIn left)))
 
--- a token before a boundary event stands in the scope of the event's cell, which is no root, and no run of a body
-told_placed : (b : Board) (t : Triggered) → IsTrue (fits b (moves.Trigger t)) → Placed b → (c : Cell) → cell_at b t.cell ≡ Some c → mark_by b t c ≡ None → Placed (with_token c.scope (spots.BeforeNode t.node) b)
-told_placed b t fit placed c found untold =
+-- a token before a boundary event stands in the scope of the event's cell, which is no root, no run of a body, and no handler
+told_placed : (b : Board) (t : Triggered) → IsTrue (fits b (moves.Trigger t)) → All (IsOfHandler b) b.cells → Placed b → (c : Cell) → cell_at b t.cell ≡ Some c → mark_by b t c ≡ None → Placed (with_token c.scope (spots.BeforeNode t.node) b)
+told_placed b t fit handled placed c found untold =
     let inner = told_inner b t c found fit (awaits_inner b t c) in
-    let scope = token_scope b t.cell c placed found inner (told_plain b t c found fit untold) in
+    let plain = told_plain b t c found fit untold in
+    let whole = told_whole b t c (found_holds (is_keyed t.cell) (IsOfHandler b) b.cells c handled found).0 found fit in
+    let scope = token_scope b t.cell c placed found inner (rw (plain, whole) refl) in
     let token : Token = record { scope = c.scope; spot = spots.BeforeNode t.node } in
     more_tokens b (token ∷ []) placed (All-cons (IsIn b) token [] scope (All-nil (IsIn b)))
 
-made_placed : (b : Board) (move : Move) → IsTrue (fits b move) → IsNewIn b move → All Owes b.cells → Placed b → HoldsMade b Placed move
-made_placed b (moves.Stand d) fit new owes placed =
+made_placed : (b : Board) (move : Move) → IsTrue (fits b move) → IsNewIn b move → All Owes b.cells → All (IsOfHandler b) b.cells → Placed b → HoldsMade b Placed move
+made_placed b (moves.Stand d) fit new owes handled placed =
     let still = all_still b (record b { models = b.models ++ d ∷ [] }) (scopes_grown b (d ∷ [])) placed in
     record { cells = still.0; tokens = still.1 }
-made_placed b (moves.Start s) fit new owes placed = λ m found. start_placed b (new_cell s.key 0 s.definition m.process roles.Plain false) refl placed
-made_placed b (moves.Enter e) fit new owes placed = enter_placed b e new placed
-made_placed b (moves.Inner i) fit new owes placed = inner_placed b i fit new placed
-made_placed b (moves.Open o) fit new owes placed = open_placed b o placed
-made_placed b (moves.Finish key) fit new owes placed = finish_placed b key fit placed
-made_placed b (moves.Leave l) fit new owes placed = leave_placed b l fit placed
-made_placed b (moves.Take t) fit new owes placed = take_placed b t fit owes placed
-made_placed b (moves.Halt key) fit new owes placed = λ cells made. emptied_placed (record b { cells = cells }) key
+made_placed b (moves.Start s) fit new owes handled placed = λ m found. start_placed b (new_cell s.key 0 s.definition m.process roles.Plain false) refl placed
+made_placed b (moves.Enter e) fit new owes handled placed = enter_placed b e new placed
+made_placed b (moves.Inner i) fit new owes handled placed = inner_placed b i fit new placed
+made_placed b (moves.Undo u) fit new owes handled placed = handler_placed b u fit new placed
+made_placed b (moves.Open o) fit new owes handled placed = open_placed b o placed
+made_placed b (moves.Finish key) fit new owes handled placed = finish_placed b key fit placed
+made_placed b (moves.Leave l) fit new owes handled placed = leave_placed b l fit placed
+made_placed b (moves.Take t) fit new owes handled placed = take_placed b t fit owes placed
+made_placed b (moves.Halt key) fit new owes handled placed = λ cells made. emptied_placed (record b { cells = cells }) key
     (runs_placed b key (in_phase phases.Terminating []) (λ x. refl) (λ x. refl) placed cells made)
-made_placed b (moves.Gone key) fit new owes placed = gone_placed b key fit placed
-made_placed b (moves.Assign a) fit new owes placed = same_placed b a.scope (with_variable a.name a.value) (λ c. refl) (λ c. refl) placed
-made_placed b (moves.Update a) fit new owes placed = same_placed b a.scope (with_variable a.name a.value) (λ c. refl) (λ c. refl) placed
-made_placed b (moves.Done key) fit new owes placed = same_placed b key (with_mark marks.Done) (λ c. refl) (λ c. refl) placed
-made_placed b (moves.Throw t) fit new owes placed = same_placed b t.cell (with_mark (marks.Thrown t.code)) (λ c. refl) (λ c. refl) placed
-made_placed b (moves.Trigger t) fit new owes placed = λ c found. (λ mark at. same_placed b t.cell (with_mark mark) (λ x. refl) (λ x. refl) placed, told_placed b t fit placed c found)
-made_placed b (moves.Incident i) fit new owes placed = record { cells = placed.cells; tokens = placed.tokens }
-made_placed b (moves.Repair key) fit new owes placed = λ incidents gone. record { cells = placed.cells; tokens = placed.tokens }
+made_placed b (moves.Gone key) fit new owes handled placed = gone_placed b key fit placed
+made_placed b (moves.Assign a) fit new owes handled placed = same_placed b a.scope (with_variable a.name a.value) (λ c. refl) (λ c. refl) placed
+made_placed b (moves.Update a) fit new owes handled placed = same_placed b a.scope (with_variable a.name a.value) (λ c. refl) (λ c. refl) placed
+made_placed b (moves.Done key) fit new owes handled placed = same_placed b key (with_mark marks.Done) (λ c. refl) (λ c. refl) placed
+made_placed b (moves.Throw t) fit new owes handled placed = same_placed b t.cell (with_mark (marks.Thrown t.code)) (λ c. refl) (λ c. refl) placed
+made_placed b (moves.Trigger t) fit new owes handled placed = λ c found. (λ mark at. same_placed b t.cell (with_mark mark) (λ x. refl) (λ x. refl) placed, told_placed b t fit handled placed c found)
+made_placed b (moves.Incident i) fit new owes handled placed = record { cells = placed.cells; tokens = placed.tokens }
+made_placed b (moves.Repair key) fit new owes handled placed = λ incidents gone. record { cells = placed.cells; tokens = placed.tokens }
 
 -- each cell and each token stands in a scope after the move that an event shows
-pub placed_on : (b after : Board) (move : Option Move) → IsTrue (may_fit move b) → IfSome move (IsNewIn b) → after_shown b move ≡ Some after → All Owes b.cells → Placed b → Placed after
-placed_on b after None fit new made owes placed = subst Placed (let same : b ≡ after = cc in same) placed
-placed_on b after (Some move) fit new made owes placed = made_holds b Placed after move (made_placed b move fit new owes placed) made
+pub placed_on : (b after : Board) (move : Option Move) → IsTrue (may_fit move b) → IfSome move (IsNewIn b) → after_shown b move ≡ Some after → All Owes b.cells → All (IsOfHandler b) b.cells → Placed b → Placed after
+placed_on b after None fit new made owes handled placed = subst Placed (let same : b ≡ after = cc in same) placed
+placed_on b after (Some move) fit new made owes handled placed = made_holds b Placed after move (made_placed b move fit new owes handled placed) made

@@ -1,6 +1,7 @@
 -- What holds of each cell after a move, and of each member of a list that is edited.
 use Rattle.std.proofs.Common.{◌≡◌, ℕ, zero, suc, List, [], ◌∷◌, Bool, true, false, not, if◌then◌else◌, IsTrue, is_some, Option, Some, None, option_map, All, refl, subst, arith, sym, ◌∙◌}
 use Rattle.std.specs.List.{find, AllPairs}
+use Rattle.std.proofs.lemmas.Bool.Decides.{nat_tests}
 use Rattle.std.proofs.lemmas.List.Elements.{All-cons, All-head, All-tail, All-push, All-filter}
 use Rattle.std.proofs.lemmas.List.Kept.{AllPairs-cons}
 use Rattle.zb_process.specs.declared.model.Model.{Model}
@@ -15,14 +16,17 @@ use Rattle.zb_tokens.specs.declared.board.Phase.TheVariants as phases
 use Rattle.zb_tokens.specs.Edits.{edited, removed}
 use Rattle.zb_tokens.specs.Board.{Board, cell_at, model_under, new_cell, in_phase, leaves_in}
 use Rattle.zb_tokens.specs.MoveEnter.{entering}
+use Rattle.zb_tokens.specs.Handlers.{can_be_undone}
 use Rattle.zb_tokens.specs.MoveInner.{run_in, one_taken}
+use Rattle.zb_tokens.specs.MoveUndo.{handler_in, one_undone}
 use Rattle.zb_tokens.specs.MoveOpen.{with_items}
-use Rattle.zb_tokens.specs.MoveLeave.{leaving, ends_scope, with_end}
+use Rattle.zb_tokens.specs.MoveLeave.{leaving, with_end, with_finished}
 use Rattle.zb_tokens.specs.MoveTrigger.{mark_by}
 use Rattle.zb_tokens.specs.MoveTake.{rest_of}
 use Rattle.zb_tokens.specs.MoveAssign.{with_variable}
 use Rattle.zb_tokens.specs.Game.{played}
-use Rattle.zb_rules.proofs.MadeLaws.{is_keyed, HoldsEdited, HoldsMade, left_holds, made_ended, made_holds}
+use Rattle.zb_tokens.proofs.FoundLaws.{found_passes}
+use Rattle.zb_rules.proofs.MadeLaws.{is_keyed, HoldsEdited, HoldsMade, left_holds, made_behind, made_holds}
 
 module _ {A : Type 0} (passes : A → Bool) (P : A → Type 0) where
   edited_by : (edit : A → A) (x : A) (xs after : List A) (t : Bool) (later : Option (List A)) → All P (x ∷ xs) → ((y : A) → (if t then Some x else find passes xs) ≡ Some y → P y → P (edit y))
@@ -79,9 +83,11 @@ CellKept b P (moves.Stand d) = Unit {0}
 CellKept b P (moves.Start s) = (node : List ℕ) → IsTrue (is_some (model_under b s.definition)) → P (new_cell s.key 0 s.definition node roles.Plain false)
 CellKept b P (moves.Enter e) = (c : Cell) (m : Model) → cell_at b e.scope ≡ Some c → model_under b c.definition ≡ Some m → P (entering e c m)
 CellKept b P (moves.Inner i) = ((c : Cell) → cell_at b i.body ≡ Some c → P (run_in i c)) × EditKept b P i.body one_taken
+CellKept b P (moves.Undo u) = (c : Cell) → cell_at b u.event ≡ Some c → P (handler_in u c) × EditKept b P c.scope one_undone
 CellKept b P (moves.Open o) = EditKept b P o.key (with_items o.items)
 CellKept b P (moves.Finish key) = EditKept b P key (in_phase phases.Completing [])
 CellKept b P (moves.Leave l) = ((flow : List ℕ) (owed : List (List ℕ)) → l.owed ≡ flow ∷ owed → EditKept b P l.key (in_phase phases.Leaving (flow ∷ owed))) × ((c : Cell) → P c → P (with_end c))
+    × ((c : Cell) → cell_at b l.key ≡ Some c → IsTrue (can_be_undone b c) → (scope : Cell) → scope.key ≡ c.scope → P scope → P (with_finished c.node scope))
 CellKept b P (moves.Take t) = (flow : List ℕ) (owed : List (List ℕ)) → EditKept b P t.key (in_phase phases.Leaving (flow ∷ owed))
 CellKept b P (moves.Halt key) = EditKept b P key (in_phase phases.Terminating [])
 CellKept b P (moves.Gone key) = Unit {0}
@@ -92,6 +98,12 @@ CellKept b P (moves.Throw t) = EditKept b P t.cell (with_mark (marks.Thrown t.co
 CellKept b P (moves.Trigger t) = (c : Cell) → cell_at b t.cell ≡ Some c → (mark : Mark) → mark_by b t c ≡ Some mark → P c → P (with_mark mark c)
 CellKept b P (moves.Incident i) = Unit {0}
 CellKept b P (moves.Repair key) = Unit {0}
+
+-- a cell that is found with a key has it
+its_key : (key : ℕ) (c : Cell) (cells : List Cell) → find (is_keyed key) cells ≡ Some c → c.key ≡ key
+its_key key c cells there =
+    let same = found_passes (is_keyed key) cells c there in
+    grind (arith, nat_tests, same)
 
 module _ (b : Board) (P : Cell → Type 0) (all : All P b.cells) where
   abbrev Each : Board → Type 0
@@ -108,11 +120,13 @@ module _ (b : Board) (P : Cell → Type 0) (all : All P b.cells) where
   made_all (moves.Start s) kept = λ m found. All-push P b.cells (new_cell s.key 0 s.definition m.process roles.Plain false) all (kept m.process (rw found refl))
   made_all (moves.Enter e) kept = λ c m found under stand. All-push P b.cells (entering e c m) all (kept c m found under)
   made_all (moves.Inner i) kept = λ c found cells made. All-push P cells (run_in i c) (edit_all i.body one_taken kept.1 cells made) (kept.0 c found)
+  made_all (moves.Undo u) kept = λ c found cells made. All-push P cells (handler_in u c) (edit_all c.scope one_undone (kept c found).1 cells made) (kept c found).0
   made_all (moves.Open o) kept = λ c m found stands. edit_all o.key (with_items o.items) kept
   made_all (moves.Finish key) kept = edit_all key (in_phase phases.Completing []) kept
   made_all (moves.Leave l) kept = λ c found left made.
       let its = left_all l.owed l.key left kept.0 made in
-      made_ended (All P) (ends_scope b c) c.scope left its (λ cells edit. edited_all (is_keyed c.scope) P with_end left.cells cells its (λ x there. kept.1 x) edit) (All-filter (λ x. not (leaves_in c.scope x)) P)
+      made_behind (All P) b c left its (λ cells edit. edited_all (is_keyed c.scope) P with_end left.cells cells its (λ x there. kept.1 x) edit) (All-filter (λ x. not (leaves_in c.scope x)) P)
+      (λ can cells edit. edited_all (is_keyed c.scope) P (with_finished c.node) left.cells cells its (λ x there. kept.2 c found can x (its_key c.scope x left.cells there)) edit)
   made_all (moves.Take t) kept = λ c found left made. left_all (rest_of c.owed) t.key left (λ flow owed same. kept flow owed) made
   made_all (moves.Halt key) kept = λ cells made. All-filter (λ x. not (leaves_in key x)) P cells (edit_all key (in_phase phases.Terminating []) kept cells made)
   made_all (moves.Gone key) kept = λ cells made. removed_all (is_keyed key) P b.cells cells all made

@@ -21,7 +21,9 @@ use Rattle.zb_tokens.specs.declared.board.Move.TheVariants as moves
 use Rattle.zb_tokens.specs.declared.board.Mover.{Mover}
 use Rattle.zb_tokens.specs.Board.{Board, CellsAscend, cell_at, model_under, is_role}
 use Rattle.zb_tokens.specs.Bodies.{multi_at, role_at}
+use Rattle.zb_tokens.specs.declared.board.Undo.{Undo}
 use Rattle.zb_tokens.specs.MoveInner.{runs_next}
+use Rattle.zb_tokens.specs.MoveUndo.{runs_handler}
 use Rattle.zb_tokens.proofs.LeaveLaws.{same_bytes}
 use Rattle.zb_tokens.specs.Incidents.{incident_on}
 use Rattle.zb_tokens.specs.Game.{fits, agrees, played}
@@ -90,16 +92,16 @@ same_role roles.Body = refl
 same_role roles.Inner = refl
 same_role roles.Handler = refl
 
--- a cell that a token begins is no run of a body
-role_entered : (b : Board) (c : Cell) (node : List ℕ) → is_role (role_on b c node) roles.Inner ≡ false
+-- a cell that a token begins is no run of a body, and no handler
+role_entered : (b : Board) (c : Cell) (node : List ℕ) → (is_role (role_on b c node) roles.Inner ≡ false) × (is_role (role_on b c node) roles.Handler ≡ false)
 role_entered b c node = by_model (model_under b c.definition)
   where
-    by_test : (t : Bool) → is_role (if t then roles.Body else roles.Plain) roles.Inner ≡ false
-    by_test true = refl
-    by_test false = refl
+    by_test : (t : Bool) → (is_role (if t then roles.Body else roles.Plain) roles.Inner ≡ false) × (is_role (if t then roles.Body else roles.Plain) roles.Handler ≡ false)
+    by_test true = (refl, refl)
+    by_test false = (refl, refl)
 
-    by_model : (found : Option Model) → is_role (option_map_or (λ m. role_at m node) found roles.Plain) roles.Inner ≡ false
-    by_model None = refl
+    by_model : (found : Option Model) → (is_role (option_map_or (λ m. role_at m node) found roles.Plain) roles.Inner ≡ false) × (is_role (option_map_or (λ m. role_at m node) found roles.Plain) roles.Handler ≡ false)
+    by_model None = (refl, refl)
     by_model (Some m) = by_test (is_some (multi_at m node))
 
 -- the event of a run that begins in a body
@@ -116,6 +118,22 @@ run_holds p es b i c is found up keys its =
     let same : (c.definition == c.definition) ≡ true = grind (arith, nat_tests) in
     let a : ElementActivating = record { key = i.key; scope = i.body; definition = c.definition; node = c.node; role = roles.Inner; via = []; started = [] } in
     let of_scope : IsTrue (holds_of_game (suits_scope a) es) = game_holds_from (suits_scope a) es b is (rw (found, same, same_bytes c.node) refl) in
+    (rw (inner, fresh, of_scope) refl, rw inner refl)
+
+-- the event of a handler that begins in a compensation event
+abbrev pub handler_event : Undo → Cell → Event
+handler_event u c = events.ElementActivating (record { key = u.key; scope = u.event; definition = c.definition; node = u.node; role = roles.Handler; via = []; started = [] })
+
+-- under the next key it has what it needs beside its move, and shows that
+pub handler_holds : (p : ℕ) (es : List Event) (b : Board) (u : Undo) (c : Cell) → board_of es ≡ Some b → cell_at b u.event ≡ Some c → CellsAscend 1 b.cells → HasKeys p es 1 → u.key ≡ next_key p es
+    → IsTrue (holds_own p es (handler_event u c)) × (shown es (handler_event u c) ≡ Some (moves.Undo u))
+handler_holds p es b u c is found up keys its =
+    let above = found_key 1 u.event b.cells c up found in
+    let inner : (u.event == 0) ≡ false = grind (arith, nat_tests, above) in
+    let fresh : IsTrue (is_fresh p es u.key) = grind (arith, nat_tests) in
+    let same : (c.definition == c.definition) ≡ true = grind (arith, nat_tests) in
+    let a : ElementActivating = record { key = u.key; scope = u.event; definition = c.definition; node = u.node; role = roles.Handler; via = []; started = [] } in
+    let of_scope : IsTrue (holds_of_game (suits_scope a) es) = game_holds_from (suits_scope a) es b is (rw (found, same) refl) in
     (rw (inner, fresh, of_scope) refl, rw inner refl)
 
 module _ (p moment : ℕ) (es : List Event) (b : Board) (mover : Mover) (is : board_of es ≡ Some b) (k : BoardKeeps p es b) where
@@ -143,8 +161,8 @@ module _ (p moment : ℕ) (es : List Event) (b : Board) (mover : Mover) (is : bo
       let a : ElementActivating = record { key = e.key; scope = e.scope; definition = c.definition; node = e.node; role = role_on b c e.node; via = e.via; started = [] } in
       let plain = role_entered b c e.node in
       let alike = same_role a.role in
-      let of_scope : IsTrue (holds_of_game (suits_scope a) es) = game_holds_from (suits_scope a) es b is (rw (found, same, plain, alike) refl) in
-      event_by (moves.Enter e) (events.ElementActivating a) made fit refl (rw found refl) (rw (append-nil es, inner, fresh, of_scope) refl) (rw (inner, entry_shown a a.role plain) refl)
+      let of_scope : IsTrue (holds_of_game (suits_scope a) es) = game_holds_from (suits_scope a) es b is (rw (found, same, plain.0, plain.1, alike) refl) in
+      event_by (moves.Enter e) (events.ElementActivating a) made fit refl (rw found refl) (rw (append-nil es, inner, fresh, of_scope) refl) (rw (inner, entry_shown a a.role plain.0 plain.1) refl)
 
   enters : (e : Enter) → CellsAscend 1 b.cells → HasKeys p es 1 → e.key ≡ next_key p es → move_of b moment (next_key p es) mover ≡ Some (moves.Enter e) → IsTrue (fits b (moves.Enter e)) → IsForcedEvent p moment es b mover
   enters e up keys its made fit =
@@ -161,11 +179,22 @@ module _ (p moment : ℕ) (es : List Event) (b : Board) (mover : Mover) (is : bo
       let found = some_of (cell_at b i.body) (holds_some (runs_next b) (cell_at b i.body) fit) in
       runs_in i found.0 found.1 up keys its made fit
 
+  handles_in : (u : Undo) (c : Cell) → cell_at b u.event ≡ Some c → CellsAscend 1 b.cells → HasKeys p es 1 → u.key ≡ next_key p es → move_of b moment (next_key p es) mover ≡ Some (moves.Undo u) → IsTrue (fits b (moves.Undo u)) → IsForcedEvent p moment es b mover
+  handles_in u c found up keys its made fit =
+      let own = handler_holds p es b u c is found up keys its in
+      event_by (moves.Undo u) (handler_event u c) made fit refl (rw found refl) (subst (λ (before : List Event). IsTrue (holds_own p before (handler_event u c))) (sym (append-nil es)) own.0) own.1
+
+  begins_handler : (u : Undo) → CellsAscend 1 b.cells → HasKeys p es 1 → u.key ≡ next_key p es → move_of b moment (next_key p es) mover ≡ Some (moves.Undo u) → IsTrue (fits b (moves.Undo u)) → IsForcedEvent p moment es b mover
+  begins_handler u up keys its made fit =
+      let found = some_of (cell_at b u.event) (holds_some (runs_handler b u.node) (cell_at b u.event) fit) in
+      handles_in u found.0 found.1 up keys its made fit
+
   forced_by : (move : Move) → CellsAscend 1 b.cells → HasKeys p es 1 → IsMade (next_key p es) move → move_of b moment (next_key p es) mover ≡ Some move → IsTrue (fits b move) → IsTrue (agrees b moment move) → IsForcedEvent p moment es b mover
   forced_by (moves.Stand d) up keys from made fit agreed = absurd from
   forced_by (moves.Start s) up keys from made fit agreed = absurd from
   forced_by (moves.Enter e) up keys from made fit agreed = enters e up keys from made fit
   forced_by (moves.Inner i) up keys from made fit agreed = begins_run i up keys from made fit
+  forced_by (moves.Undo u) up keys from made fit agreed = begins_handler u up keys from made fit
   forced_by (moves.Open o) up keys from made fit agreed = event_by (moves.Open o) (events.ElementActivated (record { key = o.key; items = o.items })) made fit agreed refl refl refl
   forced_by (moves.Finish key) up keys from made fit agreed = event_by (moves.Finish key) (events.ElementCompleting key) made fit agreed refl refl refl
   forced_by (moves.Leave l) up keys from made fit agreed = event_by (moves.Leave l) (events.ElementCompleted (record { key = l.key; owed = l.owed })) made fit agreed refl refl refl

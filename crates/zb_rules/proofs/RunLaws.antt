@@ -3,7 +3,7 @@ use Rattle.std.proofs.Common.{◌≡◌, ℕ, ℤ, zero, suc, ◌+◌, ◌-◌, 
 use Rattle.std.specs.Prelude.{slice_get, nat_lt, pos}
 use Rattle.std.specs.Option.{option_map_or, IfSome}
 use Rattle.std.specs.List.{find}
-use Rattle.std.proofs.lemmas.Bool.{and_parts, and_right}
+use Rattle.std.proofs.lemmas.Bool.{and_parts, and_right, or_parts, or_right, not-true}
 use Rattle.std.proofs.lemmas.Bool.Decides.{nat_tests}
 use Rattle.std.proofs.lemmas.List.Elements.{All-nil, All-cons, All-head, All-tail, All-push, All-weaker}
 use Rattle.std.proofs.lemmas.List.Folds.{find-append}
@@ -18,11 +18,7 @@ use Rattle.zb_instance_records.specs.declared.instance.Role.TheVariants as roles
 use Rattle.zb_model.specs.declared.record.Event.{Event}
 use Rattle.zb_model.specs.declared.record.Event.TheVariants as events
 use Rattle.zb_views.specs.View.{next_key}
-use Rattle.zb_views.specs.Jobs.{job_at, job_on}
-use Rattle.zb_views.specs.Left.{left, left_told, leaves_root}
-use Rattle.zb_views.specs.declared.left.Left.TheVariants as lefts
-use Rattle.zb_views.specs.declared.begun.Begun.{Begun}
-use Rattle.zb_views.proofs.ViewLaws.{left_more}
+use Rattle.zb_views.specs.Jobs.{job_at}
 use Rattle.zb_tokens.specs.declared.board.Cell.{Cell}
 use Rattle.zb_tokens.specs.declared.board.Deployed.{Deployed}
 use Rattle.zb_tokens.specs.declared.board.Inner.{Inner}
@@ -31,8 +27,9 @@ use Rattle.zb_tokens.specs.declared.board.Move.TheVariants as moves
 use Rattle.zb_tokens.specs.declared.board.Phase.{Phase}
 use Rattle.zb_tokens.specs.declared.board.Phase.TheVariants as phases
 use Rattle.zb_tokens.specs.Edits.{edited, is_none_of}
-use Rattle.zb_tokens.specs.Board.{Board, CellsAscend, cell_at, model_under, has_child, is_body, is_inner, is_phase, is_role}
+use Rattle.zb_tokens.specs.Board.{Board, CellsAscend, cell_at, model_under, has_child, is_body, is_inner, is_phase, is_role, is_root}
 use Rattle.zb_tokens.specs.Bodies.{multi_at, has_item, last_item, next_item, is_sequential, may_run, run_variables_of, run_variables_at}
+use Rattle.zb_tokens.specs.Handlers.{has_handler}
 use Rattle.zb_tokens.specs.Game.{empty_board, fits, played}
 use Rattle.zb_tokens.specs.MoveFinish.{acts, acts_in, is_done}
 use Rattle.zb_tokens.specs.MoveInner.{runs_next, run_in, one_taken}
@@ -44,12 +41,13 @@ use Rattle.zb_rules.specs.Behind.{run_set_on, events_behind}
 use Rattle.zb_rules.specs.Sound.{HasKeys}
 use Rattle.zb_rules.specs.Runs.{begins_run, times_run, set_for, IsRunFor}
 use Rattle.zb_rules.specs.Update.{set_each}
-use Rattle.zb_rules.proofs.AppliedLaws.{Advances, some_of, game_holds, applied_from, applied_board, board_behind, holds_on, holds_of_all}
+use Rattle.zb_rules.proofs.AppliedLaws.{Advances, some_of, game_holds, applied_from, applied_board, holds_on, holds_of_all}
 use Rattle.zb_rules.proofs.CatchLaws.{found_here}
 use Rattle.zb_rules.proofs.CellsLaws.{Between, ascend_between, between_edited, key_made}
 use Rattle.zb_rules.proofs.CreateLaws.{none_between}
-use Rattle.zb_rules.proofs.GrowthLaws.{job_shows, started, run_by, cell_shows, entry_shown, run_shown}
-use Rattle.zb_rules.proofs.KeysLaws.{HasOrderedCells, next_key_more, fresh_is, begun_is, begins_by, no_root, root_key, board_stands, stands_on, stands_first}
+use Rattle.zb_rules.proofs.GrowthLaws.{job_shows, started, run_by, run_shown}
+use Rattle.zb_rules.proofs.KeyedLaws.{OfKey, first_of_key, found_of_key, shown_keeps, IsPast, found_past, past_on, new_above, shown_moves, last_advances}
+use Rattle.zb_rules.proofs.KeysLaws.{HasOrderedCells, fresh_is, board_stands, stands_on, stands_first}
 use Rattle.zb_rules.proofs.MadeLaws.{is_keyed, HoldsMade, made_holds}
 use Rattle.zb_rules.proofs.ModelsLaws.{model_among, models_shown, among_more}
 use Rattle.zb_rules.proofs.NamedLaws.{found_below}
@@ -61,51 +59,6 @@ use Rattle.zb_rules.proofs.ScopesLaws.{at_cell, edited_found}
 use Rattle.zb_rules.proofs.SoundLaws.{board_is_there, cells_ascend, board_keeps}
 use Rattle.zb_rules.proofs.StepLaws.{all_apply_on}
 use Rattle.zb_rules.proofs.UpdateLaws.{each_set}
-
--- a key was drawn: it lies below the next one, and below that of a root that is left to be said
-record IsPast (p : ℕ) (es : List Event) (key : ℕ) : Type 0 where
-  below : key < next_key p es
-  apart : (i : Begun) → left es ≡ lefts.Root i → key < i.key
-
--- a root that an event leaves to be said has a key behind those that were drawn
-root_above : (p key : ℕ) (before : List Event) (e : Event) → IsTrue (holds_own p before e) → key < next_key p before → (i : Begun) → left_told before e ≡ lefts.Root i → key < i.key
-root_above p key before (events.ProcessInstanceCreationCreated c) own less i is =
-    let f = fresh_is p before c.key (both_left (is_fresh p before c.key) _ own) in
-    let its : c.key ≡ i.key = ap root_key is in
-    omega (arith, less, f.1, its)
-root_above p key before (events.MessageStartEventSubscriptionCorrelated c) own less i is =
-    let f = fresh_is p before c.instance (both_left (is_fresh p before c.instance) _ own) in
-    let its : c.instance ≡ i.key = ap root_key is in
-    omega (arith, less, f.1, its)
-root_above p key before (events.ElementTerminating cell) own less i is = absurd (no_root (job_on cell before) i is)
-root_above p key before e own less i is = absurd (cc)
-
-module _ (p : ℕ) (before : List Event) (b : Board) (e : Event) (after : Board) (h : Advances p before b e after) where
-  -- a key that was drawn is so behind an event too
-  past_on : (key : ℕ) → key < next_key p before → IsPast p (before ++ e ∷ []) key
-  past_on key less = record {
-    below = omega (arith, less, next_key_more p before e);
-    apart = λ i is. root_above p key before e h.own less i (sym (left_more before e) ∙ is);
-  }
-
-  -- a cell that begins has a key behind it
-  new_above : (key : ℕ) → IsPast p before key → IfSome (option_and_then key_made (shown before e)) (λ new. key < new)
-  new_above key past = by_event e h.own
-    where
-      by_scope : (a : ElementActivating) (t : Bool) → IsTrue (if t then begins_instance before a else begins_cell p before a) → IfSome (option_and_then key_made (if t then Some (moves.Start (started a)) else Some (move_of_cell a a.role))) (λ new. key < new)
-      by_scope a true begins =
-          let r = begun_is a.key a.definition (left before) (both_left (leaves_root a.key a.definition (left before)) _ (both_left _ _ (both_left _ _ begins))) in
-          omega (arith, past.apart r.0 r.1, r.2)
-      by_scope a false begins =
-          let f = fresh_is p before a.key (both_left (is_fresh p before a.key) _ (both_left _ _ begins)) in
-          let new : key < a.key = omega (arith, past.below, f.1) in
-          cell_shows (λ (m : Move). IfSome (key_made m) (λ new. key < new)) a a.role new new
-
-      by_event : (x : Event) → IsTrue (holds_own p before x) → IfSome (option_and_then key_made (shown before x)) (λ new. key < new)
-      by_event (events.ElementActivating a) own = by_scope a (a.scope == 0) (begins_by p before a own)
-      by_event (events.JobCompleted job) own = job_shows (λ (m : Option Move). IfSome (option_and_then key_made m) (λ new. key < new)) (λ j. moves.Done j.cell) (job_at job before) tt (λ j. tt)
-      by_event (events.JobErrorThrown t) own = job_shows (λ (m : Option Move). IfSome (option_and_then key_made m) (λ new. key < new)) (λ j. moves.Throw (record { cell = j.cell; code = t.code })) (job_at t.key before) tt (λ j. tt)
-      by_event x own = tt
 
 -- one where a test is passed
 abbrev one_if : Bool → ℕ
@@ -169,9 +122,10 @@ taken_kept b times (moves.Stand d) new other = tt
 taken_kept b times (moves.Start s) new other = λ node there. new
 taken_kept b times (moves.Enter e) new other = λ c m found under. new
 taken_kept b times (moves.Inner i) new other = absurd (cc)
+taken_kept b times (moves.Undo u) new other = λ c found. (new, λ x there is. is)
 taken_kept b times (moves.Open o) new other = λ c found is. is
 taken_kept b times (moves.Finish key) new other = λ c found is. is
-taken_kept b times (moves.Leave l) new other = (λ flow owed same c found is. is, λ c is. is)
+taken_kept b times (moves.Leave l) new other = (λ flow owed same c found is. is, λ c is. is, λ c found can scope same is. is)
 taken_kept b times (moves.Take t) new other = λ flow owed c found is. is
 taken_kept b times (moves.Halt key) new other = λ c found is. is
 taken_kept b times (moves.Gone key) new other = tt
@@ -236,12 +190,13 @@ bounded_kept b (moves.Inner i) fit = (
       let left = item_left its.1 b c its.3 in
       (omega (arith, left), λ begins. absurd (not_both c.phase begins its.0)),
 )
+bounded_kept b (moves.Undo u) fit = λ c found. ((omega arith, λ begins. refl), λ x there is. is)
 bounded_kept b (moves.Open o) fit = λ c found is.
     let begins = both_left (is_phase c.phase phases.Activating) _ (at_cell (λ (x : Cell). is_phase x.phase phases.Activating && (opens b x && (is_body x || is_none_of o.items))) (cell_at b o.key) c found fit) in
     let none = is.1 begins in
     (omega (arith, none), λ again. absurd (cc))
 bounded_kept b (moves.Finish key) fit = λ c found is. (is.0, λ begins. absurd (cc))
-bounded_kept b (moves.Leave l) fit = (λ flow owed same c found is. (is.0, λ begins. absurd (cc)), λ c is. is)
+bounded_kept b (moves.Leave l) fit = (λ flow owed same c found is. (is.0, λ begins. absurd (cc)), λ c is. is, λ c found can scope same is. is)
 bounded_kept b (moves.Take t) fit = λ flow owed c found is. (is.0, λ begins. absurd (cc))
 bounded_kept b (moves.Halt key) fit = λ c found is. (is.0, λ begins. absurd (cc))
 bounded_kept b (moves.Gone key) fit = tt
@@ -273,9 +228,10 @@ several_kept b after (moves.Enter e) still = λ c m found under body. still c.de
     is_several true body = refl
     is_several false body = absurd (cc)
 several_kept b after (moves.Inner i) still = (λ c found body. absurd (cc), λ c found has. has)
+several_kept b after (moves.Undo u) still = λ c found. (λ body. absurd (cc), λ x there has. has)
 several_kept b after (moves.Open o) still = λ c found has. has
 several_kept b after (moves.Finish key) still = λ c found has. has
-several_kept b after (moves.Leave l) still = (λ flow owed is c found has. has, λ c has. has)
+several_kept b after (moves.Leave l) still = (λ flow owed is c found has. has, λ c has. has, λ c found can scope same has. has)
 several_kept b after (moves.Take t) still = λ flow owed c found has. has
 several_kept b after (moves.Halt key) still = λ c found has. has
 several_kept b after (moves.Gone key) still = tt
@@ -402,9 +358,13 @@ no_more e before key other =
 taken_on : (p : ℕ) (before : List Event) (b : Board) (e : Event) (after : Board) → Advances p before b e after → HasRuns p before b → All (IsTaken (λ key. times_run key (before ++ e ∷ []))) after.cells
 taken_on p before b (events.ElementActivating a) after h s = by_inner (is_role a.role roles.Inner) refl
   where
+    other_role : (role : Role) → is_role role roles.Inner ≡ false → is_run_move (move_of_cell a role) ≡ false
+    other_role roles.Inner plain = absurd (cc)
+    other_role role plain = refl
+
     other_move : (t : Bool) → is_role a.role roles.Inner ≡ false → option_map_or is_run_move (if t then Some (moves.Start (started a)) else Some (move_of_cell a a.role)) false ≡ false
     other_move true plain = refl
-    other_move false plain = rw (entry_shown a a.role plain) refl
+    other_move false plain = other_role a.role plain
 
     by_inner : (inner : Bool) → is_role a.role roles.Inner ≡ inner → All (IsTaken (λ key. times_run key (before ++ events.ElementActivating a ∷ []))) after.cells
     by_inner true run =
@@ -488,26 +448,6 @@ run_for p es b run s fresh fit c found cells made =
       sets = sets_by after run.key (times_run run.scope es) cell (one_taken c) its.1 multi.0 item.0 run_now refl body_now under multi.1 last (ap (λ (k : ℕ). k + 1) (sym count));
     }
 
--- the move that an event shows fits, and is made
-shown_moves : (p : ℕ) (before : List Event) (b : Board) (e : Event) (after : Board) (move : Move) → Advances p before b e after → shown before e ≡ Some move → IsTrue (fits b move) × (played b move ≡ Some after)
-shown_moves p before b e after move h shows = (
-  subst (λ (o : Option Move). IsTrue (may_fit o b)) shows h.fit,
-  subst (λ (o : Option Move). after_shown b o ≡ Some after) shows h.leads,
-)
-
--- the last event of a log advances the board of those before it
-last_advances : (p : ℕ) (es : List Event) (e : Event) (after : Board) → IsTrue (all_apply p [] (es ++ e ∷ [])) → board_of (es ++ e ∷ []) ≡ Some after → (b : Board) × IsTrue (all_apply p [] es) × (board_of es ≡ Some b) × Advances p es b e after
-last_advances p es e after apply is =
-    let both : IsTrue (all_apply p [] es && all_apply p es (e ∷ [])) = sym (all_apply_on p [] es (e ∷ [])) ∙ apply in
-    let before = both_left (all_apply p [] es) _ both in
-    let first = both_left (applies p es e) _ (both_right (all_apply p [] es) _ both) in
-    let found = some_of (board_of es) (board_is_there p es before) in
-    let r = applied_board p es found.0 e found.1 first in
-    let now : board_of (es ++ e ∷ []) ≡ Some r.0 = board_behind p es found.0 e r.0 r.1 in
-    let led : Some r.0 ≡ Some after = sym now ∙ is in
-    let same : r.0 ≡ after = cc in
-    (found.0, before, found.1, subst (λ (x : Board). Advances p es found.0 e x) same r.1)
-
 run_made : (p : ℕ) (es : List Event) (b : Board) (run : ElementActivating) (after : Board) → IsTrue (all_apply p [] es) → board_of es ≡ Some b → Advances p es b (events.ElementActivating run) after → IsBegun p es b (events.ElementActivating run) run.scope
     → IsRunFor after run (times_run run.scope es)
 run_made p es b run after apply is h begun =
@@ -553,7 +493,8 @@ bodies_run_for_all p es b body c apply is found holds first =
     let r = applied_board p es b (events.ElementCompleting body) is first in
     let h = at_cell (λ (x : Cell). is_phase x.phase phases.Active && is_done b x) (cell_at b body) c found r.1.fit in
     let done : IsTrue (is_done b c) = both_right (is_phase c.phase phases.Active) _ h in
-    let over : IsTrue (not (is_body c && has_item c)) = both_right (acts b c) _ done in
+    let left = or_parts (is_body c && has_item c) (has_handler b c) (not-true ((is_body c && has_item c) || has_handler b c) (both_right (acts b c) _ done)) in
+    let over : IsTrue (not (is_body c && has_item c)) = ap not left.0 in
     let acting : IsTrue (acts b c) = both_left (acts b c) _ done in
     let model = some_of (model_under b c.definition) (holds_some (λ m. acts_in m b c) (model_under b c.definition) acting) in
     let under = model.1 in
@@ -587,7 +528,8 @@ bodies_complete_then p es b body c apply is found holds active ran empty =
     let none : has_item c ≡ false = ap is_some (slice_get_past c.items c.taken (omega (arith, taken, ran))) in
     let alone : has_child b c.key ≡ false = subst (λ (key : ℕ). has_child b key ≡ false) (sym (key_found b body c found)) empty in
     let model = some_of (model_under b c.definition) (found_holds (is_keyed body) (HasModel b) b.cells c (board_keeps p es b apply is).models found).0 in
-    let fit : IsTrue (fits b (moves.Finish body)) = rw (found, active, holds, none, model.1, alone) refl in
+    let undoes_none : (is_root c || is_body c) ≡ true = or_right (is_root c) (is_body c) holds in
+    let fit : IsTrue (fits b (moves.Finish body)) = rw (found, active, undoes_none, holds, none, model.1, alone) refl in
     applied_from p es b (events.ElementCompleting body) (moves.Finish body) is refl refl fit
 
 -- one of which an item is left begins a run under the next key, where its runs come at once, or none is there
@@ -605,8 +547,11 @@ bodies_run_next p es b body c m apply keys is found holds active under left free
 
 -- what is kept of the items of a body that has become active
 module _ (p key : ℕ) (items : List ℤ) where
+  abbrev HasItems : Cell → Type 0
+  HasItems c = (c.items ≡ items) × (is_phase c.phase phases.Activating ≡ false)
+
   abbrev Keeps : Cell → Type 0
-  Keeps c = c.key ≡ key → (c.items ≡ items) × (is_phase c.phase phases.Activating ≡ false)
+  Keeps = OfKey key HasItems
 
   begins_none : (new : ℕ) → key < new → new ≡ key → ⊥
   begins_none new above same = omega (arith, above, same)
@@ -616,11 +561,12 @@ module _ (p key : ℕ) (items : List ℤ) where
   items_kept b (moves.Start s) fit new = λ node there same. absurd (begins_none s.key new same)
   items_kept b (moves.Enter e) fit new = λ c m found under same. absurd (begins_none e.key new same)
   items_kept b (moves.Inner i) fit new = (λ c found same. absurd (begins_none i.key new same), λ c found is. is)
+  items_kept b (moves.Undo u) fit new = λ c found. (λ same. absurd (begins_none u.key new same), λ x there is. is)
   items_kept b (moves.Open o) fit new = λ c found is same.
       let begins = both_left (is_phase c.phase phases.Activating) _ (at_cell (λ (x : Cell). is_phase x.phase phases.Activating && (opens b x && (is_body x || is_none_of o.items))) (cell_at b o.key) c found fit) in
       absurd (let none = (is same).1 in cc)
   items_kept b (moves.Finish cell) fit new = λ c found is same. ((is same).0, refl)
-  items_kept b (moves.Leave l) fit new = (λ flow owed its c found is same. ((is same).0, refl), λ c is. is)
+  items_kept b (moves.Leave l) fit new = (λ flow owed its c found is same. ((is same).0, refl), λ c is. is, λ c found can scope its is. is)
   items_kept b (moves.Take t) fit new = λ flow owed c found is same. ((is same).0, refl)
   items_kept b (moves.Halt cell) fit new = λ c found is same. ((is same).0, refl)
   items_kept b (moves.Gone cell) fit new = tt
@@ -637,26 +583,15 @@ module _ (p key : ℕ) (items : List ℤ) where
     past : IsPast p es key
     cells : All Keeps b.cells
 
-  shown_keeps : (b after : Board) (move : Option Move) → IsTrue (may_fit move b) → IfSome (option_and_then key_made move) (λ new. key < new) → after_shown b move ≡ Some after → All Keeps b.cells → All Keeps after.cells
-  shown_keeps b after None fit new made all = subst (λ (x : Board). All Keeps x.cells) (let same : b ≡ after = cc in same) all
-  shown_keeps b after (Some move) fit new made all = cells_played b Keeps all after move (items_kept b move fit new) made
+  shown_kept : (b : Board) (move : Option Move) → IsTrue (may_fit move b) → IfSome (option_and_then key_made move) (λ new. key < new) → IfSome move (CellKept b Keeps)
+  shown_kept b None fit new = tt
+  shown_kept b (Some move) fit new = items_kept b move fit new
 
   keeps_items : (before : List Event) (b : Board) (e : Event) (after : Board) → Advances p before b e after → KeepsItems before b → KeepsItems (before ++ e ∷ []) after
   keeps_items before b e after h s = record {
     past = past_on p before b e after h key s.past.below;
-    cells = shown_keeps b after (shown before e) h.fit (new_above p before b e after h key s.past) h.leads s.cells;
+    cells = shown_keeps Keeps b after (shown before e) (shown_kept b (shown before e) h.fit (new_above p before b e after h key s.past)) h.leads s.cells;
   }
-
--- at first these are the items of the one with a key
-first_keeps : (p : ℕ) (b : Board) (key : ℕ) (c : Cell) → CellsAscend 1 b.cells → cell_at b key ≡ Some c → IsFalse (is_phase c.phase phases.Activating) → All (Keeps p key c.items) b.cells
-first_keeps p b key c up found opened = All-weaker (λ (x : Cell). (1 ≤ x.key) × (cell_at b x.key ≡ Some x)) (Keeps p key c.items) (λ x its. is_same x its.1) b.cells (found_here 1 b.cells up)
-  where
-    is_same : (x : Cell) → cell_at b x.key ≡ Some x → x.key ≡ key → (x.items ≡ c.items) × (is_phase x.phase phases.Activating ≡ false)
-    is_same x its same =
-        let again : cell_at b key ≡ Some x = subst (λ (k : ℕ). cell_at b k ≡ Some x) same its in
-        let both : Some c ≡ Some x = sym found ∙ again in
-        let one : c ≡ x = cc in
-        subst (λ (y : Cell). (y.items ≡ c.items) × (is_phase y.phase phases.Activating ≡ false)) one (refl, opened)
 
 -- a body that has become active keeps its items as long as it is there
 pub bodies_keep_items : (p : ℕ) (es more : List Event) (b after : Board) (body : ℕ) (c later : Cell) → IsTrue (all_apply p [] (es ++ more)) → board_of es ≡ Some b → board_of (es ++ more) ≡ Some after → cell_at b body ≡ Some c
@@ -665,18 +600,12 @@ bodies_keep_items p es more b after body c later apply is led found opened found
     let both : IsTrue (all_apply p [] es && all_apply p es more) = sym (all_apply_on p [] es more) ∙ apply in
     let before = both_left (all_apply p [] es) _ both in
     let s = board_stands p es b before is in
-    let past : IsPast p es body = record {
-      below = found_below 1 (next_key p es) body b.cells c s.between found;
-      apart = λ i root. found_below 1 i.key body b.cells c (s.begins i root).0 found;
-    } in
-    let first = first_keeps p b body c (ascend_between 1 (next_key p es) b.cells s.between) found opened in
+    let past = found_past p es b body c s found in
+    let first = first_of_key body (HasItems p body c.items) b c (ascend_between 1 (next_key p es) b.cells s.between) found (refl, opened) in
     let r = holds_on p (KeepsItems p body c.items) (keeps_items p body c.items) es more b is (record { past = past; cells = first }) (both_right (all_apply p [] es) _ both) in
-    found_kept p body c.items after later (same_board r.0 after r.1 led r.2.cells) found_later
+    (found_of_key body (HasItems p body c.items) after later (same_board r.0 after r.1 led r.2.cells) found_later).0
   where
     same_board : (x after : Board) → board_of (es ++ more) ≡ Some x → board_of (es ++ more) ≡ Some after → All (Keeps p body c.items) x.cells → All (Keeps p body c.items) after.cells
     same_board x after one other all =
         let both : Some x ≡ Some after = sym one ∙ other in
         subst (λ (y : Board). All (Keeps p body c.items) y.cells) (let same : x ≡ after = cc in same) all
-
-    found_kept : (p key : ℕ) (items : List ℤ) (b : Board) (later : Cell) → All (Keeps p key items) b.cells → cell_at b key ≡ Some later → later.items ≡ items
-    found_kept p key items b later all found = ((found_holds (is_keyed key) (Keeps p key items) b.cells later all found).0 (key_found b key later found)).0

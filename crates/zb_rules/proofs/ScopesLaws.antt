@@ -1,5 +1,5 @@
 -- Cells in which others, or tokens, may be. What holds of the cell with a key is kept by edits.
-use Rattle.std.proofs.Common.{◌≡◌, ℕ, ◌==◌, List, [], ◌∷◌, ◌++◌, filter, Bool, true, false, ◌&&◌, not, if◌then◌else◌, IsTrue, Option, Some, None, option_map, refl, sym, ap, ◌∙◌, subst, arith}
+use Rattle.std.proofs.Common.{◌≡◌, ℕ, ◌==◌, List, [], ◌∷◌, ◌++◌, filter, Bool, true, false, ◌&&◌, ◌||◌, not, if◌then◌else◌, IsTrue, Option, Some, None, option_map, refl, sym, ap, ◌∙◌, subst, arith}
 use Rattle.std.specs.Option.{option_map_or, option_or}
 use Rattle.std.specs.List.{find}
 use Rattle.std.proofs.lemmas.Bool.{and_from, and_right, or_left}
@@ -12,7 +12,7 @@ use Rattle.zb_tokens.specs.declared.board.Mark.TheVariants as marks
 use Rattle.zb_tokens.specs.declared.board.Phase.{Phase}
 use Rattle.zb_tokens.specs.declared.board.Phase.TheVariants as phases
 use Rattle.zb_tokens.specs.Edits.{edited, removed}
-use Rattle.zb_tokens.specs.Board.{Board, cell_at, model_under, is_body, is_phase, holds_cells, holds_tokens, leaves_in}
+use Rattle.zb_tokens.specs.Board.{Board, cell_at, model_under, is_body, is_phase, undoes, holds_cells, holds_tokens, leaves_in}
 use Rattle.zb_tokens.proofs.GameLaws.{both_left, both_right, holds_some, found_through}
 use Rattle.zb_rules.specs.Sound.{runs, holds_by, is_around}
 use Rattle.zb_rules.proofs.MadeLaws.{is_keyed}
@@ -41,7 +41,7 @@ module _ (key other : ℕ) (apart : (other == key) ≡ false) where
       let same : find (is_keyed other) (x ∷ rest) ≡ find (is_keyed other) (x ∷ xs) = rw (behind rest refl) refl in
       subst (λ (cs : List Cell). find (is_keyed other) cs ≡ find (is_keyed other) (x ∷ xs)) is same
 
-  edited_other : (edit : Cell → Cell) (xs after : List Cell) → ((c : Cell) → (edit c).key ≡ c.key) → edited (is_keyed key) edit xs ≡ Some after → find (is_keyed other) after ≡ find (is_keyed other) xs
+  pub edited_other : (edit : Cell → Cell) (xs after : List Cell) → ((c : Cell) → (edit c).key ≡ c.key) → edited (is_keyed key) edit xs ≡ Some after → find (is_keyed other) after ≡ find (is_keyed other) xs
   edited_other edit [] after keeps made = absurd (cc)
   edited_other edit (x ∷ xs) after keeps made = edited_by edit x xs after (x.key == key) (edited (is_keyed key) edit xs) keeps refl (λ rest is. edited_other edit xs rest keeps is) made
 
@@ -58,7 +58,7 @@ module _ (key other : ℕ) (apart : (other == key) ≡ false) where
       let same : find (is_keyed other) (x ∷ rest) ≡ find (is_keyed other) (x ∷ xs) = rw (behind rest refl) refl in
       subst (λ (cs : List Cell). find (is_keyed other) cs ≡ find (is_keyed other) (x ∷ xs)) is same
 
-  removed_other : (xs after : List Cell) → removed (is_keyed key) xs ≡ Some after → find (is_keyed other) after ≡ find (is_keyed other) xs
+  pub removed_other : (xs after : List Cell) → removed (is_keyed key) xs ≡ Some after → find (is_keyed other) after ≡ find (is_keyed other) xs
   removed_other [] after made = absurd (cc)
   removed_other (x ∷ xs) after made = removed_by x xs after (x.key == key) (removed (is_keyed key) xs) refl (λ rest is. removed_other xs rest is) made
 
@@ -180,7 +180,7 @@ cells_of_place = record { bared = λ m c. refl; within = λ m c is. is }
 
 -- and so is that tokens may
 pub tokens_of_place : IsOfPlace holds_tokens
-tokens_of_place = record { bared = λ m c. refl; within = λ m c is. or_left (holds_tokens m c) (is_body c) is }
+tokens_of_place = record { bared = λ m c. refl; within = λ m c is. or_left (holds_tokens m c) (is_body c || undoes m c) is }
 
 -- of each cell of a board of which such a test holds it holds on another
 abbrev pub ScopesKept : Board → Board → Type 0

@@ -25,6 +25,7 @@ use Rattle.zb_rules.proofs.AppliedLaws.{Advances, holds_on, holds_of_all}
 use Rattle.zb_rules.proofs.KeysLaws.{HasOrderedCells, board_stands, stands_on, stands_first, begins_by, fresh_is}
 use Rattle.zb_rules.proofs.OwesLaws.{HasModel, Owes, all_owe, models_on, owes_on}
 use Rattle.zb_rules.proofs.PlacedLaws.{Stands, IsIn, Placed, IsNewIn, placed_on, scopes_of}
+use Rattle.zb_rules.proofs.HandlersLaws.{IsOfHandler, handled_on}
 use Rattle.zb_rules.proofs.IncidentsLaws.{HasApartIncidents, apart_on, apart_first}
 use Rattle.zb_rules.proofs.JobCellsLaws.{IsUntold, untold_on}
 use Rattle.zb_rules.proofs.JobSoundLaws.{IsDrawn, jobs_on, jobs_first, drawn_on}
@@ -46,7 +47,7 @@ new_by p before b a true stands begins = tt
 new_by p before b a false stands begins =
     let f = fresh_is p before a.key (both_left (is_fresh p before a.key) _ (both_left _ _ begins)) in
     let new = subst (λ (k : ℕ). Between 1 k b.cells) (sym f.1) stands.between in
-    cell_shows (IsNewIn b) a a.role new new
+    cell_shows (IsNewIn b) a a.role new new new
 
 shown_new : (p : ℕ) (before : List Event) (b : Board) (e : Event) (after : Board) → Advances p before b e after → HasOrderedCells p before b → IfSome (shown before e) (IsNewIn b)
 shown_new p before b (events.ElementActivating a) after h stands = new_by p before b a (a.scope == 0) stands (begins_by p before a h.own)
@@ -59,6 +60,7 @@ pub record BoardKeeps (p : ℕ) (es : List Event) (b : Board) : Type 0 where
   pub stands : HasOrderedCells p es b
   pub models : All (HasModel b) b.cells
   pub owes : All Owes b.cells
+  pub handlers : All (IsOfHandler b) b.cells
   pub placed : Placed b
   pub incidents : HasApartIncidents p es b
   pub jobs : HasSoundJobs p es b
@@ -73,7 +75,8 @@ keeps_on p before b e after h k = record {
   stands = stands_on p before b e after h k.stands;
   models = models_on b after (shown before e) h.leads k.models;
   owes = owes_on b after (shown before e) h.fit h.leads k.owes;
-  placed = placed_on b after (shown before e) h.fit (shown_new p before b e after h k.stands) h.leads k.owes k.placed;
+  handlers = handled_on b after (shown before e) k.formed h.fit h.leads k.handlers;
+  placed = placed_on b after (shown before e) h.fit (shown_new p before b e after h k.stands) h.leads k.owes k.handlers k.placed;
   incidents = apart_on p before b e after h k.incidents;
   jobs = jobs_on p before b e after h k.incidents.apart k.drawn k.jobs;
   timers = timers_sound_on p before b e after h k.timers;
@@ -88,6 +91,7 @@ keeps_first p = record {
   stands = stands_first p;
   models = All-nil (HasModel empty_board);
   owes = All-nil Owes;
+  handlers = All-nil (IsOfHandler empty_board);
   placed = record { cells = All-nil (Stands empty_board); tokens = All-nil (IsIn empty_board) };
   incidents = apart_first p;
   jobs = jobs_first p;

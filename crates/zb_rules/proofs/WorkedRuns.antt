@@ -19,10 +19,10 @@ use Rattle.zb_faults.specs.Faults.{first_fault}
 use Rattle.zb_rules.specs.Applies.{all_apply}
 use Rattle.zb_rules.specs.Settling.{turn}
 
-abbrev key : ℕ → ℕ
+abbrev pub key : ℕ → ℕ
 key n = 2251799813685248 + n
 
-abbrev node : List ℕ → List ℕ → NodeKind → Option Multi → Node
+abbrev pub node : List ℕ → List ℕ → NodeKind → Option Multi → Node
 node parent id kind multi = record { id = id; kind = kind; parent = parent; attached = []; cancel = false; otherwise = []; name = []; expr = None; retries = 0; handler = false; multi = multi; inputs = []; outputs = [] }
 
 -- a subprocess that runs for each item of n, which it has as x: its start event leads to its end event
@@ -47,22 +47,22 @@ unfolding first_fault
 runs_are_good = refl
 
 -- a cell begins in a role
-abbrev begins : Role → ℕ → ℕ → List ℕ → List ℕ → Event
+abbrev pub begins : Role → ℕ → ℕ → List ℕ → List ℕ → Event
 begins role cell scope id via = events.ElementActivating (record { key = cell; scope = scope; definition = key 1; node = id; role = role; via = via; started = [] })
 
-abbrev opens : ℕ → List ℤ → Event
+abbrev pub opens : ℕ → List ℤ → Event
 opens cell items = events.ElementActivated (record { key = cell; items = items })
 
-abbrev completed : ℕ → List (List ℕ) → Event
+abbrev pub completed : ℕ → List (List ℕ) → Event
 completed cell owed = events.ElementCompleted (record { key = cell; owed = owed })
 
-abbrev taken : ℕ → List ℕ → Event
+abbrev pub taken : ℕ → List ℕ → Event
 taken cell flow = events.SequenceFlowTaken (record { key = cell; flow = flow })
 
-abbrev ends : ℕ → List (List ℕ) → List Event
+abbrev pub ends : ℕ → List (List ℕ) → List Event
 ends cell owed = events.ElementCompleting cell ∷ completed cell owed ∷ []
 
-abbrev passes : ℕ → ℕ → List ℕ → List ℕ → List (List ℕ) → List Event
+abbrev pub passes : ℕ → ℕ → List ℕ → List ℕ → List (List ℕ) → List Event
 passes cell scope id via owed = begins roles.Plain cell scope id via ∷ opens cell [] ∷ ends cell owed
 
 -- a run begins in the body, for an item
@@ -89,17 +89,17 @@ abbrev from_body : ℕ → List Event
 from_body cell = ends (key 5) (codes "h" ∷ []) ++ (taken (key 5) (codes "h") ∷ passes cell (key 3) (codes "e") (codes "h") [] ++ ends (key 3) [])
 
 -- the turns that follow, at most as many as the fuel has members
-abbrev turns : List Bool → List Event → List Event
+abbrev pub turns : List Bool → List Event → List Event
 turns [] es = []
 turns (more ∷ fuel) es = elim (turn 1 0 es) [
   | None ↦ []
   | Some made ↦ made ++ turns fuel (es ++ made)
 ]
 
-abbrev ten : List Bool → List Bool
+abbrev pub ten : List Bool → List Bool
 ten fuel = true ∷ true ∷ true ∷ true ∷ true ∷ true ∷ true ∷ true ∷ true ∷ true ∷ fuel
 
-abbrev many : List Bool
+abbrev pub many : List Bool
 many = ten (ten (ten (ten (ten []))))
 
 abbrev two : Value

@@ -61,9 +61,9 @@ abbrev pub begins_instance : List Event → ElementActivating → Bool
 begins_instance before e = leaves_root e.key e.definition (left before)
     && holds_of_game (is_process_of e.definition e.node) before && bytes_eq e.via [] && bytes_eq e.started (starts_with (left before) before)
 
--- a cell begins in another as a run of it, at its node and by no flow, or else in the role that its node tells (BPMN 2.0.2, 13.3.7)
+-- a cell begins in another by no flow, as a run of it at its node, or as a handler; or else in the role that its node tells (BPMN 2.0.2, 13.3.7 and 13.5.5)
 abbrev pub suits : Board → ElementActivating → Cell → Bool
-suits b e c = if is_role e.role roles.Inner then bytes_eq e.node c.node && bytes_eq e.via [] else is_role e.role (role_on b c e.node)
+suits b e c = if is_role e.role roles.Inner then bytes_eq e.node c.node && bytes_eq e.via [] else if is_role e.role roles.Handler then bytes_eq e.via [] else is_role e.role (role_on b c e.node)
 
 -- on a board it has the definition of its scope, and suits that
 abbrev pub suits_scope : ElementActivating → Board → Bool

@@ -38,3 +38,4 @@ pub mod Correlate
 pub mod Subscribe
 pub mod Receive
 pub mod Runs
+pub mod Undone

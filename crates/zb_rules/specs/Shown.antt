@@ -18,9 +18,10 @@ use Rattle.zb_tokens.specs.Board.{Board, cell_at, model_under}
 use Rattle.zb_tokens.specs.Bodies.{role_at}
 use Rattle.zb_tokens.specs.Game.{empty_board, played}
 
--- the move that shows by a cell that begins in another: a body begins a run, or a token enters a node (BPMN 2.0.2, 13.3.2 and 13.3.7)
+-- the move that shows by a cell that begins in another: a body begins a run, a compensation event runs a handler, or a token enters a node (BPMN 2.0.2, 13.3.2, 13.3.7 and 13.5.5)
 abbrev pub move_of_cell : ElementActivating → Role → Move
 move_of_cell e roles.Inner = moves.Inner (record { key = e.key; body = e.scope })
+move_of_cell e roles.Handler = moves.Undo (record { key = e.key; event = e.scope; node = e.node })
 move_of_cell e role = moves.Enter (record { key = e.key; scope = e.scope; node = e.node; via = e.via })
 
 -- the move that an event shows, these being the jobs that are there, which say whose job it names; others show none
@@ -75,6 +76,7 @@ event_of b (moves.Stand d) = None
 event_of b (moves.Start s) = None
 event_of b (moves.Enter e) = option_map (λ c. events.ElementActivating (record { key = e.key; scope = e.scope; definition = c.definition; node = e.node; role = role_on b c e.node; via = e.via; started = [] })) (cell_at b e.scope)
 event_of b (moves.Inner i) = option_map (λ c. events.ElementActivating (record { key = i.key; scope = i.body; definition = c.definition; node = c.node; role = roles.Inner; via = []; started = [] })) (cell_at b i.body)
+event_of b (moves.Undo u) = option_map (λ c. events.ElementActivating (record { key = u.key; scope = u.event; definition = c.definition; node = u.node; role = roles.Handler; via = []; started = [] })) (cell_at b u.event)
 event_of b (moves.Open o) = Some (events.ElementActivated (record { key = o.key; items = o.items }))
 event_of b (moves.Finish key) = Some (events.ElementCompleting key)
 event_of b (moves.Leave l) = Some (events.ElementCompleted (record { key = l.key; owed = l.owed }))

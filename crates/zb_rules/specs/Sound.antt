@@ -50,7 +50,7 @@ StandApart i other = IsFalse (i.cell == other.cell) × IsFalse (i.key == other.k
 pub record IsSound (b : Board) : Type 0 where
   -- the keys of the cells ascend, and none is 0
   pub cells : CellsAscend 1 b.cells
-  -- each cell is a root, or stands in an earlier cell, in which others may be: a scope, or a body
+  -- each cell is a root, or stands in an earlier cell, in which others may be: a scope, a body, or a compensation event
   pub scopes : All (λ (c : Cell). (c.scope ≡ 0) ⊎ (IsTrue (is_around holds_cells b c.scope) × (c.scope < c.key))) b.cells
   -- the model of each cell's definition is there
   pub models : All (λ (c : Cell). IsTrue (is_some (model_under b c.definition))) b.cells

@@ -2,6 +2,7 @@ ghost use Rattle.std.specs.Prelude.{◌≡◌, ◌≤◌, ◌<◌, ◌+◌, ◌/
 ghost use Rattle.std.specs.List.{list_any};
 ghost use Rattle.std.specs.Option.{IfSome, option_map_or};
 ghost use Rattle.zb_instance_records.specs.declared.instance.ElementActivating.{ElementActivating};
+ghost use Rattle.zb_instance_records.specs.declared.instance.ElementCompleted.{ElementCompleted};
 ghost use Rattle.zb_instance_records.specs.declared.instance.Role.TheVariants as roles;
 ghost use Rattle.zb_instance_records.specs.declared.happening.VariableDocumentUpdate.{VariableDocumentUpdate};
 ghost use Rattle.zb_process.specs.declared.model.Model.{Model};
@@ -18,7 +19,8 @@ ghost use Rattle.zb_tokens.specs.MoveTrigger.{fits_trigger, is_gateway_cell};
 ghost use Rattle.zb_tokens.specs.declared.board.Move.{Move};
 ghost use Rattle.zb_tokens.specs.declared.board.Mover.{Mover};
 ghost use Rattle.zb_tokens.specs.declared.board.Phase.TheVariants as phases;
-ghost use Rattle.zb_tokens.specs.Board.{Board, cell_at, model_under, has_child, is_body, is_phase, is_role};
+ghost use Rattle.zb_tokens.specs.Board.{Board, cell_at, model_under, has_child, is_body, is_phase, is_role, undoes};
+ghost use Rattle.zb_tokens.specs.Handlers.{next_handler};
 ghost use Rattle.zb_tokens.specs.Bodies.{is_sequential};
 ghost use Rattle.zb_tokens.specs.Names.{holder_of};
 ghost use Rattle.zb_tokens.specs.Incidents.{incident_on};
@@ -34,6 +36,7 @@ ghost use Rattle.zb_rules.specs.Settling.{turn};
 ghost use Rattle.zb_rules.specs.JobEnds.{times_ended};
 ghost use Rattle.zb_rules.specs.Behind.{events_behind};
 ghost use Rattle.zb_rules.specs.Runs.{times_run, IsRunFor};
+ghost use Rattle.zb_rules.specs.Undone.{finishes_in, undoes_in, times_finished, times_undone, IsOfLast};
 ghost use Rattle.zb_rules.specs.Sound.{IsSound, HasSoundJobs, HasKeys, IsForcedEvent, IsHolder};
 ghost use Rattle.zb_rules.specs.Cancel.{reason_to_cancel, cancelled};
 ghost use Rattle.zb_rules.specs.Update.{reason_to_update, updated};
@@ -149,6 +152,43 @@ pub fn bodies_complete_behind_all_runs()
         → model_under board cell.definition ≡ Some model → times_run body es < length cell.items
         → IsTrue (not (is_sequential model cell) || not (has_child board body))
         → IsTrue (option_map_or (applies p es) (event_of board (moves.Inner (record { key = next_key p es; body = body }))) false) }
+{}
+
+/// In a log whose events apply a handler undoes the activity that finished last in the scope of its compensation event, of
+/// those that can be undone and that no handler has undone: activities are kept in the order in which they finish, and
+/// nothing else is made of them. So many handlers have begun in a scope that is there, and so many are still to run,
+/// as activities with a handler have finished in it.
+pub fn handlers_run_newest_first()
+    ensures newest { (p : ℕ) (es : List Event) (handler : ElementActivating) (board after : Board) → IsTrue (all_apply p [] (es ++ events.ElementActivating handler ∷ []))
+        → IsTrue (is_role handler.role roles.Handler) → board_of es ≡ Some board → board_of (es ++ events.ElementActivating handler ∷ []) ≡ Some after
+        → IsOfLast board after handler }
+    ensures kept { (p : ℕ) (es : List Event) (completed : ElementCompleted) (board after : Board) (scope : ℕ) (cell left later : Cell)
+        → IsTrue (all_apply p [] (es ++ events.ElementCompleted completed ∷ [])) → board_of es ≡ Some board → board_of (es ++ events.ElementCompleted completed ∷ []) ≡ Some after
+        → cell_at board completed.key ≡ Some left → IsTrue (finishes_in scope (events.ElementCompleted completed) board)
+        → cell_at board scope ≡ Some cell → cell_at after scope ≡ Some later → later.finished ≡ cell.finished ++ left.node ∷ [] }
+    ensures others { (p : ℕ) (es : List Event) (event : Event) (board after : Board) (scope : ℕ) (cell later : Cell)
+        → IsTrue (all_apply p [] (es ++ event ∷ [])) → board_of es ≡ Some board → board_of (es ++ event ∷ []) ≡ Some after
+        → IsFalse (finishes_in scope event board) → IsFalse (undoes_in scope event board)
+        → cell_at board scope ≡ Some cell → cell_at after scope ≡ Some later → later.finished ≡ cell.finished }
+    ensures once { (p : ℕ) (es : List Event) (board : Board) (scope : ℕ) (cell : Cell) → IsTrue (all_apply p [] es) → board_of es ≡ Some board
+        → cell_at board scope ≡ Some cell → times_finished scope es ≡ times_undone scope es + length cell.finished }
+{}
+
+/// Behind a log whose events apply an active compensation event begins to complete exactly where no handler runs in it,
+/// and no activity is left in its scope that can be undone. As long as one is left and no handler runs, it may begin the
+/// next one under the next key, if one is left.
+pub fn compensation_ends_behind_all_handlers()
+    ensures all { (p : ℕ) (es : List Event) (board : Board) (event : ℕ) (cell scope : Cell) (model : Model) → IsTrue (all_apply p [] es) → board_of es ≡ Some board
+        → cell_at board event ≡ Some cell → model_under board cell.definition ≡ Some model → IsTrue (undoes model cell) → cell_at board cell.scope ≡ Some scope
+        → IsTrue (applies p es (events.ElementCompleting event)) → (scope.finished ≡ []) × IsFalse (has_child board event) }
+    ensures then { (p : ℕ) (es : List Event) (board : Board) (event : ℕ) (cell scope : Cell) (model : Model) → IsTrue (all_apply p [] es) → board_of es ≡ Some board
+        → cell_at board event ≡ Some cell → model_under board cell.definition ≡ Some model → IsTrue (undoes model cell) → cell.phase ≡ phases.Active
+        → cell_at board cell.scope ≡ Some scope → scope.finished ≡ [] → IsFalse (has_child board event) → IsTrue (applies p es (events.ElementCompleting event)) }
+    ensures next { (p : ℕ) (es : List Event) (board : Board) (event : ℕ) (cell scope : Cell) (model : Model) → IsTrue (all_apply p [] es) → HasKeys p es 1 → board_of es ≡ Some board
+        → cell_at board event ≡ Some cell → model_under board cell.definition ≡ Some model → IsTrue (undoes model cell) → cell.phase ≡ phases.Active
+        → cell_at board cell.scope ≡ Some scope → 1 ≤ length scope.finished → IsFalse (has_child board event)
+        → (node : List ℕ) × (next_handler board cell ≡ Some node)
+        × IsTrue (option_map_or (applies p es) (event_of board (moves.Undo (record { key = next_key p es; event = event; node = node }))) false) }
 {}
 
 /// Who is forced behind a log whose events apply has an event, where a key is left: those in front of it apply,

@@ -1,6 +1,6 @@
 pub mod Changes
 pub mod Alarms
-pub mod Bodies
+pub mod Beginnings
 pub mod Listing
 pub mod Refusal
 pub mod Sound

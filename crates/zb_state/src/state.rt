@@ -16,7 +16,7 @@ ghost use Rattle.zb_tokens.specs.Forced.{next_mover};
 ghost use Rattle.zb_rules.specs.Shown.{board_of};
 ghost use Rattle.zb_state.specs.Sound.{HasSoundModel};
 
-mod bodies;
+mod beginnings;
 mod due;
 mod lent;
 mod outbox;

@@ -6,6 +6,8 @@
 #[cfg(test)]
 mod asked;
 #[cfg(test)]
+mod begun;
+#[cfg(test)]
 mod crashes;
 #[cfg(test)]
 mod disks;

@@ -31,8 +31,11 @@ use Rattle.zb_tokens.specs.Board.{Board, cell_at, model_under, start_in, scope_i
 use Rattle.zb_tokens.specs.MoveStart.{play_start}
 use Rattle.zb_tokens.specs.MoveEnter.{spots_of, stands_at, stand_at_each, without_each, entering, entered, play_enter}
 use Rattle.zb_tokens.specs.MoveInner.{one_taken, run_in, play_inner}
+use Rattle.zb_tokens.specs.declared.board.Undo.{Undo}
+use Rattle.zb_tokens.specs.Handlers.{can_be_undone}
+use Rattle.zb_tokens.specs.MoveUndo.{handler_in, one_undone, play_undo}
 use Rattle.zb_tokens.specs.MoveOpen.{start_tokens, first_tokens, with_items, play_open}
-use Rattle.zb_tokens.specs.MoveLeave.{leaving, ends_scope, with_end, scope_ended, play_leave}
+use Rattle.zb_tokens.specs.MoveLeave.{leaving, ends_scope, with_end, scope_ended, with_finished, noted_finished, left_behind, play_leave}
 use Rattle.zb_tokens.specs.MoveTake.{rest_of, spot_behind, play_take}
 use Rattle.zb_tokens.specs.MoveTrigger.{mark_by, told, play_trigger}
 use Rattle.zb_tokens.specs.MoveHalt.{play_halt}
@@ -42,7 +45,7 @@ use Rattle.zb_tokens.specs.declared.board.Mark.TheVariants as marks
 use Rattle.zb_tokens.specs.MoveAssign.{with_variable}
 use Rattle.zb_tokens.specs.Game.{played}
 use Rattle.zb_tokens.proofs.GameLaws.{removed_some, edited_some, any_found, found_passes, found_holds, found_through, both_left, both_right}
-use Rattle.zb_tokens.specs.Effects.{is_or_leaves_in, scope_ended_by, names_cell, names_scope, other_cells, other_tokens, is_stand, is_of_incident, is_emptied, are_apart, IsWithoutFirst, IsWithoutEach, IsEntered}
+use Rattle.zb_tokens.specs.Effects.{is_or_leaves_in, scope_ended_by, scope_finished_in, names_cell, names_scope, other_cells, other_tokens, is_stand, is_of_incident, is_emptied, are_apart, IsWithoutFirst, IsWithoutEach, IsEntered}
 
 same_key : (key : ℕ) → (key == key) ≡ true
 same_key key = grind (arith, nat_tests)
@@ -169,16 +172,11 @@ enter_parts b after e is =
     (r.0, s.0, r.1, s.1, u.0, u.1)
 
 -- what is known of a Leave that was played
-left_by : (t : Bool) (scope : ℕ) (left : Board) → option_map_or (λ ended_one. scope_ended ended_one left) (if t then Some scope else None) left ≡ (if t then scope_ended scope left else left)
-left_by true scope left = refl
-left_by false scope left = refl
-
-leave_parts : (b after : Board) (l : Leave) → play_leave b l ≡ Some after → (left : Board) × (leaving l.owed l.key b ≡ Some left) × (option_map_or (λ scope. scope_ended scope left) (scope_ended_by b l.key) left ≡ after)
+leave_parts : (b after : Board) (l : Leave) → play_leave b l ≡ Some after → (c : Cell) × (left : Board) × (cell_at b l.key ≡ Some c) × (leaving l.owed l.key b ≡ Some left) × (left_behind b c left ≡ after)
 leave_parts b after l is =
-    let r = chained_from (λ (c : Cell). option_map (λ left. if ends_scope b c then scope_ended c.scope left else left) (leaving l.owed l.key b)) (cell_at b l.key) after is in
-    let s = mapped_from (λ (left : Board). if ends_scope b r.0 then scope_ended r.0.scope left else left) (leaving l.owed l.key b) after r.2 in
-    let its : scope_ended_by b l.key ≡ (if ends_scope b r.0 then Some r.0.scope else None) = ap (option_and_then (λ (c : Cell). if ends_scope b c then Some c.scope else None)) r.1 in
-    (s.0, s.1, ap (λ (o : Option ℕ). option_map_or (λ scope. scope_ended scope s.0) o s.0) its ∙ (left_by (ends_scope b r.0) r.0.scope s.0 ∙ s.2))
+    let r = chained_from (λ (c : Cell). option_map (left_behind b c) (leaving l.owed l.key b)) (cell_at b l.key) after is in
+    let s = mapped_from (left_behind b r.0) (leaving l.owed l.key b) after r.2 in
+    (r.0, s.0, r.1, s.1, s.2)
 
 -- what is known of a Halt that was played
 halt_parts : (b after : Board) (key : ℕ) → play_halt b key ≡ Some after → (cs : List Cell) × (edited (λ c. c.key == key) (in_phase phases.Terminating []) b.cells ≡ Some cs) × (emptied key (record b { cells = cs }) ≡ after)
@@ -310,6 +308,19 @@ module _ (keep : Cell → Bool) (stay : Token → Bool) where
       let same = kept_with_one keep u.0 (run_in i r.0) (out (run_in i r.0) (same_key i.key)) in
       subst (IsSameIn keep stay b) u.2 (with_cells b (u.0 ++ run_in i r.0 ∷ []) (same ∙ edit_same i.body body one_taken (λ c. refl) b.cells u.0 u.1))
 
+  -- a compensation event runs a handler
+  same_undone : (b after : Board) (u : Undo) → ((c : Cell) → (c.key == u.key) ≡ true → keep c ≡ false) → ((event c : Cell) → cell_at b u.event ≡ Some event → (c.key == event.scope) ≡ true → keep c ≡ false) → play_undo b u ≡ Some after → IsSameIn keep stay b after
+  same_undone b after u out scope is =
+      let r = chained_from (λ (c : Cell). option_map (λ cells. record b { cells = cells ++ handler_in u c ∷ [] }) (edited (λ (x : Cell). x.key == c.scope) one_undone b.cells)) (cell_at b u.event) after is in
+      let s = mapped_from (λ (cells : List Cell). record b { cells = cells ++ handler_in u r.0 ∷ [] }) (edited (λ (x : Cell). x.key == r.0.scope) one_undone b.cells) after r.2 in
+      let same = kept_with_one keep s.0 (handler_in u r.0) (out (handler_in u r.0) (same_key u.key)) in
+      subst (IsSameIn keep stay b) s.2 (with_cells b (s.0 ++ handler_in u r.0 ∷ []) (same ∙ edit_same r.0.scope (λ c it. scope r.0 c r.1 it) one_undone (λ c. refl) b.cells s.0 s.1))
+
+  -- an activity has finished in a scope
+  same_noted : (scope : ℕ) (node : List ℕ) → ((c : Cell) → (c.key == scope) ≡ true → keep c ≡ false) → (b : Board) → IsSameIn keep stay b (noted_finished scope node b)
+  same_noted scope node out b = with_cells b (option_map_or (λ (cs : List Cell). cs) (edited (λ c. c.key == scope) (with_finished node) b.cells) b.cells)
+      (or_same keep (edited (λ c. c.key == scope) (with_finished node) b.cells) b.cells (edit_same scope out (with_finished node) (λ c. refl) b.cells))
+
   module _ (scope : ℕ) (out : (c : Cell) → is_or_leaves_in scope c ≡ true → keep c ≡ false) (away : (t : Token) → (t.scope == scope) ≡ true → stay t ≡ false) where
     -- a scope is emptied, of which the cell is another one now
     same_emptied : (b : Board) (cs : List Cell) → filter keep cs ≡ filter keep b.cells → IsSameIn keep stay b (emptied scope (record b { cells = cs }))
@@ -334,12 +345,12 @@ module _ (keep : Cell → Bool) (stay : Token → Bool) where
     same_ended b = same_emptied b (option_map_or (λ (cs : List Cell). cs) (edited (λ c. c.key == scope) with_end b.cells) b.cells)
         (or_same keep (edited (λ c. c.key == scope) with_end b.cells) b.cells (at_scope with_end (λ c. refl) b.cells))
 
-  -- a cell leaves, and ends its scope or doesn't
-  same_left : (b after : Board) (l : Leave) (o : Option ℕ) → ((c : Cell) → (c.key == l.key) ≡ true → keep c ≡ false) → ((scope : ℕ) → o ≡ Some scope → (c : Cell) → is_or_leaves_in scope c ≡ true → keep c ≡ false)
-      → ((scope : ℕ) → o ≡ Some scope → (t : Token) → (t.scope == scope) ≡ true → stay t ≡ false) → (left : Board) → leaving l.owed l.key b ≡ Some left → option_map_or (λ scope. scope_ended scope left) o left ≡ after → IsSameIn keep stay b after
-  same_left b after l None out within away left leaves is = subst (IsSameIn keep stay b) is (same_leaving l.key out b left l.owed leaves)
-  same_left b after l (Some scope) out within away left leaves is =
-      subst (IsSameIn keep stay b) is (same_then b left (scope_ended scope left) (same_leaving l.key out b left l.owed leaves) (same_ended scope (within scope refl) (away scope refl) left))
+  -- what a cell makes of its scope as it leaves: it ends that, or has finished there, or neither
+  same_behind : (left after : Board) (c : Cell) (ends undone : Bool) → (ends ≡ true → (x : Cell) → is_or_leaves_in c.scope x ≡ true → keep x ≡ false) → (ends ≡ true → (t : Token) → (t.scope == c.scope) ≡ true → stay t ≡ false)
+      → (ends ≡ false → undone ≡ true → (x : Cell) → (x.key == c.scope) ≡ true → keep x ≡ false) → (if ends then scope_ended c.scope left else if undone then noted_finished c.scope c.node left else left) ≡ after → IsSameIn keep stay left after
+  same_behind left after c true undone within away noted is = subst (IsSameIn keep stay left) is (same_ended c.scope (within refl) (away refl) left)
+  same_behind left after c false true within away noted is = subst (IsSameIn keep stay left) is (same_noted c.scope c.node (noted refl refl) left)
+  same_behind left after c false false within away noted is = subst (IsSameIn keep stay left) is (with_cells left left.cells refl)
 
 -- a move leaves alone what it doesn't name
 abbrev OthersStay : Board → Move → Board → Type 0
@@ -354,11 +365,16 @@ edit_stays b after key edit like is = same_edited (λ (c : Cell). not (c.key == 
 leave_stays : (b after : Board) (l : Leave) → play_leave b l ≡ Some after → OthersStay b (moves.Leave l) after
 leave_stays b after l is =
     let r = leave_parts b after l is in
-    let its = scope_ended_by b l.key in
-    same_left (λ c. not (names_cell b (moves.Leave l) c)) (λ t. not (names_scope b (moves.Leave l) t.scope)) b after l its
-    (λ c it. ap not (or_left (c.key == l.key) (option_map_or (λ scope. is_or_leaves_in scope c) its false) it))
-    (λ scope ends c it. ap not (or_right (c.key == l.key) (option_map_or (λ one. is_or_leaves_in one c) its false) (ap (λ (o : Option ℕ). option_map_or (λ one. is_or_leaves_in one c) o false) ends ∙ it)))
-    (λ scope ends t it. ap not (ap (λ (o : Option ℕ). option_map_or (λ one. t.scope == one) o false) ends ∙ it)) r.0 r.1 r.2
+    let c = r.0 in
+    let there : cell_at b l.key ≡ Some c = r.2 in
+    let keep = λ (x : Cell). not (names_cell b (moves.Leave l) x) in
+    let stay = λ (t : Token). not (names_scope b (moves.Leave l) t.scope) in
+    let behind = λ (x : Cell). option_map_or (λ scope. is_or_leaves_in scope x) (scope_ended_by b l.key) (option_map_or (λ scope. x.key == scope) (scope_finished_in b l.key) false) in
+    same_then keep stay b r.1 after (same_leaving keep stay l.key (λ x it. ap not (or_left (x.key == l.key) (behind x) it)) b r.1 l.owed r.3)
+    (same_behind keep stay r.1 after c (ends_scope b c) (can_be_undone b c)
+    (λ ends x it. let in_it : behind x ≡ true = rw (there, ends) it in ap not (or_right (x.key == l.key) (behind x) in_it))
+    (λ ends t it. let in_it : names_scope b (moves.Leave l) t.scope ≡ true = rw (there, ends) it in ap not in_it)
+    (λ goes_on undone x it. let in_it : behind x ≡ true = rw (there, goes_on, undone) it in ap not (or_right (x.key == l.key) (behind x) in_it)) r.4)
 
 -- every move leaves alone what it doesn't name, but for Stand and those that change incidents
 others_stay : (b after : Board) (move : Move) → IsFalse (is_stand move) → IsFalse (is_of_incident move) → played b move ≡ Some after → OthersStay b move after
@@ -367,6 +383,9 @@ others_stay b after (moves.Start s) other game is = same_started (λ c. not (c.k
 others_stay b after (moves.Enter e) other game is = same_entered (λ c. not (c.key == e.key)) (λ t. not (t.scope == e.scope)) b after e (λ c it. ap not it) (λ t it. ap not it) is
 others_stay b after (moves.Inner i) other game is = same_inner (λ c. not ((c.key == i.key) || (c.key == i.body))) (λ t. true) b after i
     (λ c it. ap not (or_left (c.key == i.key) (c.key == i.body) it)) (λ c it. ap not (or_right (c.key == i.key) (c.key == i.body) it)) is
+others_stay b after (moves.Undo u) other game is = same_undone (λ c. not (names_cell b (moves.Undo u) c)) (λ t. true) b after u
+    (λ c it. ap not (or_left (c.key == u.key) (option_map_or (λ event. c.key == event.scope) (cell_at b u.event) false) it))
+    (λ event c there it. let in_it : option_map_or (λ x. c.key == x.scope) (cell_at b u.event) false ≡ true = rw there it in ap not (or_right (c.key == u.key) (option_map_or (λ x. c.key == x.scope) (cell_at b u.event) false) in_it)) is
 others_stay b after (moves.Open o) other game is = same_opened (λ c. not (c.key == o.key)) (λ t. not (t.scope == o.key)) o.key (λ c it. ap not it) b after o.items (λ t it. ap not it) is
 others_stay b after (moves.Finish key) other game is = edit_stays b after key (in_phase phases.Completing []) (λ c. refl) is
 others_stay b after (moves.Leave l) other game is = leave_stays b after l is
@@ -539,7 +558,10 @@ marked_by scope cells None (Some s) is at =
 -- a Leave that ends a scope
 module _ (b after : Board) (l : Leave) (scope : ℕ) (ends : scope_ended_by b l.key ≡ Some scope) (is : play_leave b l ≡ Some after) where
   end_parts : (left : Board) × (leaving l.owed l.key b ≡ Some left) × (scope_ended scope left ≡ after)
-  end_parts = let r = leave_parts b after l is in (r.0, r.1, ap (λ (o : Option ℕ). option_map_or (λ one. scope_ended one r.0) o r.0) (sym ends) ∙ r.2)
+  end_parts =
+      let r = leave_parts b after l is in
+      let s = cond_some (ends_scope b r.0) r.0.scope scope (sym (ap (option_and_then (λ (c : Cell). if ends_scope b c then Some c.scope else None)) r.2) ∙ ends) in
+      (r.1, r.3, ap (λ (one : ℕ). scope_ended one r.1) (sym s.1) ∙ (ap (λ (t : Bool). if t then scope_ended r.0.scope r.1 else if can_be_undone b r.0 then noted_finished r.0.scope r.0.node r.1 else r.1) (sym s.0) ∙ r.4))
 
   -- nothing is left in a scope that a terminate end event ends
   pub end_empties : IsTrue (is_emptied scope after)

@@ -2,7 +2,6 @@
 use Rattle.std.proofs.Common.{◌≡◌, ◌⊎◌, ℕ, ℤ, ◌+◌, ◌≤◌, ◌==◌, max, List, [], ◌∷◌, map, filter, All, Contains, Bool, true, false, ◌&&◌, ◌||◌, not, cond, if◌then◌else◌, IsTrue, IsFalse, Option, Some, None, is_some, option_map, option_and_then, Result, Ok, Err, refl, inl, inr, ⊎_elim, ap, sym, ◌∙◌, subst, arith}
 use Rattle.std.specs.Option.{option_map_or, option_or}
 use Rattle.std.specs.List.{find, list_any}
-use Rattle.std.specs.Ordering.{int_eq}
 use Rattle.std.specs.Cmp.{int_eq_equiv}
 use Rattle.std.proofs.lemmas.Bool.{and_parts, not-true, or_right}
 use Rattle.std.proofs.lemmas.Bool.Decides.{nat_tests}
@@ -22,12 +21,13 @@ use Rattle.zb_tokens.specs.declared.board.Mover.TheVariants as movers
 use Rattle.zb_tokens.specs.declared.board.Phase.{Phase}
 use Rattle.zb_tokens.specs.declared.board.Phase.TheVariants as phases
 use Rattle.zb_tokens.specs.Edits.{is_none_of}
-use Rattle.zb_tokens.specs.Board.{Board, cell_at, model_under, has_child, is_body, is_root, CellsAscend}
+use Rattle.zb_tokens.specs.Board.{Board, cell_at, model_under, has_child, is_at, is_body, is_compensation, is_root, undoes, CellsAscend}
 use Rattle.zb_tokens.specs.Doom.{is_doomed}
 use Rattle.zb_tokens.specs.MoveHalt.{is_alive, is_interrupted}
 use Rattle.zb_tokens.specs.MoveEnter.{may_enter}
 use Rattle.zb_tokens.specs.Incidents.{Hindrance, error_hindrance, is_stuck}
 use Rattle.zb_tokens.specs.Bodies.{has_item, is_sequential, items_by, may_run}
+use Rattle.zb_tokens.specs.Handlers.{last_handler, next_handler, has_handler}
 use Rattle.zb_tokens.specs.Catches.{items_of, opened_with, openings_by, seen_with}
 use Rattle.zb_tokens.specs.Mappings.{inputs_of}
 use Rattle.zb_tokens.specs.Names.{value_seen}
@@ -43,7 +43,7 @@ use Rattle.zb_tokens.specs.Game.{fits, agrees}
 use Rattle.zb_tokens.proofs.GameLaws.{any_where, mapped_some, both_right, found_where, found_holds, none_found}
 use Rattle.zb_tokens.proofs.LeaveLaws.{same_bytes, ids_same, exit_may_be_owed}
 use Rattle.zb_tokens.proofs.MappingLaws.{completed_with}
-use Rattle.zb_tokens.specs.Forced.{act_by, catch_by, finish_by, goes_on_in, ends_in, is_forced, way_of, can_enter, greatest, next_mover, IsQuiet, take_first, stop_by, open_by, leave_by, move_in, end_in, move_at, move_of, IsEnd}
+use Rattle.zb_tokens.specs.Forced.{act_by, undo_by, catch_by, finish_by, goes_on_in, ends_in, is_forced, way_of, can_enter, greatest, next_mover, IsQuiet, take_first, stop_by, open_by, leave_by, move_in, end_in, move_at, move_of, IsEnd}
 
 -- a cell with this key that passes is the one that is found with it, and its key is not below `low`
 abbrev pub IsKeyOfCell : (Cell → Bool) → ℕ → List Cell → ℕ → Type 0
@@ -230,17 +230,43 @@ runs_by : (b : Board) (c : Cell) (found : Option Model) → is_body c ≡ true �
 runs_by b c None body item does = absurd (cc)
 runs_by b c (Some m) body item does = may_run_by m b c (has_child b c.key) (is_sequential m c) refl refl body item does
 
--- an active cell that acts begins a run, or begins to complete (BPMN 2.0.2, 13.3.2 and 13.3.7)
-act_suits : (b : Board) (moment key : ℕ) (c : Cell) (runs : Bool) → c.phase ≡ phases.Active → cell_at b c.key ≡ Some c → acts b c ≡ true → (is_body c && has_item c) ≡ runs → Suits b moment (act_by key c)
+-- a compensation event that acts with a handler left runs none (BPMN 2.0.2, 10.7.2)
+none_runs : (b : Board) (c : Cell) (node : List ℕ) → acts b c ≡ true → next_handler b c ≡ Some node → not (has_child b c.key) ≡ true
+none_runs b c node does next = by_model (model_under b c.definition) does next
+  where
+    by_place : (m : Model) (root body at : Bool) → is_root c ≡ root → is_body c ≡ body → is_at m c.node is_compensation ≡ at → acts_in m b c ≡ true
+        → (if not (root || body) && at then option_and_then (last_handler m) (cell_at b c.scope) else None) ≡ Some node → not (has_child b c.key) ≡ true
+    by_place m true body at top its compensates does next = absurd (cc)
+    by_place m false true at top its compensates does next = absurd (cc)
+    by_place m false false true top its compensates does next = let same : acts_in m b c ≡ not (has_child b c.key) = rw (its, top, compensates) refl in sym same ∙ does
+    by_place m false false false top its compensates does next = absurd (cc)
+
+    by_model : (found : Option Model) → option_map_or (λ m. acts_in m b c) found false ≡ true
+        → option_and_then (λ m. if undoes m c then option_and_then (last_handler m) (cell_at b c.scope) else None) found ≡ Some node → not (has_child b c.key) ≡ true
+    by_model None does next = absurd (cc)
+    by_model (Some m) does next = by_place m (is_root c) (is_body c) (is_at m c.node is_compensation) refl refl refl does next
+
+-- an active cell that acts with no item left runs its next handler, or begins to complete (BPMN 2.0.2, 13.3.2 and 13.5.5)
+undo_suits : (b : Board) (moment key : ℕ) (c : Cell) (next : Option (List ℕ)) → c.phase ≡ phases.Active → cell_at b c.key ≡ Some c → acts b c ≡ true → (is_body c && has_item c) ≡ false → next_handler b c ≡ next
+    → Suits b moment (undo_by key c next)
+undo_suits b moment key c None at found does done next =
+    let none : has_handler b c ≡ false = ap is_some next in
+    (rw (found, at, does, done, none) refl, refl)
+undo_suits b moment key c (Some node) at found does done next =
+    let free = none_runs b c node does next in
+    (rw (found, at, free, next, same_bytes node) refl, refl)
+
+-- an active cell that acts begins a run, runs a handler, or begins to complete (BPMN 2.0.2, 13.3.2, 13.3.7 and 13.5.5)
+act_suits : (b : Board) (moment key : ℕ) (c : Cell) (runs : Bool) → c.phase ≡ phases.Active → cell_at b c.key ≡ Some c → acts b c ≡ true → (is_body c && has_item c) ≡ runs → Suits b moment (act_by b key c)
 act_suits b moment key c true at found does runs =
     let parts = and_parts (is_body c) (has_item c) runs in
     let may = runs_by b c (model_under b c.definition) parts.0 parts.1 does in
-    subst (Suits b moment) (sym (ap (λ (t : Bool). if t then moves.Inner (record { key = key; body = c.key }) else moves.Finish c.key) runs)) (rw (found, parts.0, at, may) refl, refl)
+    subst (Suits b moment) (sym (ap (λ (t : Bool). if t then moves.Inner (record { key = key; body = c.key }) else undo_by key c (next_handler b c)) runs)) (rw (found, parts.0, at, may) refl, refl)
 act_suits b moment key c false at found does done =
-    subst (Suits b moment) (sym (ap (λ (t : Bool). if t then moves.Inner (record { key = key; body = c.key }) else moves.Finish c.key) done)) (rw (found, at, does, done) refl, refl)
+    subst (Suits b moment) (sym (ap (λ (t : Bool). if t then moves.Inner (record { key = key; body = c.key }) else undo_by key c (next_handler b c)) done)) (undo_suits b moment key c (next_handler b c) at found does done refl)
 
 -- an active cell acts, or an error that was thrown in it is caught or stops it (BPMN 2.0.2, 10.5.7 and 13.3.2)
-finish_suits : (b : Board) (moment key : ℕ) (c : Cell) (error : Option (List ℕ)) (move : Move) → c.phase ≡ phases.Active → cell_at b c.key ≡ Some c → is_doomed b c ≡ false → is_stuck b c ≡ false → goes_on_in b c phases.Active ≡ true → error_of c.mark ≡ error → finish_by key c (caught b c) error ≡ move
+finish_suits : (b : Board) (moment key : ℕ) (c : Cell) (error : Option (List ℕ)) (move : Move) → c.phase ≡ phases.Active → cell_at b c.key ≡ Some c → is_doomed b c ≡ false → is_stuck b c ≡ false → goes_on_in b c phases.Active ≡ true → error_of c.mark ≡ error → finish_by b key c (caught b c) error ≡ move
     → Suits b moment move
 finish_suits b moment key c None move at found alive free goes gives is =
     let does : acts b c ≡ true = subst (λ (o : Option (List ℕ)). (is_some o || acts b c) ≡ true) gives goes in
@@ -250,7 +276,7 @@ finish_suits b moment key c (Some code) move at found alive free goes gives is =
 -- by the phase of the cell
 pub cell_suits : (b : Board) (moment key : ℕ) (c : Cell) (phase : Phase) (move : Move) → c.phase ≡ phase → cell_at b c.key ≡ Some c → is_doomed b c ≡ false → is_stuck b c ≡ false → goes_on_in b c phase ≡ true → move_in b moment key c phase ≡ Some move → Suits b moment move
 cell_suits b moment key c phases.Activating move at found alive free goes is = open_suits b moment key c (opened_with b moment c) move at found free goes refl (some_move (open_by key c (opened_with b moment c)) move is)
-cell_suits b moment key c phases.Active move at found alive free goes is = finish_suits b moment key c (error_of c.mark) move at found alive free goes refl (some_move (finish_by key c (caught b c) (error_of c.mark)) move is)
+cell_suits b moment key c phases.Active move at found alive free goes is = finish_suits b moment key c (error_of c.mark) move at found alive free goes refl (some_move (finish_by b key c (caught b c) (error_of c.mark)) move is)
 cell_suits b moment key c phases.Completing move at found alive free goes is = leave_suits b moment key c (completion_of b c) move at found free refl (some_move (leave_by key c (completion_of b c)) move is)
 cell_suits b moment key c phases.Leaving move at found alive free goes is = by_owed c.owed refl is
   where

@@ -2,6 +2,7 @@
 use Rattle.std.proofs.Common.{◌≡◌, ℕ, ◌==◌, List, [], ◌∷◌, ◌++◌, filter, All, Contains, cond, option_map, option_and_then, is_some, Bool, true, false, not, ◌&&◌, ◌||◌, if◌then◌else◌, IsTrue, Option, Some, None, refl, sym, ap, ◌∙◌, subst, arith}
 use Rattle.std.specs.Option.{option_map_or}
 use Rattle.std.specs.List.{find, list_any}
+use Rattle.std.specs.Str.{bytes_eq}
 use Rattle.std.proofs.lemmas.Bool.{or_left, or_right}
 use Rattle.std.proofs.lemmas.List.Elements.{All-nil, All-cons, All-contains}
 use Rattle.zb_tokens.specs.Edits.{edited, removed, is_none_of}
@@ -18,11 +19,14 @@ use Rattle.zb_tokens.specs.declared.board.Enter.{Enter}
 use Rattle.zb_tokens.specs.declared.board.Open.{Open}
 use Rattle.zb_tokens.specs.declared.board.Take.{Take}
 use Rattle.zb_process.specs.declared.model.Model.{Model}
-use Rattle.zb_tokens.specs.Board.{Board, cell_at, model_under, node_with, is_body, is_phase, in_phase, with_token}
+use Rattle.zb_tokens.specs.Board.{Board, cell_at, model_under, node_with, is_body, is_phase, in_phase, undoes, has_child, with_token}
 use Rattle.zb_tokens.specs.MoveEnter.{spots_of, stand_at_each, arrives, has_come, entered}
 use Rattle.zb_tokens.specs.MoveInner.{one_taken}
+use Rattle.zb_tokens.specs.declared.board.Undo.{Undo}
+use Rattle.zb_tokens.specs.Handlers.{last_handler}
+use Rattle.zb_tokens.specs.MoveUndo.{runs_handler, handler_in, one_undone}
 use Rattle.zb_tokens.specs.MoveOpen.{start_tokens, first_tokens, opens, with_items}
-use Rattle.zb_tokens.specs.MoveLeave.{leaving}
+use Rattle.zb_tokens.specs.MoveLeave.{leaving, left_behind}
 use Rattle.zb_tokens.specs.MoveTake.{rest_of, spot_behind, play_take}
 use Rattle.zb_tokens.specs.MoveTrigger.{awaits_event, comes_about_by, is_awaited, mark_by, told}
 use Rattle.zb_tokens.specs.Errors.{caught, is_same_event}
@@ -191,6 +195,25 @@ told_some : (b : Board) (t : Triggered) (c : Cell) → IsTrue (is_some (cell_at 
 told_some b t c there (Some mark) = mapped_some _ (edited (λ x. x.key == t.cell) (with_mark mark) b.cells) (cells_edited (with_mark mark) t.cell b there)
 told_some b t c there None = refl
 
+-- a compensation event that runs a handler stands in a scope that is there
+scope_there : (b : Board) (c : Cell) (node : List ℕ) → IsTrue (runs_handler b node c) → IsTrue (is_some (cell_at b c.scope))
+scope_there b c node is = by_model (model_under b c.definition) (both_right (not (has_child b c.key)) _ (both_right (is_phase c.phase phases.Active) _ is))
+  where
+    by_scope : (m : Model) (t : Bool) (found : Option Cell) → IsTrue (option_map_or (bytes_eq node) (if t then option_and_then (last_handler m) found else None) false) → IsTrue (is_some found)
+    by_scope m true None is = absurd (cc)
+    by_scope m true (Some s) is = refl
+    by_scope m false found is = absurd (cc)
+
+    by_model : (found : Option Model) → IsTrue (option_map_or (bytes_eq node) (option_and_then (λ m. if undoes m c then option_and_then (last_handler m) (cell_at b c.scope) else None) found) false) → IsTrue (is_some (cell_at b c.scope))
+    by_model None is = absurd (cc)
+    by_model (Some m) is = by_scope m (undoes m c) (cell_at b c.scope) is
+
+-- so that it can run it
+undone_by : (b : Board) (u : Undo) (found : Option Cell) → IsTrue (option_map_or (runs_handler b u.node) found false)
+    → IsTrue (is_some (option_and_then (λ c. option_map (λ cells. record b { cells = cells ++ handler_in u c ∷ [] }) (edited (λ x. x.key == c.scope) one_undone b.cells)) found))
+undone_by b u None is = absurd (cc)
+undone_by b u (Some c) is = mapped_some _ (edited (λ x. x.key == c.scope) one_undone b.cells) (cells_edited one_undone c.scope b (scope_there b c u.node is))
+
 -- a move that fits can be played
 pub fitting_is_played : (b : Board) (move : Move) → IsTrue (fits b move) → IsTrue (is_some (played b move))
 fitting_is_played b (moves.Stand d) is = refl
@@ -199,13 +222,14 @@ fitting_is_played b (moves.Enter e) is = entered_by b e (cell_at b e.scope) is
 fitting_is_played b (moves.Inner i) is =
     let there = holds_some _ (cell_at b i.body) is in
     chained_some _ (cell_at b i.body) there (λ c. mapped_some _ (edited (λ x. x.key == i.body) one_taken b.cells) (cells_edited one_taken i.body b there))
+fitting_is_played b (moves.Undo u) is = undone_by b u (cell_at b u.event) is
 fitting_is_played b (moves.Open o) is =
     opened_by b o (cell_at b o.key) (edited (λ x. x.key == o.key) (with_items o.items) b.cells) (cells_edited (with_items o.items) o.key b (holds_some _ (cell_at b o.key) is)) is
 fitting_is_played b (moves.Finish key) is =
     mapped_some _ (edited (λ c. c.key == key) (in_phase phases.Completing []) b.cells) (cells_edited (in_phase phases.Completing []) key b (holds_some _ (cell_at b key) is))
 fitting_is_played b (moves.Leave l) is =
     let there = holds_some _ (cell_at b l.key) is in
-    chained_some _ (cell_at b l.key) there (λ c. mapped_some _ (leaving l.owed l.key b) (leaving_some l.owed l.key b there))
+    chained_some _ (cell_at b l.key) there (λ c. mapped_some (left_behind b c) (leaving l.owed l.key b) (leaving_some l.owed l.key b there))
 fitting_is_played b (moves.Take t) is =
     let there = holds_some _ (cell_at b t.key) is in
     chained_some _ (cell_at b t.key) there (λ c. mapped_some (with_token c.scope (spot_behind b c t.flow)) (leaving (rest_of c.owed) t.key b) (leaving_some (rest_of c.owed) t.key b there))

@@ -5,6 +5,8 @@ use Rattle.std.specs.List.{find, list_any}
 use Rattle.std.specs.Str.{bytes_eq}
 use Rattle.zb_process.specs.declared.model.Model.{Model}
 use Rattle.zb_process.specs.declared.model.Node.{Node}
+use Rattle.zb_process.specs.declared.model.NodeKind.{NodeKind}
+use Rattle.zb_process.specs.declared.model.NodeKind.TheVariants as kinds
 use Rattle.zb_instance_records.specs.declared.instance.Role.{Role}
 use Rattle.zb_instance_records.specs.declared.instance.Role.TheVariants as roles
 use Rattle.zb_faults.specs.Elements.{is_start, is_subprocess}
@@ -105,9 +107,19 @@ nearest passes b key = find passes (up_from b.cells b key)
 abbrev pub holds_tokens : Model → Cell → Bool
 holds_tokens m c = not (is_body c) && (is_root c || is_at m c.node is_subprocess)
 
--- other cells run in a cell: in a scope, and in a body (BPMN 2.0.2, 13.2, 13.3.4 and 13.3.7)
+-- a node of this kind is a compensation event, in the flow or at its end (BPMN 2.0.2, 10.7.2)
+abbrev pub is_compensation : NodeKind → Bool
+is_compensation kinds.CompensationEndEvent = true
+is_compensation kinds.CompensationThrowEvent = true
+is_compensation kind = false
+
+-- a cell is at a compensation event, and runs handlers there (BPMN 2.0.2, 10.7.2 and 13.5.5)
+abbrev pub undoes : Model → Cell → Bool
+undoes m c = not (is_root c || is_body c) && is_at m c.node is_compensation
+
+-- other cells run in a cell: in a scope, in a body, and at a compensation event (BPMN 2.0.2, 13.2, 13.3.4, 13.3.7 and 13.5.5)
 abbrev pub holds_cells : Model → Cell → Bool
-holds_cells m c = holds_tokens m c || is_body c
+holds_cells m c = holds_tokens m c || (is_body c || undoes m c)
 
 -- the id of a scope, which its nodes have as their parent; empty at the top
 abbrev pub scope_id : Cell → List ℕ

@@ -1,5 +1,5 @@
 -- Activities with several instances: their bodies, and the items of those (BPMN 2.0.2, 10.3.8 and 13.3.7).
-use Rattle.std.specs.Prelude.{List, [], ◌∷◌, ℕ, ◌-◌, ℤ, pos, codes, Bool, false, ◌&&◌, ◌||◌, not, is_some, if◌then◌else◌, Option, None, Some, option_and_then, slice_get, Result, Ok, Err}
+use Rattle.std.specs.Prelude.{List, [], ◌∷◌, ℕ, ◌-◌, ℤ, pos, codes, Bool, false, ◌&&◌, ◌||◌, not, is_some, if◌then◌else◌, Option, None, option_and_then, slice_get, Result, Ok, Err}
 use Rattle.std.specs.Option.{option_map_or}
 use Rattle.std.specs.Result.{result_map_both}
 use Rattle.zb_base.specs.Results.{◌>>=◌}

@@ -11,6 +11,7 @@ use Rattle.zb_tokens.specs.declared.board.Move.{Move}
 use Rattle.zb_tokens.specs.declared.board.Move.TheVariants as moves
 use Rattle.zb_tokens.specs.Board.{Board, cell_at, model_under, is_spot, leaves_in}
 use Rattle.zb_tokens.specs.MoveEnter.{spots_of, stands_at, entering}
+use Rattle.zb_tokens.specs.Handlers.{can_be_undone}
 use Rattle.zb_tokens.specs.MoveLeave.{ends_scope}
 
 -- it is the cell with this key, or leaves in that (own)
@@ -21,15 +22,20 @@ is_or_leaves_in key c = (c.key == key) || leaves_in key c
 abbrev pub scope_ended_by : Board → ℕ → Option ℕ
 scope_ended_by b key = option_and_then (λ c. if ends_scope b c then Some c.scope else None) (cell_at b key)
 
+-- the scope in which the cell with a key finishes as it leaves, and can be undone from then on (BPMN 2.0.2, 13.5.5)
+abbrev pub scope_finished_in : Board → ℕ → Option ℕ
+scope_finished_in b key = option_and_then (λ c. if can_be_undone b c then Some c.scope else None) (cell_at b key)
+
 -- a move makes, changes or ends this cell (own)
 abbrev pub names_cell : Board → Move → Cell → Bool
 names_cell b (moves.Stand d) c = false
 names_cell b (moves.Start s) c = c.key == s.key
 names_cell b (moves.Enter e) c = c.key == e.key
 names_cell b (moves.Inner i) c = (c.key == i.key) || (c.key == i.body)
+names_cell b (moves.Undo u) c = (c.key == u.key) || option_map_or (λ event. c.key == event.scope) (cell_at b u.event) false
 names_cell b (moves.Open o) c = c.key == o.key
 names_cell b (moves.Finish key) c = c.key == key
-names_cell b (moves.Leave l) c = (c.key == l.key) || option_map_or (λ scope. is_or_leaves_in scope c) (scope_ended_by b l.key) false
+names_cell b (moves.Leave l) c = (c.key == l.key) || option_map_or (λ scope. is_or_leaves_in scope c) (scope_ended_by b l.key) (option_map_or (λ scope. c.key == scope) (scope_finished_in b l.key) false)
 names_cell b (moves.Take t) c = c.key == t.key
 names_cell b (moves.Halt key) c = is_or_leaves_in key c
 names_cell b (moves.Gone key) c = c.key == key

@@ -1,5 +1,5 @@
 -- Who is forced to move (BPMN 2.0.2, 13: a token moves on by itself where nothing is waited for), in which order (own), and to what.
-use Rattle.std.specs.Prelude.{ℕ, ℤ, max, List, [], ◌∷◌, map, filter, Bool, true, false, ◌&&◌, ◌||◌, not, is_some, if◌then◌else◌, Option, Some, None, option_map, option_and_then, Result, Ok, Err, ◌≡◌, ◌⊎◌}
+use Rattle.std.specs.Prelude.{ℕ, ℤ, List, [], ◌∷◌, map, filter, Bool, true, false, ◌&&◌, ◌||◌, not, is_some, if◌then◌else◌, Option, Some, None, option_map, option_and_then, Result, Ok, Err, ◌≡◌, ◌⊎◌}
 use Rattle.std.specs.Option.{option_map_or, option_or}
 use Rattle.std.specs.List.{find}
 use Rattle.std.specs.Str.{bytes_eq}
@@ -18,6 +18,7 @@ use Rattle.zb_tokens.specs.declared.board.Phase.TheVariants as phases
 use Rattle.zb_tokens.specs.Edits.{is_none_of}
 use Rattle.zb_tokens.specs.Board.{Board, cell_at, model_under, has_child, is_body}
 use Rattle.zb_tokens.specs.Bodies.{has_item}
+use Rattle.zb_tokens.specs.Handlers.{next_handler}
 use Rattle.zb_tokens.specs.Doom.{is_doomed}
 use Rattle.zb_tokens.specs.MoveEnter.{joins, may_enter}
 use Rattle.zb_tokens.specs.MoveOpen.{opens}
@@ -96,19 +97,24 @@ abbrev pub catch_by : ℕ → Cell → (code : List ℕ) → Option Triggered �
 catch_by key c code None = stop_by key c (error_hindrance code)
 catch_by key c code (Some t) = moves.Trigger t
 
--- an active cell begins a run for its next item under this key, or begins to complete where none is left (BPMN 2.0.2, 13.3.2 and 13.3.7)
-abbrev pub act_by : ℕ → Cell → Move
-act_by key c = if is_body c && has_item c then moves.Inner (record { key = key; body = c.key }) else moves.Finish c.key
+-- a cell runs this handler under a key, or begins to complete where there is none (BPMN 2.0.2, 13.3.2 and 13.5.5)
+abbrev pub undo_by : ℕ → Cell → Option (List ℕ) → Move
+undo_by key c None = moves.Finish c.key
+undo_by key c (Some node) = moves.Undo (record { key = key; event = c.key; node = node })
+
+-- an active cell begins a run for its next item under this key, or runs its next handler, or begins to complete where neither is left (BPMN 2.0.2, 13.3.2, 13.3.7 and 13.5.5)
+abbrev pub act_by : Board → ℕ → Cell → Move
+act_by b key c = if is_body c && has_item c then moves.Inner (record { key = key; body = c.key }) else undo_by key c (next_handler b c)
 
 -- an active cell acts, or an error that was thrown in it is caught or stops it (BPMN 2.0.2, 10.5.7 and 13.3.2)
-abbrev pub finish_by : ℕ → Cell → Option Triggered → Option (List ℕ) → Move
-finish_by key c caught_at None = act_by key c
-finish_by key c caught_at (Some code) = catch_by key c code caught_at
+abbrev pub finish_by : Board → ℕ → Cell → Option Triggered → Option (List ℕ) → Move
+finish_by b key c caught_at None = act_by b key c
+finish_by b key c caught_at (Some code) = catch_by key c code caught_at
 
 -- what a cell does by itself in a phase at a moment, where an incident gets this key (BPMN 2.0.2, 13)
 abbrev pub move_in : Board → (moment key : ℕ) → Cell → Phase → Option Move
 move_in b moment key c phases.Activating = Some (open_by key c (opened_with b moment c))
-move_in b moment key c phases.Active = Some (finish_by key c (caught b c) (error_of c.mark))
+move_in b moment key c phases.Active = Some (finish_by b key c (caught b c) (error_of c.mark))
 move_in b moment key c phases.Completing = Some (leave_by key c (completion_of b c))
 move_in b moment key c phases.Leaving = take_first c.key c.owed
 move_in b moment key c phases.Terminating = Some (moves.Gone c.key)

@@ -7,6 +7,7 @@ use Rattle.zb_tokens.specs.MoveStand.{fits_stand, play_stand}
 use Rattle.zb_tokens.specs.MoveStart.{fits_start, play_start}
 use Rattle.zb_tokens.specs.MoveEnter.{fits_enter, play_enter}
 use Rattle.zb_tokens.specs.MoveInner.{fits_inner, play_inner}
+use Rattle.zb_tokens.specs.MoveUndo.{fits_undo, play_undo}
 use Rattle.zb_tokens.specs.MoveOpen.{fits_open, agrees_open, play_open}
 use Rattle.zb_tokens.specs.MoveFinish.{fits_finish, play_finish}
 use Rattle.zb_tokens.specs.MoveLeave.{fits_leave, agrees_leave, play_leave}
@@ -30,6 +31,7 @@ fits b (moves.Stand d) = fits_stand b d
 fits b (moves.Start s) = fits_start b s
 fits b (moves.Enter e) = fits_enter b e
 fits b (moves.Inner i) = fits_inner b i
+fits b (moves.Undo u) = fits_undo b u
 fits b (moves.Open o) = fits_open b o
 fits b (moves.Finish key) = fits_finish b key
 fits b (moves.Leave l) = fits_leave b l
@@ -57,6 +59,7 @@ played b (moves.Stand d) = play_stand b d
 played b (moves.Start s) = play_start b s
 played b (moves.Enter e) = play_enter b e
 played b (moves.Inner i) = play_inner b i
+played b (moves.Undo u) = play_undo b u
 played b (moves.Open o) = play_open b o
 played b (moves.Finish key) = play_finish b key
 played b (moves.Leave l) = play_leave b l

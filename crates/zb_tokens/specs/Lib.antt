@@ -7,6 +7,7 @@ pub mod Marks
 pub mod MoveStand
 pub mod MoveStart
 pub mod MoveEnter
+pub mod Handlers
 pub mod MoveFinish
 pub mod MoveAssign
 pub mod Names
@@ -16,6 +17,7 @@ pub mod Mappings
 pub mod Work
 pub mod MoveOpen
 pub mod MoveInner
+pub mod MoveUndo
 pub mod MoveLeave
 pub mod MoveTake
 pub mod MoveHalt

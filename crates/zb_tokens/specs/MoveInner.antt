@@ -1,5 +1,5 @@
 -- A body begins a run for its next item (BPMN 2.0.2, 13.3.7).
-use Rattle.std.specs.Prelude.{ℕ, ◌==◌, ◌+◌, [], ◌∷◌, ◌++◌, Bool, false, ◌&&◌, Option, option_map, option_and_then}
+use Rattle.std.specs.Prelude.{◌==◌, ◌+◌, [], ◌∷◌, ◌++◌, Bool, false, ◌&&◌, Option, option_map, option_and_then}
 use Rattle.std.specs.Option.{option_map_or}
 use Rattle.zb_instance_records.specs.declared.instance.Role.TheVariants as roles
 use Rattle.zb_tokens.specs.Edits.{edited}

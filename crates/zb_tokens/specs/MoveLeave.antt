@@ -1,5 +1,5 @@
 -- A cell has completed, and a token is to go out on each of the flows that it owes (BPMN 2.0.2, 13.3.1 and 13.4.2).
-use Rattle.std.specs.Prelude.{ℕ, ◌==◌, List, [], ◌∷◌, map, filter, Bool, true, false, ◌&&◌, ◌||◌, not, is_some, if◌then◌else◌, Option, option_map, option_and_then, Result, Ok, Err}
+use Rattle.std.specs.Prelude.{ℕ, ◌==◌, List, [], ◌∷◌, ◌++◌, map, filter, Bool, true, false, ◌&&◌, ◌||◌, not, is_some, if◌then◌else◌, Option, option_map, option_and_then, Result, Ok, Err}
 use Rattle.std.specs.Option.{option_map_or}
 use Rattle.std.specs.Str.{bytes_eq}
 use Rattle.zb_base.specs.Results.{◌>>=◌}
@@ -13,6 +13,7 @@ use Rattle.zb_tokens.specs.declared.board.Mark.{Mark}
 use Rattle.zb_tokens.specs.declared.board.Mark.TheVariants as marks
 use Rattle.zb_tokens.specs.declared.board.Phase.TheVariants as phases
 use Rattle.zb_tokens.specs.Board.{Board, cell_at, model_under, is_at, is_phase, is_root, in_phase, emptied, owes_none}
+use Rattle.zb_tokens.specs.Handlers.{can_be_undone}
 use Rattle.zb_tokens.specs.Names.{value_seen}
 use Rattle.zb_tokens.specs.Incidents.{Hindrance}
 use Rattle.zb_tokens.specs.Choice.{gateway_of, choice_at}
@@ -95,6 +96,19 @@ with_end c = record c { ending = true }
 abbrev pub scope_ended : ℕ → Board → Board
 scope_ended scope b = emptied scope (record b { cells = option_map_or (λ cells. cells) (edited (λ c. c.key == scope) with_end b.cells) b.cells })
 
--- effect: it owes them and is leaving; it is gone where there are none. A terminate end event ends its scope (BPMN 2.0.2, 13.3.1 and 13.5.6)
+-- the cell, in which an activity has finished that can be undone
+abbrev pub with_finished : List ℕ → Cell → Cell
+with_finished node c = record c { finished = c.finished ++ node ∷ [] }
+
+-- the board on which an activity has finished in a scope (BPMN 2.0.2, 13.5.5)
+abbrev pub noted_finished : ℕ → List ℕ → Board → Board
+noted_finished scope node b = record b { cells = option_map_or (λ cells. cells) (edited (λ c. c.key == scope) (with_finished node) b.cells) b.cells }
+
+-- what a cell makes of its scope as it leaves: a terminate end event ends it; in it an activity has finished that can be undone (BPMN 2.0.2, 13.5.5 and 13.5.6)
+abbrev pub left_behind : Board → Cell → Board → Board
+left_behind b c left = if ends_scope b c then scope_ended c.scope left else if can_be_undone b c then noted_finished c.scope c.node left else left
+
+-- effect: it owes them and is leaving; it is gone where there are none. A terminate end event ends its scope, and an activity that can be undone is kept there (BPMN 2.0.2, 13.3.1, 13.5.5 and
+-- 13.5.6)
 abbrev pub play_leave : Board → Leave → Option Board
-play_leave b l = option_and_then (λ c. option_map (λ left. if ends_scope b c then scope_ended c.scope left else left) (leaving l.owed l.key b)) (cell_at b l.key)
+play_leave b l = option_and_then (λ c. option_map (left_behind b c) (leaving l.owed l.key b)) (cell_at b l.key)

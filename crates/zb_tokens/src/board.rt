@@ -117,6 +117,8 @@ pub enum Move {
     Enter(Enter),
     /// A body begins a run for its next item.
     Inner(Inner),
+    /// A compensation event runs the handler of the activity that finished last.
+    Undo(Undo),
     Open(Open),
     Finish(Key),
     Leave(Leave),
@@ -162,6 +164,16 @@ pub struct Enter {
 pub struct Inner {
     pub key: Key,
     pub body: Key,
+}
+
+/// A compensation event runs a handler under a key.
+#[derive(Drop)]
+pub struct Undo {
+    pub key: Key,
+    /// The cell at the compensation event.
+    pub event: Key,
+    /// The id of the handler.
+    pub node: Text,
 }
 
 /// A cell becomes active; a body keeps these items.

@@ -11,6 +11,7 @@ mod laws;
 pub use board::{
     Assigned, Assignments, Awaited, AwaitedMessage, Catch, Cell, Deployed, Enter, Incident, Inner,
     Leave, Mark, Move, Mover, Open, Opening, Phase, Spot, Start, Take, Thrown, Token, Triggered,
+    Undo,
 };
 pub use boxed::BoxedModel;
 pub use keys::place_number;

@@ -9,7 +9,6 @@ use Rattle.zb_base.specs.declared.vars.Variable.{Variable}
 use Rattle.zb_process.specs.declared.model.Model.{Model}
 use Rattle.zb_reader.specs.Layout.{model_of}
 use Rattle.zb_reader.specs.Leaves.{unsigned_of, is_short, is_between}
-use Rattle.zb_wire.specs.Built.{unbuilt_place}
 use Rattle.zb_reader.specs.Shapes.{place_in_model}
 use Rattle.zb_wire.specs.First.{first_told}
 use Rattle.zb_wire.specs.Variables.{all_variables, variables_of}
@@ -52,14 +51,14 @@ unless_good good field = if good then None else Some (field_fault field)
 
 -- FIELD (own): the value isn't of this kind, a text (RFC 8259, section 7), a whole number from 0 (RFC 8259, section
 -- 6), a truth value (RFC 8259, section 3), an object whose members are of the kinds that variables may have (own), or
--- a model by its layout, of which then each node is built
+-- a model by its layout
 abbrev pub kind_fault : List ℕ → Kind → Data → Option LineFault
 kind_fault field (kinds.Text most) d = unless_good (is_some (as_str d)) field
 kind_fault field (kinds.Number least most) d = unless_good (is_some (unsigned_of d)) field
 kind_fault field kinds.Partition d = unless_good (is_some (unsigned_of d)) field
 kind_fault field kinds.Flag d = unless_good (is_some (as_bool d)) field
 kind_fault field kinds.Variables d = unless_good (option_map_or all_variables (as_object d) false) field
-kind_fault field kinds.Model d = option_map (place_fault field) (option_or (place_in_model d) (unbuilt_place d))
+kind_fault field kinds.Model d = option_map (place_fault field) (place_in_model d)
 
 -- the variables that an object stands for
 abbrev pub variables_in : Data → Option (List Variable)

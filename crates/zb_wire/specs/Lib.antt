@@ -1,6 +1,5 @@
 pub mod Variables
 pub mod First
-pub mod Built
 pub mod Fields
 pub mod Op
 pub mod Ops

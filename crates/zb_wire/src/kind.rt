@@ -1,12 +1,8 @@
 ghost use Rattle.std.specs.Prelude.{◌≡◌, IfOk};
-ghost use Rattle.std.specs.Option.{option_or};
 ghost use Rattle.serde_json.specs.View.{view};
-ghost use Rattle.zb_reader.specs.Shapes.{place_in_model};
-ghost use Rattle.zb_wire.specs.Built.{unbuilt_place};
 ghost use Rattle.zb_wire.specs.Fields as spec;
 ghost use Rattle.zb_wire.specs.declared.kind.Kind.TheVariants as kinds;
 
-use crate::built::unbuilt_place;
 use crate::faults::{field_fault, place_fault};
 use crate::variables::{all_variables, all_within};
 use crate::{Given, LineFault};
@@ -89,24 +85,13 @@ fn unless(alloc: Global, good: bool, field: &str) -> Result<Option<LineFault>, A
     Ok(Some(field_fault(alloc, field)?))
 }
 
-// The fault of a field whose value is no model, or one that isn't built.
+// The fault of a field whose value is no model.
 fn model_fault(alloc: Global, field: &str, value: &Json) -> Result<Option<LineFault>, AllocError>
     ensures { IfOk result (λ fault. fault
         ≡ spec.kind_fault field.now kinds.Model (view value.now)) }
 {
-    match refused_place(alloc, value)? {
+    match model_place(alloc, value)? {
         Some(path) => Ok(Some(place_fault(alloc, field, path)?)),
         None => Ok(None),
-    }
-}
-
-// Where a value fails to be a model that is built.
-fn refused_place(alloc: Global, value: &Json) -> Result<Option<Text>, AllocError>
-    ensures { IfOk result (λ place. place
-        ≡ option_or (place_in_model (view value.now)) (unbuilt_place (view value.now))) }
-{
-    match model_place(alloc, value)? {
-        Some(path) => Ok(Some(path)),
-        None => unbuilt_place(alloc, value),
     }
 }

@@ -1,7 +1,6 @@
 //! Lines to requests.
 #![tactic(auto)]
 
-mod built;
 mod faults;
 mod fields;
 mod given;

@@ -10,14 +10,17 @@ ghost use Rattle.zb_tokens.specs.Edits.{edited};
 ghost use Rattle.zb_tokens.specs.Marks.{with_mark};
 ghost use Rattle.zb_tokens.specs.MoveAssign.{with_variable};
 ghost use Rattle.zb_tokens.specs.MoveInner.{one_taken};
-ghost use Rattle.zb_tokens.specs.MoveLeave.{with_end};
+ghost use Rattle.zb_tokens.specs.MoveLeave.{with_end, noted_finished};
 ghost use Rattle.zb_tokens.specs.MoveOpen.{with_items};
+ghost use Rattle.zb_tokens.specs.MoveUndo.{one_undone};
 ghost use Rattle.zb_board.specs.Below.{HasBelow};
 ghost use Rattle.zb_board.specs.Indexed.{is_kept, StaysThere};
 ghost use Rattle.zb_tokens.specs.declared.board.Cell.{Cell};
 
 use crate::below::wake_below;
-use crate::edits::{InPhase, OneTaken, WithEnd, WithItems, WithMark, WithVariable};
+use crate::edits::{
+    InPhase, OneTaken, OneUndone, WithEnd, WithFinished, WithItems, WithMark, WithVariable,
+};
 use crate::keys::keep;
 use crate::{Game, GameFault};
 use std::alloc::{AllocError, Global};
@@ -106,6 +109,28 @@ impl Game {
         ensures kept { IsErrOf result GameFault.Illegal → self.new ≡ self.old }
     {
         self.change(key, OneTaken)
+    }
+
+    /// Puts an activity that has finished at the end of those that can be undone in a cell, if that is there. After a
+    /// refusal the game is only dropped. It costs what `put_in_phase` does.
+    pub fn put_finished(&mut self, key: Key, node: Text) -> Result<(), AllocError>
+        ensures { OnOk result (self.new ≡ noted_finished key node self.old) }
+    {
+        match self.change(key, WithFinished { node }) {
+            Ok(()) => Ok(()),
+            Err(GameFault::Illegal) => Ok(()),
+            Err(GameFault::Memory) => Err(AllocError),
+        }
+    }
+
+    /// Takes away the last activity of those that can be undone in a cell. It may go on by itself. It answers and
+    /// costs what `put_in_phase` does.
+    pub fn put_undone(&mut self, alloc: Global, key: Key) -> Result<(), GameFault>
+        ensures put { OnOk result (option_map (λ cells. record self.old { cells = cells }) (edited (λ c. c.key == key) one_undone self.old.cells) ≡ Some self.new) }
+        ensures none { IsErrOf result GameFault.Illegal → edited (λ c. c.key == key) one_undone self.old.cells ≡ None }
+        ensures kept { IsErrOf result GameFault.Illegal → self.new ≡ self.old }
+    {
+        self.change(key, OneUndone { alloc })
     }
 
     // Makes something of a cell that stays where it is, and calls off no more than before. It may go on by itself.

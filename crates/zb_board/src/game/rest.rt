@@ -6,7 +6,7 @@ ghost use Rattle.zb_tokens.specs.MoveFinish.{acts_in};
 
 use crate::Game;
 use crate::keys::forget;
-use crate::kinds::{goes_on, holds_tokens, is_sequential};
+use crate::kinds::{goes_on, holds_tokens, is_sequential, undoes};
 use crate::marks::{error_of, has_come_about};
 use crate::roles::{has_item, is_body};
 use zb_base::Key;
@@ -109,13 +109,15 @@ impl Game {
         }
     }
 
-    /// Whether an active cell acts in its model: nothing is left that it waits for, or a body may begin a run. It costs
-    /// what `has_child` does.
+    /// Whether an active cell acts in its model: nothing is left that it waits for, or a body may begin a run, or a
+    /// compensation event a handler. It costs what `has_child` does.
     pub fn acts_in(&self, model: &Graph, cell: &Cell) -> bool
         ensures { result ≡ acts_in model.now self.now cell.now }
     {
         if is_body(cell) {
             !self.has_child(cell.key) || (has_item(cell) && !is_sequential(model, cell))
+        } else if undoes(model, cell) {
+            !self.has_child(cell.key)
         } else if holds_tokens(model, cell) {
             self.is_empty(cell.key)
         } else {

@@ -57,13 +57,16 @@ impl Facts {
     }
 }
 
-// Whether the cell begins in its scope as a run of it, at its node and by no flow, or else in the role that its node tells.
+// Whether the cell begins in its scope by no flow, as a run of it at its node, or as a handler; or else in the role that its
+// node tells.
 fn suits(game: &Game, element: &ElementActivating, scope: &Cell) -> bool
     ensures { result ≡ suits game.now element.now scope.now }
 {
     let node = element.node.as_str();
     if is_role(element.role, Role::Inner) {
         node == scope.node.as_str() && element.via.as_str().is_empty()
+    } else if is_role(element.role, Role::Handler) {
+        element.via.as_str().is_empty()
     } else {
         is_role(element.role, role_on(game, scope, node))
     }
