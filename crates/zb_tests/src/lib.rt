@@ -6,8 +6,6 @@
 #[cfg(test)]
 mod asked;
 #[cfg(test)]
-mod begun;
-#[cfg(test)]
 mod crashes;
 #[cfg(test)]
 mod disks;
